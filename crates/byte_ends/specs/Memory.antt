@@ -1,0 +1,42 @@
+-- What is seen of a source and a sink over memory, and what their types keep.
+use Rattle.std.specs.Prelude.{ℕ, ◌+◌, ◌-◌, ◌<◌, ◌≤◌, ◌^◌, min, List, Contains}
+use Rattle.std.specs.List.Sorted.{IsStrictlyIncreasing}
+
+-- a source: the bytes still to come, the most that one read gives, the numbers of the reads that
+-- fail, and how many reads were made and how many of them failed
+pub record SourceState : Type 0 where
+  pub left : List ℕ
+  pub piece : ℕ
+  pub fails : List ℕ
+  pub calls : ℕ
+  pub faults : ℕ
+
+-- a sink: the bytes taken, how many more it has room for, the most that one write takes, the
+-- numbers of the writes that fail, and how many writes were made and how many of them failed
+pub record SinkState : Type 0 where
+  pub taken : List ℕ
+  pub room : ℕ
+  pub piece : ℕ
+  pub fails : List ℕ
+  pub calls : ℕ
+  pub faults : ℕ
+
+-- the call of this number, counted from 0, is listed to fail; the counter's last number never is
+abbrev pub IsListed : List ℕ → ℕ → Type 0
+IsListed fails call = (call < 2 ^ 64 - 1) × Contains fails call
+
+-- the least of three numbers
+abbrev pub least : ℕ → ℕ → ℕ → ℕ
+least a b c = min a (min b c)
+
+-- a source's place is within its bytes, and a read gives at least one byte where one is left
+pub record IsSourceSound (length at piece : ℕ) (fails : List ℕ) : Type 0 where
+  pub within : at ≤ length
+  pub some : 0 < piece
+  pub rising : IsStrictlyIncreasing fails
+
+-- a sink has the memory for all its room, and a write takes at least one byte where there is room
+pub record IsSinkSound (length room capacity piece : ℕ) (fails : List ℕ) : Type 0 where
+  pub fits : length + room ≤ capacity
+  pub some : 0 < piece
+  pub rising : IsStrictlyIncreasing fails

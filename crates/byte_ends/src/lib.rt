@@ -1,0 +1,72 @@
+//! Where bytes come from and where they go: sources and sinks, with a count of what failed.
+//!
+//! A source or a sink may tell its bytes to contracts, as those over memory do, or tell nothing,
+//! as those over std's readers and writers.
+#![tactic(auto)]
+
+ghost use Rattle.std.specs.Prelude.{◌≡◌, ℕ, ◌<◌, ◌≤◌, length, List, Option, IfOk, OnOk, OnErr};
+ghost use Rattle.byte_ends.specs.Ends.{Rises, Reads, Takes, WritesAll, WritesFront};
+
+mod memory;
+mod standard;
+#[cfg(test)]
+mod tests;
+
+pub use memory::{MemorySink, MemorySource};
+pub use standard::{StdSink, StdSource};
+
+/// A read or a write that failed.
+#[derive(Clone, Copy, Debug, PartialEq, Eq)]
+pub struct Failed;
+
+/// What bytes are read from.
+pub trait Source {
+    /// The bytes still to come, where the source tells them.
+    ghost left: { Self → Option (List ℕ) };
+
+    /// How many reads have failed, up to 2^64 - 1.
+    ghost faults: { Self → ℕ };
+
+    /// Reads some bytes into the front of the piece and answers how many. 0 for a piece that
+    /// isn't empty is the end of the input.
+    fn read(&mut self, piece: &mut [u8]) -> Result<usize, Failed>
+        ensures within { IfOk result (λ n. n ≤ length piece.new) }
+        ensures bytes { IfOk result (λ n. Reads (left self.old) (left self.new) piece.old piece.new n) }
+        ensures fine { OnOk result (faults self.new ≡ faults self.old) }
+        ensures fault { OnErr result (Rises (faults self.old) (faults self.new)) }
+        ensures same { OnErr result (left self.new ≡ left self.old) };
+}
+
+/// What bytes are written to.
+pub trait Sink {
+    /// The bytes taken so far, where the sink tells them.
+    ghost taken: { Self → Option (List ℕ) };
+
+    /// How many writes have failed, up to 2^64 - 1.
+    ghost faults: { Self → ℕ };
+
+    /// Takes some bytes of the front of the piece, at least one of a piece that isn't empty, and
+    /// answers how many.
+    fn write(&mut self, piece: &[u8]) -> Result<usize, Failed>
+        ensures within { IfOk result (λ n. n ≤ length piece.now) }
+        ensures some { IfOk result (λ n. 0 < length piece.now → 0 < n) }
+        ensures bytes { IfOk result (λ n. Takes (taken self.old) (taken self.new) piece.now n) }
+        ensures fine { OnOk result (faults self.new ≡ faults self.old) }
+        ensures fault { OnErr result (Rises (faults self.old) (faults self.new)) }
+        ensures same { OnErr result (taken self.new ≡ taken self.old) };
+}
+
+/// Writes all of the bytes, by as many writes as it takes. Where one fails, a front of the bytes
+/// is written.
+pub fn write_all<K: Sink>(sink: &mut K, bytes: &[u8]) -> Result<(), Failed>
+    ensures ok { OnOk result (WritesAll (K.taken sink.old) (K.taken sink.new) bytes.now) }
+    ensures fine { OnOk result (K.faults sink.new ≡ K.faults sink.old) }
+    ensures fault { OnErr result (Rises (K.faults sink.old) (K.faults sink.new)) }
+    ensures front { OnErr result (WritesFront (K.taken sink.old) (K.taken sink.new) bytes.now) }
+{
+    let mut at = 0;
+    while at < bytes.len() {
+        at += sink.write(&bytes[at..])?;
+    }
+    Ok(())
+}

@@ -1,0 +1,106 @@
+//! A source over std's readers and a sink over its writers, which tell no bytes to a caller that
+//! is generic in its ends.
+
+ghost use Rattle.std.specs.Prelude.{◌≡◌, ◌<◌, ◌≤◌, length, None, IfOk, OnOk, OnErr};
+ghost use Rattle.std.specs.Io.KnownBytes.{ReadConsumes, WriteAppends};
+ghost use Rattle.byte_ends.specs.Ends.{Rises, one_more};
+
+use crate::{Failed, Sink, Source};
+use std::io::{Read, Write};
+use std::marker::Model;
+
+/// A source over a reader of std.
+#[derive(Drop)]
+pub struct StdSource<R: Read> {
+    reader: R,
+    faults: u64,
+}
+
+impl<R: Read> Model for StdSource<R> {
+    ghost use Rattle.byte_ends.specs.Standard.{StdState};
+
+    ghost Value = { StdState };
+
+    ghost view = { λ s. record { known = R.remaining s.reader; faults = s.faults } };
+}
+
+impl<R: Read> StdSource<R> {
+    /// A source of what the reader gives.
+    pub fn new(reader: R) -> StdSource<R>
+        ensures { result ≡ record { known = R.remaining reader; faults = 0 } }
+    {
+        StdSource { reader, faults: 0 }
+    }
+}
+
+impl<R: Read> Source for StdSource<R> {
+    ghost left = { λ _. None };
+
+    ghost faults = { λ s. s.faults };
+
+    /// One read of the reader. Each error of it is a fault.
+    fn read(&mut self, piece: &mut [u8]) -> Result<usize, Failed>
+        ensures within { IfOk result (λ n. n ≤ length piece.new) }
+        ensures fine { OnOk result (self.new.faults ≡ self.old.faults) }
+        ensures fault { OnErr result (Rises self.old.faults self.new.faults) }
+        ensures counted { OnErr result (self.new.faults ≡ one_more self.old.faults) }
+        ensures known { ReadConsumes self.old.known self.new.known result piece.new }
+    {
+        match self.reader.read(piece) {
+            Ok(count) => Ok(count),
+            Err(_) => {
+                self.faults = self.faults.saturating_add(1);
+                Err(Failed)
+            }
+        }
+    }
+}
+
+/// A sink over a writer of std.
+#[derive(Drop)]
+pub struct StdSink<W: Write> {
+    writer: W,
+    faults: u64,
+}
+
+impl<W: Write> Model for StdSink<W> {
+    ghost use Rattle.byte_ends.specs.Standard.{StdState};
+
+    ghost Value = { StdState };
+
+    ghost view = { λ s. record { known = W.contents s.writer; faults = s.faults } };
+}
+
+impl<W: Write> StdSink<W> {
+    /// A sink that gives to the writer.
+    pub fn new(writer: W) -> StdSink<W>
+        ensures { result ≡ record { known = W.contents writer; faults = 0 } }
+    {
+        StdSink { writer, faults: 0 }
+    }
+}
+
+impl<W: Write> Sink for StdSink<W> {
+    ghost taken = { λ _. None };
+
+    ghost faults = { λ s. s.faults };
+
+    /// One write of the writer. Each error of it is a fault, and so is a write of no byte of a
+    /// piece that isn't empty.
+    fn write(&mut self, piece: &[u8]) -> Result<usize, Failed>
+        ensures within { IfOk result (λ n. n ≤ length piece.now) }
+        ensures some { IfOk result (λ n. 0 < length piece.now → 0 < n) }
+        ensures fine { OnOk result (self.new.faults ≡ self.old.faults) }
+        ensures fault { OnErr result (Rises self.old.faults self.new.faults) }
+        ensures counted { OnErr result (self.new.faults ≡ one_more self.old.faults) }
+        ensures known { WriteAppends self.old.known self.new.known result piece.now }
+    {
+        match self.writer.write(piece) {
+            Ok(count) if count > 0 || piece.is_empty() => Ok(count),
+            _ => {
+                self.faults = self.faults.saturating_add(1);
+                Err(Failed)
+            }
+        }
+    }
+}

@@ -1,0 +1,9 @@
+pub mod Cards
+pub mod CardText
+pub mod CardTextLaws
+pub mod Bits
+pub mod Rising
+pub mod Disjoint
+pub mod Choose
+pub mod Games
+pub mod State

@@ -1,0 +1,296 @@
+//! Counted spots, and the limit from both sides.
+//!
+//! The expected counts of the flop and the river are those of a listing of all runouts by a few lines of Python that compare
+//! fives by their groups and ranks. The numbers of runouts are worked out by hand, slot after slot.
+
+ghost use Rattle.std.specs.Prelude.{◌≡◌, ◌<◌, [], ◌∷◌};
+
+use crate::{Job, JobFault, count_job};
+use card_sets::{Card, CardSet, Game, Known, Side};
+use showdown_tally::{Cell, Table};
+use std::test::Fail;
+
+/// The card of a number.
+fn card(number: u8) -> Card
+    requires { number < 52 }
+    ensures { result ≡ number }
+{
+    Card::new(number / 4, number % 4).unwrap()
+}
+
+/// A set of two cards.
+fn two(a: u8, b: u8) -> CardSet
+    requires rising { a < b }
+    requires deck { b < 52 }
+    ensures { result ≡ a ∷ b ∷ [] }
+{
+    CardSet::empty().with(card(a)).with(card(b))
+}
+
+/// A set of three cards.
+fn three(a: u8, b: u8, c: u8) -> CardSet
+    requires first { a < b }
+    requires second { b < c }
+    requires deck { c < 52 }
+    ensures { result ≡ a ∷ b ∷ c ∷ [] }
+{
+    two(a, b).with(card(c))
+}
+
+/// A set of four cards.
+fn four(a: u8, b: u8, c: u8, d: u8) -> CardSet
+    requires first { a < b }
+    requires second { b < c }
+    requires third { c < d }
+    requires deck { d < 52 }
+    ensures { result ≡ a ∷ b ∷ c ∷ d ∷ [] }
+{
+    three(a, b, c).with(card(d))
+}
+
+/// A set of five cards.
+fn five(a: u8, b: u8, c: u8, d: u8, e: u8) -> CardSet
+    requires first { a < b }
+    requires second { b < c }
+    requires third { c < d }
+    requires fourth { d < e }
+    requires deck { e < 52 }
+    ensures { result ≡ a ∷ b ∷ c ∷ d ∷ e ∷ [] }
+{
+    four(a, b, c, d).with(card(e))
+}
+
+/// Up to three hands.
+fn hands(a: CardSet, b: CardSet, c: CardSet) -> [CardSet; 10]
+    ensures { result ≡ a ∷ b ∷ c ∷ [] ∷ [] ∷ [] ∷ [] ∷ [] ∷ [] ∷ [] ∷ [] }
+{
+    let none = CardSet::empty();
+    [a, b, c, none, none, none, none, none, none, none]
+}
+
+/// As Ah against Ks Kh, with 2c 4s 7d 9h on the board.
+fn turn_spot() -> Table
+    ensures { result.known.game ≡ Game.Holdem }
+{
+    let none = CardSet::empty();
+    let known = Known {
+        game: Game::Holdem,
+        count: 2,
+        hands: hands(two(50, 51), two(46, 47), none),
+        board: four(0, 11, 21, 30),
+        dead: none,
+    };
+    Table {
+        known,
+        pots: 1,
+        eligible: [3, 0, 0, 0, 0, 0, 0, 0, 0, 0],
+    }
+}
+
+/// As Ah against Ks Kh, with 2c 7c 9c on the board.
+fn flop_spot() -> Table
+    ensures { result.known.game ≡ Game.Holdem }
+{
+    let none = CardSet::empty();
+    let known = Known {
+        game: Game::Holdem,
+        count: 2,
+        hands: hands(two(50, 51), two(46, 47), none),
+        board: three(0, 20, 28),
+        dead: none,
+    };
+    Table {
+        known,
+        pots: 1,
+        eligible: [3, 0, 0, 0, 0, 0, 0, 0, 0, 0],
+    }
+}
+
+/// The same with 7d 9h on turn and river, so that nothing is to come.
+fn river_spot() -> Table
+    ensures { result.known.game ≡ Game.Holdem }
+{
+    let none = CardSet::empty();
+    let known = Known {
+        game: Game::Holdem,
+        count: 2,
+        hands: hands(two(50, 51), two(46, 47), none),
+        board: five(0, 20, 21, 28, 30),
+        dead: none,
+    };
+    Table {
+        known,
+        pots: 1,
+        eligible: [3, 0, 0, 0, 0, 0, 0, 0, 0, 0],
+    }
+}
+
+/// Single draw with three hands that keep four, four and two cards, and four dead cards.
+fn draw_spot() -> Table {
+    let known = Known {
+        game: Game::Lowball27,
+        count: 3,
+        hands: hands(four(0, 1, 2, 3), four(4, 5, 6, 7), two(8, 9)),
+        board: CardSet::empty(),
+        dead: four(10, 11, 12, 13),
+    };
+    Table {
+        known,
+        pots: 1,
+        eligible: [7, 0, 0, 0, 0, 0, 0, 0, 0, 0],
+    }
+}
+
+/// The same with a fifth dead card.
+fn draw_spot_with_one_more_dead_card() -> Table {
+    let known = Known {
+        game: Game::Lowball27,
+        count: 3,
+        hands: hands(four(0, 1, 2, 3), four(4, 5, 6, 7), two(8, 9)),
+        board: CardSet::empty(),
+        dead: five(10, 11, 12, 13, 14),
+    };
+    Table {
+        known,
+        pots: 1,
+        eligible: [7, 0, 0, 0, 0, 0, 0, 0, 0, 0],
+    }
+}
+
+/// Seven card stud with seven hands of which nothing is known, which lack 49 cards, and three dead cards.
+fn dark_stud() -> Table {
+    let none = CardSet::empty();
+    let known = Known {
+        game: Game::Stud,
+        count: 7,
+        hands: hands(none, none, none),
+        board: none,
+        dead: three(0, 1, 2),
+    };
+    Table {
+        known,
+        pots: 1,
+        eligible: [127, 0, 0, 0, 0, 0, 0, 0, 0, 0],
+    }
+}
+
+/// The same with a fourth dead card.
+fn dark_stud_with_one_more_dead_card() -> Table {
+    let none = CardSet::empty();
+    let known = Known {
+        game: Game::Stud,
+        count: 7,
+        hands: hands(none, none, none),
+        board: none,
+        dead: four(0, 1, 2, 3),
+    };
+    Table {
+        known,
+        pots: 1,
+        eligible: [127, 0, 0, 0, 0, 0, 0, 0, 0, 0],
+    }
+}
+
+#[test]
+fn aces_hold_on_42_of_44_rivers(rt: HostRuntime) -> Result<(), Fail> {
+    let table = turn_spot();
+    let job = Job::make(&table).ok().ok_or("no job")?;
+    assert_eq!(rt; job.runouts(), 44);
+    let tally = count_job(&job);
+    assert_eq!(rt; tally.runouts(), 44);
+    assert_eq!(rt;
+        tally.cell(0, 0, Side::High),
+        Cell {
+            win: 42,
+            tie: 0,
+            lose: 2
+        },
+        "the last two kings lose"
+    );
+    assert_eq!(rt;
+        tally.cell(0, 1, Side::High),
+        Cell {
+            win: 2,
+            tie: 0,
+            lose: 42
+        }
+    );
+    assert_eq!(rt; tally.units(0, 0), 42 * 5040);
+    assert_eq!(rt; tally.units(0, 1), 2 * 5040);
+    Ok(())
+}
+
+#[test]
+fn turn_and_river_are_counted_over_990_runouts(rt: HostRuntime) -> Result<(), Fail> {
+    let table = flop_spot();
+    let job = Job::make(&table).ok().ok_or("no job")?;
+    assert_eq!(rt; job.runouts(), 990);
+    let tally = count_job(&job);
+    assert_eq!(rt; tally.runouts(), 990);
+    assert_eq!(rt;
+        tally.cell(0, 0, Side::High),
+        Cell {
+            win: 870,
+            tie: 45,
+            lose: 75
+        },
+        "the 45 pairs of the ten clubs left tie, and 870 + 45 + 75 is 990"
+    );
+    assert_eq!(rt;
+        tally.cell(0, 1, Side::High),
+        Cell {
+            win: 75,
+            tie: 45,
+            lose: 870
+        }
+    );
+    assert_eq!(rt; tally.units(0, 0), 870 * 5040 + 45 * 2520);
+    assert_eq!(rt; tally.units(0, 1), 75 * 5040 + 45 * 2520);
+    Ok(())
+}
+
+#[test]
+fn a_full_board_is_one_runout(rt: HostRuntime) -> Result<(), Fail> {
+    let table = river_spot();
+    let job = Job::make(&table).ok().ok_or("no job")?;
+    assert_eq!(rt; job.runouts(), 1);
+    let tally = count_job(&job);
+    assert_eq!(rt; tally.runouts(), 1);
+    assert_eq!(rt; tally.units(0, 0), 5040);
+    assert_eq!(rt; tally.units(0, 1), 0);
+    Ok(())
+}
+
+/// Why a table's equity isn't counted.
+fn fault_of(table: &Table) -> Option<JobFault> {
+    match Job::make(table) {
+        Ok(_) => None,
+        Err(fault) => Some(fault),
+    }
+}
+
+#[test]
+fn one_dead_card_decides_on_the_limit(rt: HostRuntime) -> Result<(), Fail> {
+    // 38 cards: 38 * 37 * C(36, 3) = 1406 * 7140 = 10038840
+    assert_eq!(rt; fault_of(&draw_spot()), Some(JobFault::AboveLimit));
+    // 37 cards: 37 * 36 * C(35, 3) = 1332 * 6545 = 8717940
+    let job = Job::make(&draw_spot_with_one_more_dead_card())
+        .ok()
+        .ok_or("no job")?;
+    assert_eq!(rt; job.runouts(), 8_717_940);
+    Ok(())
+}
+
+#[test]
+fn one_dead_card_decides_on_the_deck(rt: HostRuntime) {
+    assert_eq!(rt;
+        fault_of(&dark_stud()),
+        Some(JobFault::AboveLimit),
+        "49 cards for 49"
+    );
+    assert_eq!(rt;
+        fault_of(&dark_stud_with_one_more_dead_card()),
+        Some(JobFault::DeckShort),
+        "48 cards for 49"
+    );
+}

@@ -1,0 +1,13 @@
+//! Tests of the top call over sources and sinks in memory: what a whole run answers and writes.
+#![tactic(auto)]
+
+#[cfg(test)]
+mod bytes;
+#[cfg(test)]
+mod faults;
+#[cfg(test)]
+mod refusals;
+#[cfg(test)]
+mod runs;
+#[cfg(test)]
+mod spots;

@@ -1,0 +1,4 @@
+pub mod LineFacts
+pub mod TextFacts
+pub mod PlaceFacts
+pub mod LawFacts

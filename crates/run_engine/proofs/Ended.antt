@@ -1,0 +1,173 @@
+-- One lemma for each way in which a run ends.
+use Rattle.std.proofs.Common.{◌≡◌, ℕ, ◌<◌, ◌≤◌, List, length, Option, Some, None, inl, inr, ◌⊎◌, arith, refl}
+use Rattle.std.specs.Prelude.{IfSome}
+use Rattle.byte_ends.specs.Ends.{Rises, WritesAll, WritesFront}
+use Rattle.run_engine.specs.Command.{IsCommand, usage_line}
+use Rattle.run_engine.specs.Reading.{ReadWhole, ReadTooMuch}
+use Rattle.run_engine.specs.Headline.{IsRun, Ends, IsFinished, IsReadFault, IsWriteFault, IsTooLong, IsMemoryShort}
+
+always : (left : Option (List ℕ)) (P : List ℕ → Type 0) (Q : Type 0) → Q → IfSome left (λ bytes. P bytes → Q)
+always None P Q q = tt
+always (Some bytes) P Q q = λ _. q
+
+within : (limit : ℕ) (left left' : Option (List ℕ)) (bytes : List ℕ) (Q : Type 0) → ReadWhole limit left left' bytes → IfSome left (λ all. limit < length all → Q)
+within limit None left' bytes Q r = tt
+within limit (Some all) left' bytes Q r = λ more. absurd (let l = r.2 in omega arith)
+
+beyond : (limit : ℕ) (left left' : Option (List ℕ)) (bytes : List ℕ) (Q : Type 0) → ReadTooMuch limit left left' bytes → IfSome left (λ all. length all ≤ limit → Q)
+beyond limit None left' bytes Q r = tt
+beyond limit (Some all) left' bytes Q r = λ less. absurd (let l = r.0 in omega arith)
+
+-- all was read and written
+pub run_finished : (limit : ℕ) (words : List (List ℕ)) (status : ℕ) (old new : Ends) → (status ≡ 0) ⊎ (status ≡ 1) → IsCommand words → IsFinished limit status old new → IsRun limit words status old new
+run_finished limit words status old new which form end = record {
+  known = small which;
+  finished = λ _. (form, end);
+  usage = λ e. absurd (not_two which e);
+  unread = λ no_form. absurd (no_form form);
+  read_fault = λ e. absurd (not_three which e);
+  write_fault = λ e _. absurd (not_four which e);
+  usage_fault = λ e no_form. absurd (no_form form);
+  too_long = λ e. absurd (not_five which e);
+  memory = λ e _. absurd (not_six which e);
+  usage_memory = λ e no_form. absurd (no_form form);
+  complete = λ _ _. always old.left (λ bytes. length bytes ≤ limit) _ (one_of which);
+  complete_long = λ _ _. within limit old.left new.left end.bytes _ end.read;
+  complete_usage = λ no_form. absurd (no_form form);
+}
+  where
+    small : (status ≡ 0) ⊎ (status ≡ 1) → status ≤ 6
+    small (inl e) = omega arith
+    small (inr e) = omega arith
+
+    not_two : (status ≡ 0) ⊎ (status ≡ 1) → status ≡ 2 → ⊥
+    not_two (inl e) h = omega arith
+    not_two (inr e) h = omega arith
+
+    not_three : (status ≡ 0) ⊎ (status ≡ 1) → status ≡ 3 → ⊥
+    not_three (inl e) h = omega arith
+    not_three (inr e) h = omega arith
+
+    not_four : (status ≡ 0) ⊎ (status ≡ 1) → status ≡ 4 → ⊥
+    not_four (inl e) h = omega arith
+    not_four (inr e) h = omega arith
+
+    not_five : (status ≡ 0) ⊎ (status ≡ 1) → status ≡ 5 → ⊥
+    not_five (inl e) h = omega arith
+    not_five (inr e) h = omega arith
+
+    not_six : (status ≡ 0) ⊎ (status ≡ 1) → status ≡ 6 → ⊥
+    not_six (inl e) h = omega arith
+    not_six (inr e) h = omega arith
+
+    one_of : (status ≡ 0) ⊎ (status ≡ 1) → (status ≡ 0) ⊎ (status ≡ 1) ⊎ (status ≡ 6)
+    one_of (inl e) = inl e
+    one_of (inr e) = inr (inl e)
+
+-- the words are in no form, and the usage line is written
+pub run_usage : (limit : ℕ) (words : List (List ℕ)) (old new : Ends) → ¬ IsCommand words → WritesAll old.taken new.taken usage_line → new.left ≡ old.left → new.read_faults ≡ old.read_faults → IsRun limit words 2 old new
+run_usage limit words old new no_form written left faults = record {
+  known = omega arith;
+  finished = λ s. absurd (elim s [ inl e ↦ omega arith | inr e ↦ omega arith ]);
+  usage = λ _. (no_form, written);
+  unread = λ _. (left, faults);
+  read_fault = λ e. absurd (omega arith);
+  write_fault = λ e _. absurd (omega arith);
+  usage_fault = λ e _. absurd (omega arith);
+  too_long = λ e. absurd (omega arith);
+  memory = λ e _. absurd (omega arith);
+  usage_memory = λ e _. absurd (omega arith);
+  complete = λ form _. absurd (no_form form);
+  complete_long = λ form _. absurd (no_form form);
+  complete_usage = λ _ _. inl refl;
+}
+
+-- the words are in no form, and the write of the usage line failed
+pub run_usage_fault : (limit : ℕ) (words : List (List ℕ)) (old new : Ends) → ¬ IsCommand words → Rises old.write_faults new.write_faults → WritesFront old.taken new.taken usage_line → new.left ≡ old.left → new.read_faults ≡ old.read_faults → IsRun limit words 4 old new
+run_usage_fault limit words old new no_form rises front left faults = record {
+  known = omega arith;
+  finished = λ s. absurd (elim s [ inl e ↦ omega arith | inr e ↦ omega arith ]);
+  usage = λ e. absurd (omega arith);
+  unread = λ _. (left, faults);
+  read_fault = λ e. absurd (omega arith);
+  write_fault = λ _ form. absurd (no_form form);
+  usage_fault = λ _ _. (rises, front);
+  too_long = λ e. absurd (omega arith);
+  memory = λ e _. absurd (omega arith);
+  usage_memory = λ e _. absurd (omega arith);
+  complete = λ form _. absurd (no_form form);
+  complete_long = λ form _. absurd (no_form form);
+  complete_usage = λ _ none. absurd (none rises);
+}
+
+-- a read failed
+pub run_read_fault : (limit : ℕ) (words : List (List ℕ)) (old new : Ends) → IsCommand words → IsReadFault limit old new → IsRun limit words 3 old new
+run_read_fault limit words old new form fault = record {
+  known = omega arith;
+  finished = λ s. absurd (elim s [ inl e ↦ omega arith | inr e ↦ omega arith ]);
+  usage = λ e. absurd (omega arith);
+  unread = λ no_form. absurd (no_form form);
+  read_fault = λ _. (form, fault);
+  write_fault = λ e _. absurd (omega arith);
+  usage_fault = λ e _. absurd (omega arith);
+  too_long = λ e. absurd (omega arith);
+  memory = λ e _. absurd (omega arith);
+  usage_memory = λ e _. absurd (omega arith);
+  complete = λ _ faultless. absurd (faultless.read fault.rises);
+  complete_long = λ _ faultless. absurd (faultless.read fault.rises);
+  complete_usage = λ no_form. absurd (no_form form);
+}
+
+-- a write failed
+pub run_write_fault : (limit : ℕ) (words : List (List ℕ)) (old new : Ends) → IsCommand words → IsWriteFault limit old new → IsRun limit words 4 old new
+run_write_fault limit words old new form fault = record {
+  known = omega arith;
+  finished = λ s. absurd (elim s [ inl e ↦ omega arith | inr e ↦ omega arith ]);
+  usage = λ e. absurd (omega arith);
+  unread = λ no_form. absurd (no_form form);
+  read_fault = λ e. absurd (omega arith);
+  write_fault = λ _ _. fault;
+  usage_fault = λ _ no_form. absurd (no_form form);
+  too_long = λ e. absurd (omega arith);
+  memory = λ e _. absurd (omega arith);
+  usage_memory = λ e _. absurd (omega arith);
+  complete = λ _ faultless. absurd (faultless.write fault.rises);
+  complete_long = λ _ faultless. absurd (faultless.write fault.rises);
+  complete_usage = λ no_form. absurd (no_form form);
+}
+
+-- there was more than the limit
+pub run_too_long : (limit : ℕ) (words : List (List ℕ)) (old new : Ends) → IsCommand words → IsTooLong limit old new → IsRun limit words 5 old new
+run_too_long limit words old new form long = record {
+  known = omega arith;
+  finished = λ s. absurd (elim s [ inl e ↦ omega arith | inr e ↦ omega arith ]);
+  usage = λ e. absurd (omega arith);
+  unread = λ no_form. absurd (no_form form);
+  read_fault = λ e. absurd (omega arith);
+  write_fault = λ e _. absurd (omega arith);
+  usage_fault = λ e _. absurd (omega arith);
+  too_long = λ _. (form, long);
+  memory = λ e _. absurd (omega arith);
+  usage_memory = λ e _. absurd (omega arith);
+  complete = λ _ _. beyond limit old.left new.left long.bytes _ long.read;
+  complete_long = λ _ _. always old.left (λ bytes. limit < length bytes) _ (inl refl);
+  complete_usage = λ no_form. absurd (no_form form);
+}
+
+-- memory ran out
+pub run_memory : (limit : ℕ) (words : List (List ℕ)) (old new : Ends) → IsCommand words → IsMemoryShort limit old new → IsRun limit words 6 old new
+run_memory limit words old new form short = record {
+  known = omega arith;
+  finished = λ s. absurd (elim s [ inl e ↦ omega arith | inr e ↦ omega arith ]);
+  usage = λ e. absurd (omega arith);
+  unread = λ no_form. absurd (no_form form);
+  read_fault = λ e. absurd (omega arith);
+  write_fault = λ e _. absurd (omega arith);
+  usage_fault = λ e _. absurd (omega arith);
+  too_long = λ e. absurd (omega arith);
+  memory = λ _ _. short;
+  usage_memory = λ _ no_form. absurd (no_form form);
+  complete = λ _ _. always old.left (λ bytes. length bytes ≤ limit) _ (inr (inr refl));
+  complete_long = λ _ _. always old.left (λ bytes. limit < length bytes) _ (inr refl);
+  complete_usage = λ no_form. absurd (no_form form);
+}

@@ -1,0 +1,14 @@
+pub use Rattle.card_sets.specs.State
+pub use Rattle.byte_ends.specs.Ends
+pub use Rattle.line_text.specs.Lines
+pub use Rattle.share_fractions.specs.Round
+pub use Rattle.showdown_tally.specs.Showdown
+pub use Rattle.showdown_tally.specs.Tallies
+pub use Rattle.spot_text.specs.Words
+pub use Rattle.spot_text.specs.Spot
+pub mod Command
+pub mod Blocks
+pub mod Report
+pub mod Reading
+pub mod Writing
+pub mod Headline

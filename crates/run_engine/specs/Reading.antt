@@ -1,0 +1,37 @@
+-- What a run reads.
+use Rattle.std.specs.Prelude.{◌≡◌, ℕ, ◌<◌, ◌≤◌, List, [], ◌++◌, length, take, Option, Some, None}
+use Rattle.byte_ends.specs.Ends.{Rises}
+use Rattle.line_text.specs.Lines.{closed}
+use Rattle.run_engine.specs.declared.reading.Ending.{Ending}
+use Rattle.run_engine.specs.declared.reading.Ending.TheVariants.{Whole, Failed, TooLong}
+
+-- what a source told before is what was taken of it and what is left now
+abbrev pub Takes : Option (List ℕ) → Option (List ℕ) → List ℕ → Type 0
+Takes None new taken = new ≡ None
+Takes (Some all) new taken = (rest : List ℕ) × (new ≡ Some rest) × (all ≡ taken ++ rest)
+
+-- these bytes count of what was taken: all of it, or as many as the limit allows
+abbrev pub Counted : ℕ → Option (List ℕ) → Option (List ℕ) → List ℕ → Type 0
+Counted limit old new bytes = (taken : List ℕ) × Takes old new taken × (bytes ≡ take limit taken)
+
+-- the bytes are all that the source told, and it was read to its end
+abbrev pub ReadWhole : ℕ → Option (List ℕ) → Option (List ℕ) → List ℕ → Type 0
+ReadWhole limit None new bytes = new ≡ None
+ReadWhole limit (Some all) new bytes = (bytes ≡ all) × (new ≡ Some []) × (length all ≤ limit)
+
+-- the source told more bytes than the limit allows, and the first of them count
+abbrev pub ReadTooMuch : ℕ → Option (List ℕ) → Option (List ℕ) → List ℕ → Type 0
+ReadTooMuch limit None new bytes = new ≡ None
+ReadTooMuch limit (Some all) new bytes = (limit < length all) × (bytes ≡ take limit all)
+
+-- how the reading ended
+abbrev pub EndsSo : ℕ → Option (List ℕ) → Option (List ℕ) → ℕ → ℕ → List ℕ → Ending → Type 0
+EndsSo limit old new faults faults' bytes Whole = ReadWhole limit old new bytes × (faults' ≡ faults)
+EndsSo limit old new faults faults' bytes Failed = Rises faults faults'
+EndsSo limit old new faults faults' bytes TooLong = ReadTooMuch limit old new bytes × (faults' ≡ faults)
+
+-- what a report is made of: all bytes where the reading came to the end of the input, and else the lines that a newline closes
+abbrev pub reported : Ending → List ℕ → List ℕ
+reported Whole bytes = bytes
+reported Failed bytes = closed bytes
+reported TooLong bytes = closed bytes

@@ -1,0 +1,9 @@
+pub mod Next
+pub mod NextChoice
+pub mod CardLists
+pub mod MovedUp
+pub mod Filled
+pub mod Steps
+pub mod Lacks
+pub mod Numbers
+pub mod Membership

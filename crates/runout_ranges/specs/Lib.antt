@@ -1,0 +1,10 @@
+pub use Rattle.card_sets.specs.Cards
+pub use Rattle.card_sets.specs.Choose
+pub use Rattle.card_sets.specs.Disjoint
+pub use Rattle.card_sets.specs.Games
+pub use Rattle.card_sets.specs.State
+pub mod Runouts
+pub mod Slots
+pub mod Shapes
+pub mod Walks
+pub mod Ways

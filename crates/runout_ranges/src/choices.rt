@@ -1,0 +1,34 @@
+//! The choices of so many cards of a set, in order.
+
+ghost use Rattle.std.specs.Prelude.{◌≡◌, ℕ, ◌≤◌, length, take, MatchOption};
+ghost use Rattle.card_sets.specs.Choose.{choose};
+ghost use Rattle.runout_ranges.specs.Runouts.{HasMember, Follows, Ends};
+
+use card_sets::CardSet;
+
+/// The choice behind one of as many of the cards. None exactly behind the last.
+///
+/// The greatest chosen card with a free card above it moves up by one, and the cards that were chosen
+/// above it follow right behind it.
+#[inline]
+pub(crate) fn next_choice(cards: CardSet, chosen: CardSet) -> Option<CardSet>
+    requires { HasMember (choose (length chosen) cards) chosen }
+    ensures { MatchOption result
+        (Ends (choose (length chosen) cards) chosen)
+        (λ next. Follows (choose (length chosen) cards) chosen next) }
+{
+    cards.rising();
+    chosen.rising();
+    let mut low = cards;
+    let mut left = chosen;
+    while let Some(last) = left.last() {
+        if let Some(next) = low.after(last) {
+            let behind = chosen.above(last).count();
+            let moved = left.without(last).with(next);
+            return Some(moved.union(cards.above(next).least(behind)));
+        }
+        low = low.without(last);
+        left = left.without(last);
+    }
+    None
+}

@@ -1,0 +1,136 @@
+//! What a known state lacks.
+
+ghost use Rattle.std.specs.Prelude.{◌≡◌, ◌<◌, ◌+◌, ◌++◌, [], ◌↔◌, length, sum, IsNone, IfSome};
+ghost use Rattle.card_sets.specs.Games.{own_size, board_size};
+ghost use Rattle.card_sets.specs.State.{state_of};
+ghost use Rattle.runout_ranges.specs.Slots.{unseen, slots, slot_of, counts_of};
+ghost use Rattle.runout_ranges.specs.Shapes.{IsShapeOf};
+
+use crate::{Receiver, Shape, Slot};
+use card_sets::{CardSet, Game, Known};
+use std::marker::Model;
+
+/// How many cards the board has when all is dealt.
+fn full_board(game: Game) -> u8
+    ensures { result ≡ board_size game }
+{
+    match game {
+        Game::Holdem | Game::Omaha8 => 5,
+        Game::Stud | Game::Razz | Game::Lowball27 => 0,
+    }
+}
+
+/// How many own cards a hand has when all is dealt.
+fn full_hand(game: Game) -> u8
+    ensures { result ≡ own_size game }
+{
+    match game {
+        Game::Holdem => 2,
+        Game::Omaha8 => 4,
+        Game::Stud | Game::Razz => 7,
+        Game::Lowball27 => 5,
+    }
+}
+
+/// The cards in no known set.
+fn unseen_cards(known: &Known) -> CardSet
+    ensures { result ≡ unseen (state_of known.now) }
+{
+    let mut unseen = CardSet::deck().minus(known.board).minus(known.dead);
+    for hand in &known.hands[..known.count as usize] {
+        unseen = unseen.minus(*hand);
+    }
+    unseen
+}
+
+/// Up to eleven slots. Clauses see it as their list.
+#[derive(Drop)]
+struct SlotList {
+    slots: [Slot; 11],
+    used: u8,
+}
+
+impl Model for SlotList {
+    ghost use Rattle.std.specs.Prelude.{List, take, ◌≤◌};
+    ghost use Rattle.runout_ranges.specs.declared.shapes.Slot.{Slot};
+
+    ghost Value = { List Slot };
+
+    ghost view = { λ s. take s.used s.slots };
+
+    ghost invariant = { λ s. s.used ≤ 11 };
+}
+
+impl SlotList {
+    fn new() -> SlotList
+        ensures { result ≡ [] }
+    {
+        let none = Slot {
+            receiver: Receiver::Board,
+            count: 0,
+        };
+        SlotList {
+            slots: [none; 11],
+            used: 0,
+        }
+    }
+
+    /// Adds the slot of a receiver that lacks so many cards, if it lacks any.
+    fn add(&mut self, receiver: Receiver, count: u8)
+        requires { length self.old < 11 }
+        ensures { self.new ≡ self.old ++ slot_of receiver count }
+    {
+        if count > 0 {
+            self.slots[self.used as usize] = Slot { receiver, count };
+            self.used += 1;
+        }
+    }
+
+    /// How many cards the slots take.
+    fn needed(&self) -> u32
+        ensures { result ≡ sum (counts_of self.now) }
+    {
+        let mut needed = 0;
+        for slot in &self.slots[..self.used as usize] {
+            needed += u32::from(slot.count);
+        }
+        needed
+    }
+}
+
+/// The slots of the receivers that lack cards.
+fn lacking(known: &Known) -> SlotList
+    ensures { result ≡ slots (state_of known.now) }
+{
+    let mut lacking = SlotList::new();
+    let board = full_board(known.game).saturating_sub(known.board.count() as u8);
+    lacking.add(Receiver::Board, board);
+    let full = full_hand(known.game);
+    for number in 0..known.count {
+        let hand = known.hands[number as usize];
+        lacking.add(
+            Receiver::Hand(number),
+            full.saturating_sub(hand.count() as u8),
+        );
+    }
+    lacking
+}
+
+/// What is still to be dealt in a known state. None exactly where fewer cards may come than are
+/// lacking.
+pub fn shape(known: &Known) -> Option<Shape>
+    ensures none { let st = state_of known.now in
+        IsNone result ↔ (length (unseen st) < sum (counts_of (slots st))) }
+    ensures shape { IfSome result (λ s. IsShapeOf (state_of known.now) s) }
+{
+    let unseen = unseen_cards(known);
+    let lacking = lacking(known);
+    if unseen.count() < lacking.needed() {
+        return None;
+    }
+    Some(Shape {
+        unseen,
+        slots: lacking.slots,
+        used: lacking.used,
+    })
+}

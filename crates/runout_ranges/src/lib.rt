@@ -1,0 +1,21 @@
+//! What is still to be dealt in a known state, and every way to deal it, one after the other.
+//!
+//! Clauses see a runout as a list of sets of cards, one for each slot, and all runouts of a shape as
+//! the list `runouts_of`. `first_runout` and `advance` walk that list from its first member to its
+//! last, and `count_runouts` says how long it is.
+#![tactic(auto)]
+
+mod choices;
+mod counting;
+mod lacking;
+mod laws;
+mod shapes;
+mod successor;
+#[cfg(test)]
+mod tests;
+
+pub use counting::{Above, count_runouts};
+pub use lacking::shape;
+pub use laws::{no_runout_twice, runouts_are_counted, runouts_fill_the_slots};
+pub use shapes::{Receiver, Shape, Slot};
+pub use successor::{Runout, advance, first_runout};

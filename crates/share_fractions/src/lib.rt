@@ -1,0 +1,117 @@
+//! Fractions of whole numbers, rounded once, and their text with a fixed number of decimal places.
+#![tactic(auto)]
+
+ghost use Rattle.std.specs.Prelude.{◌≡◌, ℕ, ◌+◌, ◌*◌, ◌/◌, ◌<◌, ◌≤◌, ◌^◌, ◌++◌, length, take, drop};
+ghost use Rattle.std.specs.Fmt.{decimal};
+ghost use Rattle.std.specs.Str.Parse.{digits_value};
+ghost use Rattle.share_fractions.specs.Round.{round, fixed_text, digit_at, last_digits};
+
+mod put;
+#[cfg(test)]
+mod tests;
+
+use itoa::Buffer;
+use put::{put_byte, put_bytes};
+
+/// The most bytes that the text of a `Fixed` has.
+pub const LONGEST_TEXT: usize = 44;
+
+/// A number as a count of units of its last decimal place: 9545 with 2 places is 95.45.
+#[derive(Clone, Copy, Debug, PartialEq, Eq)]
+pub struct Fixed {
+    pub whole: u128,
+    pub places: u32,
+}
+
+/// Ten to a small power.
+fn power_of_ten(exponent: u32) -> u128
+    requires { exponent ≤ 4 }
+    ensures value { result ≡ 10 ^ exponent }
+    ensures bound { result ≤ 10000 }
+    ensures some { 0 < result }
+{
+    match exponent {
+        0 => 1,
+        1 => 10,
+        2 => 100,
+        3 => 1000,
+        _ => 10000,
+    }
+}
+
+/// The fraction with so many decimal places, rounded once, a half up.
+pub fn rounded(numerator: u128, denominator: u128, places: u32) -> Fixed
+    requires some { 0 < denominator }
+    requires small { numerator ≤ 10 ^ 32 }
+    requires small_too { denominator ≤ 10 ^ 32 }
+    requires few { places ≤ 4 }
+    ensures value { result.whole ≡ round numerator denominator places }
+    ensures places { result.places ≡ places }
+{
+    Fixed {
+        whole: (2 * numerator * power_of_ten(places) + denominator) / (2 * denominator),
+        places,
+    }
+}
+
+/// The rounded number is the nearest, and of two as near the greater:
+/// it is at most the fraction and a half unit, and one unit more would be above that.
+pub fn law_rounds_to_the_nearest_half_up()
+    ensures not_above { (a b places : ℕ) → 0 < b →
+        2 * b * round a b places ≤ 2 * a * 10 ^ places + b }
+    ensures not_below { (a b places : ℕ) → 0 < b →
+        2 * a * 10 ^ places + b < 2 * b * (round a b places + 1) }
+{}
+
+/// The digits before the point and the places behind it, put together, are the number,
+/// and the places are as many as are asked for.
+pub fn law_the_text_says_the_number()
+    ensures places { (n places : ℕ) → length (last_digits places n) ≡ places }
+    ensures number { (n places : ℕ) → n < 2 ^ 128 →
+        digits_value 10 (decimal (n / 10 ^ places)) * 10 ^ places
+        + digits_value 10 (last_digits places n) ≡ n }
+{}
+
+/// The glyph of one digit. The last digit has the place 0.
+fn digit(whole: u128, place: u32) -> u8
+    requires { place ≤ 4 }
+    ensures { result ≡ digit_at place whole }
+{
+    b'0' + (whole / power_of_ten(place) % 10) as u8
+}
+
+/// Puts the last digits, so many, at a place, and answers the place behind them.
+fn put_places(out: &mut [u8], at: usize, whole: u128, places: u32) -> usize
+    requires few { places ≤ 4 }
+    requires room { at + places ≤ length out.old }
+    ensures next { result ≡ at + places }
+    ensures written { take result out.new ≡ take at out.old ++ last_digits places whole }
+    ensures behind { drop result out.new ≡ drop result out.old }
+{
+    let mut end = at;
+    for place in (0..places).rev() {
+        end = put_byte(out, end, digit(whole, place));
+    }
+    end
+}
+
+impl Fixed {
+    /// Writes the number at the front of `out`, as `95.45`, and answers how many bytes that are.
+    /// With no decimal place there is no point. The rest of `out` stays.
+    pub fn write(&self, out: &mut [u8]) -> usize
+        requires few { self.now.places ≤ 4 }
+        requires room { 44 ≤ length out.old }
+        ensures written { take result out.new ≡ fixed_text self.now.whole self.now.places }
+        ensures behind { drop result out.new ≡ drop result out.old }
+        ensures short { result ≤ 44 }
+    {
+        let mut buffer = Buffer::new();
+        let units = self.whole / power_of_ten(self.places);
+        let mut end = put_bytes(out, 0, buffer.format(units).as_bytes());
+        if self.places > 0 {
+            end = put_byte(out, end, b'.');
+            end = put_places(out, end, self.whole, self.places);
+        }
+        end
+    }
+}

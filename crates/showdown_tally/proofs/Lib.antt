@@ -1,0 +1,12 @@
+pub mod Places
+pub mod Grown
+pub mod Tops
+pub mod Sets
+pub mod Dealt
+pub mod Full
+pub mod DealtTo
+pub mod Winners
+pub mod PotFacts
+pub mod PotScene
+pub mod Shares
+pub mod KeptOrder

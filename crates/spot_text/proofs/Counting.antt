@@ -1,0 +1,165 @@
+-- How many hands there are, and how many words each part has, word by word.
+use Rattle.std.proofs.Common.{◌≡◌, ℕ, suc, ◌+◌, ◌<◌, ◌≤◌, Bool, true, false, cond, ◌||◌, ◌&&◌, ◌==◌, List, [], ◌∷◌, length, refl, sym, ap, ◌∙◌, Some, None, arith}
+use Rattle.std.specs.List.{onto_first, before_first}
+use Rattle.std.specs.Prelude.{nat_le}
+use Rattle.spot_text.specs.Parts.{is_slash, is_dashes, is_dash, hand_words, board_words}
+use Rattle.spot_text.specs.Spot.{hands_fit, board_fits, players_fit}
+use Rattle.spot_text.proofs.Parts.{before_yes, before_no, slash_first, dashes_first, hand_first, none_first, some_hand}
+
+-- the hands end at a mark behind them
+pub hands_end : (w : List ℕ) (ws : List (List ℕ)) → (is_slash w || is_dashes w) ≡ true → hand_words (w ∷ ws) ≡ [] ∷ []
+hands_end w ws h = at (is_slash w) (is_dashes w) refl refl h
+  where
+    at : (a b : Bool) → is_slash w ≡ a → is_dashes w ≡ b → (a || b) ≡ true → hand_words (w ∷ ws) ≡ [] ∷ []
+    at true b e f g = (slash_first w ws e).0
+    at false true e f g = (dashes_first w ws e f).0
+    at false false e f g = cc
+
+either_no : (a b : Bool) → (a || b) ≡ false → (a ≡ false) × (b ≡ false)
+either_no true b h = cc
+either_no false b h = (refl, h)
+
+pub hands_dash : (w : List ℕ) (ws : List (List ℕ)) → (is_slash w || is_dashes w) ≡ false → is_dash w ≡ true → hand_words (w ∷ ws) ≡ [] ∷ hand_words ws
+hands_dash w ws h dash =
+    let no = either_no (is_slash w) (is_dashes w) h in
+    (hand_first w ws no.0 no.1).0 ∙ ap (λ b. cond b ([] ∷ hand_words ws) (onto_first w (hand_words ws))) dash
+
+pub hands_card : (w : List ℕ) (ws : List (List ℕ)) → (is_slash w || is_dashes w) ≡ false → is_dash w ≡ false → hand_words (w ∷ ws) ≡ onto_first w (hand_words ws)
+hands_card w ws h dash =
+    let no = either_no (is_slash w) (is_dashes w) h in
+    (hand_first w ws no.0 no.1).0 ∙ ap (λ b. cond b ([] ∷ hand_words ws) (onto_first w (hand_words ws))) dash
+
+-- whether hands have two cards each, of which the first has some already
+abbrev pub fit_from : ℕ → List (List (List ℕ)) → Bool
+fit_from own [] = own == 2
+fit_from own (hand ∷ hands) = (own + length hand == 2) && hands_fit hands
+
+and_true : (b : Bool) → (b && true) ≡ b
+and_true true = refl
+and_true false = refl
+
+fit_from_none : (hands : List (List (List ℕ))) → 1 ≤ length hands → fit_from 0 hands ≡ hands_fit hands
+fit_from_none [] h = absurd (omega arith)
+fit_from_none (hand ∷ hands) h = ap (λ n. (n == 2) && hands_fit hands) (let e : 0 + length hand ≡ length hand = omega arith in e)
+
+pub fit_none : (ws : List (List ℕ)) → fit_from 0 (hand_words ws) ≡ hands_fit (hand_words ws)
+fit_none ws = fit_from_none (hand_words ws) (some_hand ws)
+
+one_empty : (own : ℕ) → fit_from own ([] ∷ []) ≡ (own == 2)
+one_empty own = and_true (own + 0 == 2) ∙ ap (λ n. n == 2) (let e : own + 0 ≡ own = omega arith in e)
+
+fit_onto : (own : ℕ) (w : List ℕ) (hands : List (List (List ℕ))) → fit_from own (onto_first w hands) ≡ fit_from (own + 1) hands
+fit_onto own w [] = and_true (own + 1 == 2)
+fit_onto own w (hand ∷ hands) = ap (λ n. (n == 2) && hands_fit hands) (let e : own + suc (length hand) ≡ own + 1 + length hand = omega arith in e)
+
+pub fit_end : (own : ℕ) (w : List ℕ) (ws left : List (List ℕ)) (all : Bool) → fit_from own (hand_words left) ≡ all → left ≡ w ∷ ws →
+    (is_slash w || is_dashes w) ≡ true → (own == 2) ≡ all
+fit_end own w ws left all h more end =
+    sym (sym h ∙ ap (λ l. fit_from own (hand_words l)) more ∙ ap (fit_from own) (hands_end w ws end) ∙ one_empty own)
+
+pub fit_all : (own : ℕ) (left : List (List ℕ)) (all : Bool) → fit_from own (hand_words left) ≡ all → left ≡ [] → (own == 2) ≡ all
+fit_all own left all h none =
+    sym (sym h ∙ ap (λ l. fit_from own (hand_words l)) none ∙ ap (fit_from own) none_first.0 ∙ one_empty own)
+
+fit_at_dash : (own : ℕ) (w : List ℕ) (ws left : List (List ℕ)) (all : Bool) → fit_from own (hand_words left) ≡ all → left ≡ w ∷ ws →
+    (is_slash w || is_dashes w) ≡ false → is_dash w ≡ true → ((own == 2) && hands_fit (hand_words ws)) ≡ all
+fit_at_dash own w ws left all h more on dash =
+    sym (sym h ∙ ap (λ l. fit_from own (hand_words l)) more ∙ ap (fit_from own) (hands_dash w ws on dash)
+    ∙ ap (λ n. (n == 2) && hands_fit (hand_words ws)) (let e : own + 0 ≡ own = omega arith in e))
+
+pub fit_dash : (own : ℕ) (w : List ℕ) (ws left : List (List ℕ)) (all : Bool) → fit_from own (hand_words left) ≡ all → left ≡ w ∷ ws →
+    (is_slash w || is_dashes w) ≡ false → is_dash w ≡ true → own ≡ 2 → fit_from 0 (hand_words ws) ≡ all
+fit_dash own w ws left all h more on dash two =
+    fit_none ws ∙ sym (ap (λ n. (n == 2) && hands_fit (hand_words ws)) two) ∙ fit_at_dash own w ws left all h more on dash
+
+pub fit_not_dash : (own : ℕ) (w : List ℕ) (ws left : List (List ℕ)) (all : Bool) → fit_from own (hand_words left) ≡ all → left ≡ w ∷ ws →
+    (is_slash w || is_dashes w) ≡ false → is_dash w ≡ true → (own ≡ 2 → ⊥) → false ≡ all
+fit_not_dash own w ws left all h more on dash other =
+    let no : (own == 2) ≡ false = grind arith in
+    sym (ap (λ b. b && hands_fit (hand_words ws)) no) ∙ fit_at_dash own w ws left all h more on dash
+
+pub fit_card : (own : ℕ) (w : List ℕ) (ws left : List (List ℕ)) (all : Bool) → fit_from own (hand_words left) ≡ all → left ≡ w ∷ ws →
+    (is_slash w || is_dashes w) ≡ false → is_dash w ≡ false → fit_from (own + 1) (hand_words ws) ≡ all
+fit_card own w ws left all h more on card =
+    sym (sym h ∙ ap (λ l. fit_from own (hand_words l)) more ∙ ap (fit_from own) (hands_card w ws on card) ∙ fit_onto own w (hand_words ws))
+
+too_many : (own : ℕ) (hands : List (List (List ℕ))) → own ≡ 2 → fit_from (own + 1) hands ≡ false
+too_many own [] two = grind arith
+too_many own (hand ∷ hands) two = let no : (own + 1 + length hand == 2) ≡ false = grind arith in rw no refl
+
+pub fit_not_card : (own : ℕ) (w : List ℕ) (ws left : List (List ℕ)) (all : Bool) → fit_from own (hand_words left) ≡ all → left ≡ w ∷ ws →
+    (is_slash w || is_dashes w) ≡ false → is_dash w ≡ false → own ≡ 2 → false ≡ all
+fit_not_card own w ws left all h more on card two =
+    sym (too_many own (hand_words ws) two) ∙ fit_card own w ws left all h more on card
+
+-- the number of hands
+length-onto_first : (w : List ℕ) (hands : List (List (List ℕ))) → 1 ≤ length hands → length (onto_first w hands) ≡ length hands
+length-onto_first w [] h = absurd (omega arith)
+length-onto_first w (hand ∷ hands) h = refl
+
+pub count_end : (w : List ℕ) (ws left : List (List ℕ)) → left ≡ w ∷ ws → (is_slash w || is_dashes w) ≡ true → length (hand_words left) ≡ 1
+count_end w ws left more end = ap (λ l. length (hand_words l)) more ∙ ap length (hands_end w ws end)
+
+pub count_all : (left : List (List ℕ)) → left ≡ [] → length (hand_words left) ≡ 1
+count_all left none = ap (λ l. length (hand_words l)) none ∙ ap length none_first.0
+
+pub count_dash : (w : List ℕ) (ws left : List (List ℕ)) → left ≡ w ∷ ws → (is_slash w || is_dashes w) ≡ false → is_dash w ≡ true →
+    length (hand_words left) ≡ length (hand_words ws) + 1
+count_dash w ws left more on dash =
+    let one = ap (λ l. length (hand_words l)) more ∙ ap length (hands_dash w ws on dash) in
+    one ∙ (let e : suc (length (hand_words ws)) ≡ length (hand_words ws) + 1 = omega arith in e)
+
+pub count_card : (w : List ℕ) (ws left : List (List ℕ)) → left ≡ w ∷ ws → (is_slash w || is_dashes w) ≡ false → is_dash w ≡ false →
+    length (hand_words left) ≡ length (hand_words ws)
+count_card w ws left more on card =
+    ap (λ l. length (hand_words l)) more ∙ ap length (hands_card w ws on card) ∙ length-onto_first w (hand_words ws) (some_hand ws)
+
+-- the words of the board that are left
+abbrev pub board_left : Bool → List (List ℕ) → List (List ℕ)
+board_left true ws = before_first is_slash ws
+board_left false ws = board_words ws
+
+pub board_end : (on : Bool) (w : List ℕ) (ws left : List (List ℕ)) → left ≡ w ∷ ws → is_slash w ≡ true → board_left on left ≡ []
+board_end true w ws left more slash = ap (before_first is_slash) more ∙ before_yes is_slash w ws slash
+board_end false w ws left more slash = ap board_words more ∙ (slash_first w ws slash).1
+
+pub board_all : (on : Bool) (left : List (List ℕ)) → left ≡ [] → board_left on left ≡ []
+board_all true left none = ap (before_first is_slash) none
+board_all false left none = ap board_words none ∙ none_first.1
+
+pub board_more : (w : List ℕ) (ws left : List (List ℕ)) → left ≡ w ∷ ws → is_slash w ≡ false → board_left true left ≡ w ∷ board_left true ws
+board_more w ws left more slash = ap (before_first is_slash) more ∙ before_no is_slash w ws slash
+
+pub board_begins : (w : List ℕ) (ws left : List (List ℕ)) → left ≡ w ∷ ws → is_slash w ≡ false → is_dashes w ≡ true →
+    board_left false left ≡ board_left true ws
+board_begins w ws left more slash dashes = ap board_words more ∙ (dashes_first w ws slash dashes).1
+
+pub board_later : (w : List ℕ) (ws left : List (List ℕ)) → left ≡ w ∷ ws → is_slash w ≡ false → is_dashes w ≡ false →
+    board_left false left ≡ board_left false ws
+board_later w ws left more slash dashes = ap board_words more ∙ (hand_first w ws slash dashes).1
+
+-- what the counts say
+pub fits_none : (count n : ℕ) → count ≡ n → count ≡ 0 → (count == 0) ≡ board_fits n
+fits_none count n is zero = let none : n ≡ 0 = omega arith in rw (zero, none) refl
+
+pub fits_some : (count n : ℕ) → count ≡ n → count ≤ 5 → (count ≡ 0 → ⊥) → nat_le 3 count ≡ board_fits n
+fits_some count n is few some =
+    let other : (n == 0) ≡ false = grind arith in
+    let small : nat_le n 5 ≡ true = grind arith in
+    rw (other, small, is) (sym (and_true (nat_le 3 n)))
+
+pub players_many : (n count left rest : ℕ) → count + left ≡ 1 + n → left ≡ rest + 1 → 1 ≤ rest → count ≡ 10 → None ≡ cond (players_fit n) (Some n) None
+players_many n count left rest is more some ten =
+    let two : nat_le 2 n ≡ true = grind arith in
+    let many : nat_le n 10 ≡ false = grind arith in
+    rw (two, many) refl
+
+pub players_few : (n count left : ℕ) → count + left ≡ 1 + n → left ≡ 1 → count < 2 → None ≡ cond (players_fit n) (Some n) None
+players_few n count left is one few = let two : nat_le 2 n ≡ false = grind arith in rw two refl
+
+pub players_some : (n count left : ℕ) → count + left ≡ 1 + n → left ≡ 1 → 2 ≤ count → count ≤ 10 → Some count ≡ cond (players_fit n) (Some n) None
+players_some n count left is one some few =
+    let two : nat_le 2 n ≡ true = grind arith in
+    let ten : nat_le n 10 ≡ true = grind arith in
+    let same : count ≡ n = omega arith in
+    rw (two, ten, same) refl

@@ -1,0 +1,11 @@
+pub mod FirstWord
+pub mod Apart
+pub mod Parts
+pub mod Standing
+pub mod Counting
+pub mod Gathering
+pub mod Sizes
+pub mod Repeats
+pub mod Whole
+pub mod WrittenWords
+pub mod Writing

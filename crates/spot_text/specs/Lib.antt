@@ -1,0 +1,5 @@
+pub mod Words
+pub mod Parts
+pub mod Spot
+pub mod Written
+pub mod Sections

@@ -1,0 +1,75 @@
+//! How many hands and cards a spot has.
+
+ghost use Rattle.std.specs.Prelude.{◌≡◌, if◌then◌else◌, length, Some, None};
+ghost use Rattle.spot_text.specs.Words.{words_left};
+ghost use Rattle.spot_text.specs.Parts.{hand_words, board_words};
+ghost use Rattle.spot_text.specs.Spot.{hands_fit, board_fits, players_fit};
+
+use crate::marks::{ends_hands, is_dash, is_dashes, is_slash};
+use crate::words::Words;
+
+/// Whether each hand has two cards.
+pub(crate) fn hands_are_pairs(words: Words) -> bool
+    ensures { result ≡ hands_fit (hand_words (words_left words.entry)) }
+{
+    let mut own = 0u8;
+    for word in words {
+        if ends_hands(word) {
+            return own == 2;
+        }
+        if is_dash(word) {
+            if own != 2 {
+                return false;
+            }
+            own = 0;
+        } else {
+            if own == 2 {
+                return false;
+            }
+            own += 1;
+        }
+    }
+    own == 2
+}
+
+/// Whether the board has none, three, four or five cards.
+pub(crate) fn board_fits(words: Words) -> bool
+    ensures { result ≡ board_fits (length (board_words (words_left words.entry))) }
+{
+    let mut on_board = false;
+    let mut count = 0u8;
+    for word in words {
+        if is_slash(word) {
+            break;
+        }
+        if on_board {
+            if count == 5 {
+                return false;
+            }
+            count += 1;
+        } else if is_dashes(word) {
+            on_board = true;
+        }
+    }
+    count == 0 || count >= 3
+}
+
+/// The number of players, if they are two to ten.
+pub(crate) fn player_count(words: Words) -> Option<u8>
+    ensures { let count = length (hand_words (words_left words.entry)) in
+        result ≡ (if players_fit count then Some count else None) }
+{
+    let mut count = 1u8;
+    for word in words {
+        if ends_hands(word) {
+            break;
+        }
+        if is_dash(word) {
+            if count == 10 {
+                return None;
+            }
+            count += 1;
+        }
+    }
+    if count < 2 { None } else { Some(count) }
+}

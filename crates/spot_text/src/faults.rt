@@ -1,0 +1,22 @@
+//! Why a spot line is refused.
+
+use card_sets::Card;
+
+/// Why a spot line is refused. They are tested in this order over the whole line.
+#[derive(Clone, Copy, Debug, PartialEq, Eq, Drop)]
+pub enum SpotFault {
+    /// The first word is no game word, or there is no word.
+    UnknownWord,
+    /// A word behind it is neither a card nor a mark in its place.
+    BadCard,
+    /// A card stands twice: the first word, from the left, that repeats an earlier one.
+    TwiceCard(Card),
+    /// A hand hasn't two cards.
+    HandSize,
+    /// The board hasn't none, three, four or five cards.
+    BoardSize,
+    /// There are fewer than two hands, or more than ten.
+    PlayerCount,
+    /// Fewer cards may still come than the board and the hands lack.
+    DeckShort,
+}

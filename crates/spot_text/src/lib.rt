@@ -1,0 +1,24 @@
+//! Spot lines: the known cards of a deal of hold'em, written in one line of words.
+//!
+//! A line is `holdem` and the hands, two cards each, with a `-` between hands. Behind them may
+//! stand `--` and the board, and then `/` and the dead cards, as in
+//! `holdem As Ah - Kd Qd - 9c 9d -- Jd Td 2c / 3h`. Words stand between spaces and tabs.
+#![tactic(auto)]
+
+mod counts;
+mod faults;
+mod form;
+mod gather;
+mod laws;
+mod marks;
+mod spot;
+#[cfg(test)]
+mod tests;
+mod words;
+
+pub use faults::SpotFault;
+pub use laws::{
+    law_a_written_spot_is_read, law_the_first_repeated_card, law_written_words_are_read,
+};
+pub use spot::read_spot;
+pub use words::has_word;
