@@ -6,16 +6,14 @@ ghost use Rattle.showdown_tally.specs.Deals.{deal_of};
 ghost use Rattle.showdown_tally.specs.Tallies.{Counts, runouts_after};
 
 use crate::Job;
-use card_sets::Game;
 use runout_ranges::{Runout, advance, first_runout};
 use showdown_tally::{Tally, settle_runout};
 use std::marker::Brand;
 use std::sync::ledger::{Blank, Ledger};
 use step_count::Steps;
 
-/// The tally of all runouts of a job of Hold'em. It takes one step a runout, and no memory.
+/// The tally of all runouts of a job. It takes one step a runout, and no memory.
 pub fn count_plain<L: Ledger>(job: &Job, steps: &mut Steps<L>) -> Tally
-    requires dealt { job.now.table.known.game ≡ Game.Holdem }
     ensures counts { Counts (deal_of job.now.table) (runouts_after (state_of job.now.table.known)) result }
     ensures some { 0 < result.runouts }
     ensures steps { steps.new ≡ steps.old + length (runouts_after (state_of job.now.table.known)) }
@@ -33,7 +31,6 @@ pub fn count_plain<L: Ledger>(job: &Job, steps: &mut Steps<L>) -> Tally
 
 /// The same with a counter of its own, which begins at 0.
 fn count_on<L: Ledger>(job: &Job, blank: Blank) -> Tally
-    requires dealt { job.now.table.known.game ≡ Game.Holdem }
     requires name { blank.name ≡ L.name }
     requires parts { blank.parts ≡ L.parts }
     requires some { 0 < blank.parts }
@@ -44,9 +41,8 @@ fn count_on<L: Ledger>(job: &Job, blank: Blank) -> Tally
     count_plain(job, &mut steps)
 }
 
-/// The tally of all runouts of a job of Hold'em, for a caller that counts no steps.
+/// The tally of all runouts of a job, for a caller that counts no steps.
 pub fn count_job(job: &Job) -> Tally
-    requires dealt { job.now.table.known.game ≡ Game.Holdem }
     ensures counts { Counts (deal_of job.now.table) (runouts_after (state_of job.now.table.known)) result }
     ensures some { 0 < result.runouts }
 {

@@ -7,7 +7,7 @@ ghost use Rattle.std.specs.Prelude.{◌≡◌, ◌<◌, [], ◌∷◌};
 
 use crate::{Job, JobFault, count_job};
 use card_sets::{Card, CardSet, Game, Known, Side};
-use showdown_tally::{Cell, Table};
+use showdown_tally::{Cell, Table, Tally};
 use std::test::Fail;
 
 /// The card of a number.
@@ -69,9 +69,7 @@ fn hands(a: CardSet, b: CardSet, c: CardSet) -> [CardSet; 10]
 }
 
 /// As Ah against Ks Kh, with 2c 4s 7d 9h on the board.
-fn turn_spot() -> Table
-    ensures { result.known.game ≡ Game.Holdem }
-{
+fn turn_spot() -> Table {
     let none = CardSet::empty();
     let known = Known {
         game: Game::Holdem,
@@ -88,9 +86,7 @@ fn turn_spot() -> Table
 }
 
 /// As Ah against Ks Kh, with 2c 7c 9c on the board.
-fn flop_spot() -> Table
-    ensures { result.known.game ≡ Game.Holdem }
-{
+fn flop_spot() -> Table {
     let none = CardSet::empty();
     let known = Known {
         game: Game::Holdem,
@@ -107,15 +103,64 @@ fn flop_spot() -> Table
 }
 
 /// The same with 7d 9h on turn and river, so that nothing is to come.
-fn river_spot() -> Table
-    ensures { result.known.game ≡ Game.Holdem }
-{
+fn river_spot() -> Table {
     let none = CardSet::empty();
     let known = Known {
         game: Game::Holdem,
         count: 2,
         hands: hands(two(50, 51), two(46, 47), none),
         board: five(0, 20, 21, 28, 30),
+        dead: none,
+    };
+    Table {
+        known,
+        pots: 1,
+        eligible: [3, 0, 0, 0, 0, 0, 0, 0, 0, 0],
+    }
+}
+
+/// As 2s Kd Kh against Qc Qd Jc Jd, with 3h 4c 8s 9h on the board.
+fn omaha_spot() -> Table {
+    let none = CardSet::empty();
+    let known = Known {
+        game: Game::Omaha8,
+        count: 2,
+        hands: hands(four(3, 45, 46, 51), four(36, 37, 40, 41), none),
+        board: four(6, 8, 27, 30),
+        dead: none,
+    };
+    Table {
+        known,
+        pots: 1,
+        eligible: [3, 0, 0, 0, 0, 0, 0, 0, 0, 0],
+    }
+}
+
+/// As 2s Kd Kh against Ac 2c 3d 4d, with 7h 8h Tc Jc on the board.
+fn quartered_spot() -> Table {
+    let none = CardSet::empty();
+    let known = Known {
+        game: Game::Omaha8,
+        count: 2,
+        hands: hands(four(3, 45, 46, 51), four(0, 5, 9, 48), none),
+        board: four(22, 26, 32, 36),
+        dead: none,
+    };
+    Table {
+        known,
+        pots: 1,
+        eligible: [3, 0, 0, 0, 0, 0, 0, 0, 0, 0],
+    }
+}
+
+/// 7c 5d 4h 3s 2c, who stands pat, against 7d 5h 4s 3c, who draws one.
+fn one_card_draw() -> Table {
+    let none = CardSet::empty();
+    let known = Known {
+        game: Game::Lowball27,
+        count: 2,
+        hands: hands(five(0, 7, 10, 13, 20), four(4, 11, 14, 21), none),
+        board: none,
         dead: none,
     };
     Table {
@@ -293,4 +338,53 @@ fn one_dead_card_decides_on_the_deck(rt: HostRuntime) {
         Some(JobFault::DeckShort),
         "48 cards for 49"
     );
+}
+
+/// The cells of both hands on a side.
+fn cells(tally: &Tally, side: Side) -> [Cell; 2] {
+    [tally.cell(0, 0, side), tally.cell(0, 1, side)]
+}
+
+/// So many wins, ties and losses.
+fn cell(win: u64, tie: u64, lose: u64) -> Cell {
+    Cell { win, tie, lose }
+}
+
+#[test]
+fn a_pot_of_omaha_is_divided(rt: HostRuntime) -> Result<(), Fail> {
+    let job = Job::make(&omaha_spot()).ok().ok_or("no job")?;
+    let tally = count_job(&job);
+    assert_eq!(rt; tally.runouts(), 40);
+    assert_eq!(rt; cells(&tally, Side::High), [cell(32, 0, 8), cell(8, 0, 32)]);
+    assert_eq!(rt; cells(&tally, Side::Low), [cell(40, 0, 0), cell(0, 0, 40)]);
+    assert_eq!(rt; tally.units(0, 0), 72 * 2520);
+    assert_eq!(rt; tally.units(0, 1), 8 * 2520);
+    Ok(())
+}
+
+#[test]
+fn a_low_that_nobody_has_goes_to_the_high(rt: HostRuntime) -> Result<(), Fail> {
+    let job = Job::make(&quartered_spot()).ok().ok_or("no job")?;
+    let tally = count_job(&job);
+    assert_eq!(rt; tally.runouts(), 40);
+    assert_eq!(rt; cells(&tally, Side::High), [cell(31, 0, 9), cell(9, 0, 31)]);
+    assert_eq!(rt;
+        cells(&tally, Side::Low),
+        [cell(0, 14, 26), cell(4, 14, 22)]
+    );
+    assert_eq!(rt; tally.units(0, 0), 138_600);
+    assert_eq!(rt; tally.units(0, 1), 63_000);
+    Ok(())
+}
+
+#[test]
+fn a_six_makes_a_straight_in_deuce_to_seven(rt: HostRuntime) -> Result<(), Fail> {
+    let job = Job::make(&one_card_draw()).ok().ok_or("no job")?;
+    let tally = count_job(&job);
+    assert_eq!(rt; tally.runouts(), 43);
+    assert_eq!(rt; cells(&tally, Side::Low), [cell(40, 3, 0), cell(0, 3, 40)]);
+    assert_eq!(rt; cells(&tally, Side::High), [cell(0, 0, 0), cell(0, 0, 0)]);
+    assert_eq!(rt; tally.units(0, 0), 40 * 5040 + 3 * 2520);
+    assert_eq!(rt; tally.units(0, 1), 3 * 2520);
+    Ok(())
 }

@@ -4,7 +4,11 @@
 #[cfg(test)]
 mod bytes;
 #[cfg(test)]
+mod checks;
+#[cfg(test)]
 mod faults;
+#[cfg(test)]
+mod histories;
 #[cfg(test)]
 mod refusals;
 #[cfg(test)]

@@ -2,3 +2,4 @@ pub mod LineFacts
 pub mod TextFacts
 pub mod PlaceFacts
 pub mod LawFacts
+pub mod Digits

@@ -2,7 +2,7 @@
 use Rattle.std.proofs.Common.{◌≡◌, ℕ, ◌+◌, ◌-◌, ◌<◌, ◌≤◌, List, ◌∷◌, ◌++◌, length, take, drop, min, refl, ap, sym, ◌∙◌, arith, length-drop}
 use Rattle.std.specs.Prelude.{slice_range}
 use Rattle.std.proofs.lemmas.List.{take-append-drop, drop-drop, take_all}
-use Rattle.line_text.specs.declared.Line.{Line}
+use Rattle.line_text.specs.declared.lines.Line.{Line}
 use Rattle.line_text.specs.Lines.{front_line, behind_line, lines, text_of, without_blanks, without_mark}
 use Rattle.line_text.specs.Places.{mark_length, newline_length, line_at, IsWithin}
 use Rattle.line_text.proofs.LineFacts.{front_line-take, behind_line-drop, newline_end, lines-front}

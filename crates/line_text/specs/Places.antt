@@ -1,7 +1,7 @@
 -- Where a line stands in the bytes.
 use Rattle.std.specs.Prelude.{ℕ, ◌+◌, ◌<◌, ◌≤◌, if◌then◌else◌, nat_eq, List, length, drop}
 use Rattle.std.specs.List.{starts_with}
-use Rattle.line_text.specs.declared.Line.{Line}
+use Rattle.line_text.specs.declared.lines.Line.{Line}
 use Rattle.line_text.specs.Lines.{front_line, has_newline, mark, text_of}
 
 -- how many bytes of a line its mark takes

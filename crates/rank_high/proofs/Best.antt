@@ -16,12 +16,12 @@ use Rattle.rank_high.specs.Laws.{IsBest}
 use Rattle.rank_high.proofs.Order.{IsHighList, value_of-order, high-IsHighList}
 
 -- each list is what some cards are worth
-abbrev AreHighLists : List (List ℕ) → Type 0
+abbrev pub AreHighLists : List (List ℕ) → Type 0
 AreHighLists [] = Unit {0}
 AreHighLists (l ∷ ls) = IsHighList l × AreHighLists ls
 
 -- each list has so many members
-abbrev HaveLength : ℕ → List (List ℕ) → Type 0
+abbrev pub HaveLength : ℕ → List (List ℕ) → Type 0
 HaveLength n [] = Unit {0}
 HaveLength n (l ∷ ls) = (length l ≡ n) × HaveLength n ls
 
@@ -33,13 +33,13 @@ HaveLength-map : (n x : ℕ) (ls : List (List ℕ)) → HaveLength n ls → Have
 HaveLength-map n x [] p = tt
 HaveLength-map n x (l ∷ ls) p = (let e : length l ≡ n = p.0 in omega arith, HaveLength-map n x ls p.1)
 
-HaveLength-choose : (k : ℕ) (xs : List ℕ) → HaveLength k (choose k xs)
+pub HaveLength-choose : (k : ℕ) (xs : List ℕ) → HaveLength k (choose k xs)
 HaveLength-choose zero xs = (refl, tt)
 HaveLength-choose (suc k) [] = tt
 HaveLength-choose (suc k) (x ∷ xs) =
     HaveLength-append (suc k) (map (λ rest. x ∷ rest) (choose k xs)) (choose (suc k) xs) (HaveLength-map k x (choose k xs) (HaveLength-choose k xs)) (HaveLength-choose (suc k) xs)
 
-AreHighLists-map : (taken : List ℕ) (k : ℕ) (ls : List (List ℕ)) → length taken + k ≡ 5 → HaveLength k ls → AreHighLists (map (λ more. high (taken ++ more)) ls)
+pub AreHighLists-map : (taken : List ℕ) (k : ℕ) (ls : List (List ℕ)) → length taken + k ≡ 5 → HaveLength k ls → AreHighLists (map (λ more. high (taken ++ more)) ls)
 AreHighLists-map taken k [] h p = tt
 AreHighLists-map taken k (l ∷ ls) h p =
     let whole : length (taken ++ l) ≡ length taken + length l = length-append taken l in
@@ -47,11 +47,11 @@ AreHighLists-map taken k (l ∷ ls) h p =
     (high-IsHighList (taken ++ l) (omega arith), AreHighLists-map taken k ls h p.1)
 
 -- the greatest of some numbers
-abbrev greatest : List ℕ → ℕ
+abbrev pub greatest : List ℕ → ℕ
 greatest [] = 0
 greatest (x ∷ xs) = max x (greatest xs)
 
-greatest-append : (xs ys : List ℕ) → greatest (xs ++ ys) ≡ max (greatest xs) (greatest ys)
+pub greatest-append : (xs ys : List ℕ) → greatest (xs ++ ys) ≡ max (greatest xs) (greatest ys)
 greatest-append [] ys = omega arith
 greatest-append (x ∷ xs) ys = let ih : greatest (xs ++ ys) ≡ max (greatest xs) (greatest ys) = greatest-append xs ys in omega arith
 
@@ -65,7 +65,7 @@ greater l m p q = ap (λ o. value_of (cond (is_lt o) m l)) (sym (value_of-order 
   ]
 ]
 
-value_of-none : value_of [] ≡ 0
+pub value_of-none : value_of [] ≡ 0
 unfolding value_of
 value_of-none = refl
 
@@ -82,7 +82,7 @@ greatest_of-IsHighList l [] p q = let P : List ℕ → Type 0 = λ m. IsHighList
 greatest_of-IsHighList l (m ∷ ms) p q = greater_high (is_lt (slice_cmp nat_cmp l (greatest_of (m ∷ ms)))) l (greatest_of (m ∷ ms)) p (greatest_of-IsHighList m ms q.0 q.1)
 
 -- the number of the greatest list is the greatest of their numbers
-value_of-greatest_of : (ls : List (List ℕ)) → AreHighLists ls → value_of (greatest_of ls) ≡ greatest (map value_of ls)
+pub value_of-greatest_of : (ls : List (List ℕ)) → AreHighLists ls → value_of (greatest_of ls) ≡ greatest (map value_of ls)
 value_of-greatest_of [] p = value_of-none
 value_of-greatest_of (l ∷ []) p = ap value_of (alone l p.0) ∙ omega arith
 value_of-greatest_of (l ∷ m ∷ ms) p =
@@ -131,7 +131,7 @@ best-step taken k x rest h =
     ∙ ap (λ v. max (best_value (taken ++ x ∷ []) k rest) v) (sym (best-numbers taken (suc k) rest h))
 
 -- nothing can be chosen from too few
-choose-short : (k : ℕ) (xs : List ℕ) → length xs < k → choose k xs ≡ []
+pub choose-short : (k : ℕ) (xs : List ℕ) → length xs < k → choose k xs ≡ []
 choose-short zero xs h = absurd (omega arith)
 choose-short (suc k) [] h = refl
 choose-short (suc k) (x ∷ xs) h =
@@ -210,7 +210,7 @@ choose-some (suc k) (x ∷ xs) h =
     (x ∷ some.0, map (λ rest. x ∷ rest) some.1 ++ choose (suc k) xs, ap (λ ls. map (λ rest. x ∷ rest) ls ++ choose (suc k) xs) some.2)
 
 -- of all there are one choice is made
-choose-all : (xs : List ℕ) → choose (length xs) xs ≡ xs ∷ []
+pub choose-all : (xs : List ℕ) → choose (length xs) xs ≡ xs ∷ []
 choose-all [] = refl
 choose-all (x ∷ xs) =
     let rest : choose (length xs) xs ≡ xs ∷ [] = choose-all xs in
@@ -222,7 +222,7 @@ unfolding best_high
 best_high-five five h =
     ap (λ k. greatest_of (map high (choose k five))) (sym h) ∙ ap (λ ls. greatest_of (map high ls)) (choose-all five) ∙ alone (high five) (high-IsHighList five (omega arith))
 
-fives : (cards : List ℕ) → AreHighLists (map high (choose 5 cards))
+pub fives : (cards : List ℕ) → AreHighLists (map high (choose 5 cards))
 fives cards = AreHighLists-map [] 5 (choose 5 cards) (omega arith) (HaveLength-choose 5 cards)
 
 greatest_of-some : (ls : List (List ℕ)) (l : List ℕ) (rest : List (List ℕ)) → ls ≡ l ∷ rest → AreHighLists ls → IsHighList (greatest_of ls)
@@ -253,7 +253,7 @@ high_at [] k d p h = absurd (omega arith)
 high_at (l ∷ ls) zero d p h = p.0
 high_at (l ∷ ls) (suc k) d p h = high_at ls k d p.1 (omega arith)
 
-not_less : (a b : ℕ) → b ≤ a → nat_cmp a b ≡ Less → ⊥
+pub not_less : (a b : ℕ) → b ≤ a → nat_cmp a b ≡ Less → ⊥
 not_less a b h e = true≢false (sym (ap is_lt e) ∙ not_lt)
   where
     not_lt : is_lt (nat_cmp a b) ≡ false

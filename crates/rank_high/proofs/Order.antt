@@ -25,7 +25,7 @@ digits_from-lt (suc k) (x ∷ xs) d =
     omega arith
 
 -- a smaller first number makes a smaller number
-first_less : (b x y r s : ℕ) → x < y → r < b → x * b + r < y * b + s
+pub first_less : (b x y r s : ℕ) → x < y → r < b → x * b + r < y * b + s
 first_less b x y r s l h =
     let m : (x + 1) * b ≤ y * b = mul-le-mul_right b (omega arith) in
     omega arith
@@ -60,7 +60,7 @@ cons_order k x y xs ys p q rest = elim (cases_order x y) [
   ]
 ]
 
-digits_order : (k : ℕ) (xs ys : List ℕ) → length xs ≤ k → length ys ≤ k → AreDigits xs → AreDigits ys
+pub digits_order : (k : ℕ) (xs ys : List ℕ) → length xs ≤ k → length ys ≤ k → AreDigits xs → AreDigits ys
     → nat_cmp (digits_from k xs) (digits_from k ys) ≡ slice_cmp nat_cmp xs ys
 digits_order zero [] [] a b p q = refl
 digits_order zero (x ∷ xs) ys a b p q = absurd (omega arith)
@@ -81,7 +81,7 @@ value_of-order [] ys p q = absurd p
 value_of-order (c ∷ ps) [] p q = absurd q
 value_of-order (c ∷ ps) (d ∷ qs) p q = cons_order 5 c d ps qs p.1 q.1 (digits_order 5 ps qs p.2 q.2 p.1 q.1)
 
-AreDigits-map : (ranks : List ℕ) → AreBelow 13 ranks → AreDigits (map (λ r. r + 2) ranks)
+pub AreDigits-map : (ranks : List ℕ) → AreBelow 13 ranks → AreDigits (map (λ r. r + 2) ranks)
 AreDigits-map [] b = tt
 AreDigits-map (r ∷ ranks) b = (omega arith, omega arith, AreDigits-map ranks b.1)
 
@@ -93,7 +93,7 @@ AreDigits-pips ranks b = one (is_wheel ranks)
     one true = (omega arith, omega arith, (omega arith, omega arith, (omega arith, omega arith, (omega arith, omega arith, (omega arith, omega arith, tt)))))
     one false = AreDigits-map ranks b
 
-length-map_two : (ranks : List ℕ) → length (map (λ r. r + 2) ranks) ≡ length ranks
+pub length-map_two : (ranks : List ℕ) → length (map (λ r. r + 2) ranks) ≡ length ranks
 length-map_two [] = refl
 length-map_two (r ∷ ranks) = let ih : length (map (λ r. r + 2) ranks) ≡ length ranks = length-map_two ranks in omega arith
 

@@ -5,6 +5,7 @@
 #![tactic(auto)]
 
 mod best_five;
+mod by_ranks;
 mod five_cards;
 mod laws;
 mod rank_groups;
@@ -12,11 +13,13 @@ mod rank_groups;
 mod tests;
 mod values;
 
-pub use best_five::high_of_set;
-pub use five_cards::high_of_five;
+pub use best_five::{high_by_ranks, high_of_set, high_of_suit};
+pub use five_cards::{category, high_of_five, is_flush};
 pub use laws::{
-    best_is_unbeaten, best_numbers_keep_order, best_of_five, categories_are_usual,
-    flush_beats_straight, groups_are_in_order, numbers_keep_order, straights_are_usual,
-    suits_dont_matter, three_beats_two_pair, wheel_is_lowest,
+    law_best_is_unbeaten, law_best_numbers_keep_order, law_best_of_five, law_categories_are_usual,
+    law_flush_beats_straight, law_flushes_by_ranks, law_groups_are_in_order,
+    law_numbers_keep_order, law_ranks_decide, law_ranks_or_a_suit, law_straights_are_usual,
+    law_suits_dont_matter, law_three_beats_two_pair, law_wheel_is_lowest,
 };
-pub use values::HighValue;
+pub use rank_groups::{Groups, falls_by_one, group_ranks, rank_counts};
+pub use values::{HighValue, value};

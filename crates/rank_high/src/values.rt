@@ -29,9 +29,17 @@ impl HighValue {
     }
 }
 
+/// The value of a number.
+#[inline]
+pub(crate) fn numbered(number: u32) -> HighValue
+    ensures { result ≡ number }
+{
+    HighValue(number)
+}
+
 /// The value of a category and at most five ranks as they count, in base 16.
 #[inline]
-pub(crate) fn value(category: u32, pips: &[u8]) -> HighValue
+pub fn value(category: u32, pips: &[u8]) -> HighValue
     requires { value_of (category ∷ pips.now) < 2 ^ 32 }
     ensures { result ≡ value_of (category ∷ pips.now) }
 {

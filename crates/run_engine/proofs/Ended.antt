@@ -1,8 +1,10 @@
 -- One lemma for each way in which a run ends.
-use Rattle.std.proofs.Common.{◌≡◌, ℕ, ◌<◌, ◌≤◌, List, length, Option, Some, None, inl, inr, ◌⊎◌, arith, refl}
+use Rattle.std.proofs.Common.{◌≡◌, ℕ, ◌<◌, ◌≤◌, List, length, Option, Some, None, inl, inr, ◌⊎◌, arith, refl, sym}
+use mathlib.Core.Bool.{true≢false}
 use Rattle.std.specs.Prelude.{IfSome}
 use Rattle.byte_ends.specs.Ends.{Rises, WritesAll, WritesFront}
-use Rattle.run_engine.specs.Command.{IsCommand, usage_line}
+use Rattle.run_engine.specs.Command.{usage_line}
+use Rattle.run_engine.specs.declared.command.Mode.{Mode}
 use Rattle.run_engine.specs.Reading.{ReadWhole, ReadTooMuch}
 use Rattle.run_engine.specs.Headline.{IsRun, Ends, IsFinished, IsReadFault, IsWriteFault, IsTooLong, IsMemoryShort}
 
@@ -19,21 +21,21 @@ beyond limit None left' bytes Q r = tt
 beyond limit (Some all) left' bytes Q r = λ less. absurd (let l = r.0 in omega arith)
 
 -- all was read and written
-pub run_finished : (limit : ℕ) (words : List (List ℕ)) (status : ℕ) (old new : Ends) → (status ≡ 0) ⊎ (status ≡ 1) → IsCommand words → IsFinished limit status old new → IsRun limit words status old new
-run_finished limit words status old new which form end = record {
+pub run_finished : (limit : ℕ) (mode : Mode) (status : ℕ) (old new : Ends) → (status ≡ 0) ⊎ (status ≡ 1) → IsFinished limit mode status old new → IsRun limit (Some mode) status old new
+run_finished limit mode status old new which end = record {
   known = small which;
-  finished = λ _. (form, end);
+  finished = λ _. end;
   usage = λ e. absurd (not_two which e);
-  unread = λ no_form. absurd (no_form form);
+  unread = λ none. absurd (true≢false none);
   read_fault = λ e. absurd (not_three which e);
-  write_fault = λ e _. absurd (not_four which e);
-  usage_fault = λ e no_form. absurd (no_form form);
+  write_fault = λ e. absurd (not_four which e);
+  usage_fault = λ _. tt;
   too_long = λ e. absurd (not_five which e);
-  memory = λ e _. absurd (not_six which e);
-  usage_memory = λ e no_form. absurd (no_form form);
+  memory = λ e. absurd (not_six which e);
+  usage_memory = λ _. tt;
   complete = λ _ _. always old.left (λ bytes. length bytes ≤ limit) _ (one_of which);
   complete_long = λ _ _. within limit old.left new.left end.bytes _ end.read;
-  complete_usage = λ no_form. absurd (no_form form);
+  complete_usage = λ none. absurd (true≢false none);
 }
   where
     small : (status ≡ 0) ⊎ (status ≡ 1) → status ≤ 6
@@ -65,109 +67,113 @@ run_finished limit words status old new which form end = record {
     one_of (inr e) = inr (inl e)
 
 -- the words are in no form, and the usage line is written
-pub run_usage : (limit : ℕ) (words : List (List ℕ)) (old new : Ends) → ¬ IsCommand words → WritesAll old.taken new.taken usage_line → new.left ≡ old.left → new.read_faults ≡ old.read_faults → IsRun limit words 2 old new
-run_usage limit words old new no_form written left faults = record {
+pub run_usage : (limit : ℕ) (old new : Ends) → WritesAll old.taken new.taken usage_line → new.left ≡ old.left → new.read_faults ≡ old.read_faults → IsRun limit None 2 old new
+run_usage limit old new written left faults = record {
   known = omega arith;
   finished = λ s. absurd (elim s [ inl e ↦ omega arith | inr e ↦ omega arith ]);
-  usage = λ _. (no_form, written);
+  usage = λ _. (refl, written);
   unread = λ _. (left, faults);
   read_fault = λ e. absurd (omega arith);
-  write_fault = λ e _. absurd (omega arith);
-  usage_fault = λ e _. absurd (omega arith);
+  write_fault = λ _. tt;
+  usage_fault = λ e. absurd (omega arith);
   too_long = λ e. absurd (omega arith);
-  memory = λ e _. absurd (omega arith);
-  usage_memory = λ e _. absurd (omega arith);
-  complete = λ form _. absurd (no_form form);
-  complete_long = λ form _. absurd (no_form form);
+  memory = λ _. tt;
+  usage_memory = λ e. absurd (omega arith);
+  complete = λ some _. absurd (true≢false (sym some));
+  complete_long = λ some _. absurd (true≢false (sym some));
   complete_usage = λ _ _. inl refl;
 }
 
 -- the words are in no form, and the write of the usage line failed
-pub run_usage_fault : (limit : ℕ) (words : List (List ℕ)) (old new : Ends) → ¬ IsCommand words → Rises old.write_faults new.write_faults → WritesFront old.taken new.taken usage_line → new.left ≡ old.left → new.read_faults ≡ old.read_faults → IsRun limit words 4 old new
-run_usage_fault limit words old new no_form rises front left faults = record {
+pub run_usage_fault : (limit : ℕ) (old new : Ends) → Rises old.write_faults new.write_faults → WritesFront old.taken new.taken usage_line → new.left ≡ old.left → new.read_faults ≡ old.read_faults → IsRun limit None 4 old new
+run_usage_fault limit old new rises front left faults = record {
   known = omega arith;
   finished = λ s. absurd (elim s [ inl e ↦ omega arith | inr e ↦ omega arith ]);
   usage = λ e. absurd (omega arith);
   unread = λ _. (left, faults);
   read_fault = λ e. absurd (omega arith);
-  write_fault = λ _ form. absurd (no_form form);
-  usage_fault = λ _ _. (rises, front);
+  write_fault = λ _. tt;
+  usage_fault = λ _. (rises, front);
   too_long = λ e. absurd (omega arith);
-  memory = λ e _. absurd (omega arith);
-  usage_memory = λ e _. absurd (omega arith);
-  complete = λ form _. absurd (no_form form);
-  complete_long = λ form _. absurd (no_form form);
+  memory = λ _. tt;
+  usage_memory = λ e. absurd (omega arith);
+  complete = λ some _. absurd (true≢false (sym some));
+  complete_long = λ some _. absurd (true≢false (sym some));
   complete_usage = λ _ none. absurd (none rises);
 }
 
 -- a read failed
-pub run_read_fault : (limit : ℕ) (words : List (List ℕ)) (old new : Ends) → IsCommand words → IsReadFault limit old new → IsRun limit words 3 old new
-run_read_fault limit words old new form fault = record {
+pub run_read_fault : (limit : ℕ) (mode : Mode) (old new : Ends) → IsReadFault limit mode old new → IsRun limit (Some mode) 3 old new
+run_read_fault limit mode old new fault = record {
   known = omega arith;
   finished = λ s. absurd (elim s [ inl e ↦ omega arith | inr e ↦ omega arith ]);
   usage = λ e. absurd (omega arith);
-  unread = λ no_form. absurd (no_form form);
-  read_fault = λ _. (form, fault);
-  write_fault = λ e _. absurd (omega arith);
-  usage_fault = λ e _. absurd (omega arith);
+  unread = λ none. absurd (true≢false none);
+  read_fault = λ _. fault;
+  write_fault = λ e. absurd (omega arith);
+  usage_fault = λ _. tt;
   too_long = λ e. absurd (omega arith);
-  memory = λ e _. absurd (omega arith);
-  usage_memory = λ e _. absurd (omega arith);
+  memory = λ e. absurd (omega arith);
+  usage_memory = λ _. tt;
   complete = λ _ faultless. absurd (faultless.read fault.rises);
   complete_long = λ _ faultless. absurd (faultless.read fault.rises);
-  complete_usage = λ no_form. absurd (no_form form);
+  complete_usage = λ none. absurd (true≢false none);
 }
 
 -- a write failed
-pub run_write_fault : (limit : ℕ) (words : List (List ℕ)) (old new : Ends) → IsCommand words → IsWriteFault limit old new → IsRun limit words 4 old new
-run_write_fault limit words old new form fault = record {
+pub run_write_fault : (limit : ℕ) (mode : Mode) (old new : Ends) → IsWriteFault limit mode old new → IsRun limit (Some mode) 4 old new
+run_write_fault limit mode old new fault = record {
   known = omega arith;
   finished = λ s. absurd (elim s [ inl e ↦ omega arith | inr e ↦ omega arith ]);
   usage = λ e. absurd (omega arith);
-  unread = λ no_form. absurd (no_form form);
+  unread = λ none. absurd (true≢false none);
   read_fault = λ e. absurd (omega arith);
-  write_fault = λ _ _. fault;
-  usage_fault = λ _ no_form. absurd (no_form form);
+  write_fault = λ _. fault;
+  usage_fault = λ _. tt;
   too_long = λ e. absurd (omega arith);
-  memory = λ e _. absurd (omega arith);
-  usage_memory = λ e _. absurd (omega arith);
+  memory = λ e. absurd (omega arith);
+  usage_memory = λ _. tt;
   complete = λ _ faultless. absurd (faultless.write fault.rises);
   complete_long = λ _ faultless. absurd (faultless.write fault.rises);
-  complete_usage = λ no_form. absurd (no_form form);
+  complete_usage = λ none. absurd (true≢false none);
 }
 
 -- there was more than the limit
-pub run_too_long : (limit : ℕ) (words : List (List ℕ)) (old new : Ends) → IsCommand words → IsTooLong limit old new → IsRun limit words 5 old new
-run_too_long limit words old new form long = record {
+pub run_too_long : (limit : ℕ) (mode : Mode) (old new : Ends) → IsTooLong limit mode old new → IsRun limit (Some mode) 5 old new
+run_too_long limit mode old new long = record {
   known = omega arith;
   finished = λ s. absurd (elim s [ inl e ↦ omega arith | inr e ↦ omega arith ]);
   usage = λ e. absurd (omega arith);
-  unread = λ no_form. absurd (no_form form);
+  unread = λ none. absurd (true≢false none);
   read_fault = λ e. absurd (omega arith);
-  write_fault = λ e _. absurd (omega arith);
-  usage_fault = λ e _. absurd (omega arith);
-  too_long = λ _. (form, long);
-  memory = λ e _. absurd (omega arith);
-  usage_memory = λ e _. absurd (omega arith);
+  write_fault = λ e. absurd (omega arith);
+  usage_fault = λ _. tt;
+  too_long = λ _. long;
+  memory = λ e. absurd (omega arith);
+  usage_memory = λ _. tt;
   complete = λ _ _. beyond limit old.left new.left long.bytes _ long.read;
   complete_long = λ _ _. always old.left (λ bytes. limit < length bytes) _ (inl refl);
-  complete_usage = λ no_form. absurd (no_form form);
+  complete_usage = λ none. absurd (true≢false none);
 }
 
 -- memory ran out
-pub run_memory : (limit : ℕ) (words : List (List ℕ)) (old new : Ends) → IsCommand words → IsMemoryShort limit old new → IsRun limit words 6 old new
-run_memory limit words old new form short = record {
+pub run_memory : (limit : ℕ) (mode : Mode) (old new : Ends) → IsMemoryShort limit mode old new → IsRun limit (Some mode) 6 old new
+run_memory limit mode old new short = record {
   known = omega arith;
   finished = λ s. absurd (elim s [ inl e ↦ omega arith | inr e ↦ omega arith ]);
   usage = λ e. absurd (omega arith);
-  unread = λ no_form. absurd (no_form form);
+  unread = λ none. absurd (true≢false none);
   read_fault = λ e. absurd (omega arith);
-  write_fault = λ e _. absurd (omega arith);
-  usage_fault = λ e _. absurd (omega arith);
+  write_fault = λ e. absurd (omega arith);
+  usage_fault = λ _. tt;
   too_long = λ e. absurd (omega arith);
-  memory = λ _ _. short;
-  usage_memory = λ _ no_form. absurd (no_form form);
+  memory = λ _. short;
+  usage_memory = λ _. tt;
   complete = λ _ _. always old.left (λ bytes. length bytes ≤ limit) _ (inr (inr refl));
   complete_long = λ _ _. always old.left (λ bytes. limit < length bytes) _ (inr refl);
-  complete_usage = λ no_form. absurd (no_form form);
+  complete_usage = λ none. absurd (true≢false none);
 }
+
+-- the words ask for the same
+pub as_asked : (limit status : ℕ) (asked asked' : Option Mode) (old new : Ends) → asked ≡ asked' → IsRun limit asked' status old new → IsRun limit asked status old new
+as_asked limit status asked asked' old new same run = rw same run

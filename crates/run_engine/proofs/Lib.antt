@@ -3,5 +3,9 @@ pub mod WriteFacts
 pub mod Ended
 pub mod RunFacts
 pub mod ClosedFacts
-pub mod ReportFacts
-pub mod AloneFacts
+pub mod ClosedHands
+pub mod Lines
+pub mod SpotSteps
+pub mod HandSteps
+pub mod Numbers
+pub mod Starts

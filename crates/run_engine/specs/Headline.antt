@@ -1,9 +1,10 @@
 -- What a run of the program does: its status, and what it reads and writes.
-use Rattle.std.specs.Prelude.{◌≡◌, ℕ, ◌<◌, ◌≤◌, ◌==◌, Bool, true, if◌then◌else◌, List, length, take, Option, IfSome, ◌⊎◌}
+use Rattle.std.specs.Prelude.{◌≡◌, ℕ, ◌<◌, ◌≤◌, ◌==◌, Bool, true, if◌then◌else◌, List, length, take, Option, IfSome, IfNone, IsSome, IsNone, IsSomeAnd, ◌⊎◌}
 use Rattle.std.specs.List.{concat}
 use Rattle.byte_ends.specs.Ends.{Rises, WritesAll, WritesFront}
-use Rattle.line_text.specs.Lines.{closed}
-use Rattle.run_engine.specs.Command.{IsCommand, usage_line}
+use Rattle.run_engine.specs.Closed.{closed}
+use Rattle.run_engine.specs.Command.{usage_line}
+use Rattle.run_engine.specs.declared.command.Mode.{Mode}
 use Rattle.run_engine.specs.Reading.{Counted, ReadWhole, ReadTooMuch}
 use Rattle.run_engine.specs.declared.reading.Ending.{Ending}
 use Rattle.run_engine.specs.declared.reading.Ending.TheVariants.{Whole, Failed, TooLong}
@@ -22,72 +23,72 @@ pub record IsFaultless (old new : Ends) : Type 0 where
   pub write : ¬ Rises old.write_faults new.write_faults
 
 -- all was read and written: the report of what was read stands behind what was taken before
-pub record IsFinished (limit status : ℕ) (old new : Ends) : Type 0 where
+pub record IsFinished (limit : ℕ) (mode : Mode) (status : ℕ) (old new : Ends) : Type 0 where
   pub bytes : List ℕ
   pub read : ReadWhole limit old.left new.left bytes
-  pub written : WritesAll old.taken new.taken (report bytes)
-  pub status_is : status ≡ (if rejects bytes == 0 then 0 else 1)
+  pub written : WritesAll old.taken new.taken (report mode bytes)
+  pub status_is : status ≡ (if rejects mode bytes == 0 then 0 else 1)
   pub no_read_fault : new.read_faults ≡ old.read_faults
   pub no_write_fault : new.write_faults ≡ old.write_faults
 
--- a read failed: the report of the lines that a newline closes in what was taken is written
-pub record IsReadFault (limit : ℕ) (old new : Ends) : Type 0 where
+-- a read failed: the report of the closed part of what was taken is written
+pub record IsReadFault (limit : ℕ) (mode : Mode) (old new : Ends) : Type 0 where
   pub rises : Rises old.read_faults new.read_faults
   pub bytes : List ℕ
   pub counted : Counted limit old.left new.left bytes
-  pub written : WritesAll old.taken new.taken (report (closed bytes))
+  pub written : WritesAll old.taken new.taken (report mode (closed mode bytes))
 
 -- a write failed: a front of the report of what was taken is written
-pub record IsWriteFault (limit : ℕ) (old new : Ends) : Type 0 where
+pub record IsWriteFault (limit : ℕ) (mode : Mode) (old new : Ends) : Type 0 where
   pub rises : Rises old.write_faults new.write_faults
   pub bytes : List ℕ
   pub counted : Counted limit old.left new.left bytes
-  pub written : WritesFront old.taken new.taken (report bytes)
+  pub written : WritesFront old.taken new.taken (report mode bytes)
 
--- there was more than the limit: the report of the lines that a newline closes within the limit is written
-pub record IsTooLong (limit : ℕ) (old new : Ends) : Type 0 where
+-- there was more than the limit: the report of the closed part of the bytes within the limit is written
+pub record IsTooLong (limit : ℕ) (mode : Mode) (old new : Ends) : Type 0 where
   pub bytes : List ℕ
   pub read : ReadTooMuch limit old.left new.left bytes
-  pub written : WritesAll old.taken new.taken (report (closed bytes))
+  pub written : WritesAll old.taken new.taken (report mode (closed mode bytes))
 
 -- memory ran out: the first blocks of the report are written, each whole. The report is that of all that was taken where
--- the source was read to its end, and else of the lines that a newline closes in it
-pub record IsMemoryShort (limit : ℕ) (old new : Ends) : Type 0 where
+-- the source was read to its end, and else of its closed part
+pub record IsMemoryShort (limit : ℕ) (mode : Mode) (old new : Ends) : Type 0 where
   pub bytes : List ℕ
   pub counted : Counted limit old.left new.left bytes
   pub whole : Bool
   pub to_the_end : whole ≡ true → ReadWhole limit old.left new.left bytes
   pub count : ℕ
-  pub written : WritesAll old.taken new.taken (concat (take count (blocks (if whole then bytes else closed bytes))))
+  pub written : WritesAll old.taken new.taken (concat (take count (blocks mode (if whole then bytes else closed mode bytes))))
 
--- a run with these words and this status, between these ends
-pub record IsRun (limit : ℕ) (words : List (List ℕ)) (status : ℕ) (old new : Ends) : Type 0 where
+-- a run whose words ask for a mode, or for none, that ends with a status, between these ends
+pub record IsRun (limit : ℕ) (asked : Option Mode) (status : ℕ) (old new : Ends) : Type 0 where
   -- one of seven statuses
   pub known : status ≤ 6
-  -- 0 and 1: all was read and written; which of the two, by whether a spot was rejected
-  pub finished : (status ≡ 0) ⊎ (status ≡ 1) → IsCommand words × IsFinished limit status old new
+  -- 0 and 1: all was read and written; which of the two, by whether a spot or a hand was rejected
+  pub finished : (status ≡ 0) ⊎ (status ≡ 1) → IsSomeAnd asked (λ mode. IsFinished limit mode status old new)
   -- 2: the words are in no form, and the usage line is written
-  pub usage : status ≡ 2 → (¬ IsCommand words) × WritesAll old.taken new.taken usage_line
+  pub usage : status ≡ 2 → IsNone asked × WritesAll old.taken new.taken usage_line
   -- with words in no form nothing is read
-  pub unread : ¬ IsCommand words → (new.left ≡ old.left) × (new.read_faults ≡ old.read_faults)
+  pub unread : IsNone asked → (new.left ≡ old.left) × (new.read_faults ≡ old.read_faults)
   -- 3: only where a read failed
-  pub read_fault : status ≡ 3 → IsCommand words × IsReadFault limit old new
+  pub read_fault : status ≡ 3 → IsSomeAnd asked (λ mode. IsReadFault limit mode old new)
   -- 4: only where a write failed
-  pub write_fault : status ≡ 4 → IsCommand words → IsWriteFault limit old new
-  pub usage_fault : status ≡ 4 → ¬ IsCommand words → Rises old.write_faults new.write_faults × WritesFront old.taken new.taken usage_line
+  pub write_fault : status ≡ 4 → IfSome asked (λ mode. IsWriteFault limit mode old new)
+  pub usage_fault : status ≡ 4 → IfNone asked (Rises old.write_faults new.write_faults × WritesFront old.taken new.taken usage_line)
   -- 5: only where the source gave more than the limit
-  pub too_long : status ≡ 5 → IsCommand words × IsTooLong limit old new
+  pub too_long : status ≡ 5 → IsSomeAnd asked (λ mode. IsTooLong limit mode old new)
   -- 6: memory ran out
-  pub memory : status ≡ 6 → IsCommand words → IsMemoryShort limit old new
-  pub usage_memory : status ≡ 6 → ¬ IsCommand words → new.taken ≡ old.taken
+  pub memory : status ≡ 6 → IfSome asked (λ mode. IsMemoryShort limit mode old new)
+  pub usage_memory : status ≡ 6 → IfNone asked (new.taken ≡ old.taken)
   -- words in form, no fault and an input within the limit end in 0 or 1, or for want of memory in 6
-  pub complete : IsCommand words → IsFaultless old new → IfSome old.left (λ bytes. length bytes ≤ limit → (status ≡ 0) ⊎ (status ≡ 1) ⊎ (status ≡ 6))
+  pub complete : IsSome asked → IsFaultless old new → IfSome old.left (λ bytes. length bytes ≤ limit → (status ≡ 0) ⊎ (status ≡ 1) ⊎ (status ≡ 6))
   -- words in form, no fault and an input above the limit end in 5, or for want of memory in 6
-  pub complete_long : IsCommand words → IsFaultless old new → IfSome old.left (λ bytes. limit < length bytes → (status ≡ 5) ⊎ (status ≡ 6))
+  pub complete_long : IsSome asked → IsFaultless old new → IfSome old.left (λ bytes. limit < length bytes → (status ≡ 5) ⊎ (status ≡ 6))
   -- words in no form and no failed write end in 2, or for want of memory in 6
-  pub complete_usage : ¬ IsCommand words → ¬ Rises old.write_faults new.write_faults → (status ≡ 2) ⊎ (status ≡ 6)
+  pub complete_usage : IsNone asked → ¬ Rises old.write_faults new.write_faults → (status ≡ 2) ⊎ (status ≡ 6)
 
--- the status of a run whose report was written, by how the reading ended and how many spots are rejected
+-- the status of a run whose report was written, by how the reading ended and how many spots or hands are rejected
 abbrev pub written_status : Ending → ℕ → ℕ
 written_status Whole rejected = if rejected == 0 then 0 else 1
 written_status Failed rejected = 3

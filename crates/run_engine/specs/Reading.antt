@@ -1,7 +1,8 @@
 -- What a run reads.
 use Rattle.std.specs.Prelude.{◌≡◌, ℕ, ◌<◌, ◌≤◌, List, [], ◌++◌, length, take, Option, Some, None}
 use Rattle.byte_ends.specs.Ends.{Rises}
-use Rattle.line_text.specs.Lines.{closed}
+use Rattle.run_engine.specs.Closed.{closed}
+use Rattle.run_engine.specs.declared.command.Mode.{Mode}
 use Rattle.run_engine.specs.declared.reading.Ending.{Ending}
 use Rattle.run_engine.specs.declared.reading.Ending.TheVariants.{Whole, Failed, TooLong}
 
@@ -30,8 +31,8 @@ EndsSo limit old new faults faults' bytes Whole = ReadWhole limit old new bytes 
 EndsSo limit old new faults faults' bytes Failed = Rises faults faults'
 EndsSo limit old new faults faults' bytes TooLong = ReadTooMuch limit old new bytes × (faults' ≡ faults)
 
--- what a report is made of: all bytes where the reading came to the end of the input, and else the lines that a newline closes
-abbrev pub reported : Ending → List ℕ → List ℕ
-reported Whole bytes = bytes
-reported Failed bytes = closed bytes
-reported TooLong bytes = closed bytes
+-- what a report is made of: all bytes where the reading came to the end of the input, and else the closed part
+abbrev pub reported : Mode → Ending → List ℕ → List ℕ
+reported mode Whole bytes = bytes
+reported mode Failed bytes = closed mode bytes
+reported mode TooLong bytes = closed mode bytes

@@ -1,17 +1,71 @@
 -- What is written of a report, block by block.
-use Rattle.std.specs.Prelude.{◌≡◌, ℕ, List, ◌++◌, take, Option, drop, count_by, ◌+◌}
-use Rattle.std.specs.List.{concat}
+use Rattle.std.specs.Prelude.{◌≡◌, ℕ, ◌+◌, ◌<◌, ◌≤◌, Bool, if◌then◌else◌, List, [], ◌∷◌, ◌++◌, map, length, take, drop, count_by, Option, Some, None}
+use Rattle.std.specs.List.{concat, slice_range}
 use Rattle.byte_ends.specs.Ends.{WritesAll}
 use Rattle.line_text.specs.Lines.{lines}
-use Rattle.run_engine.specs.Report.{blocks, blocks_from, rejects, is_rejected}
+use Rattle.run_engine.specs.Histories.{up_to_header, hands_from, hand_block, is_rejected_hand}
+use Rattle.run_engine.specs.Report.{spots_from, is_rejected_spot}
+use Rattle.run_engine.specs.declared.command.Mode.{Mode}
+use Rattle.run_engine.specs.declared.command.Mode.TheVariants.{Spots, Check}
+use Rattle.run_engine.specs.declared.cursor.Cursor.{Cursor}
+use Rattle.run_engine.specs.declared.hands.Reach.{Reach}
 
--- some first blocks of the report are written, each whole
-abbrev pub WritesBlocks : Option (List ℕ) → Option (List ℕ) → List ℕ → Type 0
-WritesBlocks old new bytes = (count : ℕ) × WritesAll old new (concat (take count (blocks bytes)))
+-- the blocks of the lines from a cursor on, and how many of them are rejected
+abbrev pub blocks_at : Mode → List ℕ → Cursor → List (List ℕ)
+blocks_at Spots bytes c = spots_from c.place c.line (lines (drop c.at bytes))
+blocks_at Check bytes c = map hand_block (hands_from c.line (lines (drop c.at bytes)))
 
--- the blocks of the lines before a place are written, and those behind it are still to come
-pub record IsWrittenTo (old new : Option (List ℕ)) (bytes : List ℕ) (at place number rejected : ℕ) : Type 0 where
+abbrev pub rejects_at : Mode → List ℕ → Cursor → ℕ
+rejects_at Spots bytes c = count_by is_rejected_spot (lines (drop c.at bytes))
+rejects_at Check bytes c = count_by is_rejected_hand (hands_from c.line (lines (drop c.at bytes)))
+
+-- the cursor at the start: places and numbers of lines begin at 1
+abbrev pub start : Cursor
+start = record { at = 0; line = 1; place = 1 }
+
+-- some first blocks are written, each whole
+abbrev pub WritesBlocks : Option (List ℕ) → Option (List ℕ) → List (List ℕ) → Type 0
+WritesBlocks old new blocks = (count : ℕ) × WritesAll old new (concat (take count blocks))
+
+-- the blocks before some later ones are written
+pub record IsWrittenTo (old new : Option (List ℕ)) (all later : List (List ℕ)) : Type 0 where
   pub done : List (List ℕ)
-  pub all : blocks bytes ≡ done ++ blocks_from place number (lines (drop at bytes))
+  pub split : all ≡ done ++ later
   pub written : WritesAll old new (concat done)
-  pub count : rejected + count_by is_rejected (lines (drop at bytes)) ≡ rejects bytes
+
+-- a cursor stands within the bytes, each line takes a byte or more, and each block a line or more
+pub record IsInside (c : Cursor) (bytes : List ℕ) : Type 0 where
+  pub within : c.at ≤ length bytes
+  pub lines : c.line ≤ c.at + 1
+  pub places : c.place ≤ c.line
+
+-- one if so
+abbrev pub one_if : Bool → ℕ
+one_if b = if b then 1 else 0
+
+-- the cursor goes on by one block, which is rejected or not
+pub record GoesOn (mode : Mode) (bytes block : List ℕ) (rejected : Bool) (old new : Cursor) : Type 0 where
+  pub block_is : blocks_at mode bytes old ≡ block ∷ blocks_at mode bytes new
+  pub counted : rejects_at mode bytes old ≡ one_if rejected + rejects_at mode bytes new
+  pub inside : IsInside new bytes
+  pub forward : old.at < new.at
+
+-- no block is left
+pub record IsAtEnd (mode : Mode) (bytes : List ℕ) (c : Cursor) : Type 0 where
+  pub no_block : blocks_at mode bytes c ≡ []
+  pub none_rejected : rejects_at mode bytes c ≡ 0
+
+-- the outcome of a step of the cursor: at the end, or a block and whether it is rejected
+abbrev pub StepsTo : Mode → List ℕ → List ℕ → Cursor → Cursor → Option Bool → Type 0
+StepsTo mode bytes block old new None = IsAtEnd mode bytes old
+StepsTo mode bytes block old new (Some rejected) = GoesOn mode bytes block rejected old new
+
+-- the lines from a place up to the next header line, or to the end
+pub record Reaches (bytes : List ℕ) (at : ℕ) (reach : Reach) : Type 0 where
+  pub onward : at ≤ reach.end
+  pub within : reach.end ≤ length bytes
+  pub few : reach.count + at ≤ reach.end
+  pub split : lines (drop at bytes) ≡ lines (slice_range bytes at reach.end) ++ lines (drop reach.end bytes)
+  pub passed : up_to_header (lines (slice_range bytes at reach.end)) ≡ lines (slice_range bytes at reach.end)
+  pub stops : up_to_header (lines (drop reach.end bytes)) ≡ []
+  pub counted : reach.count ≡ length (lines (slice_range bytes at reach.end))

@@ -1,21 +1,36 @@
 //! The words of the command.
 
-ghost use Rattle.std.specs.Prelude.{◌≡◌, ◌↔◌, codes, map, string_bytes, IsTrue};
-ghost use Rattle.run_engine.specs.Command.{IsCommand};
+ghost use Rattle.std.specs.Prelude.{◌≡◌, map, string_bytes};
+ghost use Rattle.run_engine.specs.Command.{command, mode_named};
 
-/// Whether the words are in form.
-pub(crate) fn is_command(words: &[String]) -> bool
-    ensures { IsTrue result ↔ IsCommand (map string_bytes words.now) }
+/// What a run reads and reports.
+#[derive(Clone, Copy, Debug, PartialEq, Eq)]
+pub(crate) enum Mode {
+    /// Spot lines, each with its equity.
+    Spots,
+    /// Hand histories, each with its verdict.
+    Check,
+}
+
+/// The mode that the words ask for; none where they are in no form.
+pub(crate) fn command(words: &[String]) -> Option<Mode>
+    ensures { result ≡ command (map string_bytes words.now) }
 {
     match words {
-        [mode] => names_spots(mode.as_str()),
-        _ => false,
+        [word] => mode_named(word.as_str()),
+        _ => None,
     }
 }
 
-/// Whether a word names the mode that reads spots.
-fn names_spots(word: &str) -> bool
-    ensures { IsTrue result ↔ (word.now ≡ codes "spots") }
+/// The mode that a word names.
+fn mode_named(word: &str) -> Option<Mode>
+    ensures { result ≡ mode_named word.now }
 {
-    word == "spots"
+    if word == "spots" {
+        Some(Mode::Spots)
+    } else if word == "check" {
+        Some(Mode::Check)
+    } else {
+        None
+    }
 }

@@ -2,9 +2,10 @@
 
 ghost use Rattle.std.specs.Prelude.{◌≡◌, ℕ, ◌≤◌, ◌<◌, IfOk, OnErr, List, vec_len};
 ghost use Rattle.byte_ends.specs.Ends.{Rises};
-ghost use Rattle.line_text.specs.Lines.{closed};
 ghost use Rattle.run_engine.specs.Reading.{Takes, Counted, EndsSo};
 
+use crate::closing::closed_part;
+use crate::command::Mode;
 use byte_ends::Source;
 use card_sets::Memory;
 use std::alloc::Global;
@@ -72,24 +73,13 @@ impl Input {
     ghost use Rattle.run_engine.specs.Reading.{reported};
 
     /// What the report is made of: all bytes where the reading came to the end of the input, and else
-    /// the lines that a newline closes.
-    pub(crate) fn reported(&self) -> &[u8]
-        ensures { result.now ≡ reported self.now.ending self.now.bytes.items }
+    /// the closed part.
+    pub(crate) fn reported(&self, mode: Mode) -> &[u8]
+        ensures { result.now ≡ reported mode self.now.ending self.now.bytes.items }
     {
         match self.ending {
             Ending::Whole => &self.bytes,
-            Ending::Failed | Ending::TooLong => closed_part(&self.bytes),
+            Ending::Failed | Ending::TooLong => closed_part(mode, &self.bytes),
         }
     }
-}
-
-/// The bytes up to and with the last newline; none where there is none.
-fn closed_part(bytes: &[u8]) -> &[u8]
-    ensures { result.now ≡ closed bytes.now }
-{
-    let mut end = bytes.len();
-    'back: while end > 0 && bytes[end - 1] != b'\n' {
-        end -= 1;
-    }
-    &bytes[..end]
 }

@@ -1,173 +1,95 @@
-//! The lines of the report. Each call appends to `out`; where memory is refused, it may have appended a part.
+//! The report of some bytes.
 
-mod numbers;
-#[cfg(test)]
-mod tests;
-mod words;
+ghost use Rattle.std.specs.Prelude.{◌≡◌, ◌<◌, ◌≤◌, [], IfOk, OnOk, IsErrOf, length};
+ghost use Rattle.byte_ends.specs.Ends.{Rises, WritesAll, WritesFront};
+ghost use Rattle.run_engine.specs.Report.{blocks, report, rejects};
+ghost use Rattle.run_engine.specs.Writing.{IsInside, StepsTo, WritesBlocks};
 
-ghost use Rattle.std.specs.Prelude.{◌≡◌, ℕ, ◌+◌, ◌<◌, ◌≤◌, ◌++◌, codes, length, OnOk};
-ghost use Rattle.card_sets.specs.State.{state_of};
-ghost use Rattle.run_engine.specs.Blocks.{alone, counted_block, counted_line, ev_line, hand_lines, hand_name, refused_block, rejected_block, rejected_name, side_line, spot_name, game_word};
-ghost use Rattle.showdown_tally.specs.Cells.{cell_at, units_at};
-ghost use Rattle.showdown_tally.specs.Tallies.{Counts, runouts_after};
+use crate::command::Mode;
+use crate::cursor::Cursor;
+use crate::hands::next_hand;
+use crate::reading::INPUT_MAX;
+use crate::spots::next_spot;
+use byte_ends::{Failed, Sink, write_all};
+use card_sets::Memory;
+use std::alloc::Global;
 
-use card_sets::{Game, Known, Side, sides};
-use numbers::{write_expected, write_number, write_share};
-use showdown_tally::{Cell, Tally};
-use spot_text::SpotFault;
-use std::alloc::AllocError;
-use words::{game_word, side_word, write_fault, write_text};
-
-/// The beginning of a line of a spot. Places count from 1.
-#[tactic(auto, unfolding(crate::specs::Blocks::spot_name))]
-fn write_spot_name(out: &mut Vec<u8>, place: u64) -> Result<(), AllocError>
-    ensures { OnOk result (out.new.items ≡ out.old.items ++ spot_name place) }
-{
-    write_text(out, "spot ")?;
-    write_number(out, place)
+/// Why a report wasn't written whole.
+#[derive(Clone, Copy, Debug, PartialEq, Eq)]
+pub(crate) enum WriteFault {
+    /// A write failed.
+    Failed,
+    /// Want of memory.
+    Memory,
 }
 
-/// The beginning of a line of a hand. Hands count from 0, and are written from 1.
-#[tactic(auto, unfolding(crate::specs::Blocks::hand_name))]
-fn write_hand_name(out: &mut Vec<u8>, hand: u8) -> Result<(), AllocError>
-    ensures { OnOk result (out.new.items ≡ out.old.items ++ hand_name hand) }
-{
-    write_text(out, "hand ")?;
-    write_number(out, u64::from(hand) + 1)
-}
+impl From<Failed> for WriteFault {
+    ghost use Rattle.std.specs.Prelude.{◌≡◌};
+    ghost use Rattle.run_engine.specs.declared.report.WriteFault.TheVariants.{Failed};
 
-/// The beginning of the line of a spot that isn't well written.
-#[tactic(auto, unfolding(crate::specs::Blocks::rejected_name))]
-fn write_rejected_name(out: &mut Vec<u8>, place: u64, number: u64) -> Result<(), AllocError>
-    ensures { OnOk result (out.new.items ≡ out.old.items ++ rejected_name place number) }
-{
-    write_spot_name(out, place)?;
-    write_text(out, " rejected line ")?;
-    write_number(out, number)
-}
+    ghost from_gives = { λ _ e. e ≡ Failed };
 
-/// The block of a spot that isn't well written. Places and numbers of lines count from 1.
-#[tactic(auto, unfolding(crate::specs::Blocks::rejected_block))]
-pub(crate) fn write_rejected(
-    out: &mut Vec<u8>,
-    place: u64,
-    number: u64,
-    fault: &SpotFault,
-) -> Result<(), AllocError>
-    ensures { OnOk result (out.new.items ≡ out.old.items ++ rejected_block place number fault.now) }
-{
-    write_rejected_name(out, place, number)?;
-    write_text(out, " ")?;
-    write_fault(out, fault)?;
-    write_text(out, "\n")
-}
-
-/// The beginning of a line of a spot, with its game. Places count from 1.
-fn write_spot_game(out: &mut Vec<u8>, place: u64, game: Game) -> Result<(), AllocError>
-    ensures { OnOk result (out.new.items ≡ out.old.items ++ (spot_name place ++ codes " " ++ game_word game)) }
-{
-    write_spot_name(out, place)?;
-    write_text(out, " ")?;
-    write_text(out, game_word(game))
-}
-
-/// The first line of a spot that is counted, with the number of all runouts.
-#[tactic(auto, unfolding(crate::specs::Blocks::counted_line))]
-fn write_counted_line(out: &mut Vec<u8>, place: u64, game: Game, all: u64) -> Result<(), AllocError>
-    ensures { OnOk result (out.new.items ≡ out.old.items ++ counted_line place game all) }
-{
-    write_spot_game(out, place, game)?;
-    write_text(out, " runouts ")?;
-    write_number(out, all)?;
-    write_text(out, "\n")
-}
-
-/// How all runouts end for a hand on a side.
-fn write_side_line(
-    out: &mut Vec<u8>,
-    all: u64,
-    hand: u8,
-    side: Side,
-    cell: Cell,
-) -> Result<(), AllocError>
-    requires some { 0 < all }
-    ensures { OnOk result (out.new.items ≡ out.old.items ++ side_line all hand side cell) }
-{
-    write_hand_name(out, hand)?;
-    write_text(out, " ")?;
-    write_text(out, side_word(side))?;
-    write_share(out, "win", cell.win, all)?;
-    write_share(out, "tie", cell.tie, all)?;
-    write_share(out, "lose", cell.lose, all)?;
-    write_text(out, "\n")
-}
-
-/// What a hand may expect of the pot, from its units of 1/5040 of a pot over all runouts.
-#[tactic(auto, unfolding(crate::specs::Blocks::ev_line))]
-fn write_ev_line(out: &mut Vec<u8>, all: u64, hand: u8, units: u64) -> Result<(), AllocError>
-    requires some { 0 < all }
-    ensures { OnOk result (out.new.items ≡ out.old.items ++ ev_line all hand units) }
-{
-    write_hand_name(out, hand)?;
-    write_text(out, " ev ")?;
-    write_expected(out, units, all)?;
-    write_text(out, "\n")
-}
-
-/// The lines of a hand: its sides, the high first, and then what it may expect. Hands count from 0.
-#[tactic(auto, unfolding(crate::specs::Blocks::hand_lines))]
-fn write_hand_lines(
-    out: &mut Vec<u8>,
-    game: Game,
-    tally: &Tally,
-    hand: u8,
-) -> Result<(), AllocError>
-    requires some { 0 < tally.now.runouts }
-    requires hand { hand < 10 }
-    ensures { OnOk result (out.new.items ≡ out.old.items
-        ++ hand_lines game tally.now.runouts (cell_at tally.now 0) (units_at tally.now 0) hand) }
-{
-    let all = tally.runouts();
-    for played in &sides(game) {
-        if let Some(side) = *played {
-            write_side_line(out, all, hand, side, tally.cell(0, hand, side))?;
-        }
+    fn from(_: Failed) -> WriteFault {
+        WriteFault::Failed
     }
-    write_ev_line(out, all, hand, tally.units(0, hand))
 }
 
-/// The block of a spot that has too many runouts to be counted. Places count from 1.
-#[tactic(auto, unfolding(crate::specs::Blocks::refused_block))]
-pub(crate) fn write_refused(out: &mut Vec<u8>, place: u64, game: Game) -> Result<(), AllocError>
-    ensures { OnOk result (out.new.items ≡ out.old.items ++ refused_block place game) }
-{
-    write_spot_game(out, place, game)?;
-    write_text(out, " refused above 10000000 runouts\n")
-}
+impl From<Memory> for WriteFault {
+    ghost use Rattle.std.specs.Prelude.{◌≡◌};
+    ghost use Rattle.run_engine.specs.declared.report.WriteFault.TheVariants.{Memory};
 
-/// How many hands there are.
-pub(crate) fn hand_count(known: &Known) -> u8
-    ensures value { result ≡ length (state_of known.now).hands }
-    ensures few { result ≤ 10 }
-{
-    known.hands[..usize::from(known.count)].len() as u8
-}
+    ghost from_gives = { λ _ e. e ≡ Memory };
 
-/// The block of a spot whose runouts are counted: how many there are, and then each hand's lines.
-/// Places count from 1.
-pub(crate) fn write_counted(
-    out: &mut Vec<u8>,
-    place: u64,
-    known: &Known,
-    tally: &Tally,
-) -> Result<(), AllocError>
-    requires counted { Counts (alone (state_of known.now)) (runouts_after (state_of known.now)) tally.now }
-    requires some { 0 < tally.now.runouts }
-    ensures { OnOk result (out.new.items ≡ out.old.items ++ counted_block place (state_of known.now)) }
-{
-    write_counted_line(out, place, known.game, tally.runouts())?;
-    for hand in 0..hand_count(known) {
-        write_hand_lines(out, known.game, tally, hand)?;
+    fn from(_: Memory) -> WriteFault {
+        WriteFault::Memory
     }
-    Ok(())
+}
+
+/// Makes the next block, goes on behind its lines, and answers whether its spot or hand is rejected; none
+/// where no block is left.
+fn next_block(
+    alloc: Global,
+    mode: Mode,
+    bytes: &[u8],
+    cursor: &mut Cursor,
+    block: &mut Vec<u8>,
+) -> Result<Option<bool>, Memory>
+    requires small { length bytes.now ≤ INPUT_MAX }
+    requires inside { IsInside cursor.old bytes.now }
+    requires empty { block.old.items ≡ [] }
+    ensures { IfOk result (λ next. StepsTo mode bytes.now block.new.items cursor.old cursor.new next) }
+{
+    match mode {
+        Mode::Spots => next_spot(bytes, cursor, block),
+        Mode::Check => next_hand(alloc, bytes, cursor, block),
+    }
+}
+
+/// Writes the report of the bytes, a block at a time, each made whole before any of it is written.
+/// Answers how many spots or hands are rejected.
+pub(crate) fn write_report<K: Sink>(
+    alloc: Global,
+    mode: Mode,
+    bytes: &[u8],
+    sink: &mut K,
+) -> Result<u64, WriteFault>
+    requires { length bytes.now ≤ INPUT_MAX }
+    ensures rejected { IfOk result (λ n. n ≡ rejects mode bytes.now) }
+    ensures written { OnOk result (WritesAll (K.taken sink.old) (K.taken sink.new) (report mode bytes.now)) }
+    ensures fine { OnOk result (K.faults sink.new ≡ K.faults sink.old) }
+    ensures fault { IsErrOf result WriteFault.Failed → Rises (K.faults sink.old) (K.faults sink.new) }
+    ensures front { IsErrOf result WriteFault.Failed → WritesFront (K.taken sink.old) (K.taken sink.new) (report mode bytes.now) }
+    ensures memory { IsErrOf result WriteFault.Memory → WritesBlocks (K.taken sink.old) (K.taken sink.new) (blocks mode bytes.now) }
+{
+    let mut block = Vec::new(alloc);
+    let mut cursor = Cursor::start();
+    let mut rejects = 0;
+    'each: loop {
+        block.clear();
+        let Some(rejected) = next_block(alloc, mode, bytes, &mut cursor, &mut block)? else {
+            return Ok(rejects);
+        };
+        rejects += u64::from(rejected);
+        write_all(sink, &block)?;
+    }
 }

@@ -1,11 +1,12 @@
 //! The top call.
 
 ghost use Rattle.std.specs.Prelude.{◌≡◌, map, string_bytes};
+ghost use Rattle.run_engine.specs.Command.{command};
 ghost use Rattle.run_engine.specs.Headline.{IsRun, written_status};
 
-use crate::command::is_command;
+use crate::command::command;
 use crate::reading::{Ending, INPUT_MAX, read_all};
-use crate::spots::{WriteFault, write_report};
+use crate::report::{WriteFault, write_report};
 use byte_ends::{Sink, Source, write_all};
 use line_text::law_closed_lines;
 use std::alloc::Global;
@@ -15,8 +16,8 @@ const USAGE_LINE: &[u8; 76] =
     b"usage: equity MODE [--workers N] [--format text|csv] [--seed S] [--hands H]\n";
 
 /// Runs the command that the words name: reads the source, and writes the report to the sink. Answers
-/// the status: 0 where all was read and written, 1 where beside that a spot was rejected, 2 where the
-/// words are in no form, 3 where a read failed, 4 where a write failed, 5 where the source gave more
+/// the status: 0 where all was read and written, 1 where beside that a spot or a hand was rejected, 2 where
+/// the words are in no form, 3 where a read failed, 4 where a write failed, 5 where the source gave more
 /// than `INPUT_MAX` bytes, 6 for want of memory. It always returns.
 pub fn run_alone<S: Source, K: Sink>(
     alloc: Global,
@@ -24,21 +25,21 @@ pub fn run_alone<S: Source, K: Sink>(
     source: &mut S,
     sink: &mut K,
 ) -> u8
-    ensures { IsRun INPUT_MAX (map string_bytes words.now) result
+    ensures { IsRun INPUT_MAX (command (map string_bytes words.now)) result
         (record { left = S.left source.old; read_faults = S.faults source.old; taken = K.taken sink.old; write_faults = K.faults sink.old })
         (record { left = S.left source.new; read_faults = S.faults source.new; taken = K.taken sink.new; write_faults = K.faults sink.new }) }
 {
-    if !is_command(words) {
+    let Some(mode) = command(words) else {
         return match write_all(sink, USAGE_LINE) {
             Ok(()) => 2,
             Err(_) => 4,
         };
-    }
+    };
     let Ok(input) = read_all(alloc, source) else {
         return 6;
     };
     law_closed_lines();
-    match write_report(alloc, input.reported(), sink) {
+    match write_report(alloc, mode, input.reported(mode), sink) {
         Ok(rejected) => status_of(input.ending, rejected),
         Err(WriteFault::Failed) => 4,
         Err(WriteFault::Memory) => 6,

@@ -9,7 +9,7 @@ use crate::Shape;
 
 /// A list of sets is a runout of the shape exactly where it has one set for each slot, of as many
 /// cards as the slot takes, each a rising list, no card in two of them, and only cards that may come.
-pub fn runouts_fill_the_slots(shape: &Shape)
+pub fn law_runouts_fill_the_slots(shape: &Shape)
     ensures { (sets : List (List ℕ))
         → (HasMember (runouts_of shape.now) sets ↔ FillsSlots shape.now sets) }
 {
@@ -17,7 +17,7 @@ pub fn runouts_fill_the_slots(shape: &Shape)
 }
 
 /// No runout of the shape is listed twice.
-pub fn no_runout_twice(shape: &Shape)
+pub fn law_no_runout_twice(shape: &Shape)
     ensures { NoneTwice (runouts_of shape.now) }
 {
     shape.unseen.rising();
@@ -25,7 +25,7 @@ pub fn no_runout_twice(shape: &Shape)
 
 /// The number of runouts is the product of the binomials, slot after slot, over the cards still
 /// left.
-pub fn runouts_are_counted(shape: &Shape)
+pub fn law_runouts_are_counted(shape: &Shape)
     ensures { length (runouts_of shape.now) ≡ ways_of shape.now }
 {
     shape.unseen.rising();

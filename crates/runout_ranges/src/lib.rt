@@ -16,6 +16,6 @@ mod tests;
 
 pub use counting::{Above, count_runouts};
 pub use lacking::shape;
-pub use laws::{no_runout_twice, runouts_are_counted, runouts_fill_the_slots};
+pub use laws::{law_no_runout_twice, law_runouts_are_counted, law_runouts_fill_the_slots};
 pub use shapes::{Receiver, Shape, Slot};
 pub use successor::{Runout, advance, first_runout};

@@ -1,12 +1,14 @@
 pub mod Places
 pub mod Grown
 pub mod Tops
-pub mod Sets
 pub mod Dealt
 pub mod Full
 pub mod DealtTo
 pub mod Winners
+pub mod SideWinners
 pub mod PotFacts
+pub mod PotSteps
 pub mod PotScene
 pub mod Shares
+pub mod BothSides
 pub mod KeptOrder

@@ -9,16 +9,12 @@ use Rattle.std.specs.declared.cmp.Ordering.{Ordering}
 use Rattle.std.specs.declared.cmp.Ordering.TheVariants.{Less, Equal, Greater}
 use Rattle.std.proofs.lemmas.Bool.{cases_eq}
 use Rattle.std.proofs.lemmas.Cmp.{nat_list_cmp_total, upto, tied_itself}
-use Rattle.std.proofs.lemmas.List.Sums.{sum_by-cons, length-filter, count_by-le-length}
-use Rattle.card_sets.specs.Cards.{union}
-use Rattle.card_sets.specs.declared.games.Game.TheVariants.{Holdem}
+use Rattle.std.proofs.lemmas.List.Sums.{sum_by-cons}
 use Rattle.card_sets.specs.declared.games.Side.{Side}
 use Rattle.card_sets.specs.declared.games.Side.TheVariants.{High}
-use Rattle.rank_high.specs.High.{best_high}
-use Rattle.showdown_tally.specs.Laws.{EndsOneWay, AddUp}
-use Rattle.showdown_tally.specs.Showdown.{Showdown, is_among, is_beaten_by, winners_of, winners, eligible_in, own_after, board_after, value_after, plays, wins, ties, loses, units, part_of}
-use Rattle.showdown_tally.proofs.PotFacts.{high_value, pot_units}
-use Rattle.showdown_tally.proofs.Sets.{both}
+use Rattle.showdown_tally.specs.Laws.{EndsOneWay}
+use Rattle.showdown_tally.specs.Showdown.{Showdown, is_among, is_beaten_by, winners_of, winners, plays, wins, ties, loses}
+use Rattle.rank_high.proofs.Sets.{both}
 use Rattle.showdown_tally.proofs.Tops.{some_among}
 
 -- what is as good as one hand or less is as good as a better one or less
@@ -101,12 +97,12 @@ all_still x hands (y ∷ ys) all =
     or-true true = refl
     or-true false = refl
 
-all_among : (hands : List ℕ) → list_all (λ h. is_among h hands) hands ≡ true
+pub all_among : (hands : List ℕ) → list_all (λ h. is_among h hands) hands ≡ true
 all_among [] = refl
 all_among (x ∷ xs) = let t : (x == x) ≡ true = grind arith in rw t (all_still x xs xs (all_among xs))
 
 -- where each of those that pass has so much, all have that much for each of them
-sum_passed : (p : ℕ → Bool) (f : ℕ → ℕ) (u : ℕ) (hands xs : List ℕ) → ((h : ℕ) → f h ≡ cond (is_among h (filter p hands)) u 0) → list_all (λ h. is_among h hands) xs ≡ true → sum_by f xs ≡ length (filter p xs) * u
+pub sum_passed : (p : ℕ → Bool) (f : ℕ → ℕ) (u : ℕ) (hands xs : List ℕ) → ((h : ℕ) → f h ≡ cond (is_among h (filter p hands)) u 0) → list_all (λ h. is_among h hands) xs ≡ true → sum_by f xs ≡ length (filter p xs) * u
 sum_passed p f u hands [] each all = omega arith
 sum_passed p f u hands (x ∷ xs) each all =
     let two = both (is_among x hands) (list_all (λ h. is_among h hands) xs) all in
@@ -119,7 +115,7 @@ sum_passed p f u hands (x ∷ xs) each all =
     and-true false = refl
 
 -- equal parts of up to ten winners are the whole
-whole_parts : (k : ℕ) → 0 < k → k ≤ 10 → k * (5040 / k) ≡ 5040
+pub whole_parts : (k : ℕ) → 0 < k → k ≤ 10 → k * (5040 / k) ≡ 5040
 whole_parts zero some few = absurd (omega arith)
 whole_parts (suc zero) some few = refl
 whole_parts (suc (suc zero)) some few = refl
@@ -134,7 +130,7 @@ whole_parts (suc (suc (suc (suc (suc (suc (suc (suc (suc (suc zero)))))))))) som
 whole_parts (suc (suc (suc (suc (suc (suc (suc (suc (suc (suc (suc k))))))))))) some few = absurd (omega arith)
 
 -- a list of hands that all have a value has a winner
-some_winner : (v : ℕ → Option (List ℕ)) (w : ℕ → List ℕ) (hands : List ℕ) → ((h : ℕ) → v h ≡ Some (w h)) → 0 < length hands → 0 < length (winners_of High v hands)
+pub some_winner : (v : ℕ → Option (List ℕ)) (w : ℕ → List ℕ) (hands : List ℕ) → ((h : ℕ) → v h ≡ Some (w h)) → 0 < length hands → 0 < length (winners_of High v hands)
 some_winner v w [] values some = absurd (omega arith)
 some_winner v w (x ∷ xs) values some =
     let top = best_among w x xs in
@@ -148,21 +144,6 @@ some_winner v w (x ∷ xs) values some =
 
     unbeaten : (ys : List ℕ) (m : ℕ) → list_all (λ j. not (is_gt (slice_cmp nat_cmp (w j) (w m)))) ys ≡ true → (is_some (v m) && list_all (λ j. not (is_beaten_by High (v m) (v j))) ys) ≡ true
     unbeaten ys m all = rw (values m) (same ys m all)
-
-shared : (v : ℕ → Option (List ℕ)) (f : ℕ → ℕ) (hands : List ℕ) → 0 < length (winners_of High v hands) → length hands ≤ 10 → ((h : ℕ) → f h ≡ part_of 5040 (winners_of High v hands) h) → sum_by f hands ≡ 5040
-shared v f hands some few each =
-    let p : ℕ → Bool = λ i. is_some (v i) && list_all (λ j. not (is_beaten_by High (v i) (v j))) hands in
-    let bound : length (filter p hands) ≤ 10 = omega (arith, length-filter p hands, count_by-le-length p hands) in
-    sum_passed p f (5040 / length (filter p hands)) hands hands each (all_among hands) ∙ whole_parts (length (filter p hands)) some bound
-
--- a pot is given out whole
-pub pot-AddUp : (deal : Showdown) (runout : List (List ℕ)) (pot : ℕ) → deal.state.game ≡ Holdem → 0 < length (eligible_in deal pot) → length (eligible_in deal pot) ≤ 10 → AddUp deal runout pot
-unfolding winners
-pot-AddUp deal runout pot game some few =
-    let v : ℕ → Option (List ℕ) = value_after High deal.state runout in
-    shared v (λ h. units deal pot h runout) (eligible_in deal pot)
-    (some_winner v (λ h. best_high (union (own_after deal.state runout h) (board_after deal.state runout))) (eligible_in deal pot) (λ h. high_value deal.state runout h game) some)
-    few (λ h. pot_units deal pot h runout (winners deal pot High runout) game refl)
 
 -- one runout ends in one of the three ways for a hand that plays
 one_way : (b a : Bool) (n : ℕ) → (a ≡ true → 0 < n) → b ≡ true → cond (b && a && (n == 1)) 1 0 + cond (b && a && nat_lt 1 n) 1 0 + cond (b && not a) 1 0 ≡ 1

@@ -1,24 +1,24 @@
 //! The settling of one runout.
 
-ghost use Rattle.std.specs.Prelude.{◌≡◌, ℕ, ◌+◌, ◌<◌, ◌≤◌, length, Some};
+ghost use Rattle.std.specs.Prelude.{◌≡◌, ℕ, ◌+◌, ◌<◌, ◌≤◌, [], length, slice_index_or};
 ghost use Rattle.std.specs.Option.{option_map};
-ghost use Rattle.card_sets.specs.Cards.{union};
 ghost use Rattle.card_sets.specs.State.{state_of};
-ghost use Rattle.rank_high.specs.High.{value_of};
-ghost use Rattle.runout_ranges.specs.Runouts.{runouts, HasMember};
-ghost use Rattle.runout_ranges.specs.Slots.{slots, unseen, counts_of, dealt, same_receiver};
+ghost use Rattle.runout_ranges.specs.Runouts.{HasMember};
+ghost use Rattle.runout_ranges.specs.Slots.{dealt, same_receiver};
 ghost use Rattle.runout_ranges.specs.Shapes.{slots_of, IsShapeOf};
-ghost use Rattle.showdown_tally.specs.Showdown.{own_after, board_after, value_after};
+ghost use Rattle.showdown_tally.specs.Showdown.{best, own_after, board_after};
+ghost use Rattle.showdown_tally.specs.Numbers.{side_number};
 ghost use Rattle.showdown_tally.specs.Deals.{deal_of};
+ghost use Rattle.showdown_tally.specs.Laws.{IsFull};
 ghost use Rattle.showdown_tally.specs.Settling.{number_of};
 ghost use Rattle.showdown_tally.specs.Tallies.{Adds, Fits, runouts_after};
 
-use crate::settle::settle_side;
+use crate::laws::law_values_keep_order;
+use crate::settle::settle_pot;
 use crate::table::Table;
 use crate::tally::Tally;
 use crate::values::side_value;
 use card_sets::{CardSet, Game, Known, Side};
-use rank_high::best_numbers_keep_order;
 use runout_ranges::{Receiver, Runout, Shape};
 use std::sync::ledger::Ledger;
 use step_count::Steps;
@@ -50,24 +50,37 @@ fn dealt_to(shape: &Shape, r: &Runout, receiver: Receiver) -> CardSet
     CardSet::empty()
 }
 
-/// What each hand is worth on the high side after a runout.
+/// The cards of each hand after a runout.
 #[inline]
-fn high_values(known: &Known, shape: &Shape, r: &Runout, board: CardSet) -> [Option<u32>; 10]
-    requires dealt { known.now.game ≡ Game.Holdem }
+fn full_hands(known: &Known, shape: &Shape, r: &Runout) -> [CardSet; 10]
     requires shape { IsShapeOf (state_of known.now) shape.now }
     requires runout { HasMember (runouts_after (state_of known.now)) r.now }
-    requires board { board ≡ board_after (state_of known.now) r.now }
-    ensures values { (h : ℕ) → h < length (state_of known.now).hands → number_of result h ≡ option_map value_of (value_after Side.High (state_of known.now) r.now h) }
-    ensures full { (h : ℕ) → h < length (state_of known.now).hands → length (union (own_after (state_of known.now) r.now h) (board_after (state_of known.now) r.now)) ≡ 7 }
+    ensures ten { length result ≡ 10 }
+    ensures hands { (h : ℕ) → h < length (state_of known.now).hands → slice_index_or result h [] ≡ own_after (state_of known.now) r.now h }
+    ensures full { (h : ℕ) → h < length (state_of known.now).hands → IsFull known.now.game (own_after (state_of known.now) r.now h) (board_after (state_of known.now) r.now) }
 {
-    let mut values = [None; 10];
+    let mut full = [CardSet::empty(); 10];
     known.board.rising();
     let hands = &known.hands[..known.count as usize];
     for (hand, own) in hands.iter().enumerate() {
         let own = *own;
         own.rising();
-        let own = own.union(dealt_to(shape, r, Receiver::Hand(hand as u8)));
-        values[hand] = side_value(Side::High, known.game, own, board);
+        full[hand] = own.union(dealt_to(shape, r, Receiver::Hand(hand as u8)));
+    }
+    full
+}
+
+/// What each of up to ten full hands is worth on a side.
+#[inline]
+fn side_values(side: Side, game: Game, hands: &[CardSet], board: CardSet) -> [Option<u32>; 10]
+    requires few { length hands.now ≤ 10 }
+    requires full { (h : ℕ) → h < length hands.now → IsFull game (slice_index_or hands.now h []) board }
+    ensures { (h : ℕ) → h < length hands.now
+        → number_of result h ≡ option_map (side_number side game) (best side game (slice_index_or hands.now h []) board) }
+{
+    let mut values = [None; 10];
+    for (hand, own) in hands.iter().enumerate() {
+        values[hand] = side_value(side, game, *own, board);
     }
     values
 }
@@ -82,8 +95,8 @@ fn ten_places(table: &Table)
     let _eligible: &[u16] = &table.eligible;
 }
 
-/// Adds one runout to a tally: how it ends for each hand that is eligible in a pot, and the units of
-/// each winner. It takes one step.
+/// Adds one runout to a tally: how it ends for each hand that is eligible in a pot, on each side of
+/// the game, and the units of each winner. It takes one step.
 pub fn settle_runout<L: Ledger>(
     table: &Table,
     shape: &Shape,
@@ -91,27 +104,24 @@ pub fn settle_runout<L: Ledger>(
     tally: &mut Tally,
     steps: &mut Steps<L>,
 )
-    requires dealt { table.now.known.game ≡ Game.Holdem }
     requires shape { IsShapeOf (state_of table.now.known) shape.now }
     requires runout { HasMember (runouts_after (state_of table.now.known)) r.now }
     requires fits { Fits (deal_of table.now) r.now tally.old }
     ensures adds { Adds (deal_of table.now) r.now tally.old tally.new }
     ensures steps { steps.new ≡ steps.old + 1 }
 {
-    best_numbers_keep_order();
+    law_values_keep_order();
     ten_places(table);
     let known = &table.known;
+    let game = known.game;
     let board = known.board.union(dealt_to(shape, r, Receiver::Board));
-    let values = high_values(known, shape, r, board);
+    let full = full_hands(known, shape, r);
+    let hands = &full[..known.count as usize];
+    let highs = side_values(Side::High, game, hands, board);
+    let lows = side_values(Side::Low, game, hands, board);
     for pot in 0..table.pots {
-        settle_side(
-            &values,
-            table.eligible[pot as usize],
-            known.count,
-            pot,
-            Side::High,
-            tally,
-        );
+        let eligible = table.eligible[pot as usize];
+        settle_pot(game, &highs, &lows, eligible, known.count, pot, tally);
     }
     tally.end_runout();
     steps.tick();

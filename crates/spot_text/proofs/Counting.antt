@@ -3,7 +3,10 @@ use Rattle.std.proofs.Common.{◌≡◌, ℕ, suc, ◌+◌, ◌<◌, ◌≤◌, 
 use Rattle.std.specs.List.{onto_first, before_first}
 use Rattle.std.specs.Prelude.{nat_le}
 use Rattle.spot_text.specs.Parts.{is_slash, is_dashes, is_dash, hand_words, board_words}
-use Rattle.spot_text.specs.Spot.{hands_fit, board_fits, players_fit}
+use Rattle.card_sets.specs.Games.{own_size, board_size}
+use Rattle.card_sets.specs.declared.games.Game.{Game}
+use Rattle.spot_text.specs.Games.{least_own, hand_fits, board_fits}
+use Rattle.spot_text.specs.Spot.{hands_fit, players_fit}
 use Rattle.spot_text.proofs.Parts.{before_yes, before_no, slash_first, dashes_first, hand_first, none_first, some_hand}
 
 -- the hands end at a mark behind them
@@ -29,68 +32,82 @@ hands_card w ws h dash =
     let no = either_no (is_slash w) (is_dashes w) h in
     (hand_first w ws no.0 no.1).0 ∙ ap (λ b. cond b ([] ∷ hand_words ws) (onto_first w (hand_words ws))) dash
 
--- whether hands have two cards each, of which the first has some already
-abbrev pub fit_from : ℕ → List (List (List ℕ)) → Bool
-fit_from own [] = own == 2
-fit_from own (hand ∷ hands) = (own + length hand == 2) && hands_fit hands
+-- whether hands fit, of which the first has some cards already
+abbrev pub fit_from : Game → ℕ → List (List (List ℕ)) → Bool
+fit_from game own [] = hand_fits game own
+fit_from game own (hand ∷ hands) = hand_fits game (own + length hand) && hands_fit game hands
 
 and_true : (b : Bool) → (b && true) ≡ b
 and_true true = refl
 and_true false = refl
 
-fit_from_none : (hands : List (List (List ℕ))) → 1 ≤ length hands → fit_from 0 hands ≡ hands_fit hands
-fit_from_none [] h = absurd (omega arith)
-fit_from_none (hand ∷ hands) h = ap (λ n. (n == 2) && hands_fit hands) (let e : 0 + length hand ≡ length hand = omega arith in e)
+and_false : (b : Bool) → (b && false) ≡ false
+and_false true = refl
+and_false false = refl
 
-pub fit_none : (ws : List (List ℕ)) → fit_from 0 (hand_words ws) ≡ hands_fit (hand_words ws)
-fit_none ws = fit_from_none (hand_words ws) (some_hand ws)
+fit_from_none : (game : Game) (hands : List (List (List ℕ))) → 1 ≤ length hands → fit_from game 0 hands ≡ hands_fit game hands
+fit_from_none game [] h = absurd (omega arith)
+fit_from_none game (hand ∷ hands) h = ap (λ n. hand_fits game n && hands_fit game hands) (let e : 0 + length hand ≡ length hand = omega arith in e)
 
-one_empty : (own : ℕ) → fit_from own ([] ∷ []) ≡ (own == 2)
-one_empty own = and_true (own + 0 == 2) ∙ ap (λ n. n == 2) (let e : own + 0 ≡ own = omega arith in e)
+pub fit_none : (game : Game) (ws : List (List ℕ)) → fit_from game 0 (hand_words ws) ≡ hands_fit game (hand_words ws)
+fit_none game ws = fit_from_none game (hand_words ws) (some_hand ws)
 
-fit_onto : (own : ℕ) (w : List ℕ) (hands : List (List (List ℕ))) → fit_from own (onto_first w hands) ≡ fit_from (own + 1) hands
-fit_onto own w [] = and_true (own + 1 == 2)
-fit_onto own w (hand ∷ hands) = ap (λ n. (n == 2) && hands_fit hands) (let e : own + suc (length hand) ≡ own + 1 + length hand = omega arith in e)
+one_empty : (game : Game) (own : ℕ) → fit_from game own ([] ∷ []) ≡ hand_fits game own
+one_empty game own = and_true (hand_fits game (own + 0)) ∙ ap (hand_fits game) (let e : own + 0 ≡ own = omega arith in e)
 
-pub fit_end : (own : ℕ) (w : List ℕ) (ws left : List (List ℕ)) (all : Bool) → fit_from own (hand_words left) ≡ all → left ≡ w ∷ ws →
-    (is_slash w || is_dashes w) ≡ true → (own == 2) ≡ all
-fit_end own w ws left all h more end =
-    sym (sym h ∙ ap (λ l. fit_from own (hand_words l)) more ∙ ap (fit_from own) (hands_end w ws end) ∙ one_empty own)
+fit_onto : (game : Game) (own : ℕ) (w : List ℕ) (hands : List (List (List ℕ))) → fit_from game own (onto_first w hands) ≡ fit_from game (own + 1) hands
+fit_onto game own w [] = and_true (hand_fits game (own + 1))
+fit_onto game own w (hand ∷ hands) = ap (λ n. hand_fits game n && hands_fit game hands) (let e : own + suc (length hand) ≡ own + 1 + length hand = omega arith in e)
 
-pub fit_all : (own : ℕ) (left : List (List ℕ)) (all : Bool) → fit_from own (hand_words left) ≡ all → left ≡ [] → (own == 2) ≡ all
-fit_all own left all h none =
-    sym (sym h ∙ ap (λ l. fit_from own (hand_words l)) none ∙ ap (fit_from own) none_first.0 ∙ one_empty own)
+-- a hand that isn't too large fits where it is large enough
+pub enough : (game : Game) (own : ℕ) → own ≤ own_size game → nat_le (least_own game) own ≡ hand_fits game own
+enough game own few = let t : nat_le own (own_size game) ≡ true = grind arith in rw t (sym (and_true (nat_le (least_own game) own)))
 
-fit_at_dash : (own : ℕ) (w : List ℕ) (ws left : List (List ℕ)) (all : Bool) → fit_from own (hand_words left) ≡ all → left ≡ w ∷ ws →
-    (is_slash w || is_dashes w) ≡ false → is_dash w ≡ true → ((own == 2) && hands_fit (hand_words ws)) ≡ all
-fit_at_dash own w ws left all h more on dash =
-    sym (sym h ∙ ap (λ l. fit_from own (hand_words l)) more ∙ ap (fit_from own) (hands_dash w ws on dash)
-    ∙ ap (λ n. (n == 2) && hands_fit (hand_words ws)) (let e : own + 0 ≡ own = omega arith in e))
+pub fit_end : (game : Game) (own least : ℕ) (w : List ℕ) (ws left : List (List ℕ)) (all : Bool) → fit_from game own (hand_words left) ≡ all → least ≡ least_own game → own ≤ own_size game → left ≡ w ∷ ws →
+    (is_slash w || is_dashes w) ≡ true → nat_le least own ≡ all
+fit_end game own least w ws left all h is few more end =
+    ap (λ n. nat_le n own) is ∙ enough game own few
+    ∙ sym (sym h ∙ ap (λ l. fit_from game own (hand_words l)) more ∙ ap (fit_from game own) (hands_end w ws end) ∙ one_empty game own)
 
-pub fit_dash : (own : ℕ) (w : List ℕ) (ws left : List (List ℕ)) (all : Bool) → fit_from own (hand_words left) ≡ all → left ≡ w ∷ ws →
-    (is_slash w || is_dashes w) ≡ false → is_dash w ≡ true → own ≡ 2 → fit_from 0 (hand_words ws) ≡ all
-fit_dash own w ws left all h more on dash two =
-    fit_none ws ∙ sym (ap (λ n. (n == 2) && hands_fit (hand_words ws)) two) ∙ fit_at_dash own w ws left all h more on dash
+pub fit_all : (game : Game) (own least : ℕ) (left : List (List ℕ)) (all : Bool) → fit_from game own (hand_words left) ≡ all → least ≡ least_own game → own ≤ own_size game → left ≡ [] → nat_le least own ≡ all
+fit_all game own least left all h is few none =
+    ap (λ n. nat_le n own) is ∙ enough game own few
+    ∙ sym (sym h ∙ ap (λ l. fit_from game own (hand_words l)) none ∙ ap (fit_from game own) none_first.0 ∙ one_empty game own)
 
-pub fit_not_dash : (own : ℕ) (w : List ℕ) (ws left : List (List ℕ)) (all : Bool) → fit_from own (hand_words left) ≡ all → left ≡ w ∷ ws →
-    (is_slash w || is_dashes w) ≡ false → is_dash w ≡ true → (own ≡ 2 → ⊥) → false ≡ all
-fit_not_dash own w ws left all h more on dash other =
-    let no : (own == 2) ≡ false = grind arith in
-    sym (ap (λ b. b && hands_fit (hand_words ws)) no) ∙ fit_at_dash own w ws left all h more on dash
+fit_at_dash : (game : Game) (own : ℕ) (w : List ℕ) (ws left : List (List ℕ)) (all : Bool) → fit_from game own (hand_words left) ≡ all → left ≡ w ∷ ws →
+    (is_slash w || is_dashes w) ≡ false → is_dash w ≡ true → (hand_fits game own && hands_fit game (hand_words ws)) ≡ all
+fit_at_dash game own w ws left all h more on dash =
+    sym (sym h ∙ ap (λ l. fit_from game own (hand_words l)) more ∙ ap (fit_from game own) (hands_dash w ws on dash)
+    ∙ ap (λ n. hand_fits game n && hands_fit game (hand_words ws)) (let e : own + 0 ≡ own = omega arith in e))
 
-pub fit_card : (own : ℕ) (w : List ℕ) (ws left : List (List ℕ)) (all : Bool) → fit_from own (hand_words left) ≡ all → left ≡ w ∷ ws →
-    (is_slash w || is_dashes w) ≡ false → is_dash w ≡ false → fit_from (own + 1) (hand_words ws) ≡ all
-fit_card own w ws left all h more on card =
-    sym (sym h ∙ ap (λ l. fit_from own (hand_words l)) more ∙ ap (fit_from own) (hands_card w ws on card) ∙ fit_onto own w (hand_words ws))
+pub fit_dash : (game : Game) (own : ℕ) (w : List ℕ) (ws left : List (List ℕ)) (all : Bool) → fit_from game own (hand_words left) ≡ all → left ≡ w ∷ ws →
+    (is_slash w || is_dashes w) ≡ false → is_dash w ≡ true → least_own game ≤ own → own ≤ own_size game → fit_from game 0 (hand_words ws) ≡ all
+fit_dash game own w ws left all h more on dash large few =
+    let fits : hand_fits game own ≡ true = sym (enough game own few) ∙ (let t : nat_le (least_own game) own ≡ true = grind arith in t) in
+    fit_none game ws ∙ sym (ap (λ b. b && hands_fit game (hand_words ws)) fits) ∙ fit_at_dash game own w ws left all h more on dash
 
-too_many : (own : ℕ) (hands : List (List (List ℕ))) → own ≡ 2 → fit_from (own + 1) hands ≡ false
-too_many own [] two = grind arith
-too_many own (hand ∷ hands) two = let no : (own + 1 + length hand == 2) ≡ false = grind arith in rw no refl
+pub fit_not_dash : (game : Game) (own : ℕ) (w : List ℕ) (ws left : List (List ℕ)) (all : Bool) → fit_from game own (hand_words left) ≡ all → left ≡ w ∷ ws →
+    (is_slash w || is_dashes w) ≡ false → is_dash w ≡ true → own < least_own game → false ≡ all
+fit_not_dash game own w ws left all h more on dash small =
+    let no : nat_le (least_own game) own ≡ false = grind arith in
+    sym (ap (λ b. (b && nat_le own (own_size game)) && hands_fit game (hand_words ws)) no) ∙ fit_at_dash game own w ws left all h more on dash
 
-pub fit_not_card : (own : ℕ) (w : List ℕ) (ws left : List (List ℕ)) (all : Bool) → fit_from own (hand_words left) ≡ all → left ≡ w ∷ ws →
-    (is_slash w || is_dashes w) ≡ false → is_dash w ≡ false → own ≡ 2 → false ≡ all
-fit_not_card own w ws left all h more on card two =
-    sym (too_many own (hand_words ws) two) ∙ fit_card own w ws left all h more on card
+pub fit_card : (game : Game) (own : ℕ) (w : List ℕ) (ws left : List (List ℕ)) (all : Bool) → fit_from game own (hand_words left) ≡ all → left ≡ w ∷ ws →
+    (is_slash w || is_dashes w) ≡ false → is_dash w ≡ false → fit_from game (own + 1) (hand_words ws) ≡ all
+fit_card game own w ws left all h more on card =
+    sym (sym h ∙ ap (λ l. fit_from game own (hand_words l)) more ∙ ap (fit_from game own) (hands_card w ws on card) ∙ fit_onto game own w (hand_words ws))
+
+too_large : (game : Game) (own : ℕ) → own_size game < own → hand_fits game own ≡ false
+too_large game own h = let no : nat_le own (own_size game) ≡ false = grind arith in rw no (and_false (nat_le (least_own game) own))
+
+too_many : (game : Game) (own : ℕ) (hands : List (List (List ℕ))) → own ≡ own_size game → fit_from game (own + 1) hands ≡ false
+too_many game own [] full = too_large game (own + 1) (omega arith)
+too_many game own (hand ∷ hands) full = ap (λ b. b && hands_fit game hands) (too_large game (own + 1 + length hand) (omega arith))
+
+pub fit_not_card : (game : Game) (own : ℕ) (w : List ℕ) (ws left : List (List ℕ)) (all : Bool) → fit_from game own (hand_words left) ≡ all → left ≡ w ∷ ws →
+    (is_slash w || is_dashes w) ≡ false → is_dash w ≡ false → own ≡ own_size game → false ≡ all
+fit_not_card game own w ws left all h more on card full =
+    sym (too_many game own (hand_words ws) full) ∙ fit_card game own w ws left all h more on card
 
 -- the number of hands
 length-onto_first : (w : List ℕ) (hands : List (List (List ℕ))) → 1 ≤ length hands → length (onto_first w hands) ≡ length hands
@@ -139,14 +156,20 @@ pub board_later : (w : List ℕ) (ws left : List (List ℕ)) → left ≡ w ∷ 
 board_later w ws left more slash dashes = ap board_words more ∙ (hand_first w ws slash dashes).1
 
 -- what the counts say
-pub fits_none : (count n : ℕ) → count ≡ n → count ≡ 0 → (count == 0) ≡ board_fits n
-fits_none count n is zero = let none : n ≡ 0 = omega arith in rw (zero, none) refl
+pub fits_none : (game : Game) (count n : ℕ) → count ≡ n → count ≡ 0 → (count == 0) ≡ board_fits game n
+fits_none game count n is zero = let none : n ≡ 0 = omega arith in rw (zero, none) refl
 
-pub fits_some : (count n : ℕ) → count ≡ n → count ≤ 5 → (count ≡ 0 → ⊥) → nat_le 3 count ≡ board_fits n
-fits_some count n is few some =
+pub fits_some : (game : Game) (count n : ℕ) → count ≡ n → count ≤ board_size game → (count ≡ 0 → ⊥) → nat_le 3 count ≡ board_fits game n
+fits_some game count n is few some =
     let other : (n == 0) ≡ false = grind arith in
-    let small : nat_le n 5 ≡ true = grind arith in
+    let small : nat_le n (board_size game) ≡ true = grind arith in
     rw (other, small, is) (sym (and_true (nat_le 3 n)))
+
+pub fits_not : (game : Game) (n : ℕ) → board_size game < n → false ≡ board_fits game n
+fits_not game n many =
+    let other : (n == 0) ≡ false = grind arith in
+    let large : nat_le n (board_size game) ≡ false = grind arith in
+    rw (other, large) (sym (and_false (nat_le 3 n)))
 
 pub players_many : (n count left rest : ℕ) → count + left ≡ 1 + n → left ≡ rest + 1 → 1 ≤ rest → count ≡ 10 → None ≡ cond (players_fit n) (Some n) None
 players_many n count left rest is more some ten =

@@ -1,5 +1,5 @@
 -- The sets of a whole spot: what they hold, and that no card is in two of them.
-use Rattle.std.proofs.Common.{◌≡◌, ℕ, zero, suc, ◌<◌, ◌≤◌, Bool, true, false, cond, ◌||◌, ◌&&◌, ◌==◌, not, List, [], ◌∷◌, ◌++◌, length, take, drop, map, get_or, refl, sym, ap, ◌∙◌, subst, Some, None, inl, inr, arith}
+use Rattle.std.proofs.Common.{◌≡◌, ℕ, zero, suc, ◌+◌, ◌<◌, ◌≤◌, Bool, true, false, cond, ◌||◌, ◌&&◌, ◌==◌, not, List, [], ◌∷◌, ◌++◌, length, take, drop, map, get_or, refl, sym, ap, ◌∙◌, subst, Some, None, inl, inr, arith}
 use Rattle.std.specs.Prelude.{Option, is_none, nat_le, codes}
 use Rattle.std.specs.List.{list_all, onto_first, before_first, after_first, cons_option}
 use Rattle.std.proofs.lemmas.List.Folds.{list_any-append}
@@ -13,11 +13,11 @@ use Rattle.card_sets.specs.Bits.{has-cards_where}
 use Rattle.card_sets.specs.Rising.{IsRising-cards_where}
 use Rattle.card_sets.specs.Disjoint.{apart, all_apart, all_empty}
 use Rattle.card_sets.specs.declared.games.Game.{Game}
-use Rattle.card_sets.specs.declared.games.Game.TheVariants.{Holdem}
-use Rattle.card_sets.specs.Games.{all_fit}
+use Rattle.card_sets.specs.Games.{all_fit, own_size, board_size}
 use Rattle.card_sets.specs.State.{State}
 use Rattle.spot_text.specs.Parts.{is_slash, is_dashes, is_dash, hand_words, board_words, dead_words, cards_of, set_of}
-use Rattle.spot_text.specs.Spot.{hands_fit, board_fits, repeated_after, state_of_words}
+use Rattle.spot_text.specs.Games.{least_own, hand_fits, board_fits}
+use Rattle.spot_text.specs.Spot.{hands_fit, repeated_after, state_of_words}
 use Rattle.spot_text.specs.Written.{all_differ}
 use Rattle.spot_text.proofs.Apart.{and_left, and_right, and_both, or_left, or_right, or_either, not_true, has_past, Apart, apart-Apart}
 use Rattle.spot_text.proofs.Parts.{before_yes, before_no, after_yes, after_no, slash_first, dashes_first, hand_first, none_first}
@@ -61,17 +61,17 @@ drop_spread zero (hand ∷ hands) few = absurd (omega arith)
 drop_spread (suc n) [] few = empty_spread (suc n)
 drop_spread (suc n) (hand ∷ hands) few = drop_spread n hands (omega arith)
 
-pub fit_spread : (n : ℕ) (hands : List (List (List ℕ))) → hands_fit hands ≡ true → list_all (λ hand. nat_le (length hand) 2) (spread n hands) ≡ true
-fit_spread zero hands fit = refl
-fit_spread (suc n) [] fit = fit_spread n [] refl
-fit_spread (suc n) (hand ∷ hands) fit =
-    let two : (length hand == 2) ≡ true = and_left (length hand == 2) (hands_fit hands) fit in
+pub fit_spread : (game : Game) (n : ℕ) (hands : List (List (List ℕ))) → hands_fit game hands ≡ true → list_all (λ hand. nat_le (length hand) (own_size game)) (spread n hands) ≡ true
+fit_spread game zero hands fit = refl
+fit_spread game (suc n) [] fit = and_both (nat_le 0 (own_size game)) (list_all (λ hand. nat_le (length hand) (own_size game)) (spread n [])) (let t : nat_le 0 (own_size game) ≡ true = grind arith in t) (fit_spread game n [] refl)
+fit_spread game (suc n) (hand ∷ hands) fit =
+    let own : nat_le (length hand) (own_size game) ≡ true = and_right (nat_le (least_own game) (length hand)) (nat_le (length hand) (own_size game)) (and_left (hand_fits game (length hand)) (hands_fit game hands) fit) in
     let most : length (set_of (cards_of hand)) ≤ length hand = omega (arith, length-set_of (cards_of hand), length-cards_of hand) in
-    let small : nat_le (length (set_of (cards_of hand))) 2 ≡ true = small_is (length (set_of (cards_of hand))) (length hand) most two in
-    and_both _ _ small (fit_spread n hands (and_right (length hand == 2) (hands_fit hands) fit))
+    let small : nat_le (length (set_of (cards_of hand))) (own_size game) ≡ true = small_is (length (set_of (cards_of hand))) (length hand) (own_size game) most own in
+    and_both _ _ small (fit_spread game n hands (and_right (hand_fits game (length hand)) (hands_fit game hands) fit))
   where
-    small_is : (a b : ℕ) → a ≤ b → (b == 2) ≡ true → nat_le a 2 ≡ true
-    small_is a b h t = grind arith
+    small_is : (a b n : ℕ) → a ≤ b → nat_le b n ≡ true → nat_le a n ≡ true
+    small_is a b n h t = grind arith
 
 -- a set has the cards that it is made of
 set_has : (cards : List ℕ) (k : ℕ) → has_card (set_of cards) k ≡ true → has_card cards k ≡ true
@@ -239,29 +239,29 @@ pub known_unused : (hs : List (List ℕ)) (ws : List (List ℕ)) (count : ℕ) �
 known_unused hs ws count g is few =
     ap (λ n. all_empty (drop n hs)) is ∙ ap (λ l. all_empty (drop (length (hand_words ws)) l)) g ∙ drop_spread 10 (hand_words ws) (omega arith)
 
-board_most : (n : ℕ) → board_fits n ≡ true → n ≤ 5
-board_most n h = elim (cases_lt n 6) [
+board_most : (game : Game) (n : ℕ) → board_fits game n ≡ true → n ≤ board_size game
+board_most game n h = elim (cases_lt n (board_size game + 1)) [
   | inl small ↦ omega arith
   | inr large ↦
       let some : (n == 0) ≡ false = grind arith in
-      let many : nat_le n 5 ≡ false = grind arith in
-      absurd (true≢false (sym h ∙ ap (λ b. b || (nat_le 3 n && nat_le n 5)) some ∙ ap (λ b. nat_le 3 n && b) many ∙ and_no (nat_le 3 n)))
+      let many : nat_le n (board_size game) ≡ false = grind arith in
+      absurd (true≢false (sym h ∙ ap (λ b. b || (nat_le 3 n && nat_le n (board_size game))) some ∙ ap (λ b. nat_le 3 n && b) many ∙ and_no (nat_le 3 n)))
 ]
   where
     and_no : (b : Bool) → (b && false) ≡ false
     and_no true = refl
     and_no false = refl
 
-pub known_fit : (b : List ℕ) (hs : List (List ℕ)) (ws : List (List ℕ)) → b ≡ set_of (cards_of (board_words ws)) → hs ≡ spread 10 (hand_words ws) →
-    hands_fit (hand_words ws) ≡ true → board_fits (length (board_words ws)) ≡ true → all_fit Holdem b hs ≡ true
-known_fit b hs ws e g fit table =
-    let most : length b ≤ 5 =
-    omega (arith, ap length e, length-set_of (cards_of (board_words ws)), length-cards_of (board_words ws), board_most (length (board_words ws)) table) in
-    and_both (nat_le (length b) 5) (list_all (λ hand. nat_le (length hand) 2) hs) (at_most (length b) most)
-    (ap (list_all (λ hand. nat_le (length hand) 2)) g ∙ fit_spread 10 (hand_words ws) fit)
+pub known_fit : (game : Game) (b : List ℕ) (hs : List (List ℕ)) (ws : List (List ℕ)) → b ≡ set_of (cards_of (board_words ws)) → hs ≡ spread 10 (hand_words ws) →
+    hands_fit game (hand_words ws) ≡ true → board_fits game (length (board_words ws)) ≡ true → all_fit game b hs ≡ true
+known_fit game b hs ws e g fit table =
+    let most : length b ≤ board_size game =
+    omega (arith, ap length e, length-set_of (cards_of (board_words ws)), length-cards_of (board_words ws), board_most game (length (board_words ws)) table) in
+    and_both (nat_le (length b) (board_size game)) (list_all (λ hand. nat_le (length hand) (own_size game)) hs) (at_most (length b) (board_size game) most)
+    (ap (list_all (λ hand. nat_le (length hand) (own_size game))) g ∙ fit_spread game 10 (hand_words ws) fit)
   where
-    at_most : (n : ℕ) → n ≤ 5 → nat_le n 5 ≡ true
-    at_most n h = grind arith
+    at_most : (n m : ℕ) → n ≤ m → nat_le n m ≡ true
+    at_most n m h = grind arith
 
 same_state : (game game' : Game) (hands hands' : List (List ℕ)) (board board' dead dead' : List ℕ) →
     game ≡ game' → hands ≡ hands' → board ≡ board' → dead ≡ dead' →
@@ -269,9 +269,9 @@ same_state : (game game' : Game) (hands hands' : List (List ℕ)) (board board' 
     ≡ (let s : State = record { game = game'; hands = hands'; board = board'; dead = dead' } in s)
 same_state game game' hands hands' board board' dead dead' e f g h = rw (e, f, g, h) refl
 
-pub known_state : (game : Game) (count : ℕ) (b d : List ℕ) (hs : List (List ℕ)) (ws : List (List ℕ)) → game ≡ Holdem → count ≡ length (hand_words ws) → count ≤ 10 →
+pub known_state : (game : Game) (count : ℕ) (b d : List ℕ) (hs : List (List ℕ)) (ws : List (List ℕ)) → count ≡ length (hand_words ws) → count ≤ 10 →
     b ≡ set_of (cards_of (board_words ws)) → d ≡ set_of (cards_of (dead_words ws)) → hs ≡ spread 10 (hand_words ws) →
-    (let s : State = record { game = game; hands = take count hs; board = b; dead = d } in s) ≡ state_of_words ws
-known_state game count b d hs ws holdem is few e f g =
-    same_state _ _ _ _ _ _ _ _ holdem
+    (let s : State = record { game = game; hands = take count hs; board = b; dead = d } in s) ≡ state_of_words game ws
+known_state game count b d hs ws is few e f g =
+    same_state _ _ _ _ _ _ _ _ refl
     (ap (λ n. take n hs) is ∙ ap (take (length (hand_words ws))) g ∙ take_spread 10 (hand_words ws) (omega arith)) e f

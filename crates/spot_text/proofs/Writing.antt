@@ -1,5 +1,5 @@
 -- A spot that is written is read as that spot.
-use Rattle.std.proofs.Common.{◌≡◌, ℕ, ◌<◌, Bool, true, false, cond, ◌&&◌, ◌==◌, not, List, [], ◌∷◌, ◌++◌, length, map, get_or, refl, sym, ap, ◌∙◌, None, Ok, Err, append_assoc, arith}
+use Rattle.std.proofs.Common.{◌≡◌, ℕ, ◌<◌, Bool, true, false, cond, ◌&&◌, not, List, [], ◌∷◌, ◌++◌, length, map, get_or, refl, sym, ap, ◌∙◌, None, Some, Ok, Err, append_assoc, arith}
 use Rattle.std.specs.Prelude.{is_some, nat_lt, codes}
 use Rattle.std.specs.List.{concat, list_all, range_with_len, onto_first, before_first, after_first, cons_option}
 use Rattle.std.proofs.lemmas.List.Sums.{AllPass-from_list_all}
@@ -8,10 +8,12 @@ use mathlib.Core.Bool.{true≢false}
 use Rattle.card_sets.specs.CardText.{card_of_text, text_of_card}
 use Rattle.card_sets.specs.CardTextLaws.{card_of_text-text_of_card}
 use Rattle.card_sets.specs.State.{State}
-use Rattle.card_sets.specs.declared.games.Game.TheVariants.{Holdem}
+use Rattle.card_sets.specs.declared.games.Game.{Game}
+use Rattle.card_sets.specs.declared.games.Game.TheVariants.{Holdem, Omaha8, Stud, Razz, Lowball27}
 use Rattle.spot_text.specs.declared.faults.SpotFault.TheVariants.{BadCard, HandSize, BoardSize, PlayerCount, DeckShort}
 use Rattle.spot_text.specs.Parts.{is_slash, is_dashes, is_dash, hand_words, board_words, dead_words, all_cards, in_form, cards_of, set_of}
-use Rattle.spot_text.specs.Spot.{repeated_after, hands_fit, board_fits, players_fit, state_of_words, is_short, unless_short, unless_repeated, spot_behind, spot_of_words, spot_of}
+use Rattle.spot_text.specs.Games.{word_of, game_named, hand_fits, board_fits}
+use Rattle.spot_text.specs.Spot.{repeated_after, hands_fit, players_fit, state_of_words, is_short, unless_short, unless_repeated, spot_behind, spot_of_game, spot_of_words, spot_of}
 use Rattle.spot_text.specs.Written.{is_word, all_in_deck, texts, hands_text, spot_line, state_of_cards, MayBeWritten}
 use Rattle.spot_text.proofs.Apart.{and_left, and_right, and_both}
 use Rattle.spot_text.proofs.Parts.{before_yes, before_no, after_yes, after_no, dashes_first, hand_first}
@@ -143,19 +145,19 @@ length-texts (card ∷ cards) = omega (arith, length-texts cards)
 record HandsWritten (hands : List (List ℕ)) : Type 0 where
   form : list_all all_cards (map texts hands) ≡ true
   sets : map (λ hand. set_of (cards_of hand)) (map texts hands) ≡ map set_of hands
-  pairs : hands_fit (map texts hands) ≡ list_all (λ hand. length hand == 2) hands
+  own : (game : Game) → hands_fit game (map texts hands) ≡ list_all (λ hand. hand_fits game (length hand)) hands
   count : length (map texts hands) ≡ length hands
   cards : hands_cards (map texts hands) ≡ concat hands
 
 hands_written : (hands : List (List ℕ)) → list_all all_in_deck hands ≡ true → HandsWritten hands
-hands_written [] h = record { form = refl; sets = refl; pairs = refl; count = refl; cards = refl }
+hands_written [] h = record { form = refl; sets = refl; own = λ game. refl; count = refl; cards = refl }
 hands_written (hand ∷ hands) h =
     let deck = and_left (all_in_deck hand) (list_all all_in_deck hands) h in
     let rest = hands_written hands (and_right (all_in_deck hand) (list_all all_in_deck hands) h) in
     record {
       form = and_both (all_cards (texts hand)) (list_all all_cards (map texts hands)) (texts_form hand deck) rest.form;
       sets = ap (λ c. set_of c ∷ map (λ x. set_of (cards_of x)) (map texts hands)) (cards_texts hand deck) ∙ ap (λ l. set_of hand ∷ l) rest.sets;
-      pairs = ap (λ n. (n == 2) && hands_fit (map texts hands)) (length-texts hand) ∙ ap (λ b. (length hand == 2) && b) rest.pairs;
+      own = λ game. ap (λ n. hand_fits game n && hands_fit game (map texts hands)) (length-texts hand) ∙ ap (λ b. hand_fits game (length hand) && b) (rest.own game);
       count = omega (arith, rest.count);
       cards = ap (λ c. c ++ hands_cards (map texts hands)) (cards_texts hand deck) ∙ ap (λ l. hand ++ l) rest.cards;
     }
@@ -181,22 +183,22 @@ hands_words (hand ∷ next ∷ hands) h =
     (hands_words (next ∷ hands) (and_right (all_in_deck hand) (list_all all_in_deck (next ∷ hands)) h))
 
 -- a spot whose words pass each test
-record Passes (others : List (List ℕ)) (state : State) : Type 0 where
+record Passes (game : Game) (others : List (List ℕ)) (state : State) : Type 0 where
   form : in_form others ≡ true
   once : repeated_after [] (cards_of others) ≡ None
-  pairs : hands_fit (hand_words others) ≡ true
-  table : board_fits (length (board_words others)) ≡ true
+  own : hands_fit game (hand_words others) ≡ true
+  table : board_fits game (length (board_words others)) ≡ true
   players : players_fit (length (hand_words others)) ≡ true
-  is : state_of_words others ≡ state
+  is : state_of_words game others ≡ state
   enough : is_short state ≡ false
 
-passes_all : (others : List (List ℕ)) (state : State) → Passes others state → spot_behind others ≡ Ok state
-passes_all others state h =
-    ap (λ b. cond b (unless_repeated (repeated_after [] (cards_of others)) others) (Err BadCard)) h.form
-    ∙ ap (λ o. unless_repeated o others) h.once
-    ∙ ap (λ b. cond b (cond (board_fits (length (board_words others))) (cond (players_fit (length (hand_words others))) (unless_short (state_of_words others)) (Err PlayerCount)) (Err BoardSize)) (Err HandSize)) h.pairs
-    ∙ ap (λ b. cond b (cond (players_fit (length (hand_words others))) (unless_short (state_of_words others)) (Err PlayerCount)) (Err BoardSize)) h.table
-    ∙ ap (λ b. cond b (unless_short (state_of_words others)) (Err PlayerCount)) h.players
+passes_all : (game : Game) (others : List (List ℕ)) (state : State) → Passes game others state → spot_behind game others ≡ Ok state
+passes_all game others state h =
+    ap (λ b. cond b (unless_repeated (repeated_after [] (cards_of others)) game others) (Err BadCard)) h.form
+    ∙ ap (λ o. unless_repeated o game others) h.once
+    ∙ ap (λ b. cond b (cond (board_fits game (length (board_words others))) (cond (players_fit (length (hand_words others))) (unless_short (state_of_words game others)) (Err PlayerCount)) (Err BoardSize)) (Err HandSize)) h.own
+    ∙ ap (λ b. cond b (cond (players_fit (length (hand_words others))) (unless_short (state_of_words game others)) (Err PlayerCount)) (Err BoardSize)) h.table
+    ∙ ap (λ b. cond b (unless_short (state_of_words game others)) (Err PlayerCount)) h.players
     ∙ ap unless_short h.is ∙ ap (λ b. cond b (Err DeckShort) (Ok state)) h.enough
 
 -- the words behind the game's
@@ -207,14 +209,14 @@ same_form : (hands hands' : List (List (List ℕ))) (board board' dead dead' : L
     (list_all all_cards hands && (all_cards board && all_cards dead)) ≡ (list_all all_cards hands' && (all_cards board' && all_cards dead'))
 same_form hands hands' board board' dead dead' e f g = rw (e, f, g) refl
 
-same_state : (hands hands' : List (List ℕ)) (board board' dead dead' : List ℕ) → hands ≡ hands' → board ≡ board' → dead ≡ dead' →
-    (let s : State = record { game = Holdem; hands = hands; board = board; dead = dead } in s)
-    ≡ (let s : State = record { game = Holdem; hands = hands'; board = board'; dead = dead' } in s)
-same_state hands hands' board board' dead dead' e f g = rw (e, f, g) refl
+same_state : (game : Game) (hands hands' : List (List ℕ)) (board board' dead dead' : List ℕ) → hands ≡ hands' → board ≡ board' → dead ≡ dead' →
+    (let s : State = record { game = game; hands = hands; board = board; dead = dead } in s)
+    ≡ (let s : State = record { game = game; hands = hands'; board = board'; dead = dead' } in s)
+same_state game hands hands' board board' dead dead' e f g = rw (e, f, g) refl
 
-written_passes : (first : List ℕ) (hands : List (List ℕ)) (board dead : List ℕ) → MayBeWritten (first ∷ hands) board dead →
-    Passes (written (first ∷ hands) board dead) (state_of_cards (first ∷ hands) board dead)
-written_passes first hands board dead h =
+written_passes : (game : Game) (first : List ℕ) (hands : List (List ℕ)) (board dead : List ℕ) → MayBeWritten game (first ∷ hands) board dead →
+    Passes game (written (first ∷ hands) board dead) (state_of_cards game (first ∷ hands) board dead)
+written_passes game first hands board dead h =
     let others = written (first ∷ hands) board dead in
     let t = tail_parts board dead h.board_in_deck in
     let p = hands_parts first hands (tail board dead) h.hands_in_deck t.0 in
@@ -233,23 +235,33 @@ written_passes first hands board dead h =
           ∙ and_both (list_all all_cards (map texts (first ∷ hands))) (all_cards (texts board) && all_cards (texts dead)) w.form
           (and_both (all_cards (texts board)) (all_cards (texts dead)) (texts_form board h.board_in_deck) (texts_form dead h.dead_in_deck));
       once = ap (repeated_after []) all ∙ none_where_all_differ (concat (first ∷ hands) ++ (board ++ dead)) h.differ;
-      pairs = ap hands_fit is_hands ∙ w.pairs ∙ h.pairs;
-      table = ap (λ b. board_fits (length b)) is_board ∙ ap board_fits (length-texts board) ∙ h.table;
+      own = ap (hands_fit game) is_hands ∙ w.own game ∙ h.own;
+      table = ap (λ b. board_fits game (length b)) is_board ∙ ap (board_fits game) (length-texts board) ∙ h.table;
       players = ap (λ l. players_fit (length l)) is_hands ∙ ap players_fit w.count ∙ h.players;
       is =
-          same_state _ _ _ _ _ _ (ap (map (λ hand. set_of (cards_of hand))) is_hands ∙ w.sets)
+          same_state game _ _ _ _ _ _ (ap (map (λ hand. set_of (cards_of hand))) is_hands ∙ w.sets)
           (ap (λ b. set_of (cards_of b)) is_board ∙ ap set_of (cards_texts board h.board_in_deck))
           (ap (λ b. set_of (cards_of b)) is_dead ∙ ap set_of (cards_texts dead h.dead_in_deck));
-      enough = not_out (is_short (state_of_cards (first ∷ hands) board dead)) h.enough;
+      enough = not_out (is_short (state_of_cards game (first ∷ hands) board dead)) h.enough;
     }
 
-pub written_is_read : (hands : List (List ℕ)) (board dead : List ℕ) → MayBeWritten hands board dead →
-    spot_of (spot_line hands board dead) ≡ Ok (state_of_cards hands board dead)
-written_is_read [] board dead h = absurd (true≢false (sym h.players))
-written_is_read (first ∷ hands) board dead h =
+game_word : (game : Game) → (is_word (word_of game) ≡ true) × (game_named (word_of game) ≡ Some game)
+game_word Holdem = (refl, refl)
+game_word Omaha8 = (refl, refl)
+game_word Stud = (refl, refl)
+game_word Razz = (refl, refl)
+game_word Lowball27 = (refl, refl)
+
+pub written_is_read : (game : Game) (hands : List (List ℕ)) (board dead : List ℕ) → MayBeWritten game hands board dead →
+    spot_of (spot_line game hands board dead) ≡ Ok (state_of_cards game hands board dead)
+written_is_read game [] board dead h = absurd (true≢false (sym h.players))
+written_is_read game (first ∷ hands) board dead h =
     let others = written (first ∷ hands) board dead in
-    let all_words : list_all is_word (codes "holdem" ∷ others) ≡ true =
-    words_append (hands_text (first ∷ hands)) (tail board dead) (hands_words (first ∷ hands) h.hands_in_deck)
-    (words_append (texts board) (codes "/" ∷ texts dead) (texts_words board h.board_in_deck) (texts_words dead h.dead_in_deck)) in
-    ap spot_of_words (words-joined (codes "holdem" ∷ others) all_words)
-    ∙ passes_all others (state_of_cards (first ∷ hands) board dead) (written_passes first hands board dead h)
+    let word = game_word game in
+    let all_words : list_all is_word (word_of game ∷ others) ≡ true =
+    and_both (is_word (word_of game)) (list_all is_word others) word.0
+    (words_append (hands_text (first ∷ hands)) (tail board dead) (hands_words (first ∷ hands) h.hands_in_deck)
+    (words_append (texts board) (codes "/" ∷ texts dead) (texts_words board h.board_in_deck) (texts_words dead h.dead_in_deck))) in
+    ap spot_of_words (words-joined (word_of game ∷ others) all_words)
+    ∙ ap (λ o. spot_of_game o others) word.1
+    ∙ passes_all game others (state_of_cards game (first ∷ hands) board dead) (written_passes game first hands board dead h)

@@ -1,5 +1,6 @@
 pub mod Words
 pub mod Parts
+pub mod Games
 pub mod Spot
 pub mod Written
 pub mod Sections

@@ -1,13 +1,14 @@
 -- A spot as it is written, and what the laws of reading say of it.
-use Rattle.std.specs.Prelude.{ℕ, Bool, true, ◌==◌, ◌&&◌, not, List, [], ◌∷◌, ◌++◌, map, length, nat_lt, codes, IsTrue}
+use Rattle.std.specs.Prelude.{ℕ, Bool, true, ◌&&◌, not, List, [], ◌∷◌, ◌++◌, map, length, nat_lt, codes, IsTrue}
 use Rattle.std.specs.List.{concat, list_all, join_with_byte}
-use Rattle.card_sets.specs.declared.games.Game.TheVariants.{Holdem}
+use Rattle.card_sets.specs.declared.games.Game.{Game}
 use Rattle.card_sets.specs.Cards.{has_card}
 use Rattle.card_sets.specs.CardText.{text_of_card}
 use Rattle.card_sets.specs.State.{State}
 use Rattle.spot_text.specs.Words.{is_gap}
 use Rattle.spot_text.specs.Parts.{set_of}
-use Rattle.spot_text.specs.Spot.{board_fits, players_fit, is_short}
+use Rattle.spot_text.specs.Games.{word_of, hand_fits, board_fits}
+use Rattle.spot_text.specs.Spot.{players_fit, is_short}
 
 -- some bytes, none of them a space or a tab
 abbrev pub is_word : List ℕ → Bool
@@ -32,27 +33,27 @@ hands_text [] = []
 hands_text (hand ∷ []) = texts hand
 hands_text (hand ∷ next ∷ hands) = texts hand ++ codes "-" ∷ hands_text (next ∷ hands)
 
--- the line of hands, a board and dead cards
-abbrev pub spot_line : List (List ℕ) → List ℕ → List ℕ → List ℕ
-spot_line hands board dead =
-    join_with_byte 32 (codes "holdem" ∷ (hands_text hands ++ codes "--" ∷ (texts board ++ codes "/" ∷ texts dead)))
+-- the line of a game, hands, a board and dead cards
+abbrev pub spot_line : Game → List (List ℕ) → List ℕ → List ℕ → List ℕ
+spot_line game hands board dead =
+    join_with_byte 32 (word_of game ∷ (hands_text hands ++ codes "--" ∷ (texts board ++ codes "/" ∷ texts dead)))
 
 -- their state
-abbrev pub state_of_cards : List (List ℕ) → List ℕ → List ℕ → State
-state_of_cards hands board dead = record {
-  game = Holdem;
+abbrev pub state_of_cards : Game → List (List ℕ) → List ℕ → List ℕ → State
+state_of_cards game hands board dead = record {
+  game = game;
   hands = map set_of hands;
   board = set_of board;
   dead = set_of dead;
 }
 
 -- a spot that may be written: cards of the deck, none of them twice, in places of the right size, and enough others left
-pub record MayBeWritten (hands : List (List ℕ)) (board dead : List ℕ) : Type 0 where
+pub record MayBeWritten (game : Game) (hands : List (List ℕ)) (board dead : List ℕ) : Type 0 where
   pub hands_in_deck : IsTrue (list_all all_in_deck hands)
   pub board_in_deck : IsTrue (all_in_deck board)
   pub dead_in_deck : IsTrue (all_in_deck dead)
   pub differ : IsTrue (all_differ (concat hands ++ (board ++ dead)))
-  pub pairs : IsTrue (list_all (λ hand. length hand == 2) hands)
-  pub table : IsTrue (board_fits (length board))
+  pub own : IsTrue (list_all (λ hand. hand_fits game (length hand)) hands)
+  pub table : IsTrue (board_fits game (length board))
   pub players : IsTrue (players_fit (length hands))
-  pub enough : IsTrue (not (is_short (state_of_cards hands board dead)))
+  pub enough : IsTrue (not (is_short (state_of_cards game hands board dead)))

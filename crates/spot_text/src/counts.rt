@@ -3,39 +3,45 @@
 ghost use Rattle.std.specs.Prelude.{◌≡◌, if◌then◌else◌, length, Some, None};
 ghost use Rattle.spot_text.specs.Words.{words_left};
 ghost use Rattle.spot_text.specs.Parts.{hand_words, board_words};
-ghost use Rattle.spot_text.specs.Spot.{hands_fit, board_fits, players_fit};
+ghost use Rattle.spot_text.specs.Games.{board_fits};
+ghost use Rattle.spot_text.specs.Spot.{hands_fit, players_fit};
 
+use crate::games::{least_own, most_board, most_own};
 use crate::marks::{ends_hands, is_dash, is_dashes, is_slash};
 use crate::words::Words;
+use card_sets::Game;
 
-/// Whether each hand has two cards.
-pub(crate) fn hands_are_pairs(words: Words) -> bool
-    ensures { result ≡ hands_fit (hand_words (words_left words.entry)) }
+/// Whether each hand has as many cards as the game allows.
+pub(crate) fn hands_fit(game: Game, words: Words) -> bool
+    ensures { result ≡ hands_fit game (hand_words (words_left words.entry)) }
 {
+    let least = least_own(game);
+    let most = most_own(game);
     let mut own = 0u8;
     for word in words {
         if ends_hands(word) {
-            return own == 2;
+            return own >= least;
         }
         if is_dash(word) {
-            if own != 2 {
+            if own < least {
                 return false;
             }
             own = 0;
         } else {
-            if own == 2 {
+            if own == most {
                 return false;
             }
             own += 1;
         }
     }
-    own == 2
+    own >= least
 }
 
-/// Whether the board has none, three, four or five cards.
-pub(crate) fn board_fits(words: Words) -> bool
-    ensures { result ≡ board_fits (length (board_words (words_left words.entry))) }
+/// Whether the board has as many cards as the game allows: none, or three, four or five.
+pub(crate) fn board_fits(game: Game, words: Words) -> bool
+    ensures { result ≡ board_fits game (length (board_words (words_left words.entry))) }
 {
+    let most = most_board(game);
     let mut on_board = false;
     let mut count = 0u8;
     for word in words {
@@ -43,7 +49,7 @@ pub(crate) fn board_fits(words: Words) -> bool
             break;
         }
         if on_board {
-            if count == 5 {
+            if count == most {
                 return false;
             }
             count += 1;

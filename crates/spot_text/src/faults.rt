@@ -11,9 +11,9 @@ pub enum SpotFault {
     BadCard,
     /// A card stands twice: the first word, from the left, that repeats an earlier one.
     TwiceCard(Card),
-    /// A hand hasn't two cards.
+    /// A hand hasn't as many cards as the game allows.
     HandSize,
-    /// The board hasn't none, three, four or five cards.
+    /// The board hasn't as many cards as the game allows: none, or three, four or five of a board.
     BoardSize,
     /// There are fewer than two hands, or more than ten.
     PlayerCount,

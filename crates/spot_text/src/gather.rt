@@ -7,7 +7,8 @@ ghost use Rattle.card_sets.specs.CardText.{card_of_text};
 ghost use Rattle.card_sets.specs.State.{state_of};
 ghost use Rattle.spot_text.specs.Words.{words_left};
 ghost use Rattle.spot_text.specs.Parts.{hand_words, board_words, dead_words, cards_of, set_of};
-ghost use Rattle.spot_text.specs.Spot.{repeated_after, hands_fit, board_fits, state_of_words};
+ghost use Rattle.spot_text.specs.Games.{board_fits};
+ghost use Rattle.spot_text.specs.Spot.{repeated_after, hands_fit, state_of_words};
 
 use crate::form::card_of;
 use crate::marks::{ends_hands, is_dash, is_dashes, is_slash};
@@ -111,18 +112,17 @@ fn hands_of(words: Words) -> [CardSet; 10]
 }
 
 /// The state of parts that have no card twice and whose sizes fit.
-pub(crate) fn known(words: Words, count: u8) -> Known
+pub(crate) fn known(game: Game, words: Words, count: u8) -> Known
     requires count { count ≡ length (hand_words (words_left words)) }
     requires few { count ≤ 10 }
-    requires hands { IsTrue (hands_fit (hand_words (words_left words))) }
-    requires board { IsTrue (board_fits (length (board_words (words_left words)))) }
+    requires hands { IsTrue (hands_fit game (hand_words (words_left words))) }
+    requires board { IsTrue (board_fits game (length (board_words (words_left words)))) }
     requires differ { repeated_after [] (cards_of (words_left words)) ≡ None }
-    ensures state { state_of result ≡ state_of_words (words_left words.entry) }
-    ensures game { result.game ≡ Game.Holdem }
+    ensures state { state_of result ≡ state_of_words game (words_left words.entry) }
     ensures count { result.count ≡ count }
 {
     Known {
-        game: Game::Holdem,
+        game,
         count,
         hands: hands_of(words),
         board: board_cards(words),

@@ -3,6 +3,7 @@
 ghost use Rattle.std.specs.Prelude.{◌≡◌, ℕ, List, [], ◌∷◌, ◌++◌, IsTrue, Some, Ok, is_none};
 ghost use Rattle.std.specs.List.{list_all, join_with_byte};
 ghost use Rattle.card_sets.specs.Cards.{has_card};
+ghost use Rattle.card_sets.specs.declared.games.Game.{Game};
 ghost use Rattle.spot_text.specs.Words.{words};
 ghost use Rattle.spot_text.specs.Spot.{repeated_after, spot_of};
 ghost use Rattle.spot_text.specs.Written.{is_word, all_differ, spot_line, state_of_cards, MayBeWritten};
@@ -22,8 +23,9 @@ pub fn law_the_first_repeated_card()
         → repeated_after [] (front ++ card ∷ others) ≡ Some card }
 {}
 
-/// A spot that may be written, of two to ten hands, a board and dead cards, is read as that spot.
+/// A spot that may be written, of a game, two to ten hands, a board and dead cards, is read as that
+/// spot.
 pub fn law_a_written_spot_is_read()
-    ensures { (hands : List (List ℕ)) (board dead : List ℕ) → MayBeWritten hands board dead
-        → spot_of (spot_line hands board dead) ≡ Ok (state_of_cards hands board dead) }
+    ensures { (game : Game) (hands : List (List ℕ)) (board dead : List ℕ) → MayBeWritten game hands board dead
+        → spot_of (spot_line game hands board dead) ≡ Ok (state_of_cards game hands board dead) }
 {}

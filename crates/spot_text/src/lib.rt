@@ -1,13 +1,17 @@
-//! Spot lines: the known cards of a deal of hold'em, written in one line of words.
+//! Spot lines: the known cards of a deal, written in one line of words.
 //!
-//! A line is `holdem` and the hands, two cards each, with a `-` between hands. Behind them may
-//! stand `--` and the board, and then `/` and the dead cards, as in
+//! A line is the word of a game and the hands, with a `-` between hands. Behind them may stand `--`
+//! and the board, and then `/` and the dead cards, as in
 //! `holdem As Ah - Kd Qd - 9c 9d -- Jd Td 2c / 3h`. Words stand between spaces and tabs.
+//!
+//! A hand is two cards in `holdem`, four in `omaha8`, three to seven in `stud` and `razz`, and up to
+//! five that are kept in `lowball27`. Only the first two have a board, of three, four or five cards.
 #![tactic(auto)]
 
 mod counts;
 mod faults;
 mod form;
+mod games;
 mod gather;
 mod laws;
 mod marks;

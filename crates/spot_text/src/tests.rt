@@ -83,7 +83,7 @@ fn another_game_is_an_unknown_word(rt: HostRuntime) -> Result<(), Fail> {
         b"",
         b" \t ",
         b"omaha As Ah - Ks Kh",
-        b"omaha8 As Ah - Ks Kh",
+        b"omaha9 As Ah 2c 3c - Ks Kh 4c 5c",
         b"Holdem As Ah - Kd Qd",
         b"holdemAs Ah - Kd Qd",
         b"As Ah - Kd Qd",
@@ -177,6 +177,115 @@ fn sizes_are_tested_in_order(rt: HostRuntime) -> Result<(), Fail> {
     for (line, fault) in lines {
         assert!(rt; fault_of(line) == Some(fault));
     }
+    Ok(())
+}
+
+#[test]
+fn each_game_has_its_sizes(rt: HostRuntime) -> Result<(), Fail> {
+    let lines: [(&[u8], Game, [u32; 2], u32, u32); 10] = [
+        (b"holdem As Ah - Ks Kh", Game::Holdem, [2, 2], 0, 0),
+        (
+            b"omaha8 As 2s Kd Kh - Qc Qd Jc Jd -- 3h 4c 8s 9h",
+            Game::Omaha8,
+            [4, 4],
+            4,
+            0,
+        ),
+        (
+            b"omaha8 As 2s Kd Kh - Qc Qd Jc Jd / 3h",
+            Game::Omaha8,
+            [4, 4],
+            0,
+            1,
+        ),
+        (b"stud As Ad Ah - Ks Kd Kh", Game::Stud, [3, 3], 0, 0),
+        (
+            b"stud As Ad Ah Ac 2c 3c 4c - Ks Kd Kh -- / 2d",
+            Game::Stud,
+            [7, 3],
+            0,
+            1,
+        ),
+        (
+            b"razz As 2d 3h 4c 5s 6d - 8c 8d Kc Kd",
+            Game::Razz,
+            [6, 4],
+            0,
+            0,
+        ),
+        (
+            b"razz As 2d 3h - 8c 8d Kc Kd Qc Qd 2c --",
+            Game::Razz,
+            [3, 7],
+            0,
+            0,
+        ),
+        (
+            b"lowball27 7c 5d 4h 3s 2c - 7d 5h 4s 3c",
+            Game::Lowball27,
+            [5, 4],
+            0,
+            0,
+        ),
+        (b"lowball27 - 7d / 2c 3c", Game::Lowball27, [0, 1], 0, 2),
+        (b"lowball27 -", Game::Lowball27, [0, 0], 0, 0),
+    ];
+    for (line, game, own, board, dead) in lines {
+        let known = read_spot(line).ok().ok_or("refused")?;
+        assert_eq!(rt; known.game, game);
+        assert_eq!(rt; known.count, 2);
+        assert_eq!(rt; known.hands[0].count(), own[0]);
+        assert_eq!(rt; known.hands[1].count(), own[1]);
+        assert_eq!(rt; known.board.count(), board);
+        assert_eq!(rt; known.dead.count(), dead);
+    }
+    Ok(())
+}
+
+#[test]
+fn each_game_refuses_other_sizes(rt: HostRuntime) -> Result<(), Fail> {
+    let lines: [(&[u8], SpotFault); 17] = [
+        (b"omaha8 As Ah 2c - Ks Kh Kd Kc", SpotFault::HandSize),
+        (b"omaha8 As Ah 2c 3c 4c - Ks Kh Kd Kc", SpotFault::HandSize),
+        (
+            b"omaha8 As Ah 2c 3c - Ks Kh Kd Kc -- 5c 6c",
+            SpotFault::BoardSize,
+        ),
+        (b"omaha8 As Ah 2c 3c -- 5c 6c 7c", SpotFault::PlayerCount),
+        (
+            b"omaha8 As Ah 2c 3c - Ks Ah Kd Kc -- xx",
+            SpotFault::BadCard,
+        ),
+        (b"stud As Ah - Ks Kh Kd", SpotFault::HandSize),
+        (
+            b"stud As Ah Ad - 2c 3c 4c 5c 6c 7c 8c 9c",
+            SpotFault::HandSize,
+        ),
+        (b"stud As Ah Ad - 2c 3c 4c -- 5c", SpotFault::BoardSize),
+        (
+            b"stud As Ah Ad - 2c 3c 4c -- 5c 6c 7c",
+            SpotFault::BoardSize,
+        ),
+        (b"stud As Ah Ad", SpotFault::PlayerCount),
+        (b"razz - 2c 3c 4c", SpotFault::HandSize),
+        (
+            b"razz As Ah Ad - 2c 3c 4c -- 5c 6c 7c 8c",
+            SpotFault::BoardSize,
+        ),
+        (b"razz As Ah Ad", SpotFault::PlayerCount),
+        (b"lowball27 7c 5d 4h 3s 2c 8c -", SpotFault::HandSize),
+        (b"lowball27 7c - 8c -- 9c", SpotFault::BoardSize),
+        (b"lowball27", SpotFault::PlayerCount),
+        (
+            b"stud 2c 2d 2h - 2s 3c 3d - 3h 3s 4c - 4d 4h 4s - 5c 5d 5h - 5s 6c 6d - 6h 6s 7c - 7d 7h 7s",
+            SpotFault::DeckShort,
+        ),
+    ];
+    for (line, fault) in lines {
+        assert!(rt; fault_of(line) == Some(fault));
+    }
+    let ace = Card::read(*b"As").ok_or("no card")?;
+    assert!(rt; fault_of(b"razz As Ah Ad - 2c As") == Some(SpotFault::TwiceCard(ace)));
     Ok(())
 }
 

@@ -1,47 +1,53 @@
-use Rattle.std.proofs.Common.{◌≡◌, sym, ◌∙◌, ap, refl, Err}
-use mathlib.Core.Bool.{true≢false}
-use Rattle.std.specs.Prelude.{string_bytes, map}
+use Rattle.std.proofs.Common.{◌≡◌, Err, sym, ◌∙◌, ap, refl}
 use Rattle.byte_ends.specs.Ends.{WritesAll, WritesFront}
 use Rattle.run_engine.specs.Command.{usage_line}
 use Rattle.run_engine.specs.Reading.{reported}
-use Rattle.run_engine.specs.Report.{report, rejects}
+use Rattle.run_engine.specs.Report.{blocks, report, rejects}
 use Rattle.run_engine.specs.Writing.{WritesBlocks}
-use Rattle.run_engine.proofs.Ended.{run_usage, run_usage_fault}
+use Rattle.run_engine.proofs.Ended.{as_asked, run_usage, run_usage_fault}
 use Rattle.run_engine.proofs.RunFacts.{run_written, run_unwritten, run_cut, run_unread, reported_small}
 use Rattle.run_engine.proofs.run.run_alone.Goals as goal
 
 pub returns-in-Ok : goal.returns-in-Ok
 unfolding usage_line
-returns-in-Ok g c = run_usage 67108864 (map string_bytes c.args.words.now) _ _ (λ form. true≢false (sym (c.if-not-is_command.ensures.1 form))) c.in-Ok.ensures.ok refl refl
+returns-in-Ok g c = as_asked 67108864 2 _ _ _ _ (sym c.command.ensures ∙ c.in_default.is) (run_usage 67108864 _ _ c.in-Ok.ensures.ok refl refl)
 
 pub returns-in-Err : goal.returns-in-Err
 unfolding usage_line
-returns-in-Err g c = run_usage_fault 67108864 (map string_bytes c.args.words.now) _ _ (λ form. true≢false (sym (c.if-not-is_command.ensures.1 form))) c.in-Err.ensures.fault c.in-Err.ensures.front refl refl
+returns-in-Err g c = as_asked 67108864 4 _ _ _ _ (sym c.command.ensures ∙ c.in_default.is) (run_usage_fault 67108864 _ _ c.in-Err.ensures.fault c.in-Err.ensures.front refl refl)
 
-pub returns-in_default : goal.returns-in_default
-returns-in_default g c = run_unread 67108864 (map string_bytes c.args.words.now) c.in_default.ensures.memory.0 _ _ (c.if-not-is_command.ensures.0 refl) c.in_default.ensures.memory.1 refl
+pub returns-in_default-read_all : goal.returns-in_default-read_all
+returns-in_default-read_all g c =
+    as_asked 67108864 6 _ _ _ _ (sym c.command.ensures ∙ c.in-Some.is)
+    (run_unread 67108864 c.in-Some.mode c.in_default-read_all.ensures.memory.0 _ _ c.in_default-read_all.ensures.memory.1 refl)
 
 pub write_report-requires : goal.write_report-requires
-write_report-requires g c = rw c.reported.ensures (reported_small 67108864 _ _ c.in-Ok-read_all.input.ending c.in-Ok-read_all.input.bytes.items c.law_closed_lines.ensures c.in-Ok-read_all.ensures.counted)
+write_report-requires g c = rw c.reported.ensures (reported_small 67108864 c.in-Some.mode _ _ c.in-Ok-read_all.input.ending c.in-Ok-read_all.input.bytes.items c.law_closed_lines.ensures c.in-Ok-read_all.ensures.counted)
 
 pub returns-in-Ok-write_report : goal.returns-in-Ok-write_report
 returns-in-Ok-write_report g c =
-    let told = reported c.in-Ok-read_all.input.ending c.in-Ok-read_all.input.bytes.items in
-    let written : WritesAll (g.K.Sink.taken c.args.sink.now) (g.K.Sink.taken c.write_report.new.sink) (report told) = rw c.reported.ensures at c.in-Ok-write_report.ensures.written in
-    let count : c.in-Ok-write_report.rejected ≡ rejects told = c.in-Ok-write_report.ensures.rejected ∙ ap rejects c.reported.ensures in
-    rw c.status_of.ensures (run_written 67108864 (map string_bytes c.args.words.now) c.in-Ok-read_all.input.ending c.in-Ok-write_report.rejected c.in-Ok-read_all.input.bytes.items _ _
-    (c.if-not-is_command.ensures.0 refl) c.in-Ok-read_all.ensures.counted c.in-Ok-read_all.ensures.ends count written c.in-Ok-write_report.ensures.fine)
+    let mode = c.in-Some.mode in
+    let told = reported mode c.in-Ok-read_all.input.ending c.in-Ok-read_all.input.bytes.items in
+    let written : WritesAll (g.K.Sink.taken c.args.sink.now) (g.K.Sink.taken c.write_report.new.sink) (report mode told) = rw c.reported.ensures at c.in-Ok-write_report.ensures.written in
+    let count : c.in-Ok-write_report.rejected ≡ rejects mode told = c.in-Ok-write_report.ensures.rejected ∙ ap (rejects mode) c.reported.ensures in
+    as_asked 67108864 _ _ _ _ _ (sym c.command.ensures ∙ c.in-Some.is)
+    (rw c.status_of.ensures (run_written 67108864 mode c.in-Ok-read_all.input.ending c.in-Ok-write_report.rejected c.in-Ok-read_all.input.bytes.items _ _
+    c.in-Ok-read_all.ensures.counted c.in-Ok-read_all.ensures.ends count written c.in-Ok-write_report.ensures.fine))
 
 pub returns-in-Err-Failed : goal.returns-in-Err-Failed
 returns-in-Err-Failed g c =
-    let told = reported c.in-Ok-read_all.input.ending c.in-Ok-read_all.input.bytes.items in
-    let front : WritesFront (g.K.Sink.taken c.args.sink.now) (g.K.Sink.taken c.write_report.new.sink) (report told) = rw c.reported.ensures at (c.in-Err-Failed.ensures.front (ap Err c.in-Err-Failed.field-0-is)) in
-    run_unwritten 67108864 (map string_bytes c.args.words.now) c.in-Ok-read_all.input.ending c.in-Ok-read_all.input.bytes.items _ _ c.law_closed_lines.ensures
-    (c.if-not-is_command.ensures.0 refl) c.in-Ok-read_all.ensures.counted (c.in-Err-Failed.ensures.fault (ap Err c.in-Err-Failed.field-0-is)) front
+    let mode = c.in-Some.mode in
+    let told = reported mode c.in-Ok-read_all.input.ending c.in-Ok-read_all.input.bytes.items in
+    let front : WritesFront (g.K.Sink.taken c.args.sink.now) (g.K.Sink.taken c.write_report.new.sink) (report mode told) = rw c.reported.ensures at (c.in-Err-Failed.ensures.front (ap Err c.in-Err-Failed.field-0-is)) in
+    as_asked 67108864 4 _ _ _ _ (sym c.command.ensures ∙ c.in-Some.is)
+    (run_unwritten 67108864 mode c.in-Ok-read_all.input.ending c.in-Ok-read_all.input.bytes.items _ _ c.law_closed_lines.ensures
+    c.in-Ok-read_all.ensures.counted (c.in-Err-Failed.ensures.fault (ap Err c.in-Err-Failed.field-0-is)) front)
 
 pub returns : goal.returns
 returns g c =
-    let told = reported c.in-Ok-read_all.input.ending c.in-Ok-read_all.input.bytes.items in
-    let blocks : WritesBlocks (g.K.Sink.taken c.args.sink.now) (g.K.Sink.taken c.write_report.new.sink) told = rw c.reported.ensures at (c.in-Err-Memory.ensures.memory (ap Err c.in-Err-Memory.field-0-is)) in
-    run_cut 67108864 (map string_bytes c.args.words.now) c.in-Ok-read_all.input.ending c.in-Ok-read_all.input.bytes.items _ _
-    (c.if-not-is_command.ensures.0 refl) c.in-Ok-read_all.ensures.counted c.in-Ok-read_all.ensures.ends blocks
+    let mode = c.in-Some.mode in
+    let told = reported mode c.in-Ok-read_all.input.ending c.in-Ok-read_all.input.bytes.items in
+    let first : WritesBlocks (g.K.Sink.taken c.args.sink.now) (g.K.Sink.taken c.write_report.new.sink) (blocks mode told) = rw c.reported.ensures at (c.in-Err-Memory.ensures.memory (ap Err c.in-Err-Memory.field-0-is)) in
+    as_asked 67108864 6 _ _ _ _ (sym c.command.ensures ∙ c.in-Some.is)
+    (run_cut 67108864 mode c.in-Ok-read_all.input.ending c.in-Ok-read_all.input.bytes.items _ _
+    c.in-Ok-read_all.ensures.counted c.in-Ok-read_all.ensures.ends first)

@@ -28,7 +28,7 @@ returns-then-count-eq0 c =
       | in-Some+then-is_slash w ↦ board_end c.loop-word.on_board _ _ _ w.in-Some.ensures.steps (sym w.is_slash.ensures ∙ w.if-is_slash.true)
     ]) in
     let same : c.loop-word.count ≡ length (board_words (words_left c.args.words)) = omega (arith, c.loop-word.invariant.counted, ap length none) in
-    fits_none _ _ same (omega arith)
+    fits_none c.args.game _ _ same (omega arith)
 
 pub returns-else-count-eq0 : goal.returns-else-count-eq0
 returns-else-count-eq0 c =
@@ -38,4 +38,4 @@ returns-else-count-eq0 c =
       | in-Some+then-is_slash w ↦ board_end c.loop-word.on_board _ _ _ w.in-Some.ensures.steps (sym w.is_slash.ensures ∙ w.if-is_slash.true)
     ]) in
     let same : c.loop-word.count ≡ length (board_words (words_left c.args.words)) = omega (arith, c.loop-word.invariant.counted, ap length none) in
-    fits_some _ _ same c.loop-word.invariant.few (omega arith)
+    fits_some c.args.game _ _ same c.loop-word.invariant.few (omega arith)

@@ -1,0 +1,28 @@
+-- Sets of cards with the cards of a bracket.
+use Rattle.std.proofs.Common.{◌≡◌, ℕ, ◌<◌, List, [], ◌∷◌, ◌++◌, refl, sym, ap, ◌∙◌, Bool, true, false, ◌||◌, ◌==◌, length, take, get_or, ◌+◌}
+use Rattle.std.proofs.lemmas.List.{take_more}
+use Rattle.card_sets.specs.Cards.{has_card, with_card, union, IsCardSet}
+use Rattle.card_sets.specs.Bits.{cards_where_same, has-cards_where}
+use Rattle.card_sets.specs.Rising.{has_card-push}
+
+or-none : (a : Bool) → (a || false) ≡ a
+or-none true = refl
+or-none false = refl
+
+or-more : (a b c : Bool) → (c || (a || b)) ≡ (a || (c || b))
+or-more true b true = refl
+or-more true b false = refl
+or-more false b true = refl
+or-more false b false = refl
+
+pub union-nil : (s : List ℕ) → IsCardSet s → union s [] ≡ s
+union-nil s set = cards_where_same _ _ (λ k h. or-none (has_card s k)) ∙ set
+
+pub union-push : (s xs : List ℕ) (x : ℕ) → with_card (union s xs) x ≡ union s (xs ++ x ∷ [])
+union-push s xs x = cards_where_same _ _ (λ k h.
+    rw (has-cards_where (λ j. has_card s j || has_card xs j) k h, has_card-push xs x k) (or-more (has_card s k) (has_card xs k) (k == x)))
+
+-- a loop over a bracket
+pub union_next : (s cards all : List ℕ) (i x : ℕ) → all ≡ union s (take i cards) → i < length cards → x ≡ get_or cards i x → with_card all x ≡ union s (take (i + 1) cards)
+union_next s cards all i x is h item =
+    rw is (union-push s (take i cards) x ∙ ap (union s) (sym (take_more cards i x h ∙ ap (λ y. take i cards ++ y ∷ []) (sym item))))

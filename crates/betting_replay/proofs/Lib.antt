@@ -1,0 +1,11 @@
+pub mod Around
+pub mod CardSets
+pub mod Firsts
+pub mod Cleared
+pub mod BySeat
+pub mod Passed
+pub mod Afford
+pub mod Placed
+pub mod Stands
+pub mod Kept
+pub mod Runs

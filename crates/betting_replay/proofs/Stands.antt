@@ -1,0 +1,184 @@
+-- After an event that may stand, the table stands for the hand with it.
+use Rattle.std.proofs.Common.{◌≡◌, ℕ, ◌+◌, ◌-◌, ◌<◌, List, [], ◌∷◌, refl, sym, ap, ◌∙◌, Bool, true, false, arith, map, subst, ◌||◌, ◌&&◌, ◌==◌}
+use Rattle.std.specs.Prelude.{Option, Some, None, slice_index_or, slice_set, if◌then◌else◌}
+use Rattle.card_sets.specs.Cards.{union}
+use Rattle.history_text.specs.declared.events.Header.{Header}
+use Rattle.history_text.specs.declared.events.Event.{Event}
+use Rattle.history_text.specs.declared.events.Event.TheVariants.{Seat, Button, Post, Deal, Act, Uncalled, Collect, Show, Muck, SeatCards, Discard, Pat}
+use Rattle.history_text.specs.declared.events.Street.{Street as StreetName}
+use Rattle.betting_replay.specs.declared.faults.BetFault.{BetFault}
+use Rattle.betting_replay.specs.declared.seats.Chips.{Chips}
+use Rattle.betting_replay.specs.declared.seats.Acts.{Acts}
+use Rattle.betting_replay.specs.Seats.{by_seat, or_else}
+use Rattle.betting_replay.specs.Events.{seat_of, button_after, bought, returned, live_in, dead_in, ante_in, put_in, posts_small, brings_in, folds, is_act, is_seat_line, cards_named, SeatFits}
+use Rattle.betting_replay.specs.Streets.{begins, begins_later_by, is_later, is_first}
+use Rattle.betting_replay.specs.Sums.{street, button, opened, is_later_by, shows_down, shown_down, is_last_of, last_begun, small_posted, seated, live, dead, paid, stack, folded, acted, brought_in, last_actor}
+use Rattle.betting_replay.specs.Places.{owned, named, thrown, thrown_by, is_board, is_free, first_twice}
+use Rattle.betting_replay.specs.Tables.{Table, StandsFor, table_of, chips_of, acts_of, no_chips, no_acts, chips_at, acts_at, own_at, dealt_at, shown_at}
+use Rattle.betting_replay.specs.Boards.{board_on, named_on}
+use Rattle.history_text.specs.declared.events.Street.TheVariants.{Flop, Turn, River}
+use Rattle.betting_replay.specs.Hands.{dealt as dealt_cards, shown as shown_cards, dealt_by, shown_by, whole}
+use Rattle.betting_replay.specs.Counting.{chips_after, acts_after, cleared_chips, cleared_acts, cleared_if, on_street, begun_with, begun, counted, after}
+use Rattle.betting_replay.specs.Faults.{fault_at, card_twice, fault_with}
+use Rattle.betting_replay.proofs.BySeat.{at_by_seat, map_by_seat, same_by_seat, set_by_seat, with_at}
+use Rattle.betting_replay.proofs.Passed.{passed}
+use Rattle.betting_replay.proofs.Placed.{named_after, owned_other, owned_here}
+
+-- something cleared, where a later street begins
+abbrev pub cleared_where : {A : Type 0} → Bool → (A → A) → A → A
+cleared_where true clear x = clear x
+cleared_where false clear x = x
+
+-- the chips of a seat, where a later street begins or not, and the event is about the seat or not
+abbrev pub chips_now : Header → List Event → Event → ℕ → Bool → Bool → Chips
+chips_now g h e p later here = record {
+  seated = (here && is_seat_line e) || seated h p;
+  stack = if here then stack g h p + (bought e + returned e) - put_in g.big (small_posted h) (live g h p) e else stack g h p;
+  paid = if here then paid g h p + (ante_in e + live_in g.big (small_posted h) (live g h p) e) - returned e else paid g h p;
+  dead = if here then dead g h p + dead_in g.big (small_posted h) e else dead g h p;
+  live = if later then 0 else (if here then live g h p + live_in g.big (small_posted h) (live g h p) e - returned e else live g h p);
+}
+
+pub chips_case : (g : Header) (h : List Event) (e : Event) (p : ℕ) (later here : Bool) → chips_now g h e p later here ≡ cleared_where later cleared_chips (if here then chips_after g.big (small_posted h) e (chips_of g h p) else chips_of g h p)
+chips_case g h e p true true = refl
+chips_case g h e p true false = refl
+chips_case g h e p false true = refl
+chips_case g h e p false false = refl
+
+abbrev acts_now : Header → List Event → Event → ℕ → Bool → Bool → Acts
+acts_now g h e p later here = record {
+  folded = (here && folds e) || folded h p;
+  acted = if later then false else (here && is_act e) || acted g h p;
+  brought_in = if later then false else (here && brings_in e) || brought_in g h p;
+}
+
+acts_case : (g : Header) (h : List Event) (e : Event) (p : ℕ) (later here : Bool) → acts_now g h e p later here ≡ cleared_where later cleared_acts (if here then acts_after e (acts_of g h p) else acts_of g h p)
+acts_case g h e p true true = refl
+acts_case g h e p true false = refl
+acts_case g h e p false true = refl
+acts_case g h e p false false = refl
+
+-- a list by seat, with what is new at one seat, and all cleared where a later street begins
+step_by_seat : {A : Type 0} (later : Bool) (clear : A → A) (old : ℕ → A) (s : ℕ) (f : A → A) (d : A) (new : ℕ → A) → s < 11
+    → ((p : ℕ) → new p ≡ cleared_where later clear (if s == p then f (old p) else old p))
+    → by_seat new ≡ cleared_where later (map clear) (slice_set (by_seat old) s (f (slice_index_or (by_seat old) s d)))
+step_by_seat {A} later clear old s f d new small same =
+    same_by_seat new (λ p. cleared_where later clear (with_at s (f (old s)) old p)) (λ p. same p ∙ ap (cleared_where later clear) (at_seat p (s == p) refl))
+    ∙ clears later
+    ∙ ap (λ x. cleared_where later (map clear) (slice_set (by_seat old) s (f x))) (sym (at_by_seat old s d small))
+  where
+    at_seat : (p : ℕ) (b : Bool) → (s == p) ≡ b → (if s == p then f (old p) else old p) ≡ with_at s (f (old s)) old p
+    at_seat p true e = let is : s ≡ p = grind arith in rw e (ap (λ q. f (old q)) (sym is))
+    at_seat p false e = rw e refl
+
+    clears : (b : Bool) → by_seat (λ p. cleared_where b clear (with_at s (f (old s)) old p)) ≡ cleared_where b (map clear) (slice_set (by_seat old) s (f (old s)))
+    clears true = sym (map_by_seat clear (with_at s (f (old s)) old)) ∙ ap (map clear) (set_by_seat old (f (old s)) s small)
+    clears false = set_by_seat old (f (old s)) s small
+
+-- the table with an event that counts for its seat, and a street that begins with it or doesn't
+abbrev table_now : Header → ℕ → List Event → Event → List Chips → List Acts → List (List ℕ) → List (List ℕ) → List (Option (List ℕ)) → List ℕ → Option StreetName → Table
+table_now g players h e chips acts own dealt shown all o = record {
+  header = g;
+  players = players;
+  chips = cleared_where (begins_later_by o) (map cleared_chips) chips;
+  acts = cleared_where (begins_later_by o) (map cleared_acts) acts;
+  own = own;
+  dealt = dealt;
+  shown = shown;
+  named = all;
+  thrown = union (thrown h) (thrown_by e);
+  flop = union (board_on Flop h) (named_on Flop e);
+  turn = union (board_on Turn h) (named_on Turn e);
+  river = union (board_on River h) (named_on River e);
+  button = button_after e (button h);
+  street = or_else o (street g h);
+  opened = is_first o || opened g h;
+  shown_down = shows_down o || shown_down g h;
+  last_begun = is_last_of g.game o || last_begun g h;
+  small_posted = posts_small e || small_posted h;
+  last = if begins_later_by o then None else (if is_act e then Some (seat_of e) else last_actor g h);
+}
+
+abbrev counted_so : Header → ℕ → List Event → Event → List Chips → List Acts → List (List ℕ) → List (List ℕ) → List (Option (List ℕ)) → List ℕ → Table
+counted_so g players h e chips acts own dealt shown all = record {
+  header = g;
+  players = players;
+  chips = chips;
+  acts = acts;
+  own = own;
+  dealt = dealt;
+  shown = shown;
+  named = all;
+  thrown = union (thrown h) (thrown_by e);
+  flop = union (board_on Flop h) (named_on Flop e);
+  turn = union (board_on Turn h) (named_on Turn e);
+  river = union (board_on River h) (named_on River e);
+  button = button_after e (button h);
+  street = street g h;
+  opened = opened g h;
+  shown_down = shown_down g h;
+  last_begun = last_begun g h;
+  small_posted = posts_small e || small_posted h;
+  last = if is_act e then Some (seat_of e) else last_actor g h;
+}
+
+later_case : (g : Header) (players : ℕ) (h : List Event) (e : Event) (chips : List Chips) (acts : List Acts) (own : List (List ℕ)) (dealt : List (List ℕ)) (shown : List (Option (List ℕ))) (all : List ℕ) (s : StreetName) (b : Bool) → is_later s ≡ b
+    → cleared_if b (on_street (counted_so g players h e chips acts own dealt shown all) s) ≡ table_now g players h e chips acts own dealt shown all (Some s)
+later_case g players h e chips acts own dealt shown all s true is = rw is refl
+later_case g players h e chips acts own dealt shown all s false is = rw is refl
+
+begun_case : (g : Header) (players : ℕ) (h : List Event) (e : Event) (chips : List Chips) (acts : List Acts) (own : List (List ℕ)) (dealt : List (List ℕ)) (shown : List (Option (List ℕ))) (all : List ℕ) (o : Option StreetName)
+    → begun_with o (counted_so g players h e chips acts own dealt shown all) ≡ table_now g players h e chips acts own dealt shown all o
+begun_case g players h e chips acts own dealt shown all None = refl
+begun_case g players h e chips acts own dealt shown all (Some s) = later_case g players h e chips acts own dealt shown all s (is_later s) refl
+
+pub no_card : (f : ℕ → BetFault) (o : Option ℕ) → fault_with f o ≡ None → o ≡ None
+no_card f None h = refl
+no_card f (Some n) h = cc
+
+own_case : (e : Event) (h : List Event) (board : Bool) → first_twice (is_free (named h) (owned h (seat_of e)) board) (thrown h) (cards_named e) ≡ None
+    → (p : ℕ) (b : Bool) → (seat_of e == p) ≡ b → owned (e ∷ h) p ≡ (if b then union (owned h p) (cards_named e) else owned h p)
+own_case e h board none p true is = let same : seat_of e ≡ p = grind arith in subst (λ (q : ℕ). owned (e ∷ h) q ≡ union (owned h q) (cards_named e)) same (owned_here e h board none)
+own_case e h board none p false is = owned_other e h p is
+
+pub stands : (g : Header) (players : ℕ) (h : List Event) (e : Event) → seat_of e < 11 → fault_at (table_of g players h) e ≡ None → after (table_of g players h) e ≡ table_of g players (e ∷ h)
+unfolding begun counted card_twice
+stands g players h e small legal =
+    let t : Table = table_of g players h in
+    let s : ℕ = seat_of e in
+    let later : Bool = is_later_by g h e in
+    let own_is : own_at t s ≡ owned h s = at_by_seat (owned h) s [] small in
+    let free : first_twice (is_free (named h) (own_at t s) (is_board e)) (thrown h) (cards_named e) ≡ None = no_card _ _ (passed t e legal).card in
+    let free' : first_twice (is_free (named h) (owned h s) (is_board e)) (thrown h) (cards_named e) ≡ None = subst (λ (own : List ℕ). first_twice (is_free (named h) own (is_board e)) (thrown h) (cards_named e) ≡ None) own_is free in
+    let chips : by_seat (chips_of g (e ∷ h)) ≡ cleared_where later (map cleared_chips) (slice_set (by_seat (chips_of g h)) s (chips_after g.big (small_posted h) e (chips_at t s))) =
+    step_by_seat later cleared_chips (chips_of g h) s (chips_after g.big (small_posted h) e) no_chips (chips_of g (e ∷ h)) small (λ p. chips_case g h e p later (s == p)) in
+    let acts : by_seat (acts_of g (e ∷ h)) ≡ cleared_where later (map cleared_acts) (slice_set (by_seat (acts_of g h)) s (acts_after e (acts_at t s))) =
+    step_by_seat later cleared_acts (acts_of g h) s (acts_after e) no_acts (acts_of g (e ∷ h)) small (λ p. acts_case g h e p later (s == p)) in
+    let own : by_seat (owned (e ∷ h)) ≡ slice_set (by_seat (owned h)) s (union (own_at t s) (cards_named e)) =
+    step_by_seat false (λ (x : List ℕ). x) (owned h) s (λ (x : List ℕ). union x (cards_named e)) [] (owned (e ∷ h)) small (λ p. own_case e h (is_board e) free' p (s == p) refl) in
+    let given : by_seat (dealt_cards (e ∷ h)) ≡ slice_set (by_seat (dealt_cards h)) s (union (dealt_at t s) (dealt_by e)) =
+    step_by_seat false (λ (x : List ℕ). x) (dealt_cards h) s (λ (x : List ℕ). union x (dealt_by e)) [] (dealt_cards (e ∷ h)) small (λ p. refl) in
+    let seen : by_seat (shown_cards g (e ∷ h)) ≡ slice_set (by_seat (shown_cards g h)) s (or_else (whole g.game (shown_by e)) (shown_at t s)) =
+    step_by_seat false (λ (x : Option (List ℕ)). x) (shown_cards g h) s (λ (x : Option (List ℕ)). or_else (whole g.game (shown_by e)) x) None (shown_cards g (e ∷ h)) small (λ p. refl) in
+    begun_case g players h e _ _ _ _ _ _ (begins g.game (street g h) e) ∙ sym (rw (chips, acts, own, given, seen, named_after e h) refl)
+
+-- the same of any table that stands for the hand before
+pub stands_after : (t : Table) (e : Event) (g : Header) (players : ℕ) (h : List Event) → StandsFor t g players h → seat_of e < 11 → fault_at t e ≡ None → StandsFor (after t e) g players (e ∷ h)
+stands_after t e g players h s small legal =
+    let free : fault_at (table_of g players h) e ≡ None = subst (λ (u : Table). fault_at u e ≡ None) s.is legal in
+    record { is = ap (λ u. after u e) s.is ∙ stands g players h e small free }
+
+pub seat_below : (e : Event) → SeatFits e → seat_of e < 11
+seat_below (Seat seat units first end) h = omega arith
+seat_below (Button seat) h = omega arith
+seat_below (Post seat kind units all_in) h = omega arith
+seat_below (Deal seat cards drawn) h = omega arith
+seat_below (Act seat act all_in shown) h = omega arith
+seat_below (Uncalled seat units) h = omega arith
+seat_below (Collect seat units pot) h = omega arith
+seat_below (Show seat cards) h = omega arith
+seat_below (Muck seat) h = omega arith
+seat_below (SeatCards seat cards) h = omega arith
+seat_below (Discard seat count cards) h = omega arith
+seat_below (Pat seat) h = omega arith
+seat_below _ h = omega arith

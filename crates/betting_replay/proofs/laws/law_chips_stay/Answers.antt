@@ -1,0 +1,5 @@
+use Rattle.betting_replay.proofs.Kept.{chips_stay}
+use Rattle.betting_replay.proofs.laws.law_chips_stay.Goals as goal
+
+pub returns : goal.returns
+returns c = chips_stay

@@ -1,0 +1,17 @@
+use Rattle.betting_replay.specs.Faults.{out_of_turn, nothing_owed, street_early}
+use Rattle.betting_replay.specs.Tables.{table_of}
+use Rattle.history_text.specs.declared.events.Event.TheVariants.{Act, Street}
+use Rattle.betting_replay.proofs.Afford.{not_not}
+use Rattle.betting_replay.proofs.Passed.{passed, not_failed}
+use Rattle.betting_replay.proofs.Stands.{no_card}
+use Rattle.betting_replay.proofs.laws.law_turns_are_taken.Goals as goal
+
+pub returns : goal.returns
+unfolding out_of_turn nothing_owed street_early
+returns c = record {
+  acts = (λ header players h seat act all_in shown ok. record {
+    may = not_not _ (not_failed _ _ (passed (table_of header players h) (Act seat act all_in shown) ok).owed);
+    first = no_card _ _ (passed (table_of header players h) (Act seat act all_in shown) ok).in_turn;
+  });
+  streets = (λ header players h street cards ok. no_card _ _ (passed (table_of header players h) (Street street cards) ok).early);
+}

@@ -1,0 +1,17 @@
+-- What each seat has put in and has left.
+use Rattle.std.specs.Prelude.{ℕ}
+use Rattle.pot_layers.specs.declared.paid.Paid.{Paid}
+use Rattle.betting_replay.specs.Tables.{Table, chips_at}
+use Rattle.pot_layers.specs.Pots.{seats_below}
+use Rattle.betting_replay.specs.Turns.{is_contender}
+
+-- what a seat has put in over the hand, as the pots are made of
+unfoldable pub paid_by : Table → ℕ → Paid
+paid_by t p = record { seat = p; live = (chips_at t p).paid; dead = (chips_at t p).dead; contender = is_contender t p }
+
+abbrev pub stack_at : Table → ℕ → ℕ
+stack_at t p = (chips_at t p).stack
+
+-- the contenders: bit s for seat s
+unfoldable pub contenders : Table → ℕ
+contenders t = seats_below (is_contender t) 11

@@ -1,0 +1,75 @@
+-- What an event makes of a table where it may stand.
+use Rattle.std.specs.Prelude.{ℕ, ◌+◌, ◌-◌, ◌||◌, Bool, true, false, if◌then◌else◌, map, Option, Some, None, slice_set}
+use Rattle.card_sets.specs.Cards.{union}
+use Rattle.history_text.specs.declared.events.Event.{Event}
+use Rattle.history_text.specs.declared.events.Street.{Street as StreetName}
+use Rattle.betting_replay.specs.declared.seats.Chips.{Chips}
+use Rattle.betting_replay.specs.declared.seats.Acts.{Acts}
+use Rattle.betting_replay.specs.Events.{seat_of, button_after, bought, returned, live_in, dead_in, ante_in, put_in, posts_small, brings_in, folds, is_act, is_seat_line, cards_named}
+use Rattle.betting_replay.specs.Streets.{begins, is_later, is_showdown, is_last, is_first}
+use Rattle.betting_replay.specs.Tables.{Table, chips_at, acts_at, own_at, dealt_at, shown_at}
+use Rattle.betting_replay.specs.Places.{thrown_by}
+use Rattle.betting_replay.specs.Boards.{named_on}
+use Rattle.history_text.specs.declared.events.Street.TheVariants.{Flop, Turn, River}
+use Rattle.betting_replay.specs.Seats.{or_else}
+use Rattle.betting_replay.specs.Hands.{dealt_by, shown_by, whole}
+
+-- the chips of a seat after an event about it
+abbrev pub chips_after : ℕ → Bool → Event → Chips → Chips
+chips_after big posted e c = record {
+  seated = is_seat_line e || c.seated;
+  stack = c.stack + (bought e + returned e) - put_in big posted c.live e;
+  paid = c.paid + (ante_in e + live_in big posted c.live e) - returned e;
+  dead = c.dead + dead_in big posted e;
+  live = c.live + live_in big posted c.live e - returned e;
+}
+
+-- what the player of a seat has done after an event about it
+abbrev pub acts_after : Event → Acts → Acts
+acts_after e a = record { folded = folds e || a.folded; acted = is_act e || a.acted; brought_in = brings_in e || a.brought_in }
+
+-- a street begins: after the first, live sums and acts begin anew
+abbrev pub cleared_chips : Chips → Chips
+cleared_chips c = record { seated = c.seated; stack = c.stack; paid = c.paid; dead = c.dead; live = 0 }
+
+abbrev pub cleared_acts : Acts → Acts
+cleared_acts a = record { folded = a.folded; acted = false; brought_in = false }
+
+abbrev pub cleared : Table → Table
+cleared t = record t { chips = map cleared_chips t.chips; acts = map cleared_acts t.acts; last = None }
+
+abbrev pub on_street : Table → StreetName → Table
+on_street t s = record t { street = Some s; opened = is_first (Some s) || t.opened; shown_down = is_showdown s || t.shown_down; last_begun = is_last t.header.game s || t.last_begun }
+
+abbrev pub cleared_if : Bool → Table → Table
+cleared_if true t = cleared t
+cleared_if false t = t
+
+abbrev pub begun_with : Option StreetName → Table → Table
+begun_with None t = t
+begun_with (Some s) t = cleared_if (is_later s) (on_street t s)
+
+unfoldable pub begun : Table → Event → Table
+begun t e = begun_with (begins t.header.game t.street e) t
+
+-- the event counts for its own seat
+unfoldable pub counted : Table → Event → Table
+counted t e = record t {
+  chips = slice_set t.chips (seat_of e) (chips_after t.header.big t.small_posted e (chips_at t (seat_of e)));
+  acts = slice_set t.acts (seat_of e) (acts_after e (acts_at t (seat_of e)));
+  own = slice_set t.own (seat_of e) (union (own_at t (seat_of e)) (cards_named e));
+  dealt = slice_set t.dealt (seat_of e) (union (dealt_at t (seat_of e)) (dealt_by e));
+  shown = slice_set t.shown (seat_of e) (or_else (whole t.header.game (shown_by e)) (shown_at t (seat_of e)));
+  named = union t.named (cards_named e);
+  thrown = union t.thrown (thrown_by e);
+  flop = union t.flop (named_on Flop e);
+  turn = union t.turn (named_on Turn e);
+  river = union t.river (named_on River e);
+  button = button_after e t.button;
+  small_posted = posts_small e || t.small_posted;
+  last = if is_act e then Some (seat_of e) else t.last;
+}
+
+-- the table after an event that may stand: it counts for its seat, and begins its street, if it begins one
+abbrev pub after : Table → Event → Table
+after t e = begun (counted t e) e

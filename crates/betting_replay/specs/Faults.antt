@@ -1,0 +1,174 @@
+-- Which events may follow: sixteen tests, made in this order. Each gives its fault where it fails.
+use Rattle.std.specs.Prelude.{ℕ, ◌==◌, ◌&&◌, ◌||◌, not, Bool, true, false, if◌then◌else◌, List, [], ◌∷◌, length, Option, Some, None, is_some, is_none, nat_lt, nat_le, Result, Ok, Err}
+use Rattle.card_sets.specs.declared.games.Game.{Game}
+use Rattle.card_sets.specs.declared.games.Game.TheVariants.{Holdem, Omaha8, Stud, Razz, Lowball27}
+use Rattle.card_sets.specs.Cards.{union}
+use Rattle.history_text.specs.declared.events.Header.{Header}
+use Rattle.history_text.specs.declared.events.Event.{Event}
+use Rattle.history_text.specs.declared.events.Event.TheVariants.{Seat, Post, Street, Act, Uncalled, Collect, Discard, Pat}
+use Rattle.history_text.specs.declared.events.Act.{Act as Deed}
+use Rattle.history_text.specs.declared.events.Act.TheVariants.{Fold, Check, Call, Bet, Raise}
+use Rattle.history_text.specs.declared.events.Street.{Street as StreetName}
+use Rattle.history_text.specs.declared.events.Street.TheVariants.{Draw, ShowDown, Summary}
+use Rattle.betting_replay.specs.declared.faults.BetFault.{BetFault}
+use Rattle.betting_replay.specs.declared.faults.BetFault.TheVariants.{NotInHand, OutOfTurn, NothingOwed, CheckFacingBet, CallAmount, BetFacingBet, RaiseAmount, AboveStack, AllInWord, StreetEarly, StreetOrder, UncalledAmount, CardTwice, PostLate, SeatTwice, TooManyCards}
+use Rattle.betting_replay.specs.Events.{seat_of, act_chips, is_bring_in, cards_named}
+use Rattle.betting_replay.specs.Streets.{next_street, same_street, begun_by_drawing, is_first}
+use Rattle.betting_replay.specs.Seats.{has_seat, or_else}
+use Rattle.betting_replay.specs.Tables.{Table, chips_at, acts_at, own_at, table_of}
+use Rattle.betting_replay.specs.Turns.{live_at, greatest, contender_count, has_chips, may_act, owes_before, next_to_act, due, call_fits, raise_fits, return_fits, uncalled_due}
+use Rattle.betting_replay.specs.Places.{is_board, is_free, first_twice}
+
+-- the fault, where it stands
+abbrev pub fault_if : Bool → BetFault → Option BetFault
+fault_if test fault = if test then Some fault else None
+
+-- a fault with what it carries
+abbrev pub fault_with : (ℕ → BetFault) → Option ℕ → Option BetFault
+fault_with fault None = None
+fault_with fault (Some n) = Some (fault n)
+
+-- 1: a post, an act or a collection of one who has folded, a post or an act of one with no chips left, a collection of no player
+unfoldable pub not_in_hand : Table → Event → Option BetFault
+not_in_hand t (Post seat kind units all_in) = fault_if ((acts_at t seat).folded || not (has_chips t seat)) NotInHand
+not_in_hand t (Act seat act all_in shown) = fault_if ((acts_at t seat).folded || not (has_chips t seat)) NotInHand
+not_in_hand t (Collect seat units pot) = fault_if ((acts_at t seat).folded || not (has_seat t.players seat)) NotInHand
+not_in_hand t _ = None
+
+-- 2: an act where one who owes stands between; the first such
+unfoldable pub out_of_turn : Table → Event → Option BetFault
+out_of_turn t (Act seat act all_in shown) = fault_with OutOfTurn (owes_before t seat)
+out_of_turn t _ = None
+
+-- 3: an act of one who may not act
+unfoldable pub nothing_owed : Table → Event → Option BetFault
+nothing_owed t (Act seat act all_in shown) = fault_if (not (may_act t seat)) NothingOwed
+nothing_owed t _ = None
+
+-- 4 to 7: a check below the greatest, a call of another amount, a bet where there is one, a raise of another amount
+unfoldable pub act_amiss : Table → ℕ → Deed → Option BetFault
+act_amiss t seat Fold = None
+act_amiss t seat Check = fault_if (nat_lt (live_at t seat) (greatest t)) (CheckFacingBet (due t seat))
+act_amiss t seat (Call units) = fault_if (not (call_fits t seat units)) (CallAmount (due t seat))
+act_amiss t seat (Bet units) = fault_if (nat_lt 0 (greatest t)) BetFacingBet
+act_amiss t seat (Raise by to) = fault_if (not (raise_fits t by to)) (RaiseAmount (greatest t))
+
+unfoldable pub amount_amiss : Table → Event → Option BetFault
+amount_amiss t (Act seat act all_in shown) = act_amiss t seat act
+amount_amiss t _ = None
+
+-- 8: more than the stack
+unfoldable pub above_stack : Table → Event → Option BetFault
+above_stack t (Post seat kind units all_in) = fault_if (nat_lt (chips_at t seat).stack units) (AboveStack (chips_at t seat).stack)
+above_stack t (Act seat act all_in shown) = fault_if (nat_lt (chips_at t seat).stack (act_chips act (live_at t seat))) (AboveStack (chips_at t seat).stack)
+above_stack t _ = None
+
+-- 9: the words that a player is all in stand only where his stack becomes 0, and must stand where a call, a bet or a raise makes it 0
+abbrev pub puts_in : Deed → Bool
+puts_in Fold = false
+puts_in Check = false
+puts_in (Call units) = true
+puts_in (Bet units) = true
+puts_in (Raise by to) = true
+
+unfoldable pub all_in_word : Table → Event → Option BetFault
+all_in_word t (Post seat kind units all_in) = fault_if (all_in && not (units == (chips_at t seat).stack)) AllInWord
+all_in_word t (Act seat act all_in shown) =
+    let empties = act_chips act (live_at t seat) == (chips_at t seat).stack in
+    fault_if ((all_in && not empties) || (not all_in && puts_in act && empties)) AllInWord
+all_in_word t _ = None
+
+-- 10: a marker, a return, a collection, or the first discard or stand-pat of a draw that no marker began, while somebody owes
+unfoldable pub street_early : Table → Event → Option BetFault
+street_early t (Street street cards) = fault_with StreetEarly (next_to_act t)
+street_early t (Uncalled seat units) = fault_with StreetEarly (next_to_act t)
+street_early t (Collect seat units pot) = fault_with StreetEarly (next_to_act t)
+street_early t (Discard seat count cards) = if is_some (begun_by_drawing t.header.game t.street) then fault_with StreetEarly (next_to_act t) else None
+street_early t (Pat seat) = if is_some (begun_by_drawing t.header.game t.street) then fault_with StreetEarly (next_to_act t) else None
+street_early t _ = None
+
+-- 11: a marker that isn't the next of its game, or with fewer than two contenders; a second showdown; a showdown or a summary
+-- before the last street with two contenders or more; a discard or a stand-pat off the draw
+abbrev pub may_end : Table → Bool
+may_end t = t.last_begun || nat_lt (contender_count t) 2
+
+abbrev pub marker_stands : Table → StreetName → Bool
+marker_stands t ShowDown = not t.shown_down && may_end t
+marker_stands t Summary = may_end t
+marker_stands t street = same_street street (next_street t.header.game t.street) && nat_le 2 (contender_count t)
+
+abbrev pub is_draw : Option StreetName → Bool
+is_draw (Some Draw) = true
+is_draw _ = false
+
+abbrev pub draw_stands : Table → Bool
+draw_stands t = is_draw t.street || (is_some (begun_by_drawing t.header.game t.street) && nat_le 2 (contender_count t))
+
+unfoldable pub street_order : Table → Event → Option BetFault
+street_order t (Street street cards) = fault_if (not (marker_stands t street)) StreetOrder
+street_order t (Discard seat count cards) = fault_if (not (draw_stands t)) StreetOrder
+street_order t (Pat seat) = fault_if (not (draw_stands t)) StreetOrder
+street_order t _ = None
+
+-- 12: a return of another amount than is uncalled over the whole hand, or over the street
+unfoldable pub uncalled_amiss : Table → Event → Option BetFault
+uncalled_amiss t (Uncalled seat units) = fault_if (not (return_fits t seat units)) (UncalledAmount (uncalled_due t))
+uncalled_amiss t _ = None
+
+-- 13: a card that belongs elsewhere, stands twice in the bracket, or was named before it comes on the board; the first such
+unfoldable pub card_twice : Table → Event → Option BetFault
+card_twice t e = fault_with CardTwice (first_twice (is_free t.named (own_at t (seat_of e)) (is_board e)) t.thrown (cards_named e))
+
+-- 14: a post behind the marker of the first street; a bring-in elsewhere than on the first street before its first act
+unfoldable pub post_late : Table → Event → Option BetFault
+post_late t (Post seat kind units all_in) =
+    fault_if (if is_bring_in kind then not (is_first t.street && is_none t.last) else t.opened) PostLate
+post_late t _ = None
+
+-- 15: a second line of a seat
+unfoldable pub seat_twice : Table → Event → Option BetFault
+seat_twice t (Seat seat units first end) = fault_if (chips_at t seat).seated SeatTwice
+seat_twice t _ = None
+
+-- 16: more cards than the game gives a seat
+abbrev pub own_limit : Game → ℕ
+own_limit Holdem = 2
+own_limit Omaha8 = 4
+own_limit Stud = 7
+own_limit Razz = 7
+own_limit Lowball27 = 10
+
+unfoldable pub too_many_cards : Table → Event → Option BetFault
+too_many_cards t e =
+    if seat_of e == 0 then None
+    else fault_if (nat_lt (own_limit t.header.game) (length (union (own_at t (seat_of e)) (cards_named e)))) (TooManyCards (seat_of e))
+
+-- the first fault
+abbrev pub first_fault : List (Option BetFault) → Option BetFault
+first_fault [] = None
+first_fault (None ∷ tests) = first_fault tests
+first_fault (Some fault ∷ tests) = Some fault
+
+-- the tests in their order
+abbrev pub tests : Table → Event → List (Option BetFault)
+tests t e =
+    not_in_hand t e ∷ out_of_turn t e ∷ nothing_owed t e ∷ amount_amiss t e ∷ above_stack t e ∷ all_in_word t e
+    ∷ street_early t e ∷ street_order t e ∷ uncalled_amiss t e ∷ card_twice t e ∷ post_late t e ∷ seat_twice t e ∷ too_many_cards t e ∷ []
+
+-- the first of them that an event fails at a table
+unfoldable pub fault_at : Table → Event → Option BetFault
+fault_at t e = first_fault (tests t e)
+
+-- the fault of an event after those of a hand so far, or none
+abbrev pub legal : Header → ℕ → List Event → Event → Option BetFault
+legal header players h e = fault_at (table_of header players h) e
+
+-- what a step answers
+abbrev pub verdict : Option BetFault → Result (Unit {0}) BetFault
+verdict None = Ok tt
+verdict (Some fault) = Err fault
+
+-- the first fault of some events, after others
+abbrev pub first_fault_in : Header → ℕ → List Event → List Event → Option BetFault
+first_fault_in header players h [] = None
+first_fault_in header players h (e ∷ es) = or_else (legal header players h e) (first_fault_in header players (e ∷ h) es)

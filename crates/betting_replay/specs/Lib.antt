@@ -1,0 +1,14 @@
+pub mod Seats
+pub mod Events
+pub mod Streets
+pub mod Sums
+pub mod Places
+pub mod Limits
+pub mod Boards
+pub mod Hands
+pub mod Tables
+pub mod Turns
+pub mod Faults
+pub mod Accepted
+pub mod Counting
+pub mod Accounts

@@ -1,0 +1,108 @@
+-- Who owes an act, who may act, and whose turn it is.
+use Rattle.std.specs.Prelude.{ℕ, ◌-◌, ◌==◌, ◌&&◌, ◌||◌, not, Bool, if◌then◌else◌, Option, Some, None, nat_lt, nat_le}
+use Rattle.betting_replay.specs.Seats.{has_seat, greatest_of, count_seats, first_from, first_between, first_after}
+use Rattle.betting_replay.specs.Streets.{is_first}
+use Rattle.betting_replay.specs.Tables.{Table, chips_at, acts_at}
+
+-- what a seat has put in live on the street, and the greatest of any
+abbrev pub live_at : Table → ℕ → ℕ
+live_at t p = (chips_at t p).live
+
+unfoldable pub greatest : Table → ℕ
+greatest t = greatest_of (live_at t)
+
+-- a player who hasn't folded
+unfoldable pub is_contender : Table → ℕ → Bool
+is_contender t p = has_seat t.players p && not (acts_at t p).folded
+
+unfoldable pub contender_count : Table → ℕ
+contender_count t = count_seats (is_contender t)
+
+abbrev pub has_chips : Table → ℕ → Bool
+has_chips t p = nat_lt 0 (chips_at t p).stack
+
+-- betting is open from the first marker to the showdown
+abbrev pub is_open : Table → Bool
+is_open t = t.opened && not t.shown_down
+
+-- how many other contenders have chips left
+unfoldable pub rivals : Table → ℕ → ℕ
+rivals t p = count_seats (λ q. not (q == p) && is_contender t q && has_chips t q)
+
+-- the seat is below the greatest, or has neither acted nor brought in on the street while another has chips left
+unfoldable pub is_pending : Table → ℕ → Bool
+is_pending t p =
+    nat_lt (live_at t p) (greatest t)
+    || (not (acts_at t p).acted && not (acts_at t p).brought_in && nat_lt 0 (rivals t p))
+
+-- the seat owes an act
+unfoldable pub owes : Table → ℕ → Bool
+owes t p = is_open t && nat_le 2 (contender_count t) && is_contender t p && has_chips t p && is_pending t p
+
+-- the seat may act
+unfoldable pub may_act : Table → ℕ → Bool
+may_act t p = is_open t && is_contender t p && has_chips t p && (owes t p || not (acts_at t p).acted)
+
+-- who comes before the seat: the first who owes strictly between the last actor and it
+abbrev pub owes_before_by : Option ℕ → (ℕ → Bool) → ℕ → Option ℕ
+owes_before_by None test p = None
+owes_before_by (Some a) test p = first_between test a p
+
+abbrev pub owes_before : Table → ℕ → Option ℕ
+owes_before t p = owes_before_by t.last (owes t) p
+
+-- who owes next, after the last actor
+abbrev pub next_to_act : Table → Option ℕ
+next_to_act t = first_after (owes t) t.last
+
+-- what is due of a seat
+abbrev pub due : Table → ℕ → ℕ
+due t p = greatest t - live_at t p
+
+-- on the first street the stated big blind, where it is above the greatest
+abbrev pub has_level : Table → Bool
+has_level t = is_first t.street && nat_lt (greatest t) t.header.big
+
+-- what is due of a seat up to the stated big blind
+abbrev pub due_to_level : Table → ℕ → ℕ
+due_to_level t p = t.header.big - live_at t p
+
+-- a call of so many units may stand: the amount due; or what is due to the level; or the whole stack, where it is below one of these
+unfoldable pub call_fits : Table → ℕ → ℕ → Bool
+call_fits t p units =
+    ((units == due t p) && nat_lt 0 (due t p))
+    || (has_level t && (units == due_to_level t p))
+    || ((units == (chips_at t p).stack) && (nat_lt units (due t p) || (has_level t && nat_lt units (due_to_level t p))))
+
+-- a raise by so many units, to so many
+unfoldable pub raise_fits : Table → ℕ → ℕ → Bool
+raise_fits t by to =
+    nat_lt (greatest t) to
+    && ((by == to - greatest t) || (has_level t && nat_lt t.header.big to && (by == to - t.header.big)))
+
+-- the second of the sums of all seats, beside that of p
+abbrev pub second_beside : (ℕ → ℕ) → ℕ → ℕ
+second_beside f p = greatest_of (λ q. if q == p then 0 else f q)
+
+-- so many units of p are uncalled: p alone has a sum above all others, by so many
+abbrev pub is_uncalled : (ℕ → ℕ) → ℕ → ℕ → Bool
+is_uncalled f p units = nat_lt (second_beside f p) (f p) && (units == f p - second_beside f p)
+
+-- what a seat has paid over the whole hand
+abbrev pub paid_at : Table → ℕ → ℕ
+paid_at t p = (chips_at t p).paid
+
+unfoldable pub return_fits : Table → ℕ → ℕ → Bool
+return_fits t p units = is_uncalled (paid_at t) p units || is_uncalled (live_at t) p units
+
+-- the seat alone has paid more than every other
+unfoldable pub is_alone : Table → ℕ → Bool
+is_alone t p = nat_lt (second_beside (paid_at t) p) (paid_at t p)
+
+-- what is uncalled over the whole hand, and 0 where no seat is alone above the others
+abbrev pub due_of : Table → Option ℕ → ℕ
+due_of t None = 0
+due_of t (Some p) = paid_at t p - second_beside (paid_at t) p
+
+abbrev pub uncalled_due : Table → ℕ
+uncalled_due t = due_of t (first_from (is_alone t) 1 10)

@@ -1,0 +1,72 @@
+//! What a replay tells of its hand.
+
+ghost use Rattle.std.specs.Prelude.{◌≡◌, ℕ, ◌+◌, ◌^◌, ◌<◌, ◌≤◌};
+ghost use Rattle.betting_replay.specs.Seats.{has_seat};
+ghost use Rattle.betting_replay.specs.Accounts.{paid_by, stack_at, contenders};
+
+use crate::replay::Replay;
+use history_text::Street;
+use pot_layers::Paid;
+
+impl Replay {
+    /// What a seat has put in over the hand, in units, and whether its player is one who hasn't folded.
+    #[tactic(auto, unfolding(crate::specs::Accounts::paid_by))]
+    pub fn paid(&self, seat: u8) -> Paid
+        requires { seat < 11 }
+        ensures value { result ≡ paid_by self.now seat }
+        ensures room { result.live + result.dead < 10 ^ 15 }
+    {
+        let chips = self.chips[seat as usize];
+        Paid {
+            seat,
+            live: chips.paid,
+            dead: chips.dead,
+            contender: self.is_contender(seat),
+        }
+    }
+
+    /// The players who haven't folded: bit s for seat s.
+    #[tactic(auto, unfolding(crate::specs::Accounts::contenders))]
+    pub fn contenders(&self) -> u16
+        ensures { result ≡ contenders self.now }
+    {
+        let mut seats = 0;
+        for seat in 0..11 {
+            if self.is_contender(seat) {
+                seats += 1 << seat;
+            }
+        }
+        seats
+    }
+
+    /// The seat of the button, by the last line that named it; 0 where none did.
+    pub fn button(&self) -> u8
+        ensures { result ≡ self.now.button }
+    {
+        self.button
+    }
+
+    /// Whether the seat is a player's.
+    pub fn is_player(&self, seat: u8) -> bool
+        requires { seat < 11 }
+        ensures { result ≡ has_seat self.now.players seat }
+    {
+        (self.players >> seat) & 1 == 1
+    }
+
+    /// The street: that of the last marker, a showdown's and the summary's too, or the draw that a
+    /// discard or a stand-pat began. None exactly before the first marker.
+    pub fn street(&self) -> Option<Street>
+        ensures { result ≡ self.now.street }
+    {
+        self.street
+    }
+
+    /// What is left before the player of a seat, in units.
+    pub fn stack(&self, seat: u8) -> u64
+        requires { seat < 11 }
+        ensures { result ≡ stack_at self.now seat }
+    {
+        self.chips[seat as usize].stack
+    }
+}

@@ -1,0 +1,36 @@
+//! The replay of a hand: which event may follow which, and what the events make of each seat.
+//!
+//! A `Replay` begins with a header and a set of players, and goes on by one event a step.
+//! `Replay::step` answers `Ok` where the event may stand behind those before it, and else the first
+//! rule that it breaks: there are sixteen, in the order of `BetFault`. After a refusal the replay is as
+//! it was. Nothing takes memory, and a step takes no longer in a long hand than in a short one.
+//!
+//! Clauses see a replay as a `Table`: the chips, acts and cards of each seat, and what lies open. What
+//! each of them is after some events is defined over the list of these events alone, the latest first,
+//! with no running sums. `table_of` puts them together, and a replay stands for a hand so far where it
+//! is that table (`StandsFor`). The rules are questions to the table; `legal` asks them of the table of
+//! a list.
+#![tactic(auto)]
+
+mod accessors;
+mod boards;
+mod counting;
+mod faults;
+mod hands;
+mod judge;
+mod laws;
+mod places;
+mod replay;
+mod run;
+mod seats;
+mod step;
+mod streets;
+#[cfg(test)]
+mod tests;
+mod turns;
+
+pub use faults::BetFault;
+pub use laws::{law_a_table_shows_each_seat, law_chips_stay, law_turns_are_taken};
+pub use replay::Replay;
+pub use run::first_fault;
+pub use seats::{Acts, Chips};

@@ -1,0 +1,45 @@
+//! What a replay keeps of the events so far.
+
+use crate::seats::{Acts, Chips};
+use card_sets::CardSet;
+use history_text::{Header, Street};
+use std::marker::Model;
+
+/// A hand so far, by its header, its players and its events. Clauses see it as a `Table`.
+///
+/// Its arrays go by seat number. Number 0 is no seat; among the cards it is the board.
+#[derive(Drop)]
+pub struct Replay {
+    pub(crate) header: Header,
+    pub(crate) players: u16,
+    pub(crate) chips: [Chips; 11],
+    pub(crate) acts: [Acts; 11],
+    pub(crate) own: [CardSet; 11],
+    pub(crate) dealt: [CardSet; 11],
+    pub(crate) shown: [Option<CardSet>; 11],
+    pub(crate) named: CardSet,
+    pub(crate) thrown: CardSet,
+    pub(crate) flop: CardSet,
+    pub(crate) turn: CardSet,
+    pub(crate) river: CardSet,
+    pub(crate) button: u8,
+    pub(crate) street: Option<Street>,
+    pub(crate) opened: bool,
+    pub(crate) shown_down: bool,
+    pub(crate) last_begun: bool,
+    pub(crate) small_posted: bool,
+    pub(crate) last: Option<u8>,
+}
+
+impl Model for Replay {
+    ghost use Rattle.betting_replay.specs.Tables.{Table};
+
+    ghost Value = { Table };
+
+    ghost use Rattle.betting_replay.specs.Limits.{InLimits};
+    ghost use Rattle.std.specs.Prelude.{All, IfSome, ◌≤◌};
+
+    ghost view = { λ r. record { header = r.header; players = r.players; chips = r.chips; acts = r.acts; own = r.own; dealt = r.dealt; shown = r.shown; named = r.named; thrown = r.thrown; flop = r.flop; turn = r.turn; river = r.river; button = r.button; street = r.street; opened = r.opened; shown_down = r.shown_down; last_begun = r.last_begun; small_posted = r.small_posted; last = r.last } };
+
+    ghost invariant = { λ r. All InLimits r.chips × IfSome r.last (λ seat. seat ≤ 10) };
+}

@@ -1,0 +1,131 @@
+//! The replay goes on by one event.
+
+ghost use Rattle.std.specs.Prelude.{◌≡◌, ℕ, [], ◌∷◌, List, OnOk, OnErr, ◌<◌};
+ghost use Rattle.std.specs.Int.{bit_at};
+ghost use Rattle.history_text.specs.declared.events.Event.{Event};
+ghost use Rattle.history_text.specs.declared.events.Header.{Header};
+ghost use Rattle.betting_replay.specs.Events.{SeatFits, seat_of, button_after, posts_small, is_act};
+ghost use Rattle.betting_replay.specs.Limits.{AmountsFit, Affords};
+ghost use Rattle.betting_replay.specs.Tables.{StandsFor, chips_at};
+ghost use Rattle.betting_replay.specs.Counting.{counted};
+ghost use Rattle.betting_replay.specs.Faults.{verdict, legal};
+
+use crate::boards::cards_on;
+use crate::counting::{acts_after, chips_after};
+use crate::faults::BetFault;
+use crate::hands::{cards_dealt, cards_shown, whole};
+use crate::places::{cards_named, cards_thrown, seat_of, with_cards};
+use crate::replay::Replay;
+use crate::seats::{Acts, Chips};
+use card_sets::CardSet;
+use history_text::{Event, Header, PostKind, Street};
+
+/// Whether an event posts the small blind.
+fn posts_small(e: &Event) -> bool
+    ensures { result ≡ posts_small e.now }
+{
+    match *e {
+        Event::Post { kind, .. } => kind == PostKind::Small,
+        _ => false,
+    }
+}
+
+/// The seat of the button after an event, where it was at another before.
+fn button_after(e: &Event, before: u8) -> u8
+    ensures { result ≡ button_after e.now before }
+{
+    match *e {
+        Event::Button { seat } => seat,
+        _ => before,
+    }
+}
+
+/// Whether an event is an act.
+fn is_act(e: &Event) -> bool
+    ensures { result ≡ is_act e.now }
+{
+    matches!(e, Event::Act { .. })
+}
+
+impl Replay {
+    /// Before the first event of a hand with this header and these players: bit s for seat s.
+    pub fn new(header: &Header, players: u16) -> Replay
+        ensures { StandsFor result header.now players [] }
+    {
+        Replay {
+            header: *header,
+            players,
+            chips: [Chips {
+                seated: false,
+                stack: 0,
+                paid: 0,
+                dead: 0,
+                live: 0,
+            }; 11],
+            acts: [Acts {
+                folded: false,
+                acted: false,
+                brought_in: false,
+            }; 11],
+            own: [CardSet::empty(); 11],
+            dealt: [CardSet::empty(); 11],
+            shown: [None; 11],
+            named: CardSet::empty(),
+            thrown: CardSet::empty(),
+            flop: CardSet::empty(),
+            turn: CardSet::empty(),
+            river: CardSet::empty(),
+            button: 0,
+            street: None,
+            opened: false,
+            shown_down: false,
+            last_begun: false,
+            small_posted: false,
+            last: None,
+        }
+    }
+
+    /// The event counts for its seat.
+    #[tactic(auto, unfolding(crate::specs::Counting::counted))]
+    fn count(&mut self, e: &Event)
+        requires seat { SeatFits e.now }
+        requires affords { Affords self.old.header.big self.old.small_posted e.now (chips_at self.old (seat_of e.now)) }
+        ensures { self.new ≡ counted self.old e.now }
+    {
+        let seat = seat_of(e);
+        let place = seat as usize;
+        let cards = cards_named(e);
+        self.chips[place] = chips_after(self.header.big, self.small_posted, e, self.chips[place]);
+        self.acts[place] = acts_after(e, self.acts[place]);
+        self.own[place] = with_cards(self.own[place], cards);
+        self.dealt[place] = with_cards(self.dealt[place], cards_dealt(e));
+        self.shown[place] = whole(self.header.game, cards_shown(e)).or(self.shown[place]);
+        self.named = with_cards(self.named, cards);
+        self.thrown = with_cards(self.thrown, cards_thrown(e));
+        self.flop = with_cards(self.flop, cards_on(Street::Flop, e));
+        self.turn = with_cards(self.turn, cards_on(Street::Turn, e));
+        self.river = with_cards(self.river, cards_on(Street::River, e));
+        self.button = button_after(e, self.button);
+        self.small_posted = posts_small(e) || self.small_posted;
+        if is_act(e) {
+            self.last = Some(seat);
+        }
+    }
+
+    /// Goes on by an event where it may follow those before it, and else answers the first rule that
+    /// it breaks, and changes nothing. Seats of the event are 1 to 10, and its amounts below 10^15
+    /// units; of all else the rules are the judge.
+    pub fn step(&mut self, e: &Event) -> Result<(), BetFault>
+        requires seats { SeatFits e.now }
+        requires amounts { AmountsFit e.now }
+        ensures verdict { (header : Header) (players : ℕ) (h : List Event) → StandsFor self.old header players h → result ≡ verdict (legal header players h e.now) }
+        ensures ok { OnOk result ((header : Header) (players : ℕ) (h : List Event) → StandsFor self.old header players h → StandsFor self.new header players (e.now ∷ h)) }
+        ensures err { OnErr result (self.new ≡ self.old) }
+    {
+        let _ = &self.header;
+        self.judge(e)?;
+        self.count(e);
+        self.begin_with(e);
+        Ok(())
+    }
+}

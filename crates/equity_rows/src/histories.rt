@@ -1,0 +1,164 @@
+//! Histories of hands.
+
+/// A cash hand of six seats, with chat, a time-out, a call on the turn that is all-in, and a mucked hand.
+pub(crate) const SIX_SEATS: &str = "\
+PokerStars Hand #240000000001: Hold'em No Limit ($0.50/$1.00 USD) - 2023/01/15 20:11:05 ET\n\
+Table 'Halley IV' 6-max Seat #3 is the button\n\
+Seat 1: anna ($100 in chips)\n\
+Seat 2: bo ($84.50 in chips)\n\
+Seat 3: carl ($120.25 in chips)\n\
+Seat 4: dora ($60 in chips)\n\
+Seat 5: emil ($100 in chips)\n\
+Seat 6: hero ($97 in chips)\n\
+dora: posts small blind $0.50\n\
+emil: posts big blind $1\n\
+*** HOLE CARDS ***\n\
+Dealt to hero [Qc 7d]\n\
+hero: folds\n\
+anna has timed out\n\
+anna: folds\n\
+bo: folds\n\
+carl: raises $2 to $3\n\
+dora: calls $2.50\n\
+emil: folds\n\
+emil said, \"gl\"\n\
+*** FLOP *** [2s 9s Jd]\n\
+dora: checks\n\
+carl: bets $4\n\
+dora: calls $4\n\
+*** TURN *** [2s 9s Jd] [5h]\n\
+dora: bets $53 and is all-in\n\
+carl: calls $53\n\
+*** RIVER *** [2s 9s Jd 5h] [3c]\n\
+*** SHOW DOWN ***\n\
+carl: shows [Jh Jc] (three of a kind, Jacks)\n\
+dora: mucks hand\n\
+carl collected $118.50 from pot\n\
+*** SUMMARY ***\n\
+Total pot $121 | Rake $2.50\n\
+Board [2s 9s Jd 5h 3c]\n\
+Seat 1: anna folded before Flop (didn't bet)\n\
+Seat 2: bo folded before Flop (didn't bet)\n\
+Seat 3: carl (button) showed [Jh Jc] and won ($118.50) with three of a kind, Jacks\n\
+Seat 4: dora (small blind) mucked [As Ks]\n\
+Seat 5: emil (big blind) folded before Flop\n\
+Seat 6: hero folded before Flop (didn't bet)\n";
+
+/// A hand of a tournament with three stacks all in on the turn, and so a main pot and a side pot.
+pub(crate) const SIDE_POTS: &str = "\
+PokerStars Hand #88: Tournament #7, $4.40+$0.60 USD Hold'em No Limit - Level V (50/100) - 2023/01/15 21:00:00 ET\n\
+Table '7 1' 9-max Seat #1 is the button\n\
+Seat 1: a (4000 in chips)\n\
+Seat 2: b (500 in chips)\n\
+Seat 3: c (1500 in chips)\n\
+b: posts small blind 50\n\
+c: posts big blind 100\n\
+*** HOLE CARDS ***\n\
+a: calls 100\n\
+b: calls 50\n\
+c: checks\n\
+*** FLOP *** [7h 8h 2c]\n\
+b: checks\n\
+c: checks\n\
+a: checks\n\
+*** TURN *** [7h 8h 2c] [Qs]\n\
+b: bets 400 and is all-in\n\
+c: raises 1000 to 1400 and is all-in\n\
+a: raises 2500 to 3900 and is all-in\n\
+Uncalled bet (2500) returned to a\n\
+*** RIVER *** [7h 8h 2c Qs] [3d]\n\
+*** SHOW DOWN ***\n\
+a: shows [As Ad] (a pair of Aces)\n\
+c: shows [9h Th] (high card Queen)\n\
+a collected 2000 from side pot\n\
+b: shows [Kc Kd] (a pair of Kings)\n\
+a collected 1500 from main pot\n\
+*** SUMMARY ***\n\
+Total pot 3500 Main pot 1500. Side pot 2000. | Rake 0\n\
+Board [7h 8h 2c Qs 3d]\n\
+Seat 1: a (button) showed [As Ad] and won (3500) with a pair of Aces\n\
+Seat 2: b (small blind) showed [Kc Kd] and lost with a pair of Kings\n\
+Seat 3: c (big blind) showed [9h Th] and lost with high card Queen\n";
+
+/// A pot of 100 chips for three winners, with the button behind them.
+pub(crate) const ODD_CHIPS: &str = "\
+PokerStars Hand #15: Tournament #7, $1+$0.10 USD Hold'em No Limit - Level I (5/10)\n\
+Table '7 2' 9-max Seat #4 is the button\n\
+Seat 1: p1 (30 in chips)\n\
+Seat 2: p2 (30 in chips)\n\
+Seat 3: p3 (30 in chips)\n\
+Seat 4: p4 (100 in chips)\n\
+p1: posts small blind 5\n\
+p2: posts big blind 10\n\
+*** HOLE CARDS ***\n\
+p3: calls 10\n\
+p4: calls 10\n\
+p1: raises 20 to 30 and is all-in\n\
+p2: calls 20 and is all-in\n\
+p3: calls 20 and is all-in\n\
+p4: folds\n\
+*** FLOP *** [Ts Js Qs]\n\
+*** TURN *** [Ts Js Qs] [Ks]\n\
+*** RIVER *** [Ts Js Qs Ks] [As]\n\
+*** SHOW DOWN ***\n\
+p1: shows [2c 3c]\n\
+p2: shows [2d 3d]\n\
+p3: shows [2h 3h]\n\
+p1 collected 34 from pot\n\
+p2 collected 33 from pot\n\
+p3 collected 33 from pot\n\
+*** SUMMARY ***\n\
+Total pot 100 | Rake 0\n\
+Board [Ts Js Qs Ks As]\n\
+Seat 1: p1 (small blind) showed [2c 3c] and won\n\
+Seat 2: p2 (big blind) showed [2d 3d] and won\n\
+Seat 3: p3 showed [2h 3h] and won\n";
+
+/// A hand of two players that is checked down after one bet.
+pub(crate) const HEADS_UP: &str = "\
+PokerStars Hand #2: Hold'em No Limit ($0.50/$1.00 USD)\n\
+Table 'T' 2-max Seat #1 is the button\n\
+Seat 1: x ($50 in chips)\n\
+Seat 2: y ($50 in chips)\n\
+x: posts small blind $0.50\n\
+y: posts big blind $1\n\
+*** HOLE CARDS ***\n\
+x: calls $0.50\n\
+y: checks\n\
+*** FLOP *** [2c 7d 9h]\n\
+y: bets $2\n\
+x: calls $2\n\
+*** TURN *** [2c 7d 9h] [4s]\n\
+y: checks\n\
+x: checks\n\
+*** RIVER *** [2c 7d 9h 4s] [Jc]\n\
+y: checks\n\
+x: checks\n\
+*** SHOW DOWN ***\n\
+y: shows [Ks Kh]\n\
+x: shows [As Ah]\n\
+x collected $6 from pot\n\
+*** SUMMARY ***\n\
+Total pot $6 | Rake $0\n";
+
+/// A hand in which the name of a seat reads like an act of another.
+pub(crate) const ODD_NAMES: &str = "\
+PokerStars Hand #3: Hold'em No Limit ($0.50/$1.00 USD)\n\
+Table 'T' 6-max Seat #1 is the button\n\
+Seat 1: A ($50 in chips)\n\
+Seat 2: A: folds ($50 in chips)\n\
+Seat 3: x ($50 in chips)\n\
+A: folds: posts small blind $0.50\n\
+x: posts big blind $1\n\
+*** HOLE CARDS ***\n\
+A: folds\n\
+A: folds: calls $0.50\n\
+x: checks\n\
+*** FLOP *** [2c 7d 9h]\n\
+A: folds: checks\n\
+x: bets $1\n\
+A: folds: folds\n\
+Uncalled bet ($1) returned to x\n\
+x collected $2 from pot\n\
+*** SUMMARY ***\n\
+Total pot $2 | Rake $0\n";

@@ -1,0 +1,116 @@
+-- Of a hand that is accepted no line departs.
+use Rattle.std.proofs.Common.{◌≡◌, ℕ, ◌+◌, ◌<◌, ◌≤◌, zero, suc, List, [], ◌∷◌, refl, sym, ap, ◌∙◌, subst, Bool, true, false, length, arith, inl, inr}
+use Rattle.std.specs.Prelude.{Option, Some, None, Ok, slice_get, nat_lt, if◌then◌else◌}
+use Rattle.std.proofs.lemmas.Bool.{cases_eq}
+use Rattle.history_text.specs.declared.events.Header.{Header}
+use Rattle.history_text.specs.Headers.{header_of}
+use Rattle.betting_replay.specs.Seats.{or_else}
+use Rattle.pot_layers.specs.declared.paid.Pot.{Pot}
+use Rattle.pot_layers.specs.Pots.{pots}
+use Rattle.hand_audit.specs.declared.audit.AllIn.{AllIn}
+use Rattle.hand_audit.specs.declared.audit.HandAudit.TheVariants.{Accepted}
+use Rattle.hand_audit.specs.declared.cause.Cause.{Cause}
+use Rattle.hand_audit.specs.declared.pot_names.Source.TheVariants.{Numbered}
+use Rattle.hand_audit.specs.declared.settlement.Payment.{Payment}
+use Rattle.hand_audit.specs.declared.settlement.Settlement.{Settlement}
+use Rattle.hand_audit.specs.AllIns.{Finding}
+use Rattle.hand_audit.specs.Chips.{KeepsChips}
+use Rattle.hand_audit.specs.Departs.{departs, departs_behind, departs_from}
+use Rattle.hand_audit.specs.Lines.{nothing, players_of}
+use Rattle.hand_audit.specs.PotNames.{fits}
+use Rattle.hand_audit.specs.Settle.{Showing, beyond, beyond_if, beyond_in, beyond_of, beyond_from, settled, settled_of, pay_of, parts_of, part_of_seat, sides_of_seat, distance}
+use Rattle.hand_audit.specs.Showings.{rake, showing_of}
+use Rattle.hand_audit.specs.Splits.{IsSplitRightly}
+use Rattle.hand_audit.specs.Verdict.{audit_of, audit_behind, judged, settlement_of, events_of}
+use Rattle.hand_audit.proofs.AllPlay.{others_idle}
+use Rattle.hand_audit.proofs.Chips.{kept, kept_within}
+use Rattle.hand_audit.proofs.Sums.{Idle}
+
+-- what an accepted hand's verdict says
+record IsAccepted (g : Header) (lines : List (List ℕ)) (number : ℕ) (settlement : Settlement) (players : ℕ) : Type 0 where
+  none : departs_from g players number nothing lines ≡ None
+  made : settlement_of g players (events_of g lines) ≡ settlement
+  all_play : players_of g lines ≡ players
+
+some_is : {A : Type 0} (a b : A) → Some a ≡ Some b → a ≡ b
+some_is a b e = cc
+
+accepted_is : (find : Finding) (number : ℕ) (line : List ℕ) (lines : List (List ℕ)) (g : Header) (settlement : Settlement) (all_in : AllIn) (names : List (ℕ × List ℕ)) (players : ℕ) → header_of line ≡ Ok g
+    → audit_of find number (line ∷ lines) ≡ Some (Accepted settlement all_in names players) → IsAccepted g lines number settlement players
+unfolding departs
+accepted_is find number line lines g settlement all_in names players read is =
+    by (departs_from g (players_of g lines) number nothing lines) refl (some_is _ _ (sym (ap (λ header. audit_behind find number lines header (departs_behind number lines header)) read) ∙ is))
+  where
+    by : (o : Option (ℕ × Cause)) → departs_from g (players_of g lines) number nothing lines ≡ o → judged find g lines o ≡ Accepted settlement all_in names players → IsAccepted g lines number settlement players
+    by (Some at) e h = cc
+    by None e h =
+        let same : players_of g lines ≡ players = cc in
+        let made : settlement_of g (players_of g lines) (events_of g lines) ≡ settlement = cc in
+        record { none = ap (λ p. departs_from g p number nothing lines) (sym same) ∙ e; made = ap (λ p. settlement_of g p (events_of g lines)) (sym same) ∙ made; all_play = same }
+
+pub accepted_kept : (find : Finding) (number : ℕ) (line : List ℕ) (lines : List (List ℕ)) (g : Header) → header_of line ≡ Ok g → (settlement : Settlement) (all_in : AllIn) (names : List (ℕ × List ℕ)) (players : ℕ)
+    → audit_of find number (line ∷ lines) ≡ Some (Accepted settlement all_in names players) → KeepsChips g (events_of g lines) settlement.rake
+accepted_kept find number line lines g read settlement all_in names players is =
+    let a = accepted_is find number line lines g settlement all_in names players read is in
+    let stated : rake (events_of g lines) ≡ settlement.rake = ap (λ (x : Settlement). x.rake) a.made in
+    let others : Idle g players (events_of g lines) = subst (λ (n : ℕ). Idle g n (events_of g lines)) a.all_play (others_idle g number lines (ap (λ n. departs_from g n number nothing lines) a.all_play ∙ a.none)) in
+    subst (λ (n : ℕ). KeepsChips g (events_of g lines) n) stated (kept g players number lines a.none others)
+
+-- none of some pots has a payment beyond its tolerance
+none_both : {A : Type 0} (a b : Option A) → or_else a b ≡ None → (a ≡ None) × (b ≡ None)
+none_both None b h = (refl, h)
+none_both (Some x) b h = cc
+
+none_in : (s : Showing) (count k : ℕ) (all : List Pot) (i : ℕ) (pot : Pot) → beyond_in s count k all ≡ None → slice_get all i ≡ Some pot → beyond_of s (Numbered count (k + i)) pot ≡ None
+none_in s count k [] i pot none is = cc
+none_in s count k (first ∷ more) zero pot none is =
+    let both = none_both (beyond_of s (Numbered count k) first) (beyond_in s count (k + 1) more) none in
+    let same : first ≡ pot = cc in
+    let here : k ≡ k + 0 = omega arith in
+    subst (λ (n : ℕ). beyond_of s (Numbered count n) pot ≡ None) here (subst (λ (x : Pot). beyond_of s (Numbered count k) x ≡ None) same both.0)
+none_in s count k (first ∷ more) (suc i) pot none is =
+    let both = none_both (beyond_of s (Numbered count k) first) (beyond_in s count (k + 1) more) none in
+    let here : (k + 1) + i ≡ k + suc i = omega arith in
+    subst (λ (n : ℕ). beyond_of s (Numbered count n) pot ≡ None) here (none_in s count (k + 1) more i pot both.1 is)
+
+near : (f : ℕ → Payment) (t : ℕ → ℕ) (p : ℕ) → nat_lt (t p) (distance (f p).got (f p).due) ≡ false → distance (f p).got (f p).due ≤ t p
+near f t p low = grind arith
+
+all_near : (f : ℕ → Payment) (t : ℕ → ℕ) (from n p : ℕ) → beyond_from f t from n ≡ None → from ≤ p → p < from + n → distance (f p).got (f p).due ≤ t p
+all_near f t from zero p none l h = absurd (omega arith)
+all_near f t from (suc n) p none l h = by (nat_lt (t from) (distance (f from).got (f from).due)) refl none (λ later far. all_near f t (from + 1) n p later far (omega arith))
+  where
+    by : (b : Bool) → nat_lt (t from) (distance (f from).got (f from).due) ≡ b → (if b then Some (f from) else beyond_from f t (from + 1) n) ≡ None
+        → (beyond_from f t (from + 1) n ≡ None → from + 1 ≤ p → distance (f p).got (f p).due ≤ t p) → distance (f p).got (f p).due ≤ t p
+    by true e left later = cc
+    by false e left later = elim (cases_eq from p) [ inl same ↦ subst (λ (q : ℕ). distance (f q).got (f q).due ≤ t q) same (near f t from e) | inr other ↦ later left (omega arith) ]
+
+fit_of : (s : Showing) → (settled s).fits ≡ true → fits (pots s.paid) s.collections ≡ true
+unfolding settled
+fit_of s h = by (fits (pots s.paid) s.collections) h
+  where
+    by : (b : Bool) → (settled_of b s (pots s.paid)).fits ≡ true → b ≡ true
+    by true e = refl
+    by false e = e
+
+within_fit : (s : Showing) → fits (pots s.paid) s.collections ≡ true → beyond s ≡ None → beyond_in s (length (pots s.paid)) 0 (pots s.paid) ≡ None
+unfolding beyond
+within_fit s fit none = sym (ap (λ b. beyond_if b s (pots s.paid)) fit) ∙ none
+
+split_of : (s : Showing) → (settled s).fits ≡ true → beyond s ≡ None → IsSplitRightly s
+split_of s fit none number pot is p low high =
+    let source = Numbered (length (pots s.paid)) number in
+    let here : 0 + number ≡ number = omega arith in
+    let pot_none : beyond_of s source pot ≡ None = subst (λ (n : ℕ). beyond_of s (Numbered (length (pots s.paid)) n) pot ≡ None) here (none_in s (length (pots s.paid)) 0 (pots s.paid) number pot (within_fit s (fit_of s fit) none) is) in
+    record {
+      due = λ known. ap (λ b. if b then part_of_seat p (parts_of s source pot) else (pay_of s source pot p).got) known;
+      near = all_near (pay_of s source pot) (λ q. sides_of_seat q (parts_of s source pot)) 1 10 p pot_none low (omega arith);
+    }
+
+pub accepted_split : (find : Finding) (number : ℕ) (line : List ℕ) (lines : List (List ℕ)) (g : Header) → header_of line ≡ Ok g → (settlement : Settlement) (all_in : AllIn) (names : List (ℕ × List ℕ)) (players : ℕ)
+    → audit_of find number (line ∷ lines) ≡ Some (Accepted settlement all_in names players) → settlement.fits ≡ true → IsSplitRightly (showing_of g players (events_of g lines))
+accepted_split find number line lines g read settlement all_in names players is fit =
+    let a = accepted_is find number line lines g settlement all_in names players read is in
+    let s = showing_of g players (events_of g lines) in
+    let fit_settled : (settled s).fits ≡ true = ap (λ (x : Settlement). x.fits) a.made ∙ fit in
+    split_of s fit_settled (kept_within g players number lines a.none)

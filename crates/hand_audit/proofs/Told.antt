@@ -1,0 +1,135 @@
+-- Who wins by what is kept is who wins by the rules.
+use Rattle.std.proofs.Common.{◌≡◌, ℕ, zero, suc, ◌+◌, ◌<◌, ◌≤◌, List, [], ◌∷◌, refl, sym, ap, ◌∙◌, Bool, true, false, ◌==◌, ◌&&◌, ◌||◌, not, arith}
+use Rattle.std.specs.Prelude.{Option, Some, None, is_some, nat_lt, filter, if◌then◌else◌, slice_index_or}
+use Rattle.std.specs.Int.{bit_at}
+use Rattle.std.specs.List.{list_all, list_any}
+use Rattle.card_sets.specs.declared.games.Side.{Side}
+use Rattle.pot_layers.specs.Pots.{seats_below}
+use Rattle.showdown_tally.specs.Settling.{number_of}
+use Rattle.showdown_tally.specs.Showdown.{is_beaten_by, winners_of}
+use Rattle.hand_audit.specs.Orders.{seats_from, seats_in, OfSeats}
+use Rattle.hand_audit.specs.Settle.{Showing, set_of, hand_of, value_on, worth_on, first_side, second_side, side_winners, is_alone, is_checked, first_winners, second_winners}
+use Rattle.hand_audit.specs.Winning.{Ranks, Tells, is_beaten, is_unbeaten, is_seat_in, wins, winners_by}
+use Rattle.hand_audit.specs.declared.standings.Standings.{Standings}
+use Rattle.card_sets.specs.declared.games.Game.{Game}
+use Rattle.betting_replay.specs.Seats.{by_seat}
+use Rattle.betting_replay.specs.Tables.{Table, own_at, final_at}
+use Rattle.betting_replay.proofs.BySeat.{at_by_seat}
+use Rattle.hand_audit.specs.declared.collections.Collection.{Collection}
+use Rattle.hand_audit.specs.Showings.{full_with, showing_at}
+use Rattle.hand_audit.proofs.Seats.{same_below, among_seats}
+use Rattle.hand_audit.proofs.Ranked.{same_ranks}
+
+-- a test of the seats of a set that agrees with another
+same_more : (f g : ℕ → Bool) (s p n : ℕ) → f p ≡ g p → list_all f (seats_from s (p + 1) n) ≡ list_all g (seats_from s (p + 1) n) → (b : Bool)
+    → list_all f (if b then p ∷ seats_from s (p + 1) n else seats_from s (p + 1) n) ≡ list_all g (if b then p ∷ seats_from s (p + 1) n else seats_from s (p + 1) n)
+same_more f g s p n here rest true = rw (here, rest) refl
+same_more f g s p n here rest false = rest
+
+same_all_from : (f g : ℕ → Bool) (s p n : ℕ) → p + n ≤ 11 → ((q : ℕ) → q < 11 → f q ≡ g q) → list_all f (seats_from s p n) ≡ list_all g (seats_from s p n)
+same_all_from f g s p zero l h = refl
+same_all_from f g s p (suc n) l h = same_more f g s p n (h p (omega arith)) (same_all_from f g s (p + 1) n (omega arith) h) (bit_at s p == 1)
+
+same_all : (f g : ℕ → Bool) (s : ℕ) → ((q : ℕ) → q < 11 → f q ≡ g q) → list_all f (seats_in s) ≡ list_all g (seats_in s)
+same_all f g s h = same_all_from f g s 1 10 (omega arith) h
+
+-- who is among those that pass a test
+eq_same : (f : ℕ → Bool) (q p : ℕ) → (q == p) ≡ true → f q ≡ f p
+eq_same f q p e = let is : q ≡ p = grind arith in ap f is
+
+off : (x : Bool) → (x && false) ≡ false
+off true = refl
+off false = refl
+
+among_more : (f : ℕ → Bool) (q : ℕ) (xs : List ℕ) (p : ℕ) → list_any (λ r. r == p) (filter f xs) ≡ (list_any (λ r. r == p) xs && f p) → (a b : Bool) → f q ≡ a → (q == p) ≡ b
+    → list_any (λ r. r == p) (if a then q ∷ filter f xs else filter f xs) ≡ ((b || list_any (λ r. r == p) xs) && f p)
+among_more f q xs p ih true true ea eb = let here : f p ≡ true = sym (eq_same f q p eb) ∙ ea in rw (eb, here) refl
+among_more f q xs p ih true false ea eb = rw eb ih
+among_more f q xs p ih false true ea eb = let here : f p ≡ false = sym (eq_same f q p eb) ∙ ea in ih ∙ rw here (off (list_any (λ r. r == p) xs))
+among_more f q xs p ih false false ea eb = ih
+
+among_filter : (f : ℕ → Bool) (xs : List ℕ) (p : ℕ) → list_any (λ q. q == p) (filter f xs) ≡ (list_any (λ q. q == p) xs && f p)
+among_filter f [] p = refl
+among_filter f (q ∷ xs) p = among_more f q xs p (among_filter f xs p) (f q) (q == p) refl refl
+
+-- the winners by numbers are those by values
+one_seat : (side : Side) (values : List (Option ℕ)) (v : ℕ → Option (List ℕ)) (s p : ℕ) → Ranks (Some side) values v → p < 11 → wins values s p ≡ list_any (λ q. q == p) (winners_of side v (seats_in s))
+unfolding wins
+one_seat side values v s p r l =
+    let unbeaten : is_unbeaten values s (number_of values p) ≡ list_all (λ q. not (is_beaten_by side (v p) (v q))) (seats_in s) = same_all (λ q. not (is_beaten (number_of values p) (number_of values q))) (λ q. not (is_beaten_by side (v p) (v q))) s (λ q m. ap not (r.order p q l m)) in
+    let test : (is_some (number_of values p) && is_unbeaten values s (number_of values p)) ≡ (is_some (v p) && list_all (λ q. not (is_beaten_by side (v p) (v q))) (seats_in s)) = rw (r.some p l, unbeaten) refl in
+    assoc (nat_lt 0 p) (bit_at s p == 1) (is_some (number_of values p)) (is_unbeaten values s (number_of values p))
+    ∙ ap (λ b. is_seat_in s p && b) test
+    ∙ ap (λ b. b && (is_some (v p) && list_all (λ q. not (is_beaten_by side (v p) (v q))) (seats_in s))) (sym (among_seats s p l))
+    ∙ sym (among_filter (λ i. is_some (v i) && list_all (λ j. not (is_beaten_by side (v i) (v j))) (seats_in s)) (seats_in s) p)
+  where
+    assoc : (a b c d : Bool) → (a && b && c && d) ≡ ((a && b) && (c && d))
+    assoc true true true d = refl
+    assoc true true false d = refl
+    assoc true false c d = refl
+    assoc false b c d = refl
+
+no_seat : (values : List (Option ℕ)) (v : ℕ → Option (List ℕ)) (s p : ℕ) → Ranks None values v → ((q : ℕ) → q < 11 → v q ≡ None) → p < 11 → wins values s p ≡ false
+unfolding wins
+no_seat values v s p r none l =
+    let no : is_some (number_of values p) ≡ false = r.some p l ∙ ap is_some (none p l) in
+    rw no (off (nat_lt 0 p) (bit_at s p == 1))
+  where
+    off : (a b : Bool) → (a && b && false && is_unbeaten values s (number_of values p)) ≡ false
+    off true true = refl
+    off true false = refl
+    off false b = refl
+
+nobody : (n : ℕ) → seats_below (λ p. false) n ≡ 0
+nobody zero = refl
+nobody (suc n) = let e : seats_below (λ p. false) n ≡ 0 = nobody n in rw e refl
+
+pub side_told : (side : Option Side) (values : List (Option ℕ)) (s : Showing) (eligible : ℕ) → Ranks side values (worth_on side s) → winners_by values eligible ≡ side_winners side s eligible
+unfolding winners_by
+side_told (Some side) values s eligible r = same_below (wins values eligible) (λ p. list_any (λ q. q == p) (winners_of side (worth_on (Some side) s) (seats_in eligible))) 11 (λ p l. one_seat side values (worth_on (Some side) s) eligible p r l)
+side_told None values s eligible r = same_below (wins values eligible) (λ p. false) 11 (λ p l. no_seat values (worth_on None s) eligible p r (λ q m. refl) l) ∙ nobody 11
+
+-- what is kept answers what the rules ask
+pub checked_alone : (s : Showing) (eligible : ℕ) → is_alone eligible ≡ true → true ≡ is_checked s eligible
+unfolding is_checked
+checked_alone s eligible one = rw one refl
+
+pub checked_told : (w : Standings) (s : Showing) (eligible : ℕ) (known : Bool) → Tells w s → is_alone eligible ≡ false → known ≡ list_all (λ p. slice_index_or w.known p false) (seats_in eligible) → known ≡ is_checked s eligible
+unfolding is_checked
+checked_told w s eligible known t many are = rw many (are ∙ same_all (λ p. slice_index_or w.known p false) (λ p. is_some (hand_of s p)) eligible t.known)
+
+pub first_alone : (s : Showing) (eligible : ℕ) → is_alone eligible ≡ true → set_of (seats_in eligible) ≡ first_winners s eligible
+unfolding first_winners
+first_alone s eligible one = rw one refl
+
+pub first_told : (w : Standings) (s : Showing) (eligible : ℕ) → Tells w s → is_alone eligible ≡ false → winners_by w.first eligible ≡ first_winners s eligible
+unfolding first_winners
+first_told w s eligible t many = rw many (side_told (first_side s.game) w.first s eligible t.first)
+
+pub second_alone : (s : Showing) (eligible : ℕ) → is_alone eligible ≡ true → 0 ≡ second_winners s eligible
+unfolding second_winners
+second_alone s eligible one = rw one refl
+
+pub second_told : (w : Standings) (s : Showing) (eligible : ℕ) → Tells w s → is_alone eligible ≡ false → winners_by w.second eligible ≡ second_winners s eligible
+unfolding second_winners
+second_told w s eligible t many = rw many (side_told (second_side s.game) w.second s eligible t.second)
+
+pub no_seats : OfSeats 0
+no_seats = record { small = omega arith; first = refl }
+
+-- what is kept of a hand so far tells who wins
+pub tells : (w : Standings) (game : Game) (t : Table) (all : List Collection) (button : ℕ) (hands : List (Option (List ℕ)))
+    → ((p : ℕ) → p < 11 → slice_index_or hands p None ≡ full_with game (own_at t 0) (final_at t p))
+    → ((p : ℕ) → p < 11 → slice_index_or w.known p false ≡ is_some (slice_index_or hands p None))
+    → Ranks (first_side game) w.first (λ p. value_on (first_side game) game (own_at t 0) (slice_index_or hands p None))
+    → Ranks (second_side game) w.second (λ p. value_on (second_side game) game (own_at t 0) (slice_index_or hands p None))
+    → w.button ≡ button → Tells w (showing_at game t all button)
+unfolding showing_at
+tells w game t all button hands are known first second b =
+    let hand : (p : ℕ) → p < 11 → slice_index_or hands p None ≡ slice_index_or (by_seat (λ q. full_with game (own_at t 0) (final_at t q))) p None = (λ p l. are p l ∙ sym (at_by_seat (λ q. full_with game (own_at t 0) (final_at t q)) p None l)) in
+    record {
+      known = λ p l. known p l ∙ ap is_some (hand p l);
+      first = same_ranks (first_side game) w.first _ _ (λ p l. ap (value_on (first_side game) game (own_at t 0)) (hand p l)) first;
+      second = same_ranks (second_side game) w.second _ _ (λ p l. ap (value_on (second_side game) game (own_at t 0)) (hand p l)) second;
+      button = b;
+    }

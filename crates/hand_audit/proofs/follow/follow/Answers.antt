@@ -1,0 +1,40 @@
+use Rattle.std.proofs.Common.{◌≡◌, ◌∷◌, subst, refl, arith, length, ap}
+use Rattle.std.specs.Prelude.{Option, slice_range, drop}
+use Rattle.line_text.specs.Lines.{lines}
+use Rattle.hand_audit.specs.declared.cause.Cause.{Cause}
+use Rattle.hand_audit.specs.Keeping.{Goes, EndsAs}
+use Rattle.hand_audit.specs.Lines.{read_at}
+use Rattle.hand_audit.proofs.Going.{going_more, going_departs, going_ends, going_stops}
+use Rattle.hand_audit.proofs.follow.follow.Goals as goal
+
+pub returns-in-Some-2 : goal.returns-in-Some-2
+returns-in-Some-2 c =
+    let r = c.lines.invariant.going in
+    let text = slice_range c.args.bytes.now c.in-Some.line.first c.in-Some.line.end in
+    going_departs c.lines.hand c.take_line.new.self c.args.header.now c.args.players c.args.first _ text (lines (drop c.in-Some.line.next c.args.bytes.now)) _ c.lines.number c.in-Some-2.cause r c.in-Some.ensures.texts
+    (subst (λ (o : Option Cause). Goes c.take_line.new.self c.args.header.now c.args.players r.so_far text (read_at c.args.header.now r.so_far text) o) c.in-Some-2.is (c.in_ok-cause.ensures.goes c.args.players r.so_far r.keeps))
+
+pub lines-preserved : goal.lines-preserved
+lines-preserved c =
+    let r = c.lines.invariant.going in
+    let text = slice_range c.args.bytes.now c.in-Some.line.first c.in-Some.line.end in
+    let count : length (lines (drop c.lines.at c.args.bytes.now)) ≡ length (text ∷ lines (drop c.in-Some.line.next c.args.bytes.now)) = ap length c.in-Some.ensures.texts in
+    record {
+      within = c.in-Some.ensures.within.inside;
+      sound = c.in_ok-cause.ensures.sound;
+      numbers = (let n = c.lines.invariant.numbers in omega (arith, count, n));
+      going = going_more c.lines.hand c.take_line.new.self c.args.header.now c.args.players c.args.first _ text (lines (drop c.in-Some.line.next c.args.bytes.now)) _ c.lines.number r c.in-Some.ensures.texts
+          (subst (λ (o : Option Cause). Goes c.take_line.new.self c.args.header.now c.args.players r.so_far text (read_at c.args.header.now r.so_far text) o) c.in_default-2.is (c.in_ok-cause.ensures.goes c.args.players r.so_far r.keeps));
+    }
+
+pub returns-in-Ok : goal.returns-in-Ok
+returns-in-Ok c =
+    let r = c.lines.invariant.going in
+    going_ends c.lines.hand c.args.header.now c.args.players c.args.first _ _ c.lines.number c.in-Ok.settled r c.in_default.ensures.texts
+    (subst (EndsAs c.args.header.now c.args.players r.so_far.events) c.in-Ok.is (c.in_ok-settled.ensures c.args.header.now c.args.players r.so_far r.keeps refl))
+
+pub returns-in-Err : goal.returns-in-Err
+returns-in-Err c =
+    let r = c.lines.invariant.going in
+    going_stops c.lines.hand c.args.header.now c.args.players c.args.first _ _ c.lines.number c.in-Err.cause r c.in_default.ensures.texts
+    (subst (EndsAs c.args.header.now c.args.players r.so_far.events) c.in-Err.is (c.in_ok-settled.ensures c.args.header.now c.args.players r.so_far r.keeps refl))

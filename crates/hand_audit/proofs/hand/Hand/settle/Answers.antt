@@ -1,0 +1,14 @@
+use Rattle.std.proofs.Common.{◌∙◌, sym}
+use Rattle.std.proofs.lemmas.Result.{IfOk-weaker}
+use Rattle.hand_audit.specs.Showings.{showing_at}
+use Rattle.hand_audit.specs.Settling.{IsOfHand}
+use Rattle.hand_audit.proofs.Shown.{collections_shown, pots_shown}
+use Rattle.hand_audit.proofs.hand.Hand.settle.Goals as goal
+
+pub returns : goal.returns
+returns c =
+    let items = c.args.self.now.collections.items in
+    let s = showing_at c.args.game c.args.self.now.replay items c.args.self.now.button in
+    let coll = collections_shown c.args.game c.args.self.now.replay items c.args.self.now.button ∙ sym c.deref-2.ensures.value in
+    let all = pots_shown c.args.game c.args.self.now.replay items c.args.self.now.button ∙ sym c.in_ok-all.ensures ∙ sym c.items.ensures in
+    IfOk-weaker c.settle.result _ (λ settled. IsOfHand s settled) (λ settled made. made s (c.of-standings.ensures.tells items) coll all) c.settle.ensures

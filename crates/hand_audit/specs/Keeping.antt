@@ -1,0 +1,63 @@
+-- What is kept of the lines so far.
+use Rattle.std.specs.Prelude.{◌≡◌, ℕ, ◌≤◌, ◌<◌, ◌^◌, true, List, length, Result, Ok, Err, Option, Some, None, All}
+use Rattle.std.specs.List.{list_any}
+use Rattle.history_text.specs.declared.events.Header.{Header}
+use Rattle.history_text.specs.declared.events.Event.{Event}
+use Rattle.history_text.specs.declared.events.Event.TheVariants.{Seat}
+use Rattle.history_text.specs.declared.events.TextFault.{TextFault}
+use Rattle.history_text.specs.declared.events.Part.TheVariants.{Summary as SummaryPart}
+use Rattle.history_text.specs.Within.{IsSeated}
+use Rattle.betting_replay.specs.Tables.{StandsFor}
+use Rattle.hand_audit.specs.declared.cause.Cause.{Cause}
+use Rattle.hand_audit.specs.declared.cause.Cause.TheVariants.{Text}
+use Rattle.hand_audit.specs.declared.hand.Hand.{Hand}
+use Rattle.hand_audit.specs.declared.follow.Followed.{Followed}
+use Rattle.hand_audit.specs.declared.follow.Followed.TheVariants.{Departs, Ends}
+use Rattle.hand_audit.specs.Lines.{SoFar, part_of, with_event, nothing}
+use Rattle.hand_audit.specs.Collections.{collections, taken}
+use Rattle.hand_audit.specs.Showings.{button, rake, showing_of}
+use Rattle.hand_audit.specs.Departs.{is_total, event_cause, end_cause, departs_from}
+use Rattle.hand_audit.specs.Verdict.{read_all}
+use Rattle.hand_audit.specs.declared.settling.HandSettled.{HandSettled}
+use Rattle.hand_audit.specs.Settling.{IsOfHand}
+
+-- the name of a seat line is within the line
+abbrev pub HasName : Event → List ℕ → Type 0
+HasName (Seat seat units first end) line = (first ≤ end) × (end ≤ length line)
+HasName _ line = Unit {0}
+
+-- what is kept stands for the lines so far of a hand with this header and these players
+pub record Keeps (hand : Hand) (header : Header) (players : ℕ) (so_far : SoFar) : Type 0 where
+  pub stands : StandsFor hand.replay header players so_far.events
+  pub names : hand.names ≡ so_far.names
+  pub part : hand.part ≡ part_of so_far.events
+  pub collections : hand.collections.items ≡ collections so_far.events
+  pub button : hand.button ≡ button so_far.events
+  pub rake : hand.rake ≡ rake so_far.events
+  pub total : hand.total ≡ list_any is_total so_far.events
+  pub seats : All IsSeated so_far.names
+
+-- what holds of it whatever the hand: the button is a seat or none; behind a total line the summary's lines alone are left, and
+-- what was collected is no more than the stated pot
+pub record IsSound (hand : Hand) : Type 0 where
+  pub button : hand.button ≤ 10
+  pub part : hand.total ≡ true → hand.part ≡ SummaryPart
+  pub room : hand.total ≡ true → taken hand.collections.items < 10 ^ 15
+
+-- after a line that says this, its cause is given, or what is kept stands for it too
+abbrev pub Goes : Hand → Header → ℕ → SoFar → List ℕ → Result Event TextFault → Option Cause → Type 0
+Goes new header players so_far line (Err fault) cause = cause ≡ Some (Text fault)
+Goes new header players so_far line (Ok e) (Some c) = event_cause header players so_far.events e ≡ Some c
+Goes new header players so_far line (Ok e) None = (event_cause header players so_far.events e ≡ None) × Keeps new header players (with_event line e so_far)
+
+-- what comes of the end of a hand: what became of its chips, or why its last line departs
+abbrev pub EndsAs : Header → ℕ → List Event → Result HandSettled Cause → Type 0
+EndsAs header players h (Ok settled) = (end_cause header players h ≡ None) × IsOfHand (showing_of header players h) settled
+EndsAs header players h (Err cause) = end_cause header players h ≡ Some cause
+
+-- what comes of following the lines: the first that departs, or what is kept at the end, and what became of the chips
+abbrev pub Follows : Header → ℕ → ℕ → List (List ℕ) → Followed → Type 0
+Follows header players number lines (Departs line cause) = departs_from header players number nothing lines ≡ Some (line, cause)
+Follows header players number lines (Ends hand settled) =
+    (departs_from header players number nothing lines ≡ None) × Keeps hand header players (read_all header nothing lines)
+    × IsOfHand (showing_of header players (read_all header nothing lines).events) settled

@@ -1,0 +1,16 @@
+pub mod Lines
+pub mod Collections
+pub mod PotNames
+pub mod Orders
+pub mod Settle
+pub mod Showings
+pub mod Winning
+pub mod Settling
+pub mod Departs
+pub mod AllIns
+pub mod Verdict
+pub mod Keeping
+pub mod Chips
+pub mod Splits
+pub mod Before
+pub mod Passing

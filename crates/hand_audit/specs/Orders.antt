@@ -1,0 +1,21 @@
+-- The order in which odd units are given, in games with a board and with a draw. Source: after the rules of the TDA.
+use Rattle.std.specs.Prelude.{◌≡◌, ◌<◌, ◌^◌, ℕ, zero, suc, ◌+◌, ◌-◌, ◌==◌, if◌then◌else◌, List, [], ◌∷◌, ◌++◌}
+use Rattle.std.specs.Int.{bit_at}
+
+-- the seats of a set among n, from one on, rising
+abbrev pub seats_from : ℕ → ℕ → ℕ → List ℕ
+seats_from seats p zero = []
+seats_from seats p (suc n) = if bit_at seats p == 1 then p ∷ seats_from seats (p + 1) n else seats_from seats (p + 1) n
+
+-- the seats of a set, rising
+abbrev pub seats_in : ℕ → List ℕ
+seats_in seats = seats_from seats 1 10
+
+-- the winners above the button, rising, and then the others from seat 1, rising; without a button (0) all from seat 1
+abbrev pub odd_order : ℕ → ℕ → List ℕ
+odd_order button winners = seats_from winners (button + 1) (10 - button) ++ seats_from winners 1 button
+
+-- a set of seats of the table
+pub record OfSeats (seats : ℕ) : Type 0 where
+  pub small : seats < 2 ^ 11
+  pub first : bit_at seats 0 ≡ 0

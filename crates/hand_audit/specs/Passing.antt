@@ -1,0 +1,28 @@
+-- What the first pass over the lines keeps.
+use Rattle.std.specs.Prelude.{◌≡◌, ℕ, ◌==◌, Bool, true, false, List, All}
+use Rattle.std.specs.Ordering.{nat_cmp}
+use Rattle.std.specs.List.{list_any}
+use Rattle.std.specs.BTreeSet.{BTreeSet, contains}
+use Rattle.history_text.specs.declared.events.Header.{Header}
+use Rattle.history_text.specs.Within.{IsSeated}
+use Rattle.betting_replay.specs.Seats.{by_seat}
+use Rattle.hand_audit.specs.declared.first_pass.Pass.{Pass}
+use Rattle.hand_audit.specs.Lines.{SoFar, part_of, plays, with_line, with_seat, seat_at, is_again}
+
+-- the set has these numbers
+abbrev pub HasNumbers : BTreeSet ℕ → List ℕ → Type 0
+HasNumbers set before = (n : ℕ) → contains nat_cmp set n ≡ list_any (λ s. s == n) before
+
+-- it stands for the lines so far, after seat lines of these numbers
+pub record Passes (pass : Pass) (so_far : SoFar) (before : List ℕ) : Type 0 where
+  pub names : pass.names ≡ so_far.names
+  pub part : pass.part ≡ part_of so_far.events
+  pub made : pass.made ≡ by_seat (plays so_far.events)
+  pub seats : HasNumbers pass.seats before
+  pub seated : All IsSeated so_far.names
+
+-- after a line more: it is a second line of its number, and nothing changed that counts, or it is kept too
+abbrev pub Took : Pass → Header → SoFar → List ℕ → List ℕ → Bool → Type 0
+Took new header so_far seats line true = (is_again seats (seat_at (part_of so_far.events) line) ≡ true) × Passes new so_far seats
+Took new header so_far seats line false =
+    (is_again seats (seat_at (part_of so_far.events) line) ≡ false) × Passes new (with_line header so_far line) (with_seat seats (seat_at (part_of so_far.events) line))

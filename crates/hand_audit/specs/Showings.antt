@@ -1,0 +1,63 @@
+-- What a settlement looks at, after the events of a hand.
+use Rattle.std.specs.Prelude.{ℕ, zero, suc, ◌+◌, ◌==◌, ◌&&◌, Bool, if◌then◌else◌, List, [], ◌∷◌, length, Option, Some, None}
+use Rattle.card_sets.specs.Disjoint.{apart}
+use Rattle.card_sets.specs.Games.{own_size, board_size}
+use Rattle.card_sets.specs.declared.games.Game.{Game}
+use Rattle.history_text.specs.declared.events.Header.{Header}
+use Rattle.history_text.specs.declared.events.Event.{Event}
+use Rattle.history_text.specs.declared.events.Event.TheVariants.{Button, Total}
+use Rattle.pot_layers.specs.declared.paid.Paid.{Paid}
+use Rattle.betting_replay.specs.Accounts.{paid_by}
+use Rattle.betting_replay.specs.Seats.{by_seat, has_seat}
+use Rattle.betting_replay.specs.Tables.{Table, table_of, own_at, final_at}
+use Rattle.hand_audit.specs.declared.collections.Collection.{Collection}
+use Rattle.hand_audit.specs.Collections.{collections}
+use Rattle.hand_audit.specs.Settle.{Showing}
+
+-- the seat of the last button line, 0 where there is none
+abbrev pub button_by : Event → ℕ → ℕ
+button_by (Button seat) before = seat
+button_by e before = before
+
+abbrev pub button : List Event → ℕ
+button [] = 0
+button (e ∷ h) = button_by e (button h)
+
+-- what each player among the seats from one on has put in, by rising seat
+abbrev pub paid_from : Table → ℕ → ℕ → List Paid
+paid_from t p zero = []
+paid_from t p (suc n) = if has_seat t.players p then paid_by t p ∷ paid_from t (p + 1) n else paid_from t (p + 1) n
+
+unfoldable pub paid_in : Table → List Paid
+paid_in t = paid_from t 1 10
+
+-- final cards that can be shown down on a board: both have all their cards, and share none
+abbrev pub is_full : Game → List ℕ → List ℕ → Bool
+is_full game board own = (length own == own_size game) && (length board == board_size game) && apart own board
+
+abbrev pub full_with : Game → List ℕ → Option (List ℕ) → Option (List ℕ)
+full_with game board None = None
+full_with game board (Some own) = if is_full game board own then Some own else None
+
+-- what a settlement looks at of a table, with the game, the collections and the button
+unfoldable pub showing_at : Game → Table → List Collection → ℕ → Showing
+showing_at game t all button = record {
+  game = game;
+  paid = paid_in t;
+  collections = all;
+  button = button;
+  hands = by_seat (λ p. full_with game (own_at t 0) (final_at t p));
+  board = own_at t 0;
+}
+
+unfoldable pub showing_of : Header → ℕ → List Event → Showing
+showing_of header players h = showing_at header.game (table_of header players h) (collections h) (button h)
+
+-- the stated rake, that of the last total line
+abbrev pub rake_by : Event → ℕ → ℕ
+rake_by (Total units rake) before = rake
+rake_by e before = before
+
+abbrev pub rake : List Event → ℕ
+rake [] = 0
+rake (e ∷ h) = rake_by e (rake h)

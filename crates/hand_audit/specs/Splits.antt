@@ -1,0 +1,15 @@
+-- Pots are split by the rules.
+use Rattle.std.specs.Prelude.{◌≡◌, ℕ, ◌≤◌, true, length, Some, slice_get}
+use Rattle.pot_layers.specs.declared.paid.Pot.{Pot}
+use Rattle.pot_layers.specs.Pots.{pots}
+use Rattle.hand_audit.specs.declared.pot_names.Source.TheVariants.{Numbered}
+use Rattle.hand_audit.specs.Settle.{Showing, is_checked, pay_of, parts_of, part_of_seat, sides_of_seat, distance}
+
+-- what a seat got of a pot is due to it by the rules, but for a unit for each side that it wins
+pub record IsRightly (s : Showing) (number : ℕ) (pot : Pot) (p : ℕ) : Type 0 where
+  pub due : is_checked s pot.eligible ≡ true → (pay_of s (Numbered (length (pots s.paid)) number) pot p).due ≡ part_of_seat p (parts_of s (Numbered (length (pots s.paid)) number) pot)
+  pub near : distance (pay_of s (Numbered (length (pots s.paid)) number) pot p).got (pay_of s (Numbered (length (pots s.paid)) number) pot p).due ≤ sides_of_seat p (parts_of s (Numbered (length (pots s.paid)) number) pot)
+
+-- so is what each seat got of each pot
+abbrev pub IsSplitRightly : Showing → Type 0
+IsSplitRightly s = (number : ℕ) (pot : Pot) → slice_get (pots s.paid) number ≡ Some pot → (p : ℕ) → 1 ≤ p → p ≤ 10 → IsRightly s number pot p

@@ -1,0 +1,118 @@
+//! The verdict on a hand.
+
+ghost use Rattle.std.specs.Prelude.{◌≡◌, ◌+◌, ◌<◌, ◌^◌, IfOk, IsTrue, Some, length};
+ghost use Rattle.line_text.specs.Lines.{lines};
+ghost use Rattle.hand_audit.specs.Departs.{begins_hand};
+ghost use Rattle.hand_audit.specs.AllIns.{no_all_in};
+ghost use Rattle.hand_audit.specs.Verdict.{audit_of, accepted_by};
+ghost use Rattle.hand_audit.specs.Lines.{SoFar};
+ghost use Rattle.hand_audit.specs.Showings.{showing_of};
+ghost use Rattle.hand_audit.specs.Settling.{IsOfHand};
+ghost use Rattle.hand_audit.specs.Keeping.{Keeps};
+
+use crate::cause::Cause;
+use crate::first_pass::players_of;
+use crate::follow::{Followed, follow};
+use crate::hand::Hand;
+use crate::settlement::Settlement;
+use crate::settling::HandSettled;
+use card_sets::Memory;
+use history_text::{Header, Names, Street, read_header};
+use line_text::next_line;
+use showdown_tally::Table;
+use std::alloc::Global;
+
+/// The moment from which a hand is played out with no more acts, with cards still to come.
+#[derive(Clone, Copy, Debug)]
+pub enum AllIn {
+    /// The hand has none.
+    None,
+    /// It has one, but the cards of a contender at it aren't known.
+    Unknown,
+    /// Where it lies, and what was known there.
+    Known {
+        /// The street on which it lies.
+        street: Street,
+        /// The seats of the table's hands, hand by hand and rising, and 0 behind them.
+        seats: [u8; 10],
+        /// The known cards, and the pots of the whole hand.
+        table: Table,
+    },
+}
+
+/// The verdict on a hand.
+#[derive(Drop)]
+pub enum HandAudit {
+    /// A line departs from the rules.
+    Rejected {
+        /// The number of the first line that departs.
+        line: u32,
+        /// Why it does.
+        cause: Cause,
+        /// Whether a unit is a hundredth, or else a chip; false where the header line itself departs.
+        hundredths: bool,
+    },
+    /// No line departs.
+    Accepted {
+        /// What became of the chips.
+        settlement: Settlement,
+        /// The all-in. None is looked for yet, so this is always `AllIn::None`.
+        all_in: AllIn,
+        /// The seats and names of all seat lines before the first street, in their order.
+        names: Names,
+        /// Who plays: bit s for seat s.
+        players: u16,
+    },
+}
+
+/// The verdict on a hand in which no line departs.
+fn accepted(header: &Header, players: u16, hand: Hand, settled: HandSettled) -> HandAudit
+    ensures { (so_far : SoFar) → Keeps hand header.now players so_far → IsOfHand (showing_of header.now players so_far.events) settled
+        → result ≡ accepted_by no_all_in header.now players so_far }
+{
+    HandAudit::Accepted {
+        settlement: Settlement {
+            game: header.game,
+            hundredths: header.hundredths,
+            rake: hand.rake,
+            fits: settled.fits,
+            pots: settled.pots,
+            paid: settled.paid,
+        },
+        all_in: AllIn::None,
+        names: hand.names,
+        players,
+    }
+}
+
+/// The verdict on a hand: the first line that departs from the rules and why, or else what became of
+/// the chips. The bytes are the lines of the hand, its header line first; that line has the number
+/// `first_line`, and the others count on from it.
+pub fn audit_hand(alloc: Global, bytes: &[u8], first_line: u32) -> Result<HandAudit, Memory>
+    requires header { IsTrue (begins_hand (lines bytes.now)) }
+    requires numbers { first_line + length (lines bytes.now) < 2 ^ 32 }
+    ensures verdict { IfOk result (λ audit. audit_of no_all_in first_line (lines bytes.now) ≡ Some audit) }
+{
+    let Some(head) = next_line(bytes, 0) else {
+        unreachable!();
+    };
+    let header = match read_header(&bytes[head.first..head.end]) {
+        Ok(header) => header,
+        Err(fault) => {
+            return Ok(HandAudit::Rejected {
+                line: first_line,
+                cause: Cause::Text(fault),
+                hundredths: false,
+            });
+        }
+    };
+    let players = players_of(alloc, &header, bytes, head.next)?;
+    match follow(alloc, &header, players, bytes, head.next, first_line)? {
+        Followed::Departs(line, cause) => Ok(HandAudit::Rejected {
+            line,
+            cause,
+            hundredths: header.hundredths,
+        }),
+        Followed::Ends(hand, settled) => Ok(accepted(&header, players, hand, settled)),
+    }
+}

@@ -1,0 +1,180 @@
+//! The first pass over the lines of a hand: who plays.
+
+ghost use Rattle.std.specs.Prelude.{◌≡◌, ℕ, ◌+◌, ◌≤◌, ◌<◌, ◌++◌, ◌∷◌, [], List, All, IfOk, IfSome, false, slice_index_or, OnOk, option_map, codes, drop, length};
+ghost use Rattle.line_text.specs.Lines.{lines};
+ghost use Rattle.pot_layers.specs.Pots.{seats_below};
+ghost use Rattle.history_text.specs.declared.events.Event.{Event};
+ghost use Rattle.history_text.specs.Texts.{behind};
+ghost use Rattle.history_text.specs.Within.{IsSeated};
+ghost use Rattle.betting_replay.specs.Limits.{Fits};
+ghost use Rattle.betting_replay.specs.Seats.{by_seat};
+ghost use Rattle.hand_audit.specs.Lines.{SoFar, nothing, front_number, seat_number, seat_at, is_again, with_seat, player_of, plays, players_of};
+ghost use Rattle.hand_audit.specs.Passing.{HasNumbers, Passes, Took};
+
+use crate::hand::{part_after, read, seat_name};
+use card_sets::Memory;
+use history_text::{Event, Header, Names, Part, seat_line};
+use line_text::{digit_count, next_line, number_of};
+use std::alloc::{AllocError, Global};
+use std::collections::BTreeSet;
+
+/// What the pass keeps of the lines so far.
+#[derive(Drop)]
+pub(crate) struct Pass {
+    pub(crate) names: Names,
+    pub(crate) part: Part,
+    /// By seat: who plays.
+    pub(crate) made: [bool; 11],
+    /// The numbers of the seat lines that stood.
+    pub(crate) seats: BTreeSet<u64>,
+}
+
+/// What stands behind the word that begins a seat line.
+#[tactic(auto, unfolding(history_text::specs::Texts::behind))]
+fn behind_seat(line: &[u8]) -> Option<&[u8]>
+    ensures { option_map (λ rest. rest.now) result ≡ behind (codes "Seat ") line.now }
+{
+    line.strip_prefix(b"Seat ")
+}
+
+/// The number that the digits at the front say, or the greatest of `u64` where it is greater.
+fn front_number(text: &[u8]) -> u64
+    ensures { result ≡ front_number text.now }
+{
+    number_of(&text[..digit_count(text)])
+}
+
+/// The number of a seat line, in form or not, a seat or not.
+#[tactic(auto, unfolding(crate::specs::Lines::seat_number))]
+fn seat_number(line: &[u8]) -> Option<u64>
+    ensures { result ≡ seat_number line.now }
+{
+    seat_line(line)?;
+    Some(front_number(behind_seat(line)?))
+}
+
+/// The number of a seat line of the Preamble.
+fn seat_at(part: Part, line: &[u8]) -> Option<u64>
+    ensures { result ≡ seat_at part line.now }
+{
+    match part {
+        Part::Preamble => seat_number(line),
+        Part::Play | Part::Summary => None,
+    }
+}
+
+/// Whether a seat line of this number stood.
+fn is_again(seats: &BTreeSet<u64>, seat: Option<u64>) -> bool
+    ensures { (before : List ℕ) → HasNumbers seats.now before → result ≡ is_again before seat }
+{
+    match seat {
+        Some(seat) => seats.contains(&seat),
+        None => false,
+    }
+}
+
+/// A seat line of this number stands.
+fn note_seat(seats: &mut BTreeSet<u64>, seat: Option<u64>) -> Result<(), AllocError>
+    ensures { OnOk result ((before : List ℕ) → HasNumbers seats.old before → HasNumbers seats.new (with_seat before seat)) }
+{
+    if let Some(seat) = seat {
+        seats.insert(seat)?;
+    }
+    Ok(())
+}
+
+/// The seat that an event makes a player.
+fn player_of(e: &Event) -> Option<u8>
+    requires { Fits e.now }
+    ensures value { result ≡ player_of e.now }
+    ensures few { IfSome result (λ seat. seat < 11) }
+{
+    match *e {
+        Event::Post { seat, .. }
+        | Event::Deal { seat, .. }
+        | Event::Act { seat, .. }
+        | Event::Discard { seat, .. }
+        | Event::Pat { seat } => Some(seat),
+        _ => None,
+    }
+}
+
+/// The seat of an event plays.
+fn note_player(made: &mut [bool; 11], e: &Event)
+    requires { Fits e.now }
+    ensures { (h : List Event) → made.old ≡ by_seat (plays h) → made.new ≡ by_seat (plays (e.now ∷ h)) }
+{
+    if let Some(seat) = player_of(e) {
+        made[seat as usize] = true;
+    }
+}
+
+/// The set of the seats that play.
+fn set_of(made: &[bool; 11]) -> u16
+    ensures { result ≡ seats_below (λ p. slice_index_or made.now p false) 11 }
+{
+    let mut seats = 0;
+    for seat in 0..11u8 {
+        if made[seat as usize] {
+            seats += 1 << seat;
+        }
+    }
+    seats
+}
+
+impl Pass {
+    /// Of no line.
+    fn new(alloc: Global) -> Pass
+        ensures { Passes result nothing [] }
+    {
+        Pass {
+            names: Names::new(alloc),
+            part: Part::Preamble,
+            made: [false; 11],
+            seats: BTreeSet::new(alloc),
+        }
+    }
+
+    /// Goes on by a line, and says whether it is a second seat line of its number. A line that can't be read
+    /// adds nothing.
+    fn take(&mut self, header: &Header, line: &[u8]) -> Result<bool, Memory>
+        requires { All IsSeated self.old.names }
+        ensures took { IfOk result (λ ends. (so_far : SoFar) (seats : List ℕ) → Passes self.old so_far seats
+            → Took self.new header.now so_far seats line.now ends) }
+    {
+        let seat = seat_at(self.part, line);
+        if is_again(&self.seats, seat) {
+            return Ok(true);
+        }
+        note_seat(&mut self.seats, seat)?;
+        let e = match read(&self.names, header, self.part, line) {
+            Ok(e) => e,
+            Err(_) => return Ok(false),
+        };
+        seat_name(&mut self.names, &e, line)?;
+        note_player(&mut self.made, &e);
+        self.part = part_after(&e, self.part);
+        Ok(false)
+    }
+}
+
+/// The players of a hand, by the lines from a place on: bit s for seat s.
+pub(crate) fn players_of(
+    alloc: Global,
+    header: &Header,
+    bytes: &[u8],
+    start: usize,
+) -> Result<u16, Memory>
+    requires { start ≤ length bytes.now }
+    ensures { IfOk result (λ players. players ≡ players_of header.now (lines (drop start bytes.now))) }
+{
+    let mut pass = Pass::new(alloc);
+    let mut at = start;
+    'lines: while let Some(line) = next_line(bytes, at) {
+        if pass.take(header, &bytes[line.first..line.end])? {
+            return Ok(set_of(&pass.made));
+        }
+        at = line.next;
+    }
+    Ok(set_of(&pass.made))
+}

@@ -1,0 +1,264 @@
+//! What is kept of the lines of a hand so far.
+
+ghost use Rattle.std.specs.Prelude.{◌≡◌, ℕ, ◌+◌, ◌≤◌, ◌<◌, ◌^◌, ◌∷◌, ◌++◌, [], true, IfOk, OnOk, All, IsTrue};
+ghost use Rattle.pot_layers.specs.Pots.{put_in_all};
+ghost use Rattle.history_text.specs.declared.events.Event.{Event};
+ghost use Rattle.history_text.specs.declared.events.Header.{Header};
+ghost use Rattle.history_text.specs.Lines.{line_event};
+ghost use Rattle.betting_replay.specs.Limits.{Fits};
+ghost use Rattle.betting_replay.specs.Tables.{StandsFor};
+ghost use Rattle.hand_audit.specs.Lines.{SoFar, nothing, part_after, read_at, named_by, with_event};
+ghost use Rattle.hand_audit.specs.Collections.{collected_by, taken};
+ghost use Rattle.hand_audit.specs.Settling.{IsOfHand};
+ghost use Rattle.hand_audit.specs.Showings.{paid_in, button_by, rake_by, showing_at};
+ghost use Rattle.hand_audit.specs.Departs.{is_total, total_cause, event_cause};
+ghost use Rattle.hand_audit.specs.Keeping.{Keeps, Goes, HasName, IsSound, EndsAs};
+ghost use Rattle.history_text.specs.Within.{IsSeated, stands_in};
+
+use crate::cause::Cause;
+use crate::collections::Collection;
+use crate::pot_names::{Source, taken_from};
+use crate::pots::pots_of;
+use crate::settling::{HandSettled, settle};
+use crate::standings::Standings;
+use betting_replay::Replay;
+use card_sets::{Game, Memory};
+use history_text::{Event, Header, Names, Part, Street, TextFault, read_line};
+use std::alloc::{AllocError, Global};
+
+/// What is kept of the lines of a hand so far.
+#[derive(Drop)]
+pub(crate) struct Hand {
+    pub(crate) replay: Replay,
+    pub(crate) names: Names,
+    pub(crate) part: Part,
+    pub(crate) collections: Vec<Collection>,
+    pub(crate) button: u8,
+    pub(crate) rake: u64,
+    pub(crate) total: bool,
+}
+
+/// The part of the line behind an event.
+pub(crate) fn part_after(e: &Event, part: Part) -> Part
+    ensures { result ≡ part_after e.now part }
+{
+    match *e {
+        Event::Street {
+            street: Street::Summary,
+            ..
+        } => Part::Summary,
+        Event::Street {
+            street: Street::First,
+            ..
+        } => match part {
+            Part::Preamble => Part::Play,
+            _ => part,
+        },
+        _ => part,
+    }
+}
+
+/// Whether an event is a total.
+fn is_total(e: &Event) -> bool
+    ensures { result ≡ is_total e.now }
+{
+    matches!(e, Event::Total { .. })
+}
+
+/// The button behind an event.
+fn button_by(e: &Event, before: u8) -> u8
+    ensures { result ≡ button_by e.now before }
+{
+    match *e {
+        Event::Button { seat } => seat,
+        _ => before,
+    }
+}
+
+/// The stated rake behind an event.
+fn rake_by(e: &Event, before: u64) -> u64
+    ensures { result ≡ rake_by e.now before }
+{
+    match *e {
+        Event::Total { rake, .. } => rake,
+        _ => before,
+    }
+}
+
+/// A seat line seats its name.
+pub(crate) fn seat_name(names: &mut Names, e: &Event, line: &[u8]) -> Result<(), Memory>
+    requires { HasName e.now line.now }
+    ensures { OnOk result (names.new ≡ named_by e.now line.now names.old) }
+{
+    match *e {
+        Event::Seat {
+            seat,
+            name_first,
+            name_end,
+            ..
+        } => names.add(seat, &line[name_first..name_end]),
+        _ => Ok(()),
+    }
+}
+
+/// A collection is kept.
+fn collect(all: &mut Vec<Collection>, e: &Event) -> Result<(), AllocError>
+    ensures { OnOk result (all.new.items ≡ all.old.items ++ collected_by e.now) }
+{
+    match *e {
+        Event::Collect { seat, units, pot } => {
+            all.push(Collection { seat, units, pot })?;
+            Ok(())
+        }
+        _ => Ok(()),
+    }
+}
+
+/// What a line says. Its seat is one of the table's, its amounts are within the greatest, and its name
+/// within the line.
+pub(crate) fn read(
+    names: &Names,
+    header: &Header,
+    part: Part,
+    line: &[u8],
+) -> Result<Event, TextFault>
+    requires { All IsSeated names.now }
+    ensures value { result ≡ line_event names.now header.now part line.now }
+    ensures fits { IfOk result (λ e. Fits e) }
+    ensures name { IfOk result (λ e. HasName e line.now) }
+    ensures part { IfOk result (λ e. stands_in part e ≡ true) }
+{
+    read_line(names, header, part, line)
+}
+
+/// What was collected, and the rake.
+fn with_rake(taken: u128, rake: u64) -> u128
+    requires { taken < 2 ^ 127 }
+    ensures { result ≡ taken + rake }
+{
+    taken + u128::from(rake)
+}
+
+impl Hand {
+    /// Of no line, in a hand with this header and these players.
+    pub(crate) fn new(alloc: Global, header: &Header, players: u16) -> Hand
+        ensures keeps { Keeps result header.now players nothing }
+        ensures sound { IsSound result }
+    {
+        Hand {
+            replay: Replay::new(header, players),
+            names: Names::new(alloc),
+            part: Part::Preamble,
+            collections: Vec::new(alloc),
+            button: 0,
+            rake: 0,
+            total: false,
+        }
+    }
+
+    /// What all players have put in.
+    fn put_in(&self) -> u64
+        ensures { result ≡ put_in_all (paid_in self.now.replay) }
+    {
+        let mut units = 0u64;
+        for seat in 1..11 {
+            if !self.replay.is_player(seat) {
+                continue;
+            }
+            let paid = self.replay.paid(seat);
+            units += paid.live + paid.dead;
+        }
+        units
+    }
+
+    /// Why a total line departs.
+    fn total_cause(&self, e: &Event) -> Option<Cause>
+        ensures { result ≡ total_cause (put_in_all (paid_in self.now.replay)) (taken self.now.collections.items) e.now }
+    {
+        let Event::Total { units, rake } = *e else {
+            return None;
+        };
+        let put_in = self.put_in();
+        if units != put_in {
+            return Some(Cause::Chips {
+                stated: units,
+                counted: u128::from(put_in),
+            });
+        }
+        let counted = with_rake(taken_from(&self.collections, Source::Any), rake);
+        if u128::from(units) != counted {
+            return Some(Cause::Chips {
+                stated: units,
+                counted,
+            });
+        }
+        None
+    }
+
+    /// Goes on by a line, or says why it departs.
+    pub(crate) fn take_line(
+        &mut self,
+        header: &Header,
+        line: &[u8],
+    ) -> Result<Option<Cause>, Memory>
+        requires names { All IsSeated self.old.names }
+        requires sound { IsSound self.old }
+        ensures sound { OnOk result (IsSound self.new) }
+        ensures goes { IfOk result (λ cause. (players : ℕ) (so_far : SoFar) → Keeps self.old header.now players so_far
+            → Goes self.new header.now players so_far line.now (read_at header.now so_far line.now) cause) }
+    {
+        let e = match read(&self.names, header, self.part, line) {
+            Ok(e) => e,
+            Err(fault) => return Ok(Some(Cause::Text(fault))),
+        };
+        let amiss = self.total_cause(&e);
+        if let Err(fault) = self.replay.step(&e) {
+            return Ok(Some(Cause::Bet(fault)));
+        }
+        if let Some(cause) = amiss {
+            return Ok(Some(cause));
+        }
+        seat_name(&mut self.names, &e, line)?;
+        collect(&mut self.collections, &e)?;
+        self.part = part_after(&e, self.part);
+        self.button = button_by(&e, self.button);
+        self.rake = rake_by(&e, self.rake);
+        self.total = is_total(&e) || self.total;
+        Ok(None)
+    }
+
+    /// What became of the chips, behind a total line.
+    fn settle(&self, alloc: Global, game: Game) -> Result<HandSettled, Memory>
+        requires sound { IsSound self.now }
+        requires total { self.now.total ≡ true }
+        ensures { IfOk result (λ settled. IsOfHand (showing_at game self.now.replay self.now.collections.items self.now.button) settled) }
+    {
+        let all = pots_of(alloc, &self.replay)?;
+        let standings = Standings::of(&self.replay, game, self.button);
+        let most = taken_from(&self.collections, Source::Any) as u64;
+        settle(alloc, &standings, all.items(), &self.collections, most)
+    }
+
+    /// What comes of the end of a hand of this game: what became of its chips, or why its last line departs.
+    pub(crate) fn end(
+        &self,
+        alloc: Global,
+        game: Game,
+    ) -> Result<Result<HandSettled, Cause>, Memory>
+        requires sound { IsSound self.now }
+        ensures { IfOk result (λ end. (header : Header) (players : ℕ) (so_far : SoFar) → Keeps self.now header players so_far → header.game ≡ game → EndsAs header players so_far.events end) }
+    {
+        if !self.total {
+            return Ok(Err(Cause::Unfinished));
+        }
+        let settled = self.settle(alloc, game)?;
+        match settled.beyond {
+            None => Ok(Ok(settled)),
+            Some(pay) => Ok(Err(Cause::Split {
+                seat: pay.seat,
+                due: pay.due,
+                got: pay.got,
+            })),
+        }
+    }
+}

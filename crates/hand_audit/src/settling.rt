@@ -1,0 +1,171 @@
+//! What became of the chips of a hand.
+
+ghost use Rattle.std.specs.Prelude.{◌≡◌, ℕ, ◌+◌, ◌<◌, ◌≤◌, ◌^◌, ◌++◌, ◌∷◌, [], true, map, length, IfOk, OnOk};
+ghost use Rattle.pot_layers.specs.Pots.{pots};
+ghost use Rattle.hand_audit.specs.Collections.{taken_from};
+ghost use Rattle.hand_audit.specs.PotNames.{counts_from, each_taken};
+ghost use Rattle.hand_audit.specs.Settle.{Showing, parts_if, unfit_line};
+ghost use Rattle.hand_audit.specs.Winning.{Tells};
+ghost use Rattle.hand_audit.specs.Settling.{IsOfPot, AreOfPots, IsOfHand};
+
+use crate::collections::Collection;
+use crate::payments::{beyond, parts, payments};
+use crate::pot_names::{Source, fits, taken_from};
+use crate::settlement::{Payment, Payments, PotLine, PotLines};
+use crate::standings::Standings;
+use card_sets::Memory;
+use pot_layers::{Pot, Shares};
+use std::alloc::{AllocError, Global};
+
+/// What became of the chips of a hand, and the first payment that is beyond its tolerance.
+#[derive(Drop)]
+pub(crate) struct HandSettled {
+    pub(crate) fits: bool,
+    pub(crate) pots: PotLines,
+    pub(crate) paid: Payments,
+    pub(crate) beyond: Option<Payment>,
+}
+
+/// What became of the chips of a pot, and its first payment that is beyond its tolerance.
+#[derive(Drop)]
+struct PotSettled {
+    line: PotLine,
+    beyond: Option<Payment>,
+}
+
+/// The rules' parts of so many units of a pot; none where it isn't known who wins.
+fn parts_if(
+    alloc: Global,
+    checked: bool,
+    standings: &Standings,
+    eligible: u16,
+    units: u64,
+) -> Result<Shares, Memory>
+    requires { standings.now.button ≤ 10 }
+    ensures { IfOk result (λ all. (s : Showing) → Tells standings.now s → all ≡ parts_if checked s eligible units) }
+{
+    if !checked {
+        return Ok(Shares::of(Vec::new(alloc)));
+    }
+    let first = standings.first_winners(eligible);
+    let second = standings.second_winners(eligible);
+    if first == 0 {
+        return Ok(Shares::of(Vec::new(alloc)));
+    }
+    parts(alloc, units, first, second, standings.button)
+}
+
+/// One pot of those whose names fit.
+fn settle_pot(
+    alloc: Global,
+    standings: &Standings,
+    all: &[Collection],
+    source: Source,
+    pot: Pot,
+) -> Result<PotSettled, Memory>
+    requires button { standings.now.button ≤ 10 }
+    requires taken { taken_from (counts_from source) all.now ≤ pot.units }
+    ensures { IfOk result (λ one. (s : Showing) → Tells standings.now s → s.collections ≡ all.now → IsOfPot s source pot one) }
+{
+    let checked = standings.is_checked(pot.eligible);
+    let net = taken_from(all, source) as u64;
+    let shares = parts_if(alloc, checked, standings, pot.eligible, net)?;
+    let paid = payments(alloc, checked, all, shares.items(), source, pot.units)?;
+    let beyond = beyond(checked, all, shares.items(), source, pot.units);
+    Ok(PotSettled {
+        line: PotLine {
+            gross: pot.units,
+            rake: pot.units - net,
+            eligible: pot.eligible,
+            checked,
+            paid: Payments::of(paid),
+        },
+        beyond,
+    })
+}
+
+/// A line more.
+fn add_line(lines: &mut Vec<PotLine>, line: PotLine) -> Result<(), AllocError>
+    ensures { OnOk result (lines.new.items ≡ lines.old.items ++ line ∷ []) }
+{
+    lines.push(line)?;
+    Ok(())
+}
+
+/// The pots whose names fit, of so many, from a number on: each gets its line, and the answer is the first payment
+/// that is beyond its tolerance.
+fn settle_pots(
+    alloc: Global,
+    standings: &Standings,
+    all: &[Collection],
+    count: usize,
+    number: usize,
+    layers: &[Pot],
+    lines: &mut Vec<PotLine>,
+) -> Result<Option<Payment>, Memory>
+    requires button { standings.now.button ≤ 10 }
+    requires each { each_taken count number layers.now all.now ≡ true }
+    requires numbers { number + length layers.now < 2 ^ 64 }
+    ensures { IfOk result (λ first. (s : Showing) → Tells standings.now s → s.collections ≡ all.now
+        → AreOfPots s count number layers.now lines.old.items lines.new.items first) }
+{
+    match layers {
+        [] => Ok(None),
+        [pot, others @ ..] => {
+            let source = Source::Numbered { count, number };
+            let PotSettled { line, beyond } = settle_pot(alloc, standings, all, source, *pot)?;
+            add_line(lines, line)?;
+            let later = settle_pots(alloc, standings, all, count, number + 1, others, lines)?;
+            Ok(beyond.or(later))
+        }
+    }
+}
+
+/// The pots whose names don't fit.
+fn unfit_lines(alloc: Global, pots: &[Pot]) -> Result<Vec<PotLine>, AllocError>
+    ensures { IfOk result (λ lines. lines.items ≡ map unfit_line pots.now) }
+{
+    let mut lines = Vec::new(alloc);
+    for pot in pots {
+        lines.push(PotLine {
+            gross: pot.units,
+            rake: 0,
+            eligible: pot.eligible,
+            checked: false,
+            paid: Payments::of(Vec::new(alloc)),
+        })?;
+    }
+    Ok(lines)
+}
+
+/// What became of the chips of a hand with these pots and collections.
+pub(crate) fn settle(
+    alloc: Global,
+    standings: &Standings,
+    layers: &[Pot],
+    all: &[Collection],
+    most: u64,
+) -> Result<HandSettled, Memory>
+    requires button { standings.now.button ≤ 10 }
+    requires taken { taken_from (counts_from Source.Any) all.now ≤ most }
+    ensures { IfOk result (λ one. (s : Showing) → Tells standings.now s → s.collections ≡ all.now → pots s.paid ≡ layers.now → IsOfHand s one) }
+{
+    if !fits(layers, all) {
+        let lines = unfit_lines(alloc, layers)?;
+        let paid = payments(alloc, false, all, &[], Source::Any, most)?;
+        return Ok(HandSettled {
+            fits: false,
+            pots: PotLines::of(lines),
+            paid: Payments::of(paid),
+            beyond: None,
+        });
+    }
+    let mut lines = Vec::new(alloc);
+    let beyond = settle_pots(alloc, standings, all, layers.len(), 0, layers, &mut lines)?;
+    Ok(HandSettled {
+        fits: true,
+        pots: PotLines::of(lines),
+        paid: Payments::of(Vec::new(alloc)),
+        beyond,
+    })
+}

@@ -1,0 +1,210 @@
+//! Who stands how when the cards are shown.
+
+ghost use Rattle.std.specs.Prelude.{◌≡◌, ℕ, ◌<◌, true, false, None, IfSome, IsTrue, List, is_some, length, slice_index_or};
+ghost use Rattle.std.specs.Option.{option_map};
+ghost use Rattle.card_sets.specs.Disjoint.{apart};
+ghost use Rattle.card_sets.specs.Games.{own_size, board_size};
+ghost use Rattle.hand_audit.specs.Settle.{value_on, first_side, second_side};
+ghost use Rattle.hand_audit.specs.Showings.{is_full, full_with};
+ghost use Rattle.hand_audit.specs.Winning.{Ranks, number_on};
+ghost use Rattle.hand_audit.specs.declared.collections.Collection.{Collection};
+ghost use Rattle.betting_replay.specs.Tables.{final_at};
+ghost use Rattle.card_sets.specs.Cards.{IsCardSet};
+
+use crate::winners::{are_known, is_alone, table_seats, winners};
+use betting_replay::Replay;
+use card_sets::{CardSet, Game, Side, sides};
+use showdown_tally::{law_values_keep_order, side_value};
+
+/// What tells who wins: what is kept of the final cards, by seat, and the button.
+#[derive(Drop)]
+pub(crate) struct Standings {
+    /// Whether the final cards are known.
+    pub(crate) known: [bool; 11],
+    /// What they are worth on the first side that the game has, as a number that is greater for better.
+    pub(crate) first: [Option<u32>; 11],
+    /// What they are worth on the second.
+    pub(crate) second: [Option<u32>; 11],
+    /// The seat of the button, 0 where there is none.
+    pub(crate) button: u8,
+}
+
+/// How many cards a player has of his own.
+fn own_size(game: Game) -> u32
+    ensures { result ≡ own_size game }
+{
+    match game {
+        Game::Holdem => 2,
+        Game::Omaha8 => 4,
+        Game::Stud | Game::Razz => 7,
+        Game::Lowball27 => 5,
+    }
+}
+
+/// How many cards the board has.
+fn board_size(game: Game) -> u32
+    ensures { result ≡ board_size game }
+{
+    match game {
+        Game::Holdem | Game::Omaha8 => 5,
+        Game::Stud | Game::Razz | Game::Lowball27 => 0,
+    }
+}
+
+/// Whether no card is in both.
+fn are_apart(own: CardSet, board: CardSet) -> bool
+    ensures { result ≡ apart own board }
+{
+    for card in own.iter() {
+        if board.has(card) {
+            return false;
+        }
+    }
+    true
+}
+
+/// Whether these final cards can be shown down on this board.
+fn is_full(game: Game, board: CardSet, own: CardSet) -> bool
+    ensures { result ≡ is_full game board own }
+{
+    own.count() == own_size(game) && board.count() == board_size(game) && are_apart(own, board)
+}
+
+/// The final cards, where they can be shown down on this board.
+pub(crate) fn full_with(game: Game, board: CardSet, own: Option<CardSet>) -> Option<CardSet>
+    ensures value { result ≡ full_with game board own }
+    ensures full { IfSome result (λ own. is_full game board own ≡ true) }
+{
+    let own = own?;
+    if is_full(game, board, own) {
+        Some(own)
+    } else {
+        None
+    }
+}
+
+/// What final cards are worth on a side, and nothing where they are unknown or the game hasn't the side.
+fn value_on(side: Option<Side>, game: Game, board: CardSet, own: Option<CardSet>) -> Option<u32>
+    requires full { IfSome own (λ own. is_full game board own ≡ true) }
+    ensures value { result ≡ option_map (number_on side game) (value_on side game board own) }
+    ensures set { IfSome own (λ own. IsCardSet own) }
+{
+    let own = own?;
+    own.rising();
+    match side {
+        Some(side) => side_value(side, game, own, board),
+        None => None,
+    }
+}
+
+/// What the final cards of each seat are worth on a side: numbers in the order of the values.
+fn side_values(
+    side: Option<Side>,
+    game: Game,
+    board: CardSet,
+    hands: &[Option<CardSet>; 11],
+) -> [Option<u32>; 11]
+    requires full { (p : ℕ) → p < 11 → IfSome (slice_index_or hands.now p None) (λ own. is_full game board own ≡ true) }
+    ensures { Ranks side result (λ p. value_on side game board (slice_index_or hands.now p None)) }
+{
+    law_values_keep_order();
+    board.rising();
+    let mut values = [None; 11];
+    for seat in 0..11usize {
+        values[seat] = value_on(side, game, board, hands[seat]);
+    }
+    values
+}
+
+/// The final cards of each seat that can be shown down, by seat.
+fn full_hands(replay: &Replay, game: Game, board: CardSet) -> [Option<CardSet>; 11]
+    ensures value { (p : ℕ) → p < 11 → slice_index_or result p None ≡ full_with game board (final_at replay.now p) }
+    ensures full { (p : ℕ) → p < 11 → IfSome (slice_index_or result p None) (λ own. is_full game board own ≡ true) }
+{
+    let mut hands = [None; 11];
+    for seat in 0..11u8 {
+        hands[seat as usize] = full_with(game, board, replay.final_cards(seat));
+    }
+    hands
+}
+
+/// Which hands are known.
+fn known(hands: &[Option<CardSet>; 11]) -> [bool; 11]
+    ensures { (p : ℕ) → p < 11 → slice_index_or result p false ≡ is_some (slice_index_or hands.now p None) }
+{
+    let mut known = [false; 11];
+    for seat in 0..11usize {
+        known[seat] = hands[seat].is_some();
+    }
+    known
+}
+
+/// The first side that a pot of the game is played for.
+fn first_side(game: Game) -> Option<Side>
+    ensures { result ≡ first_side game }
+{
+    let [first, _] = sides(game);
+    first
+}
+
+/// The second side.
+fn second_side(game: Game) -> Option<Side>
+    ensures { result ≡ second_side game }
+{
+    let [_, second] = sides(game);
+    second
+}
+
+impl Standings {
+    ghost use Rattle.hand_audit.specs.Winning.{Tells};
+    ghost use Rattle.hand_audit.specs.Showings.{showing_at};
+
+    /// Of a hand so far.
+    pub(crate) fn of(replay: &Replay, game: Game, button: u8) -> Standings
+        ensures tells { (all : List Collection) → Tells result (showing_at game replay.now all button) }
+        ensures button { result.button ≡ button }
+    {
+        let board = replay.board();
+        let hands = full_hands(replay, game, board);
+        Standings {
+            known: known(&hands),
+            first: side_values(first_side(game), game, board, &hands),
+            second: side_values(second_side(game), game, board, &hands),
+            button,
+        }
+    }
+
+    ghost use Rattle.hand_audit.specs.Settle.{Showing, is_checked, first_winners, second_winners};
+    ghost use Rattle.hand_audit.specs.Orders.{OfSeats};
+
+    /// Whether it is known who wins a pot.
+    pub(crate) fn is_checked(&self, eligible: u16) -> bool
+        ensures { (s : Showing) → Tells self.now s → result ≡ is_checked s eligible }
+    {
+        is_alone(eligible) || are_known(&self.known, eligible)
+    }
+
+    /// The winners of the first side of a pot.
+    pub(crate) fn first_winners(&self, eligible: u16) -> u16
+        ensures value { (s : Showing) → Tells self.now s → result ≡ first_winners s eligible }
+        ensures seats { OfSeats result }
+    {
+        if is_alone(eligible) {
+            table_seats(eligible)
+        } else {
+            winners(&self.first, eligible)
+        }
+    }
+
+    /// The winners of the second side.
+    pub(crate) fn second_winners(&self, eligible: u16) -> u16
+        ensures value { (s : Showing) → Tells self.now s → result ≡ second_winners s eligible }
+        ensures seats { OfSeats result }
+    {
+        if is_alone(eligible) {
+            0
+        } else {
+            winners(&self.second, eligible)
+        }
+    }
+}

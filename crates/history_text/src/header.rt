@@ -1,0 +1,387 @@
+//! Header lines.
+
+ghost use Rattle.std.specs.Prelude.{◌≡◌, ◌==◌, ◌||◌, ◌≤◌, ◌+◌, ◌-◌, [], ◌∷◌, drop, length, option_map, take, IfOk, IfSome, IsTrue, MatchOption};
+ghost use Rattle.std.specs.List.{list_all};
+ghost use Rattle.history_text.specs.Acts.{first_opening};
+ghost use Rattle.history_text.specs.Headers.{behind_start, big_of, first_game, first_stakes, game_at, game_names, game_of, game_words, hand_number, header_behind, header_of, is_header, is_letter_or_space, is_other_word, is_played, is_start, is_title, last_word, limit_words, limits, opened, played, stakes_at, stakes_of, title, word_before};
+ghost use Rattle.history_text.specs.Games.{capped_stakes, kept_header, seen_found, seen_named};
+
+use crate::texts::{behind, cut_first, cut_last};
+use crate::{GameName, Header, Limit, TextFault};
+use card_sets::Game;
+use line_text::{GREATEST, WrittenAmount, digit_count, written};
+
+/// What stands between the site's name and the first `#`, and what stands behind that.
+#[tactic(auto, unfolding(crate::specs::Headers::title))]
+fn title(line: &[u8]) -> Option<(&[u8], &[u8])>
+    ensures value { option_map (λ cut. (cut.0.now, cut.1.now)) result ≡ title line.now }
+    ensures length { IfSome result (λ cut. length cut.1.now ≤ length line.now) }
+{
+    cut_first(behind(line, b"PokerStars ")?, b"#")
+}
+
+/// Whether the bytes are letters and spaces.
+fn are_letters_or_spaces(bytes: &[u8]) -> bool
+    ensures { result ≡ list_all is_letter_or_space bytes.now }
+{
+    bytes
+        .iter()
+        .all(|byte| byte.is_ascii_alphabetic() || *byte == b' ')
+}
+
+/// Whether the words before the number and the digits behind them are those of a header.
+fn is_title(words: &[u8], number: &[u8]) -> bool
+    ensures { result ≡ is_title (words.now, number.now) }
+{
+    are_letters_or_spaces(words)
+        && (words.ends_with(b"Hand ") || words.ends_with(b"Game "))
+        && digit_count(number) > 0
+}
+
+/// Whether the line is a header line.
+#[tactic(auto, unfolding(crate::specs::Headers::is_header))]
+pub fn is_header(line: &[u8]) -> bool
+    ensures { result ≡ is_header line.now }
+{
+    match title(line) {
+        Some((words, number)) => is_title(words, number),
+        None => false,
+    }
+}
+
+/// The place of the first digit of the hand's number, and the place past its last.
+#[tactic(auto, unfolding(crate::specs::Headers::hand_number))]
+pub fn hand_number(line: &[u8]) -> (usize, usize)
+    requires { IsTrue (is_header line.now) }
+    ensures { result ≡ hand_number line.now }
+{
+    match title(line) {
+        Some((_, number)) => {
+            let first = line.len() - number.len();
+            (first, first + digit_count(number))
+        }
+        None => (0, 0),
+    }
+}
+
+const HAND: &[u8] = b"Hand ";
+
+const GAME: &[u8] = b"Game ";
+
+const ZOOM_HAND: &[u8] = b"Zoom Hand ";
+
+/// Whether these words begin a header that is read.
+fn is_start(words: &[u8]) -> bool
+    ensures { result ≡ is_start words.now }
+{
+    words == HAND || words == GAME || words == ZOOM_HAND
+}
+
+/// What stands behind the start, the number and the colon.
+#[tactic(auto, unfolding(crate::specs::Headers::behind_start))]
+fn behind_start(line: &[u8]) -> Option<&[u8]>
+    ensures { option_map (λ text. text.now) result ≡ behind_start line.now }
+{
+    let (words, number) = title(line)?;
+    let count = digit_count(number);
+    if !is_start(words) || count > 19 {
+        return None;
+    }
+    let (_, text) = number.split_at(count);
+    behind(text, b": ")
+}
+
+/// The games whose names a header may have.
+const GAME_NAMES: [GameName; 9] = [
+    GameName::Holdem,
+    GameName::OmahaHiLo,
+    GameName::SevenCardStud,
+    GameName::Razz,
+    GameName::SingleDraw,
+    GameName::Omaha,
+    GameName::SevenCardStudHiLo,
+    GameName::TripleDraw,
+    GameName::FiveCardDraw,
+];
+
+/// The limits.
+const LIMITS: [Limit; 3] = [Limit::NoLimit, Limit::PotLimit, Limit::Fixed];
+
+impl GameName {
+    /// The name, and a space.
+    fn words(self) -> &'static [u8]
+        ensures { result.now ≡ game_words self }
+    {
+        match self {
+            GameName::Holdem => b"Hold'em ",
+            GameName::OmahaHiLo => b"Omaha Hi/Lo ",
+            GameName::SevenCardStud => b"7 Card Stud ",
+            GameName::Razz => b"Razz ",
+            GameName::SingleDraw => b"Single Draw 2-7 Lowball ",
+            GameName::Omaha => b"Omaha ",
+            GameName::SevenCardStudHiLo => b"7 Card Stud Hi/Lo ",
+            GameName::TripleDraw => b"Triple Draw 2-7 Lowball ",
+            GameName::FiveCardDraw => b"5 Card Draw ",
+        }
+    }
+
+    /// The game that is played under the name, if it is read.
+    fn played(self) -> Option<Game>
+        ensures value { result ≡ played self }
+        ensures played { IfSome result (λ game. IsTrue (is_played game)) }
+    {
+        match self {
+            GameName::Holdem => Some(Game::Holdem),
+            GameName::OmahaHiLo
+            | GameName::SevenCardStud
+            | GameName::Razz
+            | GameName::SingleDraw
+            | GameName::Omaha
+            | GameName::SevenCardStudHiLo
+            | GameName::TripleDraw
+            | GameName::FiveCardDraw => None,
+        }
+    }
+}
+
+impl Limit {
+    /// The words that say it.
+    fn words(self) -> &'static [u8]
+        ensures { result.now ≡ limit_words self }
+    {
+        match self {
+            Limit::NoLimit => b"No Limit",
+            Limit::PotLimit => b"Pot Limit",
+            Limit::Fixed => b"Limit",
+        }
+    }
+}
+
+/// A game's name and its limit, and what stands behind them.
+#[derive(Clone, Copy, Debug)]
+struct NamedGame<'a> {
+    name: GameName,
+    limit: Limit,
+    rest: &'a [u8],
+}
+
+/// The first of some limits that the text begins with, and what stands behind it.
+fn first_limit<'a>(limits: &[Limit], text: &'a [u8]) -> Option<(Limit, &'a [u8])>
+    ensures { option_map (λ read. (read.0, read.1.now)) result
+        ≡ first_opening limit_words limits.now text.now }
+{
+    for limit in limits {
+        if let Some(rest) = behind(text, limit.words()) {
+            return Some((*limit, rest));
+        }
+    }
+    None
+}
+
+/// One game's name with a limit, at the front of the text.
+fn named_at(name: GameName, text: &[u8]) -> Option<NamedGame<'_>>
+    ensures { option_map seen_named result ≡ game_at (name ∷ []) text.now }
+{
+    let (limit, rest) = first_limit(&LIMITS, behind(text, name.words())?)?;
+    Some(NamedGame { name, limit, rest })
+}
+
+/// The first of some games that the text begins with, with a limit.
+fn game_at<'a>(names: &[GameName], text: &'a [u8]) -> Option<NamedGame<'a>>
+    ensures { option_map seen_named result ≡ game_at names.now text.now }
+{
+    for name in names {
+        if let Some(game) = named_at(*name, text) {
+            return Some(game);
+        }
+    }
+    None
+}
+
+/// The game that the text begins with, with a limit.
+fn named_game(text: &[u8]) -> Option<NamedGame<'_>>
+    ensures { option_map seen_named result ≡ game_at game_names text.now }
+{
+    game_at(&GAME_NAMES, text)
+}
+
+/// The first place at which a game and a limit stand.
+fn first_game(text: &[u8]) -> Option<(usize, NamedGame<'_>)>
+    ensures value { option_map seen_found result ≡ first_game text.now }
+    ensures place { IfSome result (λ found. found.0 ≤ length text.now) }
+{
+    for place in 0..text.len() {
+        let (_, rest) = text.split_at(place);
+        if let Some(game) = named_game(rest) {
+            return Some((place, game));
+        }
+    }
+    None
+}
+
+/// What stands behind the last space, or all.
+fn last_word(text: &[u8]) -> &[u8]
+    ensures { result.now ≡ last_word text.now }
+{
+    match cut_last(text, b" ") {
+        Some((_, word)) => word,
+        None => text,
+    }
+}
+
+/// The word that ends at one space at the end of the text.
+#[tactic(auto, unfolding(crate::specs::Headers::word_before))]
+fn word_before(before: &[u8]) -> &[u8]
+    ensures { result.now ≡ word_before before.now }
+{
+    if before.ends_with(b" ") {
+        last_word(&before[..before.len() - 1])
+    } else {
+        &[]
+    }
+}
+
+const SIX_PLUS: &[u8] = b"6+";
+
+const CARD: &[u8] = b"Card";
+
+const SPLIT: &[u8] = b"Split";
+
+const TEMPEST: &[u8] = b"Tempest";
+
+const UNFOLDED: &[u8] = b"Unfolded";
+
+const SHOWTIME: &[u8] = b"Showtime";
+
+const FUSION: &[u8] = b"Fusion";
+
+/// Whether the word makes another game of the name behind it.
+fn is_other_word(word: &[u8]) -> bool
+    ensures { result ≡ is_other_word word.now }
+{
+    word == SIX_PLUS
+        || word == CARD
+        || word == SPLIT
+        || word == TEMPEST
+        || word == UNFOLDED
+        || word == SHOWTIME
+        || word == FUSION
+}
+
+/// The game of a name, by what stands before it.
+#[tactic(auto, unfolding(crate::specs::Headers::game_of))]
+fn game_of(before: &[u8], name: GameName) -> Option<Game>
+    ensures value { result ≡ game_of before.now name }
+    ensures played { IfSome result (λ game. IsTrue (is_played game)) }
+{
+    if is_other_word(word_before(before)) {
+        None
+    } else {
+        name.played()
+    }
+}
+
+/// What stands behind the opening of the stakes.
+fn opened(text: &[u8]) -> Option<&[u8]>
+    ensures { option_map (λ rest. rest.now) result ≡ opened text.now }
+{
+    match behind(text, b"(") {
+        Some(rest) => Some(rest),
+        None => behind(text, b", "),
+    }
+}
+
+/// Two amounts with a slash between.
+fn stakes_of(text: &[u8]) -> Option<(WrittenAmount, WrittenAmount)>
+    ensures { result ≡ option_map capped_stakes (stakes_of text.now) }
+{
+    let first = written(text)?;
+    let (_, rest) = text.split_at(first.length);
+    let second = written(behind(rest, b"/")?)?;
+    Some((first, second))
+}
+
+/// The stakes that the text begins with.
+#[tactic(auto, unfolding(crate::specs::Headers::stakes_at))]
+fn stakes_at(text: &[u8]) -> Option<(WrittenAmount, WrittenAmount)>
+    ensures { result ≡ option_map capped_stakes (stakes_at text.now) }
+{
+    stakes_of(opened(text)?)
+}
+
+/// The stakes at the first place where there are some.
+fn first_stakes(text: &[u8]) -> Option<(WrittenAmount, WrittenAmount)>
+    ensures { result ≡ option_map capped_stakes (first_stakes text.now) }
+{
+    for place in 0..text.len() {
+        let (_, rest) = text.split_at(place);
+        if let Some(stakes) = stakes_at(rest) {
+            return Some(stakes);
+        }
+    }
+    None
+}
+
+/// The stated big blind.
+fn big_of(limit: Limit, first: u64, second: u64) -> u64
+    ensures { result ≡ big_of limit first second }
+{
+    match limit {
+        Limit::NoLimit | Limit::PotLimit => second,
+        Limit::Fixed => first,
+    }
+}
+
+/// The header of a game with these stakes.
+fn with_stakes(
+    game: Game,
+    limit: Limit,
+    first: WrittenAmount,
+    second: WrittenAmount,
+) -> Result<Header, TextFault>
+    ensures value { result ≡ kept_header game limit (first, second) }
+    ensures game { IfOk result (λ header. header.game ≡ game) }
+{
+    let hundredths = first.marked || second.marked;
+    let first = first.units(hundredths);
+    let second = second.units(hundredths);
+    if first == 0 || second == 0 {
+        return Err(TextFault::BadHeader);
+    }
+    if first > GREATEST || second > GREATEST {
+        return Err(TextFault::AmountTooLarge);
+    }
+    Ok(Header {
+        game,
+        limit,
+        hundredths,
+        big: big_of(limit, first, second),
+    })
+}
+
+/// The header of a game, by the stakes behind its limit.
+#[tactic(auto, unfolding(crate::specs::Headers::header_behind))]
+fn header_behind(game: Game, limit: Limit, text: &[u8]) -> Result<Header, TextFault>
+    ensures value { result ≡ header_behind game limit text.now }
+    ensures game { IfOk result (λ header. header.game ≡ game) }
+{
+    let Some((first, second)) = first_stakes(text) else {
+        return Err(TextFault::BadHeader);
+    };
+    with_stakes(game, limit, first, second)
+}
+
+/// What a header line says, or its first fault: the game, the limit, how the hand counts and the
+/// stated big blind in units, by a profile of the site's headers. The game is one that is played.
+#[tactic(auto, unfolding(crate::specs::Headers::header_of))]
+pub fn read_header(line: &[u8]) -> Result<Header, TextFault>
+    requires { IsTrue (is_header line.now) }
+    ensures value { result ≡ header_of line.now }
+    ensures played { IfOk result (λ header. IsTrue (is_played header.game)) }
+{
+    let text = behind_start(line).ok_or(TextFault::BadHeader)?;
+    let (place, found) = first_game(text).ok_or(TextFault::UnknownGame)?;
+    let (before, _) = text.split_at(place);
+    let game = game_of(before, found.name).ok_or(TextFault::UnknownGame)?;
+    header_behind(game, found.limit, found.rest)
+}

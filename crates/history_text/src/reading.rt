@@ -1,0 +1,84 @@
+//! Readers: what a text begins with and what stands behind it, or the first fault from the left.
+
+ghost use Rattle.std.specs.Prelude.{◌≡◌, ◌<◌, ◌≤◌, option_map, IfOk, IfSome, length};
+ghost use Rattle.history_text.specs.Gives.{Gives};
+ghost use Rattle.history_text.specs.Reading.{all_in_end, follows, is_end, money, seat_front, seat_of, some_money};
+
+use crate::TextFault;
+use crate::texts::behind;
+use line_text::{AmountFault, digit_count, number_of, read_amount};
+
+/// An amount and what stands behind it.
+#[tactic(auto, unfolding(crate::specs::Reading::money))]
+pub(crate) fn money(text: &[u8], hundredths: bool) -> Result<(u64, &[u8]), TextFault>
+    ensures value { Gives (λ read. (read.0, read.1.now)) result (money hundredths text.now) }
+    ensures length { IfOk result (λ read. length read.1.now ≤ length text.now) }
+{
+    match read_amount(text, 0, hundredths) {
+        Ok(amount) => Ok((amount.units, &text[amount.next..])),
+        Err(AmountFault::NotAmount) => Err(TextFault::BadAmount),
+        Err(AmountFault::TooLarge) => Err(TextFault::AmountTooLarge),
+    }
+}
+
+/// An amount that isn't 0, and what stands behind it.
+#[tactic(auto, unfolding(crate::specs::Reading::some_money))]
+pub(crate) fn some_money(text: &[u8], hundredths: bool) -> Result<(u64, &[u8]), TextFault>
+    ensures { Gives (λ read. (read.0, read.1.now)) result (some_money hundredths text.now) }
+{
+    let (units, rest) = money(text, hundredths)?;
+    if units == 0 {
+        return Err(TextFault::BadAmount);
+    }
+    Ok((units, rest))
+}
+
+/// What stands behind the words that must follow an amount.
+#[tactic(auto, unfolding(crate::specs::Reading::follows))]
+pub(crate) fn follows<'a>(text: &'a [u8], words: &[u8]) -> Result<&'a [u8], TextFault>
+    ensures { Gives (λ rest. rest.now) result (follows words.now text.now) }
+{
+    behind(text, words).ok_or(TextFault::BadAmount)
+}
+
+/// The words of a bet that takes the whole stack.
+const ALL_IN: &[u8] = b" and is all-in";
+
+/// Whether the line says that the player is all-in, behind the last amount of a bet.
+#[tactic(auto, unfolding(crate::specs::Reading::all_in_end))]
+pub(crate) fn all_in_end(text: &[u8]) -> Result<bool, TextFault>
+    ensures { result ≡ all_in_end text.now }
+{
+    if text.is_empty() {
+        Ok(false)
+    } else if text == ALL_IN {
+        Ok(true)
+    } else {
+        Err(TextFault::BadAmount)
+    }
+}
+
+/// The seat of a number.
+fn seat_of(number: u64) -> Option<u8>
+    ensures { result ≡ seat_of number }
+{
+    if 1 <= number && number <= 10 {
+        Some(number as u8)
+    } else {
+        None
+    }
+}
+
+/// The seat that the digits at the front say, if they say one, and what stands behind them.
+#[tactic(auto, unfolding(crate::specs::Reading::seat_front))]
+pub(crate) fn seat_front(text: &[u8]) -> Option<(Option<u8>, &[u8])>
+    ensures value { option_map (λ read. (read.0, read.1.now)) result ≡ seat_front text.now }
+    ensures length { IfSome result (λ read. length read.1.now ≤ length text.now) }
+{
+    let count = digit_count(text);
+    if count == 0 {
+        return None;
+    }
+    let (digits, rest) = text.split_at(count);
+    Some((seat_of(number_of(digits)), rest))
+}

@@ -1,0 +1,73 @@
+//! Fronts and cuts of texts.
+
+ghost use Rattle.std.specs.Prelude.{◌≡◌, ◌<◌, ◌≤◌, ◌+◌, true, false, nat_eq, option_map, length, IfSome};
+ghost use Rattle.std.specs.List.{starts_with};
+ghost use Rattle.history_text.specs.Texts.{behind, first_place, last_place, cut_first, cut_last};
+
+use memchr::memmem;
+
+/// Whether the two begin with different bytes, so that the text can't begin with the front.
+#[inline]
+fn begin_apart(text: &[u8], front: &[u8]) -> bool
+    ensures { result ≡ true → starts_with nat_eq text.now front.now ≡ false }
+{
+    match (text, front) {
+        ([mine, ..], [other, ..]) => mine != other,
+        _ => false,
+    }
+}
+
+/// What stands behind a front that the text begins with.
+#[inline]
+#[tactic(auto, unfolding(crate::specs::Texts::behind))]
+pub(crate) fn behind<'a>(text: &'a [u8], front: &[u8]) -> Option<&'a [u8]>
+    ensures value { option_map (λ rest. rest.now) result ≡ behind front.now text.now }
+    ensures length { IfSome result (λ rest. length rest.now + length front.now ≡ length text.now) }
+{
+    if begin_apart(text, front) {
+        return None;
+    }
+    text.strip_prefix(front)
+}
+
+/// The first place at which a mark stands.
+fn first_place(text: &[u8], mark: &[u8]) -> Option<usize>
+    requires { 0 < length mark.now }
+    ensures value { result ≡ first_place mark.now text.now }
+    ensures within { IfSome result (λ place. place + length mark.now ≤ length text.now) }
+{
+    memmem::find(text, mark)
+}
+
+/// The last place at which a mark stands.
+fn last_place(text: &[u8], mark: &[u8]) -> Option<usize>
+    requires { 0 < length mark.now }
+    ensures value { result ≡ last_place mark.now text.now }
+    ensures within { IfSome result (λ place. place + length mark.now ≤ length text.now) }
+{
+    memmem::rfind(text, mark)
+}
+
+/// What stands before the first place at which a mark stands, and what stands behind the mark.
+#[tactic(auto, unfolding(crate::specs::Texts::cut_first))]
+pub(crate) fn cut_first<'a>(text: &'a [u8], mark: &[u8]) -> Option<(&'a [u8], &'a [u8])>
+    requires { 0 < length mark.now }
+    ensures value { option_map (λ cut. (cut.0.now, cut.1.now)) result ≡ cut_first mark.now text.now }
+    ensures lengths { IfSome result (λ cut.
+        length cut.0.now + length mark.now + length cut.1.now ≡ length text.now) }
+{
+    let place = first_place(text, mark)?;
+    Some((&text[..place], &text[place + mark.len()..]))
+}
+
+/// What stands before the last place at which a mark stands, and what stands behind the mark.
+#[tactic(auto, unfolding(crate::specs::Texts::cut_last))]
+pub(crate) fn cut_last<'a>(text: &'a [u8], mark: &[u8]) -> Option<(&'a [u8], &'a [u8])>
+    requires { 0 < length mark.now }
+    ensures value { option_map (λ cut. (cut.0.now, cut.1.now)) result ≡ cut_last mark.now text.now }
+    ensures lengths { IfSome result (λ cut.
+        length cut.0.now + length mark.now + length cut.1.now ≡ length text.now) }
+{
+    let place = last_place(text, mark)?;
+    Some((&text[..place], &text[place + mark.len()..]))
+}

@@ -1,0 +1,39 @@
+-- Digits at the front of a text, and numbers that are kept up to the greatest of their type.
+use Rattle.std.proofs.Common.{◌≡◌, ℕ, ◌+◌, ◌*◌, ◌<◌, min, Bool, true, false, not, cond, List, [], ◌∷◌, length, drop, refl, ap, ◌∙◌, arith, inl, inr, None}
+use Rattle.std.specs.Prelude.{nat_lt, position, unwrap_or}
+use Rattle.std.specs.List.{prefix_len, position_or_len}
+use Rattle.std.proofs.lemmas.Bool.{cases_lt}
+use Rattle.std.proofs.lemmas.List.{drop_all}
+use Rattle.std.proofs.lemmas.List.Sums.{prefix_len-le-length}
+use Rattle.line_text.specs.Amounts.{written}
+
+-- the first place that passes, or the length
+place_or_end : (p : ℕ → Bool) (xs : List ℕ) → unwrap_or (position p xs) (length xs) ≡ position_or_len p xs
+place_or_end p xs = elim (cases_lt (position_or_len p xs) (length xs)) [
+  | inl inside ↦ let passes : nat_lt (position_or_len p xs) (length xs) ≡ true = grind arith in rw passes refl
+  | inr past ↦
+      let fails : nat_lt (position_or_len p xs) (length xs) ≡ false = grind arith in
+      let end = prefix_len-le-length (λ x. not (p x)) xs in
+      rw fails (omega (arith, end))
+]
+
+twice_not : (p : ℕ → Bool) (xs : List ℕ) → prefix_len (λ x. not (not (p x))) xs ≡ prefix_len p xs
+twice_not p [] = refl
+twice_not p (x ∷ xs) =
+    elim (p x) as (λ v. cond (not (not v)) (1 + prefix_len (λ y. not (not (p y))) xs) 0 ≡ cond v (1 + prefix_len p xs) 0) [
+      | true ↦ ap (λ n. 1 + n) (twice_not p xs)
+      | false ↦ refl
+    ]
+
+-- the first place that fails, or the length
+pub failing_or_end : (p : ℕ → Bool) (xs : List ℕ) → unwrap_or (position (λ x. not (p x)) xs) (length xs) ≡ prefix_len p xs
+failing_or_end p xs = place_or_end (λ x. not (p x)) xs ∙ twice_not p xs
+
+-- one digit more, kept up to the greatest
+pub digit_kept : (number greatest digit : ℕ) → min (min (min number greatest * 10) greatest + digit) greatest ≡ min (number * 10 + digit) greatest
+digit_kept number greatest digit = omega arith
+
+-- nothing is written behind the end
+pub nothing_written : (bytes : List ℕ) (at : ℕ) → length bytes < at → written (drop at bytes) ≡ None
+unfolding written
+nothing_written bytes at h = rw (drop_all at bytes (omega arith)) refl

@@ -1,0 +1,203 @@
+//! Amounts at a place in a text: an optional sign, digits, and in money an optional point with
+//! exactly two digits.
+ghost use Rattle.std.specs.Prelude.{◌≡◌, ◌+◌, ◌-◌, ◌*◌, ◌^◌, ◌≤◌, ◌<◌, min, length, take, drop, option_map, IfSome, IfOk, not, position};
+ghost use Rattle.std.specs.Char.{is_ascii_digit};
+ghost use Rattle.line_text.specs.Amounts.{digit_count, number_of, sign_length, has_point, written, amount_at};
+ghost use Rattle.line_text.specs.Capped.{capped, kept_units};
+
+/// The greatest amount, in units.
+pub const GREATEST: u64 = 999_999_999_999_999;
+
+/// The signs of dollar, euro and pound.
+const DOLLAR: [u8; 1] = [b'$'];
+
+const EURO: [u8; 3] = [0xe2, 0x82, 0xac];
+
+const POUND: [u8; 2] = [0xc2, 0xa3];
+
+/// An amount: its units, the place behind it, and whether it carried a sign or a point.
+#[derive(Clone, Copy, Debug, PartialEq, Eq)]
+pub struct Amount {
+    pub units: u64,
+    pub next: usize,
+    pub marked: bool,
+}
+
+/// Why a text is no amount.
+#[derive(Clone, Copy, Debug, PartialEq, Eq, Drop)]
+pub enum AmountFault {
+    /// It isn't in the form of one.
+    NotAmount,
+    /// It is in form, and above the greatest.
+    TooLarge,
+}
+
+/// An amount as it is written, before it is known how the hand counts. A number past the greatest
+/// of `u64` stands as that.
+#[derive(Clone, Copy, Debug, PartialEq, Eq)]
+pub struct WrittenAmount {
+    /// Whether it has a sign or a point.
+    pub marked: bool,
+    /// Whether it has a point.
+    pub pointed: bool,
+    /// What stands before the point.
+    pub whole: u64,
+    /// What stands behind it.
+    pub cents: u64,
+    /// How many bytes it takes.
+    pub length: usize,
+}
+
+/// The first place that is no digit.
+fn digits_end(text: &[u8]) -> Option<usize>
+    ensures { result ≡ position (λ byte. not (is_ascii_digit byte)) text.now }
+{
+    text.iter().position(|byte| !byte.is_ascii_digit())
+}
+
+impl WrittenAmount {
+    /// What it counts to in hundredths, or in whole chips, or the greatest of `u64`.
+    pub fn units(&self, hundredths: bool) -> u64
+        ensures { result ≡ kept_units hundredths self.now }
+    {
+        if hundredths {
+            self.whole.saturating_mul(100).saturating_add(self.cents)
+        } else {
+            self.whole
+        }
+    }
+}
+
+/// How many digits begin the text.
+pub fn digit_count(text: &[u8]) -> usize
+    ensures value { result ≡ digit_count text.now }
+    ensures within { result ≤ length text.now }
+{
+    digits_end(text).unwrap_or(text.len())
+}
+
+/// The number that digits say, or the greatest of `u64` where it is greater.
+pub fn number_of(digits: &[u8]) -> u64
+    ensures { result ≡ min (number_of digits.now) (2 ^ 64 - 1) }
+{
+    let mut number = 0u64;
+    for digit in digits {
+        number = number
+            .saturating_mul(10)
+            .saturating_add(u64::from(digit.saturating_sub(b'0')));
+    }
+    number
+}
+
+/// How many bytes the currency sign takes that the text begins with.
+fn sign_length(text: &[u8]) -> usize
+    ensures value { result ≡ sign_length text.now }
+    ensures within { result ≤ length text.now }
+    ensures few { result ≤ 3 }
+{
+    if text.starts_with(&DOLLAR) {
+        1
+    } else if text.starts_with(&EURO) {
+        3
+    } else if text.starts_with(&POUND) {
+        2
+    } else {
+        0
+    }
+}
+
+/// The amount that the text begins with.
+#[tactic(auto, unfolding(crate::specs::Amounts::written))]
+pub fn written(text: &[u8]) -> Option<WrittenAmount>
+    ensures value { result ≡ option_map capped (written text.now) }
+    ensures within { IfSome result (λ w. w.length ≤ length text.now) }
+    ensures cents { IfSome result (λ w. w.cents ≤ 2 ^ 64 - 1) }
+{
+    let sign = sign_length(text);
+    let unsigned = &text[sign..];
+    let count = digit_count(unsigned);
+    if count == 0 {
+        return None;
+    }
+    let (digits, behind) = unsigned.split_at(count);
+    let whole = number_of(digits);
+    if !behind.starts_with(b".") {
+        return Some(WrittenAmount {
+            marked: sign > 0,
+            pointed: false,
+            whole,
+            cents: 0,
+            length: sign + count,
+        });
+    }
+    let fraction = &behind[1..];
+    if digit_count(fraction) != 2 {
+        return None;
+    }
+    Some(WrittenAmount {
+        marked: true,
+        pointed: true,
+        whole,
+        cents: number_of(&fraction[..2]),
+        length: sign + count + 3,
+    })
+}
+
+/// The amount at a place of the bytes, as a hand counts: in hundredths, or in chips.
+pub fn read_amount(bytes: &[u8], at: usize, hundredths: bool) -> Result<Amount, AmountFault>
+    ensures value { result ≡ amount_at bytes.now at hundredths }
+    ensures within { IfOk result (λ a. a.next ≤ length bytes.now) }
+    ensures few { IfOk result (λ a. a.units ≤ GREATEST) }
+{
+    let Some(text) = bytes.get(at..) else {
+        return Err(AmountFault::NotAmount);
+    };
+    let Some(amount) = written(text) else {
+        return Err(AmountFault::NotAmount);
+    };
+    if amount.pointed && !hundredths {
+        return Err(AmountFault::NotAmount);
+    }
+    let units = amount.units(hundredths);
+    if units > GREATEST {
+        return Err(AmountFault::TooLarge);
+    }
+    Ok(Amount {
+        units,
+        next: at + amount.length,
+        marked: amount.marked,
+    })
+}
+
+/// The text of an example, read at its front.
+#[cfg(test)]
+mod tests {
+    use super::*;
+
+    fn reads(text: &[u8], hundredths: bool) -> Option<(u64, usize)> {
+        let amount = read_amount(text, 0, hundredths).ok()?;
+        Some((amount.units, amount.next))
+    }
+
+    #[test]
+    fn amounts_are_read(rt: HostRuntime) {
+        assert_eq!(rt; reads(b"$0.50", true), Some((50, 5)));
+        assert_eq!(rt; reads(b"$1 USD", true), Some((100, 2)));
+        assert_eq!(rt; reads(b"4000 in chips", false), Some((4000, 4)));
+        assert_eq!(rt; reads("€2.05)".as_bytes(), true), Some((205, 7)));
+        assert_eq!(rt; reads(b"999999999999999", false), Some((GREATEST, 15)));
+        assert_eq!(rt;
+            read_amount(b"1000000000000000", 0, false),
+            Err(AmountFault::TooLarge)
+        );
+        assert_eq!(rt;
+            read_amount(b"99999999999999999999999999", 0, true),
+            Err(AmountFault::TooLarge)
+        );
+        for text in [b"".as_slice(), b"$", b"x", b"1.", b"1.5", b"1.505", b"-1"] {
+            assert_eq!(rt; read_amount(text, 0, true), Err(AmountFault::NotAmount));
+        }
+        assert_eq!(rt; read_amount(b"1.50", 0, false), Err(AmountFault::NotAmount));
+        assert_eq!(rt; read_amount(b"1", 2, false), Err(AmountFault::NotAmount));
+    }
+}

@@ -1,0 +1,152 @@
+//! The lines of a text in bytes: where each begins and ends, and what it says.
+//!
+//! A line ends before a newline or at the end of the bytes, and nothing behind the last newline is
+//! no line. Its text leaves out a byte order mark at its start, and then the spaces and carriage
+//! returns at its end.
+
+ghost use Rattle.std.specs.Prelude.{◌≡◌, ◌≤◌, ◌↔◌, [], ◌∷◌, length, drop, slice_range, IsNone, IfSome, MatchOption};
+ghost use Rattle.line_text.specs.Lines.{front_line, is_blank, lines, without_blanks};
+ghost use Rattle.line_text.specs.Places.{IsWithin, line_at, mark_length};
+ghost use Rattle.line_text.specs.Laws.{TextsHoldNoNewline, PlainTextsReadBack, AllCloseLines};
+
+use memchr::memchr;
+
+/// The byte order mark of UTF-8.
+const MARK: [u8; 3] = [0xef, 0xbb, 0xbf];
+
+/// A line by its places in the bytes: its text is `first..end`, and the next line begins at
+/// `next`.
+#[derive(Clone, Copy, Debug, PartialEq, Eq)]
+pub struct Line {
+    pub first: usize,
+    pub end: usize,
+    pub next: usize,
+}
+
+/// The line that begins at this place, and `None` at the end of the bytes.
+pub fn next_line(bytes: &[u8], at: usize) -> Option<Line>
+    requires { at ≤ length bytes.now }
+    ensures none { IsNone result ↔ (at ≡ length bytes.now) }
+    ensures numbers { IfSome result (λ line. line ≡ line_at bytes.now at) }
+    ensures within { IfSome result (λ line. IsWithin at (length bytes.now) line) }
+    ensures texts { MatchOption result (lines (drop at bytes.now) ≡ []) (λ line.
+        lines (drop at bytes.now)
+        ≡ slice_range bytes.now line.first line.end ∷ lines (drop line.next bytes.now)) }
+{
+    if at == bytes.len() {
+        return None;
+    }
+    let rest = &bytes[at..];
+    let line = &rest[..front_line_length(rest)];
+    let marked = mark_length(line);
+    let first = at + marked;
+    Some(Line {
+        first,
+        end: first + length_without_blanks(&line[marked..]),
+        next: (at + line.len() + 1).min(bytes.len()),
+    })
+}
+
+/// How many bytes stand before the first newline.
+fn front_line_length(bytes: &[u8]) -> usize
+    ensures value { result ≡ length (front_line bytes.now) }
+    ensures within { result ≤ length bytes.now }
+{
+    memchr(b'\n', bytes).unwrap_or(bytes.len())
+}
+
+/// How many bytes of the line its mark takes.
+fn mark_length(line: &[u8]) -> usize
+    ensures value { result ≡ mark_length line.now }
+    ensures within { result ≤ length line.now }
+{
+    if line.starts_with(&MARK) { 3 } else { 0 }
+}
+
+/// How many bytes are left without the spaces and carriage returns at the end.
+fn length_without_blanks(line: &[u8]) -> usize
+    ensures value { result ≡ length (without_blanks line.now) }
+    ensures within { result ≤ length line.now }
+{
+    let mut end = line.len();
+    while end > 0 && is_blank(line[end - 1]) {
+        end -= 1;
+    }
+    end
+}
+
+/// Whether the byte is a space or a carriage return.
+fn is_blank(byte: u8) -> bool
+    ensures { result ≡ is_blank byte }
+{
+    byte == b' ' || byte == b'\r'
+}
+
+/// A law: no text of a line holds a newline, and a text without one, without a mark at its start
+/// and without a blank at its end is read back from a line as it is.
+pub fn law_lines_read_back()
+    ensures no_newline { TextsHoldNoNewline }
+    ensures read_back { PlainTextsReadBack }
+{}
+
+/// A law: the lines of the bytes up to the last newline are the first lines of all the bytes, and
+/// what stands behind that newline is at most one line more.
+pub fn law_closed_lines()
+    ensures { AllCloseLines }
+{}
+
+#[cfg(test)]
+mod tests {
+    use super::*;
+
+    /// The texts of all lines are these, one after the other, and the walk ends at the end.
+    fn has_texts(bytes: &[u8], texts: &[&[u8]]) -> bool {
+        let mut at = 0;
+        for text in texts {
+            match next_line(bytes, at) {
+                Some(line) if &bytes[line.first..line.end] == *text => at = line.next,
+                _ => return false,
+            }
+        }
+        next_line(bytes, at).is_none()
+    }
+
+    #[test]
+    fn each_text_is_cut_into_its_lines(rt: HostRuntime) {
+        assert!(rt; has_texts(b"", &[]));
+        assert!(rt; has_texts(b"\n", &[b""]));
+        assert!(rt; has_texts(b"a", &[b"a"]));
+        assert!(rt; has_texts(b"a\n", &[b"a"]));
+        assert!(rt; has_texts(b"a\n\nb", &[b"a", b"", b"b"]));
+        assert!(rt; has_texts(b"a \r\n b\r \r\nc", &[b"a", b" b", b"c"]));
+        assert!(rt; has_texts(b"a\rb\tc\t\n", &[b"a\rb\tc\t"]));
+        assert!(rt;
+            has_texts(
+                b"\xef\xbb\xbfa\n\xef\xbb\xbf \r\n\xef\xbb",
+                &[b"a", b"", b"\xef\xbb"]
+            )
+        );
+        assert!(rt; has_texts(b"\xef\xbb\xbf\xef\xbb\xbfa", &[b"\xef\xbb\xbfa"]));
+        assert!(rt; has_texts(b" \xef\xbb\xbfa", &[b" \xef\xbb\xbfa"]));
+    }
+
+    #[test]
+    fn a_line_tells_where_its_text_and_the_next_line_begin(rt: HostRuntime) {
+        let bytes = b"\xef\xbb\xbfab \r\ncd";
+        let line = Line {
+            first: 3,
+            end: 5,
+            next: 8,
+        };
+        assert_eq!(rt; next_line(bytes, 0), Some(line));
+        assert_eq!(rt;
+            next_line(bytes, 8),
+            Some(Line {
+                first: 8,
+                end: 10,
+                next: 10
+            })
+        );
+        assert_eq!(rt; next_line(bytes, 10), None);
+    }
+}

@@ -1,0 +1,5 @@
+pub mod Numbers
+pub mod Allowed
+pub mod Bests
+pub mod TwoParts
+pub mod LowCards

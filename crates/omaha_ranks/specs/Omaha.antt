@@ -1,0 +1,66 @@
+-- What two own cards and three of the board are worth at best, and what that depends on.
+use Rattle.std.specs.Prelude.{◌≡◌, ◌<◌, true, ℕ, Bool, ◌||◌, nat_lt, List, map, filter, max, Option}
+use Rattle.std.specs.Option.{option_map}
+use Rattle.card_sets.specs.Cards.{IsCardSet}
+use Rattle.card_sets.specs.Disjoint.{apart}
+use Rattle.card_sets.specs.Games.{allowed}
+use Rattle.card_sets.specs.declared.games.Game.TheVariants.{Omaha8}
+use Rattle.rank_high.specs.High.{high, value_of, greatest_of, count_of_rank}
+use Rattle.rank_high.specs.Parts.{of_suit, plain_high}
+use Rattle.rank_low.specs.Low.{low_a5, qualifies, least_of, ace_number}
+
+-- the number of the best of some fives as a high
+abbrev pub high_number : List (List ℕ) → ℕ
+high_number fives = value_of (greatest_of (map high fives))
+
+-- and of the best by ranks alone, if there were no flushes
+abbrev pub plain_high_number : List (List ℕ) → ℕ
+plain_high_number fives = value_of (greatest_of (map plain_high fives))
+
+-- the number of the best of those that qualify as a low of eight or better; none where none does
+abbrev pub eight_number : List (List ℕ) → Option ℕ
+eight_number fives = option_map ace_number (least_of (map low_a5 (filter qualifies fives)))
+
+-- the fives that two own cards make with three of the board
+abbrev pub fives : List ℕ → List ℕ → List (List ℕ)
+fives own board = allowed Omaha8 own board
+
+-- what the best of them is worth as a high hand
+unfoldable pub omaha_high : List ℕ → List ℕ → List ℕ
+omaha_high own board = greatest_of (map high (fives own board))
+
+-- and what it would be worth if there were no flushes
+unfoldable pub omaha_plain : List ℕ → List ℕ → List ℕ
+omaha_plain own board = greatest_of (map plain_high (fives own board))
+
+-- the number of the best of one suit, 0 where there are fewer than two own cards of it or fewer than three of the board
+abbrev pub omaha_suited : List ℕ → List ℕ → ℕ → ℕ
+omaha_suited own board suit = value_of (omaha_high (of_suit own suit) (of_suit board suit))
+
+-- an ace to eight: the only cards of a low of eight or better
+abbrev pub is_low : ℕ → Bool
+is_low card = nat_lt card 28 || nat_lt 47 card
+
+-- own cards and a board that share no card
+pub record ArePlaced (own board : List ℕ) : Type 0 where
+  pub own_cards : IsCardSet own
+  pub board_cards : IsCardSet board
+  pub apart : apart own board ≡ true
+
+-- the best high is the best by ranks alone, or the best of one suit
+abbrev pub IsByRanksOrSuit : Type 0
+IsByRanksOrSuit = (own board : List ℕ) → ArePlaced own board → value_of (omaha_high own board)
+    ≡ max (value_of (omaha_plain own board)) (max (max (omaha_suited own board 0) (omaha_suited own board 1)) (max (omaha_suited own board 2) (omaha_suited own board 3)))
+
+-- cards with the same ranks
+abbrev pub SameRanks : List ℕ → List ℕ → Type 0
+SameRanks a b = (rank : ℕ) → rank < 13 → count_of_rank a rank ≡ count_of_rank b rank
+
+-- own cards and boards with the same ranks are worth the same by their ranks alone
+abbrev pub RanksDecide : Type 0
+RanksDecide = (own board other_own other_board : List ℕ) → ArePlaced own board → ArePlaced other_own other_board → SameRanks own other_own → SameRanks board other_board
+    → value_of (omaha_plain own board) ≡ value_of (omaha_plain other_own other_board)
+
+-- only cards from ace to eight make a low
+abbrev pub OnlyLowCards : Type 0
+OnlyLowCards = (own board : List ℕ) → ArePlaced own board → eight_number (fives own board) ≡ eight_number (fives (filter is_low own) (filter is_low board))

@@ -1,0 +1,19 @@
+//! What a high and a low depend on.
+
+ghost use Rattle.omaha_ranks.specs.Omaha.{IsByRanksOrSuit, RanksDecide, OnlyLowCards};
+
+/// The best high of two own cards and three of the board is the best by ranks alone, or the best of
+/// one suit.
+pub fn law_ranks_or_a_suit()
+    ensures { IsByRanksOrSuit }
+{}
+
+/// Own cards and boards with the same ranks are worth the same by their ranks alone.
+pub fn law_ranks_decide()
+    ensures { RanksDecide }
+{}
+
+/// Only the cards from ace to eight make a low of eight or better.
+pub fn law_only_low_cards()
+    ensures { OnlyLowCards }
+{}

@@ -1,0 +1,10 @@
+//! What the hands of Omaha Hi/Lo are worth: two own cards make each five with three of the board,
+//! chosen for the high and for the low apart.
+#![tactic(auto)]
+
+mod best_five;
+mod laws;
+mod omaha;
+
+pub use laws::{law_only_low_cards, law_ranks_decide, law_ranks_or_a_suit};
+pub use omaha::{omaha_high, omaha_low};

@@ -1,0 +1,77 @@
+//! The best of the fives that two own cards make with three of the board.
+
+ghost use Rattle.std.specs.Prelude.{◌≡◌, ◌<◌, ◌≤◌, filter, length, IsTrue};
+ghost use Rattle.card_sets.specs.Disjoint.{apart};
+ghost use Rattle.omaha_ranks.specs.Omaha.{high_number, eight_number, fives, omaha_suited, is_low};
+
+use crate::best_five::{best_by_ranks, best_high, best_low};
+use crate::laws::{law_only_low_cards, law_ranks_or_a_suit};
+use card_sets::{Card, CardSet};
+use hand_choice::two_and_three;
+
+/// The number of the best high of one suit. 0 where there are fewer than two own cards of it or
+/// fewer than three of the board.
+#[inline]
+fn suited(own: CardSet, board: CardSet, suit: u8) -> u32
+    requires suit { suit < 4 }
+    requires own { length own ≤ 4 }
+    requires board { length board ≤ 5 }
+    requires apart { IsTrue (apart own board) }
+    ensures { result ≡ omaha_suited own board suit }
+{
+    own.rising();
+    board.rising();
+    let own = own.of_suit(suit);
+    if own.count() < 2 {
+        return 0;
+    }
+    let board = board.of_suit(suit);
+    if board.count() < 3 {
+        return 0;
+    }
+    best_high(two_and_three(own, board))
+}
+
+/// The number of the best high of four own cards and five of the board.
+pub fn omaha_high(own: CardSet, board: CardSet) -> u32
+    requires own { length own ≡ 4 }
+    requires board { length board ≡ 5 }
+    requires apart { IsTrue (apart own board) }
+    ensures { result ≡ high_number (fives own board) }
+{
+    own.rising();
+    board.rising();
+    law_ranks_or_a_suit();
+    let plain = best_by_ranks(two_and_three(own, board));
+    let flush = suited(own, board, 0)
+        .max(suited(own, board, 1))
+        .max(suited(own, board, 2).max(suited(own, board, 3)));
+    plain.max(flush)
+}
+
+/// The cards from ace to eight.
+#[inline]
+fn low_cards(s: CardSet) -> CardSet
+    ensures { result ≡ filter is_low s }
+{
+    s.rising();
+    let (Some(eight), Some(king)) = (Card::new(6, 3), Card::new(11, 3)) else {
+        unreachable!();
+    };
+    let deck = CardSet::deck();
+    s.minus(deck.above(eight).minus(deck.above(king)))
+}
+
+/// The number of the best low of eight or better of four own cards and five of the board. None
+/// exactly where no five qualify.
+pub fn omaha_low(own: CardSet, board: CardSet) -> Option<u32>
+    requires own { length own ≡ 4 }
+    requires board { length board ≡ 5 }
+    requires apart { IsTrue (apart own board) }
+    ensures { result ≡ eight_number (fives own board) }
+{
+    own.rising();
+    board.rising();
+    law_only_low_cards();
+    best_low(two_and_three(low_cards(own), low_cards(board)))
+}

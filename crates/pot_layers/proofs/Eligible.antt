@@ -1,0 +1,118 @@
+-- Who may win which pot.
+use Rattle.std.proofs.Common.{◌≡◌, ℕ, zero, suc, ◌+◌, ◌-◌, ◌*◌, ◌^◌, ◌<◌, ◌≤◌, List, [], ◌∷◌, refl, ap, ◌∙◌, Bool, true, false, ◌==◌, ◌&&◌, ◌||◌, arith, All}
+use Rattle.std.specs.Prelude.{if◌then◌else◌, nat_le, nat_lt}
+use Rattle.std.specs.Int.{bit_at}
+use Rattle.std.proofs.lemmas.Nat.Bits.{bit_at_above, bit_at_cat_low, bit_at_cat_high, bit_at-pow_same}
+use Rattle.pot_layers.specs.declared.paid.Paid.{Paid}
+use Rattle.pot_layers.specs.declared.paid.Pot.{Pot}
+use Rattle.pot_layers.specs.Pots.{seats_below, reaches, reaching, pots_from, pots, or_one, more_first, more_last, levels, all_dead, above, highest, any_contender}
+use Rattle.pot_layers.specs.Eligible.{is_contender, EligibleBy}
+
+pub few_below : (test : ℕ → Bool) (n : ℕ) → seats_below test n < 2 ^ n
+few_below test zero = omega arith
+few_below test (suc n) = one (test n) (few_below test n)
+  where
+    one : (b : Bool) → seats_below test n < 2 ^ n → seats_below test n + (if b then 2 ^ n else 0) < 2 ^ suc n
+    one true h = let twice : 2 ^ suc n ≡ 2 ^ n + 2 ^ n = grind arith in omega (arith, twice, h)
+    one false h = let twice : 2 ^ suc n ≡ 2 ^ n + 2 ^ n = grind arith in omega (arith, twice, h)
+
+bit_low : (s n k : ℕ) (b : Bool) → k < n → bit_at (s + (if b then 2 ^ n else 0)) k ≡ bit_at s k
+bit_low s n k true h = let turned : s + 2 ^ n ≡ 1 * 2 ^ n + s = omega arith in ap (λ w. bit_at w k) turned ∙ bit_at_cat_low 1 n s k h
+bit_low s n k false h = let turned : s + 0 ≡ s = omega arith in ap (λ w. bit_at w k) turned
+
+bit_high : (s n : ℕ) (b : Bool) → s < 2 ^ n → bit_at (s + (if b then 2 ^ n else 0)) n ≡ (if b then 1 else 0)
+bit_high s n true few =
+    let turned : s + 2 ^ n ≡ 1 * 2 ^ n + s = omega arith in
+    let none : n - n ≡ 0 = omega arith in
+    ap (λ w. bit_at w n) turned ∙ bit_at_cat_high 1 n s n few (omega arith) ∙ ap (λ j. bit_at 1 j) none ∙ bit_at-pow_same 0
+bit_high s n false few = let turned : s + 0 ≡ s = omega arith in ap (λ w. bit_at w n) turned ∙ bit_at_above s n n few (omega arith)
+
+-- the bit of a seat below the end is set exactly where the seat passes
+pub bit_below : (test : ℕ → Bool) (n k : ℕ) → k < n → bit_at (seats_below test n) k ≡ (if test k then 1 else 0)
+bit_below test zero k h = absurd (omega arith)
+bit_below test (suc n) k h = one (k == n) refl (λ l. bit_below test n k l)
+  where
+    one : (b : Bool) → (k == n) ≡ b → (k < n → bit_at (seats_below test n) k ≡ (if test k then 1 else 0)) → bit_at (seats_below test n + (if test n then 2 ^ n else 0)) k ≡ (if test k then 1 else 0)
+    one true e go = let is : k ≡ n = grind arith in rw is (bit_high (seats_below test n) n (test n) (few_below test n))
+    one false e go = let low : k < n = grind arith in bit_low (seats_below test n) n k (test n) low ∙ go low
+
+pub set_or_not : (b : Bool) → ((if b then 1 else 0) == 1) ≡ b
+set_or_not true = refl
+set_or_not false = refl
+
+-- a seat is eligible exactly where it is of a contender who reaches the level
+eligible : (ps : List Paid) (level seat : ℕ) → seat < 11 → (bit_at (reaching ps level) seat == 1) ≡ reaches ps level seat
+eligible ps level seat h = ap (λ w. w == 1) (bit_below (reaches ps level) 11 seat h) ∙ set_or_not (reaches ps level seat)
+
+by_levels : (ps : List Paid) (low : ℕ) (ls : List ℕ) → EligibleBy ps ls (pots_from ps low ls)
+by_levels ps low [] = tt
+by_levels ps low (level ∷ ls) = ((λ seat h. eligible ps level seat h), by_levels ps level ls)
+
+by_first : (ps : List Paid) (ls : List ℕ) (units : ℕ) (all : List Pot) → EligibleBy ps ls all → EligibleBy ps ls (more_first units all)
+by_first ps [] units all h = tt
+by_first ps (level ∷ ls) units [] h = h
+by_first ps (level ∷ ls) units (pot ∷ all) h = h
+
+by_last : (ps : List Paid) (ls : List ℕ) (units : ℕ) (all : List Pot) → EligibleBy ps ls all → EligibleBy ps ls (more_last units all)
+by_last ps [] units all h = tt
+by_last ps (level ∷ ls) units [] h = h
+by_last ps (level ∷ ls) units (pot ∷ []) h = h
+by_last ps (level ∷ ls) units (pot ∷ next ∷ all) h = (h.0, by_last ps ls units (next ∷ all) h.1)
+
+by_one : (ps : List Paid) (ls : List ℕ) (all : List Pot) → EligibleBy ps ls all → EligibleBy ps ls (or_one ps all)
+by_one ps [] all h = tt
+by_one ps (level ∷ ls) [] h = absurd h
+by_one ps (level ∷ ls) (pot ∷ all) h = h
+
+pub reaches_levels : (ps : List Paid) → EligibleBy ps (levels ps) (pots ps)
+unfolding pots
+reaches_levels ps = by_first ps (levels ps) (all_dead ps) _ (by_last ps (levels ps) (above ps (highest ps)) _ (by_one ps (levels ps) _ (by_levels ps 0 (levels ps))))
+
+-- a seat without a contender reaches no level
+reaches_none : (ps : List Paid) (level seat : ℕ) → is_contender ps seat ≡ false → reaches ps level seat ≡ false
+reaches_none [] level seat h = refl
+reaches_none (p ∷ ps) level seat h = one ((p.seat == seat) && p.contender) (nat_le level p.live) (is_contender ps seat) (reaches ps level seat) h (reaches_none ps level seat)
+  where
+    one : (a l c r : Bool) → (a || c) ≡ false → (c ≡ false → r ≡ false) → ((a && l) || r) ≡ false
+    one true l c r h go = cc
+    one false l c r h go = go h
+
+out_of : (ps : List Paid) (level seat : ℕ) → is_contender ps seat ≡ false → bit_at (reaching ps level) seat ≡ 0
+out_of ps level seat h = one (nat_lt seat 11) refl
+  where
+    one : (b : Bool) → nat_lt seat 11 ≡ b → bit_at (reaching ps level) seat ≡ 0
+    one true e = let low : seat < 11 = grind arith in bit_below (reaches ps level) 11 seat low ∙ rw (reaches_none ps level seat h) refl
+    one false e = let high : 11 ≤ seat = grind arith in bit_at_above (reaching ps level) 11 seat (few_below (reaches ps level) 11) high
+
+abbrev IsOut : ℕ → Pot → Type 0
+IsOut seat pot = bit_at pot.eligible seat ≡ 0
+
+out_levels : (ps : List Paid) (seat : ℕ) → is_contender ps seat ≡ false → (low : ℕ) (ls : List ℕ) → All (IsOut seat) (pots_from ps low ls)
+out_levels ps seat h low [] k d l = absurd (omega arith)
+out_levels ps seat h low (level ∷ ls) zero d l = out_of ps level seat h
+out_levels ps seat h low (level ∷ ls) (suc k) d l = out_levels ps seat h level ls k d (omega arith)
+
+out_first : (seat units : ℕ) (all : List Pot) → All (IsOut seat) all → All (IsOut seat) (more_first units all)
+out_first seat units [] h k d l = absurd (omega arith)
+out_first seat units (pot ∷ all) h zero d l = h 0 d (omega arith)
+out_first seat units (pot ∷ all) h (suc k) d l = h (suc k) d (omega arith)
+
+out_last : (seat units : ℕ) (all : List Pot) → All (IsOut seat) all → All (IsOut seat) (more_last units all)
+out_last seat units [] h k d l = absurd (omega arith)
+out_last seat units (pot ∷ []) h zero d l = h 0 d (omega arith)
+out_last seat units (pot ∷ []) h (suc k) d l = absurd (omega arith)
+out_last seat units (pot ∷ next ∷ all) h zero d l = h 0 d (omega arith)
+out_last seat units (pot ∷ next ∷ all) h (suc k) d l = out_last seat units (next ∷ all) (λ j c m. h (suc j) c (omega arith)) k d (omega arith)
+
+out_one : (ps : List Paid) (seat : ℕ) → is_contender ps seat ≡ false → (all : List Pot) → All (IsOut seat) all → All (IsOut seat) (or_one ps all)
+out_one ps seat h [] out = some (any_contender ps)
+  where
+    some : (b : Bool) → All (IsOut seat) (if b then record { units = 0; eligible = reaching ps 0 } ∷ [] else [])
+    some true zero d l = out_of ps 0 seat h
+    some true (suc k) d l = absurd (omega arith)
+    some false k d l = absurd (omega arith)
+out_one ps seat h (pot ∷ all) out = out
+
+pub excludes_folded : (ps : List Paid) (seat : ℕ) → is_contender ps seat ≡ false → All (IsOut seat) (pots ps)
+unfolding pots
+excludes_folded ps seat h = out_first seat (all_dead ps) _ (out_last seat (above ps (highest ps)) _ (out_one ps seat h _ (out_levels ps seat h 0 (levels ps))))

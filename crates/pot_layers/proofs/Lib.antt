@@ -1,0 +1,5 @@
+pub mod Walk
+pub mod Parts
+pub mod Whole
+pub mod Eligible
+pub mod Listed

@@ -1,0 +1,4 @@
+pub mod Pots
+pub mod Uncalled
+pub mod Split
+pub mod Eligible

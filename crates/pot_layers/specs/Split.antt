@@ -1,0 +1,71 @@
+-- How a pot is split. Source: after the rules of the TDA.
+use Rattle.std.specs.Prelude.{◌≡◌, ℕ, zero, suc, ◌+◌, ◌-◌, ◌/◌, ◌%◌, ◌==◌, Bool, false, if◌then◌else◌, List, [], ◌∷◌, min, length, sum_by, ◌≤◌}
+use Rattle.std.specs.List.{list_any}
+use Rattle.std.specs.Int.{bit_at}
+use Rattle.pot_layers.specs.declared.paid.Share.{Share}
+use Rattle.pot_layers.specs.Pots.{seats_below}
+
+-- what a seat gets where each of some seats gets so much and the first of them one more, while units are left over
+abbrev pub given : ℕ → ℕ → List ℕ → ℕ → ℕ
+given each extra [] seat = 0
+given each extra (s ∷ order) seat = if s == seat then each + min extra 1 else given each (extra - 1) order seat
+
+-- a side in equal parts to its winners, the units left over one each in the odd order
+abbrev pub side_share : ℕ → List ℕ → ℕ → ℕ
+side_share units order seat = given (units / length order) (units % length order) order seat
+
+-- the halves of the two sides, the high rounded up; the high has all where nobody wins the low
+abbrev pub high_half : ℕ → ℕ → ℕ
+high_half units low = if low == 0 then units else (units + 1) / 2
+
+abbrev pub low_half : ℕ → ℕ → ℕ
+low_half units low = if low == 0 then 0 else units / 2
+
+-- how many of the two sides a seat wins
+abbrev pub sides_won : ℕ → ℕ → ℕ → ℕ
+sides_won high low seat = bit_at high seat + bit_at low seat
+
+-- the parts of the winners among the seats from one on, rising
+abbrev pub shares_from : ℕ → ℕ → ℕ → List ℕ → List ℕ → ℕ → ℕ → List Share
+shares_from units high low high_order low_order seat zero = []
+shares_from units high low high_order low_order seat (suc n) =
+    if sides_won high low seat == 0
+    then shares_from units high low high_order low_order (seat + 1) n
+    else record {
+      seat = seat;
+      units = side_share (high_half units low) high_order seat + side_share (low_half units low) low_order seat;
+      sides = sides_won high low seat;
+    } ∷ shares_from units high low high_order low_order (seat + 1) n
+
+unfoldable pub shares : ℕ → ℕ → ℕ → List ℕ → List ℕ → List Share
+shares units high low high_order low_order = shares_from units high low high_order low_order 1 10
+
+-- the seat is in an order
+abbrev pub is_among : ℕ → List ℕ → Bool
+is_among seat order = list_any (λ s. s == seat) order
+
+-- no seat is in it twice
+abbrev pub Differ : List ℕ → Type 0
+Differ [] = Unit {0}
+Differ (s ∷ order) = (is_among s order ≡ false) × Differ order
+
+-- its seats are seats of the table
+abbrev pub InRange : List ℕ → Type 0
+InRange [] = Unit {0}
+InRange (s ∷ order) = (1 ≤ s) × (s ≤ 10) × InRange order
+
+-- an order lists the winners of its side, each once
+pub record IsOrder (winners : ℕ) (order : List ℕ) : Type 0 where
+  pub once : Differ order
+  pub seats : InRange order
+  pub each : (seat : ℕ) → is_among seat order ≡ (bit_at winners seat == 1)
+  -- as follows from the others, and is said for those who use it
+  pub none : order ≡ [] → winners ≡ 0
+
+-- what some parts add up to
+abbrev pub given_in_all : List Share → ℕ
+given_in_all parts = sum_by (λ part. part.units) parts
+
+-- a list of different seats is an order of those that it lists
+abbrev pub OrdersItsSeats : Type 0
+OrdersItsSeats = (order : List ℕ) → Differ order → InRange order → IsOrder (seats_below (λ seat. is_among seat order) 11) order

@@ -1,0 +1,214 @@
+//! The pots of a hand: one walk over the levels, from the lowest up.
+
+ghost use Rattle.std.specs.Prelude.{◌≡◌, ℕ, ◌+◌, ◌-◌, ◌<◌, ◌≤◌, ◌^◌, ◌&&◌, ◌==◌, min, nat_le, IfOk, true, [], map};
+ghost use Rattle.std.specs.List.{sum_by};
+ghost use Rattle.pot_layers.specs.Pots.{pots, between, above, all_dead, any_contender, reaches, reaching, seats_below, least_above, lesser, held, put_in_all, more_first, more_last, pots_from, levels, or_one, highest};
+
+use crate::paid::{Paid, Pot};
+use card_sets::Memory;
+use std::alloc::{AllocError, Global};
+use std::marker::Model;
+
+/// The pots of a hand, the main pot first. Clauses see the list of them.
+#[derive(Debug, Drop)]
+pub struct Pots {
+    items: Vec<Pot>,
+}
+
+impl Model for Pots {
+    ghost use Rattle.std.specs.Prelude.{List};
+    ghost use Rattle.pot_layers.specs.declared.paid.Pot.{Pot};
+
+    ghost Value = { List Pot };
+
+    ghost view = { λ p. p.items.items };
+}
+
+impl Pots {
+    /// Of these.
+    pub fn of(items: Vec<Pot>) -> Pots
+        ensures { result ≡ items.items }
+    {
+        Pots { items }
+    }
+
+    /// The pots.
+    pub fn items(&self) -> &[Pot]
+        ensures { result.now ≡ self.now }
+    {
+        self.items.as_slice()
+    }
+}
+
+/// What all players paid between two levels.
+fn between(paid: &[Paid], low: u64, high: u64) -> u64
+    requires { sum_by (λ p. p.live) paid.now < 2 ^ 64 }
+    ensures { result ≡ between paid.now low high }
+{
+    let mut units = 0;
+    for player in paid {
+        units += player.live.min(high).saturating_sub(player.live.min(low));
+    }
+    units
+}
+
+/// The least sum above a level that a contender has paid.
+fn least_above(low: u64, paid: &[Paid]) -> Option<u64>
+    ensures { result ≡ least_above low paid.now }
+{
+    match paid {
+        [] => None,
+        [player, others @ ..] => {
+            let rest = least_above(low, others);
+            if !player.contender || player.live <= low {
+                return rest;
+            }
+            match rest {
+                None => Some(player.live),
+                Some(level) => Some(level.min(player.live)),
+            }
+        }
+    }
+}
+
+/// Whether the seat is of a contender who has paid up to a level.
+fn reaches(paid: &[Paid], level: u64, seat: u8) -> bool
+    ensures { result ≡ reaches paid.now level seat }
+{
+    paid.iter()
+        .any(|p| p.seat == seat && p.contender && level <= p.live)
+}
+
+/// The contenders who have paid up to a level: bit s for seat s.
+fn reaching(paid: &[Paid], level: u64) -> u16
+    ensures { result ≡ reaching paid.now level }
+{
+    let mut seats = 0;
+    for seat in 0..11 {
+        if reaches(paid, level, seat) {
+            seats += 1 << seat;
+        }
+    }
+    seats
+}
+
+/// The pot of each level, and the highest level.
+fn each_level(alloc: Global, paid: &[Paid]) -> Result<Vec<Pot>, AllocError>
+    requires { sum_by (λ p. p.live) paid.now < 2 ^ 64 }
+    ensures { IfOk result (λ pots. pots.items ≡ pots_from paid.now 0 (levels paid.now)) }
+{
+    let mut pots = Vec::new(alloc);
+    let mut low = 0;
+    while let Some(level) = least_above(low, paid) {
+        pots.push(Pot {
+            units: between(paid, low, level),
+            eligible: reaching(paid, level),
+        })?;
+        low = level;
+    }
+    Ok(pots)
+}
+
+/// The highest sum that a contender has paid.
+fn highest(paid: &[Paid]) -> u64
+    ensures { result ≡ highest paid.now }
+{
+    match paid {
+        [] => 0,
+        [player, others @ ..] => {
+            let rest = highest(others);
+            if player.contender {
+                player.live.max(rest)
+            } else {
+                rest
+            }
+        }
+    }
+}
+
+/// Whether there is a contender.
+fn any_contender(paid: &[Paid]) -> bool
+    ensures { result ≡ any_contender paid.now }
+{
+    paid.iter().any(|p| p.contender)
+}
+
+/// What was paid above a level.
+fn above(paid: &[Paid], level: u64) -> u64
+    requires { above paid.now level < 2 ^ 64 }
+    ensures { result ≡ above paid.now level }
+{
+    paid.iter().map(|p| p.live.saturating_sub(level)).sum()
+}
+
+/// All dead chips.
+fn all_dead(paid: &[Paid]) -> u64
+    requires { sum_by (λ p. p.dead) paid.now < 2 ^ 64 }
+    ensures { result ≡ all_dead paid.now }
+{
+    paid.iter().map(|p| p.dead).sum()
+}
+
+/// So much more in the first pot.
+fn add_first(pots: &mut [Pot], units: u64)
+    requires { held pots.old + units < 2 ^ 64 }
+    ensures { pots.new ≡ more_first units pots.old }
+{
+    if let [first, ..] = pots {
+        first.units += units;
+    }
+}
+
+/// So much more in the last.
+fn add_last(pots: &mut [Pot], units: u64)
+    requires { held pots.old + units < 2 ^ 64 }
+    ensures { pots.new ≡ more_last units pots.old }
+{
+    let count = pots.len();
+    if count > 0 {
+        let last = pots[count - 1];
+        pots[count - 1] = Pot {
+            units: last.units + units,
+            eligible: last.eligible,
+        };
+    }
+}
+
+/// So much more in the last pot, and in the first.
+fn add_rest(pots: &mut [Pot], last: u64, first: u64)
+    requires { held pots.old + last + first < 2 ^ 64 }
+    ensures { pots.new ≡ more_first first (more_last last pots.old) }
+{
+    add_last(pots, last);
+    add_first(pots, first);
+}
+
+/// The pots by level, or one pot of all contenders where none of them has paid.
+fn all_levels(alloc: Global, paid: &[Paid]) -> Result<Vec<Pot>, AllocError>
+    requires { sum_by (λ p. p.live) paid.now < 2 ^ 64 }
+    ensures { IfOk result (λ pots. pots.items ≡ or_one paid.now (pots_from paid.now 0 (levels paid.now))) }
+{
+    let mut pots = each_level(alloc, paid)?;
+    if pots.is_empty() && any_contender(paid) {
+        pots.push(Pot {
+            units: 0,
+            eligible: reaching(paid, 0),
+        })?;
+    }
+    Ok(pots)
+}
+
+/// The pots of a hand, of what its players put in: at least one where there is a contender, and then
+/// they hold all of it. The sums of what was put in fit 64 bits.
+#[tactic(auto, unfolding(crate::specs::Pots::pots))]
+pub fn layers(alloc: Global, paid: &[Paid]) -> Result<Pots, Memory>
+    requires { put_in_all paid.now < 2 ^ 64 }
+    ensures pots { IfOk result (λ all. all ≡ pots paid.now) }
+    ensures whole { any_contender paid.now ≡ true → IfOk result (λ all. held all ≡ put_in_all paid.now) }
+{
+    let mut items = all_levels(alloc, paid)?;
+    let above = above(paid, highest(paid));
+    let dead = all_dead(paid);
+    add_rest(&mut items, above, dead);
+    Ok(Pots { items })
+}

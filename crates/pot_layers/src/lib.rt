@@ -1,0 +1,29 @@
+//! What each player of a hand put in, the pots that it makes, and how a pot is split.
+//!
+//! Side pots are layers of minima. Each different sum that a contender has put in is a level, and the
+//! pot of a level holds from every player what he has in between the level below and this one. Its
+//! eligible players are the contenders who have put in that much. Dead chips go into the first pot, and
+//! what folded players have in above the highest level into the last. `layers` gives the pots,
+//! `uncalled` what goes back to a player whom nobody called, and `split` the parts of a pot's winners.
+//!
+//! Clauses see pots, parts and orders as lists. Sets of seats have bit s for seat s.
+#![tactic(auto)]
+
+mod by_level;
+mod laws;
+mod orders;
+mod paid;
+mod returns;
+mod splits;
+#[cfg(test)]
+mod tests;
+
+pub use by_level::{Pots, layers};
+pub use laws::{
+    law_a_folded_player_is_eligible_nowhere, law_a_list_orders_its_seats,
+    law_eligible_players_reach_the_level,
+};
+pub use orders::OddOrder;
+pub use paid::{Paid, Pot, Share, SideWinners};
+pub use returns::uncalled;
+pub use splits::{Shares, split};

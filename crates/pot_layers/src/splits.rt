@@ -1,0 +1,156 @@
+//! How a pot is split.
+
+ghost use Rattle.std.specs.Prelude.{◌≡◌, ℕ, ◌+◌, ◌-◌, ◌/◌, ◌%◌, ◌<◌, ◌≤◌, ◌^◌, ◌==◌, IfOk, length, min};
+ghost use Rattle.std.specs.List.{sum_by};
+ghost use Rattle.std.specs.Int.{bit_at};
+ghost use Rattle.pot_layers.specs.Split.{given, side_share, high_half, low_half, sides_won, shares_from, shares, IsOrder, given_in_all};
+
+use crate::orders::OddOrder;
+use crate::paid::{Share, SideWinners};
+use card_sets::Memory;
+use std::alloc::{AllocError, Global};
+use std::marker::Model;
+
+/// The parts of a pot, by rising seat. Clauses see the list of them.
+#[derive(Debug, Drop)]
+pub struct Shares {
+    items: Vec<Share>,
+}
+
+impl Model for Shares {
+    ghost use Rattle.std.specs.Prelude.{List};
+    ghost use Rattle.pot_layers.specs.declared.paid.Share.{Share};
+
+    ghost Value = { List Share };
+
+    ghost view = { λ s. s.items.items };
+}
+
+impl Shares {
+    /// Of these.
+    pub fn of(items: Vec<Share>) -> Shares
+        ensures { result ≡ items.items }
+    {
+        Shares { items }
+    }
+
+    /// The parts.
+    pub fn items(&self) -> &[Share]
+        ensures { result.now ≡ self.now }
+    {
+        self.items.as_slice()
+    }
+}
+
+/// What a seat gets where each of some seats gets so much, and the first of them one more.
+fn given(each: u64, extra: u64, order: &[u8], seat: u8) -> u64
+    requires { each + extra < 2 ^ 64 }
+    ensures value { result ≡ given each extra order.now seat }
+    ensures within { result ≤ each + extra }
+{
+    match order {
+        [] => 0,
+        [first, others @ ..] => {
+            if *first == seat {
+                each + extra.min(1)
+            } else {
+                given(each, extra.saturating_sub(1), others, seat)
+            }
+        }
+    }
+}
+
+/// What a seat gets of a side.
+fn side_share(units: u64, order: &[u8], seat: u8) -> u64
+    ensures value { result ≡ side_share units order.now seat }
+    ensures within { result ≤ units }
+{
+    if order.is_empty() {
+        return 0;
+    }
+    let count = order.len() as u64;
+    given(units / count, units % count, order, seat)
+}
+
+/// How many sides a seat wins.
+fn sides_won(winners: SideWinners, seat: u8) -> u8
+    requires { seat < 11 }
+    ensures value { result ≡ sides_won winners.high winners.low seat }
+    ensures few { result ≤ 2 }
+{
+    ((winners.high >> seat) & 1) as u8 + ((winners.low >> seat) & 1) as u8
+}
+
+/// The half of the high, rounded up; all of it where nobody wins the low.
+fn high_half(units: u64, low: u16) -> u64
+    ensures value { result ≡ high_half units low }
+    ensures within { result ≤ units }
+{
+    if low == 0 {
+        units
+    } else {
+        units / 2 + units % 2
+    }
+}
+
+/// The half of the low, rounded down.
+fn low_half(units: u64, low: u16) -> u64
+    ensures { result ≡ low_half units low }
+{
+    if low == 0 { 0 } else { units / 2 }
+}
+
+/// The parts of the winners of a pot.
+fn parts(
+    alloc: Global,
+    units: u64,
+    winners: SideWinners,
+    high_order: &[u8],
+    low_order: &[u8],
+) -> Result<Vec<Share>, AllocError>
+    ensures { IfOk result (λ parts. parts.items ≡ shares_from units winners.high winners.low high_order.now low_order.now 1 10) }
+{
+    let mut parts = Vec::new(alloc);
+    let high = high_half(units, winners.low);
+    let low = low_half(units, winners.low);
+    for seat in 1..11 {
+        let sides = sides_won(winners, seat);
+        if sides == 0 {
+            continue;
+        }
+        parts.push(Share {
+            seat,
+            units: side_share(high, high_order, seat) + side_share(low, low_order, seat),
+            sides,
+        })?;
+    }
+    Ok(parts)
+}
+
+/// A pot's units among its winners, by rising seat: each side in equal parts, and the units left over
+/// one each in the order given for the side. Where both sides have winners the high half is rounded
+/// up. The high has winners, and each order lists those of its side once each. A game that has only a
+/// low hands its winners in as high.
+#[tactic(auto, unfolding(crate::specs::Split::shares))]
+pub fn split(
+    alloc: Global,
+    units: u64,
+    winners: SideWinners,
+    high_order: &OddOrder,
+    low_order: &OddOrder,
+) -> Result<Shares, Memory>
+    requires some { 0 < winners.high }
+    requires high { IsOrder winners.high high_order.now }
+    requires low { IsOrder winners.low low_order.now }
+    ensures parts { IfOk result (λ all. all ≡ shares units winners.high winners.low high_order.now low_order.now) }
+    ensures whole { IfOk result (λ all. given_in_all all ≡ units) }
+{
+    let items = parts(
+        alloc,
+        units,
+        winners,
+        high_order.as_slice(),
+        low_order.as_slice(),
+    )?;
+    Ok(Shares { items })
+}

@@ -1,0 +1,7 @@
+use Rattle.rank_high.specs.High.{best_high}
+use Rattle.rank_high.proofs.Order.{value_of-order}
+use Rattle.rank_high.proofs.Best.{best_high-IsHighList}
+use Rattle.rank_high.proofs.laws.law_best_numbers_keep_order.Goals as goal
+
+pub returns : goal.returns
+returns c = λ a b h i. value_of-order (best_high a) (best_high b) (best_high-IsHighList a h) (best_high-IsHighList b i)

@@ -1,0 +1,5 @@
+use Rattle.rank_high.proofs.Hands.{flush_lem}
+use Rattle.rank_high.proofs.laws.law_flush_beats_straight.Goals as goal
+
+pub returns : goal.returns
+returns c = flush_lem

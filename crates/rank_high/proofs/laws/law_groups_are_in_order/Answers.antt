@@ -1,0 +1,5 @@
+use Rattle.rank_high.proofs.InOrder.{groups-AreRanksInOrder}
+use Rattle.rank_high.proofs.laws.law_groups_are_in_order.Goals as goal
+
+pub returns : goal.returns
+returns c = groups-AreRanksInOrder

@@ -1,0 +1,5 @@
+use Rattle.rank_high.proofs.Hands.{suits_lem}
+use Rattle.rank_high.proofs.laws.law_suits_dont_matter.Goals as goal
+
+pub returns : goal.returns
+returns c = suits_lem

@@ -1,0 +1,10 @@
+pub mod LowCounts
+pub mod AceLists
+pub mod AceShapes
+pub mod Turned
+pub mod LowestFive
+pub mod BestLow
+pub mod Made
+pub mod BestFive
+pub mod PlayerLaws
+pub mod DeuceRanks

@@ -1,0 +1,100 @@
+//! What the best five of some cards are worth as a low, by their ranks.
+
+ghost use Rattle.std.specs.Prelude.{◌≡◌, ℕ, ◌+◌, ◌<◌, ◌≤◌, ◌++◌, length, map, Some};
+ghost use Rattle.std.specs.Option.{option_map};
+ghost use Rattle.card_sets.specs.Cards.{IsCardSet, IsRising};
+ghost use Rattle.card_sets.specs.Choose.{choose};
+ghost use Rattle.rank_high.specs.High.{value_of};
+ghost use Rattle.rank_low.specs.Low.{low_a5, low_27, ace_number, least_of, best_low, best_eight};
+ghost use Rattle.rank_low.specs.Wheel.{without_wheel};
+
+use crate::low_ranks::{low_counts, lowest_five};
+use crate::values::numbered;
+use crate::{LowValue, ace_of_five};
+use card_sets::CardSet;
+use rank_high::{high_by_ranks, is_flush};
+
+/// The sizes of five groups of one card, as they stand in a number.
+const FIVE_RANKS: u32 = 0x110_0000;
+
+/// The best five of all the taken cards and so many of the rest, which lie above them.
+fn best_with(taken: CardSet, rest: CardSet, missing: u32) -> LowValue
+    // The rest is a set, as each is.
+    requires above { IsCardSet rest → IsRising (taken ++ rest) }
+    requires five { length taken + missing ≡ 5 }
+    requires enough { missing ≤ length rest }
+    ensures { Some result
+        ≡ option_map ace_number (least_of (map (λ more. low_a5 (taken ++ more)) (choose missing rest))) }
+{
+    if missing == 0 {
+        return ace_of_five(taken);
+    }
+    let Some(card) = rest.first() else {
+        unreachable!();
+    };
+    let others = rest.without(card);
+    let with_card = best_with(taken.with(card), others, missing - 1);
+    if others.count() < missing {
+        return with_card;
+    }
+    let without_card = best_with(taken, others, missing);
+    if without_card < with_card {
+        without_card
+    } else {
+        with_card
+    }
+}
+
+/// What the best five of five to seven cards are worth as an ace-to-five low.
+pub fn ace_five(s: CardSet) -> LowValue
+    requires least { 5 ≤ length s }
+    requires most { length s ≤ 7 }
+    ensures { Some result ≡ option_map ace_number (best_low s) }
+{
+    s.rising();
+    if let Some(ranks) = lowest_five(&low_counts(s), 13) {
+        return numbered(FIVE_RANKS + ranks);
+    }
+    best_with(CardSet::empty(), s, 5)
+}
+
+/// What the best five that qualify, of five to seven cards, are worth as a low of eight or better.
+/// None exactly where no five qualify.
+pub fn eight_or_better(s: CardSet) -> Option<LowValue>
+    requires least { 5 ≤ length s }
+    requires most { length s ≤ 7 }
+    ensures { result ≡ option_map ace_number (best_eight s) }
+{
+    s.rising();
+    let ranks = lowest_five(&low_counts(s), 8)?;
+    Some(numbered(FIVE_RANKS + ranks))
+}
+
+/// The number of ace, five, four, three and deuce with the ace high.
+const ACE_HIGH: u32 = 0xe_5432;
+
+/// The number of five cards by ranks alone, without the straight of five to ace. Its last digit tells
+/// that straight, since only there does a card count 1.
+#[inline]
+fn without_wheel(number: u32) -> u32
+    ensures { result ≡ without_wheel number }
+{
+    if number % 16 == 1 { ACE_HIGH } else { number }
+}
+
+/// What five cards are worth as a deuce-to-seven low.
+pub fn deuce_seven(s: CardSet) -> LowValue
+    requires { length s ≡ 5 }
+    ensures { result ≡ value_of (low_27 s) }
+{
+    s.rising();
+    let plain = without_wheel(high_by_ranks(s).number());
+    if !is_flush(s) {
+        return numbered(plain);
+    }
+    if plain < 0x10_0000 {
+        numbered(plain + 0x50_0000)
+    } else {
+        numbered(plain + 0x40_0000)
+    }
+}

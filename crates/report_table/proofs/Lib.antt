@@ -1,0 +1,2 @@
+pub mod AloneFacts
+pub mod SpotFacts

@@ -1,0 +1,11 @@
+pub use Rattle.card_sets.specs.State
+pub use Rattle.share_fractions.specs.Round
+pub use Rattle.showdown_tally.specs.Showdown
+pub use Rattle.showdown_tally.specs.Tallies
+pub use Rattle.equity_job.specs.Jobs
+pub use Rattle.history_text.specs.Names
+pub mod Words
+pub mod Spots
+pub mod Equities
+pub mod Causes
+pub mod Hands

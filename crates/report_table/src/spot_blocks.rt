@@ -1,0 +1,76 @@
+//! The block of a spot.
+
+ghost use Rattle.std.specs.Prelude.{◌≡◌, ◌≤◌, ◌++◌, IfOk, OnOk, OnErr, Ok, length, sum};
+ghost use Rattle.card_sets.specs.State.{state_of};
+ghost use Rattle.runout_ranges.specs.Slots.{unseen, slots, counts_of};
+ghost use Rattle.report_table.specs.Equities.{IsEquityOf};
+ghost use Rattle.report_table.specs.Spots.{alone, seen_spot, spot_block};
+
+use crate::equity::{Equity, Form};
+use crate::spots::{write_counted, write_refused, write_rejected};
+use card_sets::{Known, Memory};
+use equity_job::JobFault;
+use spot_text::SpotFault;
+use std::alloc::AllocError;
+
+/// Appends the block of a spot that is well written.
+#[tactic(auto, unfolding(crate::specs::Spots::spot_block))]
+fn write_known(
+    out: &mut Vec<u8>,
+    place: u64,
+    line: u32,
+    known: &Known,
+    equity: &Equity,
+) -> Result<(), AllocError>
+    requires enough { sum (counts_of (slots (state_of known.now))) ≤ length (unseen (state_of known.now)) }
+    requires equity { IsEquityOf (alone (state_of known.now)) equity.now }
+    ensures { OnOk result (out.new.items ≡ out.old.items ++ spot_block place line (Ok (state_of known.now))) }
+{
+    match equity {
+        Equity::Counted(tally) => write_counted(out, place, known, tally),
+        Equity::Refused(JobFault::AboveLimit) => write_refused(out, place, known.game),
+        Equity::Refused(JobFault::DeckShort) | Equity::NotAsked => unreachable!(),
+    }
+}
+
+/// Appends the line of a spot that is rejected, or the block of one that is well written.
+#[tactic(auto, unfolding(crate::specs::Spots::spot_block))]
+fn write_block(
+    out: &mut Vec<u8>,
+    place: u64,
+    line: u32,
+    known: &Result<Known, SpotFault>,
+    equity: &Equity,
+) -> Result<(), AllocError>
+    requires enough { IfOk known.now (λ k. sum (counts_of (slots (state_of k))) ≤ length (unseen (state_of k))) }
+    requires equity { IfOk known.now (λ k. IsEquityOf (alone (state_of k)) equity.now) }
+    ensures { OnOk result (out.new.items ≡ out.old.items ++ spot_block place line (seen_spot known.now)) }
+{
+    match known {
+        Ok(known) => write_known(out, place, line, known, equity),
+        Err(fault) => write_rejected(out, place, u64::from(line), fault),
+    }
+}
+
+/// Appends the block of a spot: the line of its rejection, that it has too many runouts, or how all of
+/// its runouts end for each hand. Places and lines count from 1. The known cards are an answer of
+/// `read_spot`, and the equity is that of `table_alone`; where the spot is rejected it isn't looked at.
+/// Want of memory leaves `out` as it was.
+pub fn write_spot(
+    out: &mut Vec<u8>,
+    place: u64,
+    line: u32,
+    known: &Result<Known, SpotFault>,
+    equity: &Equity,
+    _form: Form,
+) -> Result<(), Memory>
+    requires enough { IfOk known.now (λ k. sum (counts_of (slots (state_of k))) ≤ length (unseen (state_of k))) }
+    requires equity { IfOk known.now (λ k. IsEquityOf (alone (state_of k)) equity.now) }
+    ensures block { OnOk result (out.new.items ≡ out.old.items ++ spot_block place line (seen_spot known.now)) }
+    ensures memory { OnErr result (out.new.items ≡ out.old.items) }
+{
+    let mut block = Vec::new(*out.allocator());
+    write_block(&mut block, place, line, known, equity)?;
+    out.extend_from_slice(&block)?;
+    Ok(())
+}

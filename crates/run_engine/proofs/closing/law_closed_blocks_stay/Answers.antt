@@ -1,0 +1,5 @@
+use Rattle.run_engine.proofs.RunFacts.{closed_stays}
+use Rattle.run_engine.proofs.closing.law_closed_blocks_stay.Goals as goal
+
+pub returns : goal.returns
+returns c = λ mode bytes rest. closed_stays mode bytes rest (c.law_closed_lines.ensures bytes)

@@ -1,0 +1,9 @@
+-- What holds of the report of any bytes.
+use Rattle.std.specs.Prelude.{◌≡◌, ℕ, List, ◌++◌}
+use Rattle.run_engine.specs.Closed.{closed}
+use Rattle.run_engine.specs.Report.{report}
+use Rattle.run_engine.specs.declared.command.Mode.{Mode}
+
+-- the report of the closed part is a front of the report, whatever bytes follow
+abbrev pub ClosedBlocksStay : Type 0
+ClosedBlocksStay = (mode : Mode) (bytes rest : List ℕ) → (more : List ℕ) × (report mode (bytes ++ rest) ≡ report mode (closed mode bytes) ++ more)
