@@ -8,6 +8,8 @@ mod checks;
 #[cfg(test)]
 mod faults;
 #[cfg(test)]
+mod games;
+#[cfg(test)]
 mod histories;
 #[cfg(test)]
 mod refusals;

@@ -97,6 +97,18 @@ pot-AddUp-high deal runout pot game some few = one (has_two_sides deal.state.gam
         sum-same (λ h. units deal pot h runout) (λ h. part_of 5040 (winners deal pot High runout) h) (eligible_in deal pot) (λ h. ap (λ b. units_by_sides b (winners deal pot High runout) (winners deal pot Low runout) h) e ∙ ap (λ l. units_by_sides false (winners deal pot High runout) l h) none ∙ add-zero (part_of 5040 (winners deal pot High runout) h))
         ∙ all_of_it (λ i. is_some (value_after High deal.state runout i) && list_all (λ j. not (is_beaten_by High (value_after High deal.state runout i) (value_after High deal.state runout j))) (eligible_in deal pot)) (eligible_in deal pot) top few
 
+-- in a game with a low alone a pot that somebody wins is given out whole
+pub pot-AddUp-low : (deal : Showdown) (runout : List (List ℕ)) (pot : ℕ) → has_side High deal.state.game ≡ false → 0 < length (winners deal pot Low runout) → length (eligible_in deal pot) ≤ 10 → AddUp deal runout pot
+unfolding winners
+pot-AddUp-low deal runout pot game some few =
+    let none : winners deal pot High runout ≡ [] = no_side High deal pot runout game in
+    let two : has_two_sides deal.state.game ≡ false = ap (λ b. b && has_side Low deal.state.game) game in
+    sum-same (λ h. units deal pot h runout) (λ h. part_of 5040 (winners deal pot Low runout) h) (eligible_in deal pot) (λ h. ap (λ b. units_by_sides b (winners deal pot High runout) (winners deal pot Low runout) h) two ∙ ap (λ l. units_by_sides false l (winners deal pot Low runout) h) none ∙ alone (winners deal pot Low runout) h)
+    ∙ all_of_it (λ i. is_some (value_after Low deal.state runout i) && list_all (λ j. not (is_beaten_by Low (value_after Low deal.state runout i) (value_after Low deal.state runout j))) (eligible_in deal pot)) (eligible_in deal pot) some few
+  where
+    alone : (lows : List ℕ) (h : ℕ) → units_by_sides false [] lows h ≡ part_of 5040 lows h
+    alone lows h = omega arith
+
 one-true : (bit : ℕ) → bit ≡ 1 → (bit == 1) ≡ true
 one-true bit e = grind arith
 

@@ -1,11 +1,11 @@
 //! What holds of the definitions: each runout is counted once, each pot is given out whole, and
 //! numbers keep the order of hands.
 
-ghost use Rattle.std.specs.Prelude.{◌≡◌, ℕ, ◌<◌, ◌≤◌, List, Some, length, true};
+ghost use Rattle.std.specs.Prelude.{◌≡◌, ℕ, ◌<◌, ◌≤◌, List, Some, length, true, false};
 ghost use Rattle.card_sets.specs.declared.games.Game.{Game};
 ghost use Rattle.card_sets.specs.declared.games.Side.{Side};
 ghost use Rattle.card_sets.specs.Games.{has_side};
-ghost use Rattle.showdown_tally.specs.Showdown.{Showdown, best, eligible_in};
+ghost use Rattle.showdown_tally.specs.Showdown.{Showdown, best, eligible_in, winners};
 ghost use Rattle.showdown_tally.specs.Laws.{EndsOneWay, AddUp, IsFull, KeepOrder};
 
 use card_sets::{Game, Side};
@@ -17,10 +17,13 @@ pub fn law_each_runout_ends_one_way()
 {}
 
 /// In a game with a high, whether it has a low or not, the units of the eligible hands of a pot, of
-/// which there are one to ten, add up to the whole pot after each runout.
+/// which there are one to ten, add up to the whole pot after each runout. In a game with a low alone
+/// they do where somebody wins it.
 pub fn law_pots_are_given_out()
-    ensures { (deal : Showdown) (runout : List (List ℕ)) (pot : ℕ) → has_side Side.High deal.state.game ≡ true
+    ensures high { (deal : Showdown) (runout : List (List ℕ)) (pot : ℕ) → has_side Side.High deal.state.game ≡ true
         → 0 < length (eligible_in deal pot) → length (eligible_in deal pot) ≤ 10 → AddUp deal runout pot }
+    ensures low { (deal : Showdown) (runout : List (List ℕ)) (pot : ℕ) → has_side Side.High deal.state.game ≡ false
+        → 0 < length (winners deal pot Side.Low runout) → length (eligible_in deal pot) ≤ 10 → AddUp deal runout pot }
 {}
 
 /// In each game and on each side, the value of a full hand beats that of another exactly where the
