@@ -16,7 +16,7 @@ map_map f g (l ∷ ls) = ap (λ ns. f (g l) ∷ ns) (map_map f g ls)
 abbrev pub with_two : (List ℕ → ℕ) → List ℕ → List ℕ → ℕ
 with_two f board two = greatest (map (λ three. f (union two three)) (choose 3 board))
 
-greatest-flat : (f : List ℕ → ℕ) (board : List ℕ) (twos : List (List ℕ)) → greatest (map f (flat_map (λ two. map (λ three. union two three) (choose 3 board)) twos)) ≡ greatest (map (with_two f board) twos)
+pub greatest-flat : (f : List ℕ → ℕ) (board : List ℕ) (twos : List (List ℕ)) → greatest (map f (flat_map (λ two. map (λ three. union two three) (choose 3 board)) twos)) ≡ greatest (map (with_two f board) twos)
 greatest-flat f board [] = refl
 greatest-flat f board (two ∷ twos) =
     ap greatest (map-append f (map (λ three. union two three) (choose 3 board)) (flat_map (λ two. map (λ three. union two three) (choose 3 board)) twos))

@@ -66,3 +66,6 @@ few_own own board few = rw (choose-short 2 own few) value_of-none
 pub few_board : (own board : List ℕ) → length board < 3 → value_of (omaha_high own board) ≡ 0
 unfolding omaha_high
 few_board own board few = rw (none_with (choose 2 own) board (choose-short 3 board few)) value_of-none
+
+pub no-five : (own board : List ℕ) → length board < 3 → fives own board ≡ []
+no-five own board few = none_with (choose 2 own) board (choose-short 3 board few)

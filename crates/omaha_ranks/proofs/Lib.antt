@@ -3,3 +3,4 @@ pub mod Allowed
 pub mod Bests
 pub mod TwoParts
 pub mod LowCards
+pub mod Worths

@@ -1,17 +1,21 @@
 -- The best high of two own cards and three of the board is the best by ranks alone, or the best of one suit.
 use Rattle.std.proofs.Common.{◌≡◌, ℕ, suc, ◌≤◌, ◌<◌, ◌==◌, List, ◌∷◌, [], refl, ap, ◌∙◌, sym, arith, Bool, true, false, length, map, max, subst}
 use Rattle.std.specs.Prelude.{slice_index}
-use Rattle.card_sets.specs.Cards.{suit_of, rank_of, union}
+use Rattle.card_sets.specs.Cards.{suit_of, rank_of, union, IsCardSet}
+use Rattle.card_sets.specs.Choose.{choose}
+use Rattle.card_sets.specs.declared.games.Side.{Side}
 use Rattle.rank_high.specs.High.{value_of, is_flush, count_of_rank}
 use Rattle.rank_high.specs.Parts.{of_suit, plain_high}
 use Rattle.rank_high.proofs.Best.{greatest}
 use Rattle.rank_high.proofs.Counts.{groups_counted-same, ranks_counted-same}
 use Rattle.rank_high.proofs.Parts.{number, plain_number, plain-less, plain-same, flush_suit, one_of_four}
 use Rattle.rank_high.proofs.RankLists.{same-rank_lists, times-ranks, times}
-use Rattle.rank_high.proofs.Sublists.{IsPart, passing_part, part_of_passing, part_of_image, image_of_part}
+use Rattle.rank_high.proofs.Sublists.{IsPart, passing_part, part_of_passing, part_of_image, image_of_part, greatest_most, greatest_least}
 use Rattle.omaha_ranks.specs.Omaha.{fives, omaha_high, omaha_plain, omaha_suited, ArePlaced, IsByRanksOrSuit, RanksDecide}
-use Rattle.omaha_ranks.proofs.Allowed.{AreTwoAndThree, allowed_most, allowed_least}
-use Rattle.rank_high.proofs.SetParts.{set-part, Apart-parts, all-union, count-union}
+use Rattle.omaha_ranks.specs.Worth.{worth, best_with, best_own}
+use Rattle.omaha_ranks.proofs.Allowed.{AreTwoAndThree, allowed_most, allowed_least, with_two, greatest-flat}
+use Rattle.omaha_ranks.proofs.Worths.{five_worth, worth-five, same_greatest, none-union}
+use Rattle.rank_high.proofs.SetParts.{set-part, Apart-parts, all-union, count-union, union-IsCardSet}
 use Rattle.rank_high.proofs.Sets.{Apart-apart, length-union}
 use Rattle.omaha_ranks.proofs.Bests.{high-number, plain-five, suit-number}
 
@@ -97,3 +101,27 @@ ranks_decide own board o b placed others same_own same_board =
     let e : map rank_of own ≡ map rank_of o = same-rank_lists own o placed.own_cards others.own_cards same_own in
     let f : map rank_of board ≡ map rank_of b = same-rank_lists board b placed.board_cards others.board_cards same_board in
     omega (arith, plain-five own board placed, plain-five o b others, decide-most own board o b placed others e f, decide-most o b own board others placed (sym e) (sym f))
+
+-- the choices of so many have the same greatest number where each has the same number
+greatest-parts : (k : ℕ) (xs : List ℕ) (f g : List ℕ → ℕ) → ((part : List ℕ) → length part ≡ k → IsPart part xs → f part ≡ g part) → greatest (map f (choose k xs)) ≡ greatest (map g (choose k xs))
+greatest-parts k xs f g h =
+    let less : greatest (map f (choose k xs)) ≤ greatest (map g (choose k xs)) = greatest_most k xs f (greatest (map g (choose k xs))) (λ part e p. omega (arith, h part e p, greatest_least k xs g part e p)) in
+    let more : greatest (map g (choose k xs)) ≤ greatest (map f (choose k xs)) = greatest_most k xs g (greatest (map f (choose k xs))) (λ part e p. omega (arith, h part e p, greatest_least k xs f part e p)) in
+    omega arith
+
+-- two own cards are worth with the best three of the board what the best of their fives is
+two-is : (side : Side) (own board two : List ℕ) → ArePlaced own board → length two ≡ 2 → IsPart two own → best_with side (union [] two) 3 board ≡ with_two (five_worth side) board two
+unfolding best_with
+two-is side own board two placed e p =
+    let set : IsCardSet two = set-part two own p placed.own_cards in
+    ap (λ l. best_with side l 3 board) (none-union two set)
+    ∙ same_greatest (map (λ three. worth side (union two three)) (choose 3 board))
+    ∙ greatest-parts 3 board (λ three. worth side (union two three)) (λ three. five_worth side (union two three)) (λ three d q. worth-five side (union two three) (union-IsCardSet two three) (five own board two three placed (record { two_cards = e; of_own = p; three_cards = d; of_board = q })))
+
+-- and so are all own cards
+pub own-is : (side : Side) (own board : List ℕ) → ArePlaced own board → best_own side [] 2 own board ≡ greatest (map (five_worth side) (fives own board))
+unfolding best_own
+own-is side own board placed =
+    same_greatest (map (λ two. best_with side (union [] two) 3 board) (choose 2 own))
+    ∙ greatest-parts 2 own (λ two. best_with side (union [] two) 3 board) (with_two (five_worth side) board) (λ two e p. two-is side own board two placed e p)
+    ∙ sym (greatest-flat (five_worth side) board (choose 2 own))

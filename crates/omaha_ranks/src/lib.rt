@@ -2,6 +2,7 @@
 //! chosen for the high and for the low apart.
 #![tactic(auto)]
 
+mod best_choice;
 mod best_five;
 mod laws;
 mod omaha;

@@ -4,9 +4,10 @@ ghost use Rattle.std.specs.Prelude.{◌≡◌, ◌<◌, ◌≤◌, filter, lengt
 ghost use Rattle.card_sets.specs.Disjoint.{apart};
 ghost use Rattle.omaha_ranks.specs.Omaha.{high_number, eight_number, fives, omaha_suited, is_low};
 
-use crate::best_five::{best_by_ranks, best_high, best_low};
+use crate::best_choice::best_own;
+use crate::best_five::best_high;
 use crate::laws::{law_only_low_cards, law_ranks_or_a_suit};
-use card_sets::{Card, CardSet};
+use card_sets::{Card, CardSet, Side};
 use hand_choice::two_and_three;
 
 /// The number of the best high of one suit. 0 where there are fewer than two own cards of it or
@@ -42,11 +43,10 @@ pub fn omaha_high(own: CardSet, board: CardSet) -> u32
     own.rising();
     board.rising();
     law_ranks_or_a_suit();
-    let plain = best_by_ranks(two_and_three(own, board));
     let flush = suited(own, board, 0)
         .max(suited(own, board, 1))
         .max(suited(own, board, 2).max(suited(own, board, 3)));
-    plain.max(flush)
+    best_own(Side::High, CardSet::empty(), own, 2, board, flush)
 }
 
 /// The cards from ace to eight.
@@ -73,5 +73,13 @@ pub fn omaha_low(own: CardSet, board: CardSet) -> Option<u32>
     own.rising();
     board.rising();
     law_only_low_cards();
-    best_low(two_and_three(low_cards(own), low_cards(board)))
+    let low_board = low_cards(board);
+    if low_board.count() < 3 {
+        return None;
+    }
+    let worth = best_own(Side::Low, CardSet::empty(), low_cards(own), 2, low_board, 0);
+    if worth == 0 {
+        return None;
+    }
+    Some(u32::MAX - worth)
 }
