@@ -20,13 +20,13 @@ use Rattle.rank_low.proofs.Turned.{turned, ace_turned, AreAceLists, from_turned,
 use Rattle.rank_low.proofs.LowestFive.{five_turned, part-FewOfEach, all_of, lowest-least, low_digits-lt, groups-fall, reached, ace_five-number}
 use Rattle.rank_low.proofs.BestLow.{with_taken-AreAceLists}
 
-map_map : (ls : List (List ℕ)) → map ace_turned (map low_a5 ls) ≡ map five_turned ls
+pub map_map : (ls : List (List ℕ)) → map ace_turned (map low_a5 ls) ≡ map five_turned ls
 map_map [] = refl
 map_map (l ∷ ls) = ap (λ ns. five_turned l ∷ ns) (map_map ls)
 
-length-map_low : (ls : List (List ℕ)) → length (map low_a5 ls) ≡ length ls
-length-map_low [] = refl
-length-map_low (l ∷ ls) = ap suc (length-map_low ls)
+pub length-map_low_lists : (ls : List (List ℕ)) → length (map low_a5 ls) ≡ length ls
+length-map_low_lists [] = refl
+length-map_low_lists (l ∷ ls) = ap suc (length-map_low_lists ls)
 
 pub some-choice : (k : ℕ) (xs : List ℕ) → k ≤ length xs → 0 < length (choose k xs)
 some-choice zero xs h = omega arith
@@ -55,7 +55,7 @@ pub ace_five-is : (cards : List ℕ) (v : ℕ) → IsCardSet cards → 5 ≤ len
 unfolding best_low
 ace_five-is cards v set h low =
     let small : v < 1048576 = lowest-small (held (count_of_low cards) 0) 13 v (omega arith) low in
-    from_turned (map low_a5 (choose 5 cards)) (17825792 + v) (with_taken-AreAceLists [] 5 cards (IsCardSet-rising cards set) refl) (omega (arith, length-map_low (choose 5 cards), some-choice 5 cards h)) (omega arith)
+    from_turned (map low_a5 (choose 5 cards)) (17825792 + v) (with_taken-AreAceLists [] 5 cards (IsCardSet-rising cards set) refl) (omega (arith, length-map_low_lists (choose 5 cards), some-choice 5 cards h)) (omega arith)
     (sym (ap greatest (map_map (choose 5 cards)) ∙ ace_five-number cards v set low))
 
 -- what five cards are worth, turned round, if they qualify

@@ -8,3 +8,4 @@ pub mod Made
 pub mod BestFive
 pub mod PlayerLaws
 pub mod DeuceRanks
+pub mod LowestPair

@@ -8,7 +8,7 @@ ghost use Rattle.rank_high.specs.High.{value_of};
 ghost use Rattle.rank_low.specs.Low.{low_a5, low_27, ace_number, least_of, best_low, best_eight};
 ghost use Rattle.rank_low.specs.Wheel.{without_wheel};
 
-use crate::low_ranks::{low_counts, lowest_five};
+use crate::low_ranks::{low_counts, lowest_five, pair_and_three};
 use crate::values::numbered;
 use crate::{LowValue, ace_of_five};
 use card_sets::CardSet;
@@ -16,6 +16,9 @@ use rank_high::{high_by_ranks, is_flush};
 
 /// The sizes of five groups of one card, as they stand in a number.
 const FIVE_RANKS: u32 = 0x110_0000;
+
+/// The sizes of a group of two cards and of three of one, as they stand in a number.
+const PAIR_AND_THREE: u32 = 0x210_0000;
 
 /// The best five of all the taken cards and so many of the rest, which lie above them.
 fn best_with(taken: CardSet, rest: CardSet, missing: u32) -> LowValue
@@ -52,8 +55,12 @@ pub fn ace_five(s: CardSet) -> LowValue
     ensures { Some result ≡ option_map ace_number (best_low s) }
 {
     s.rising();
-    if let Some(ranks) = lowest_five(&low_counts(s), 13) {
+    let counts = low_counts(s);
+    if let Some(ranks) = lowest_five(&counts, 13) {
         return numbered(FIVE_RANKS + ranks);
+    }
+    if let Some(ranks) = pair_and_three(&counts) {
+        return numbered(PAIR_AND_THREE + ranks);
     }
     best_with(CardSet::empty(), s, 5)
 }
