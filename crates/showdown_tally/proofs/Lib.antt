@@ -12,3 +12,4 @@ pub mod PotScene
 pub mod Shares
 pub mod BothSides
 pub mod KeptOrder
+pub mod OnlySuits

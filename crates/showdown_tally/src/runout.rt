@@ -17,7 +17,7 @@ use crate::laws::law_values_keep_order;
 use crate::settle::settle_pot;
 use crate::table::Table;
 use crate::tally::Tally;
-use crate::values::side_value;
+use crate::values::{flush_suit, has_side, value_beside};
 use card_sets::{CardSet, Game, Known, Side};
 use runout_ranges::{Receiver, Runout, Shape};
 use std::sync::ledger::Ledger;
@@ -79,8 +79,12 @@ fn side_values(side: Side, game: Game, hands: &[CardSet], board: CardSet) -> [Op
         → number_of result h ≡ option_map (side_number side game) (best side game (slice_index_or hands.now h []) board) }
 {
     let mut values = [None; 10];
+    if hands.is_empty() || !has_side(side, game) {
+        return values;
+    }
+    let suit = flush_suit(board);
     for (hand, own) in hands.iter().enumerate() {
-        values[hand] = side_value(side, game, *own, board);
+        values[hand] = value_beside(side, game, *own, board, suit);
     }
     values
 }

@@ -18,6 +18,6 @@ loop-hand-preserved c =
         | inr ge ↦
             let same : h ≡ c.loop-hand.hand = omega arith in
             let inside : c.loop-hand.hand < length c.loop-hand.values = omega arith in
-            rw (same, get_or-set_same) (c.side_value.ensures ∙ ap (λ cards. option_map (side_number c.args.side c.args.game) (best c.args.side c.args.game cards c.args.board)) own)
+            rw (same, get_or-set_same) (c.value_beside.ensures ∙ ap (λ cards. option_map (side_number c.args.side c.args.game) (best c.args.side c.args.game cards c.args.board)) own)
       ];
     }
