@@ -5,4 +5,7 @@ pub use Rattle.runout_ranges.specs.Shapes
 pub use Rattle.runout_ranges.specs.Slots
 pub use Rattle.showdown_tally.specs.Deals
 pub use Rattle.showdown_tally.specs.Tallies
+pub use Rattle.showdown_tally.specs.Cells
+pub use Rattle.showdown_tally.specs.Showdown
 pub mod Jobs
+pub mod Blocks

@@ -1,18 +1,19 @@
-//! The count of a job, one runout after another.
+//! The count of a job.
 
 ghost use Rattle.std.specs.Prelude.{◌≡◌, ◌+◌, ◌<◌, length};
 ghost use Rattle.card_sets.specs.State.{state_of};
 ghost use Rattle.showdown_tally.specs.Deals.{deal_of};
 ghost use Rattle.showdown_tally.specs.Tallies.{Counts, runouts_after};
 
-use crate::Job;
+use crate::{Job, Scratch, count_block};
 use runout_ranges::{Runout, advance, first_runout};
 use showdown_tally::{Tally, settle_runout};
 use std::marker::Brand;
 use std::sync::ledger::{Blank, Ledger};
 use step_count::Steps;
 
-/// The tally of all runouts of a job. It takes one step a runout, and no memory.
+/// The tally of all runouts of a job, one runout after another: the measure of `count_block`. It takes one step a runout,
+/// and no memory.
 pub fn count_plain<L: Ledger>(job: &Job, steps: &mut Steps<L>) -> Tally
     ensures counts { Counts (deal_of job.now.table) (runouts_after (state_of job.now.table.known)) result }
     ensures some { 0 < result.runouts }
@@ -29,6 +30,22 @@ pub fn count_plain<L: Ledger>(job: &Job, steps: &mut Steps<L>) -> Tally
     }
 }
 
+/// The tally of all runouts of a job, one block after another. It takes one step a runout.
+fn count_blocks<L: Ledger>(job: &Job, steps: &mut Steps<L>) -> Tally
+    ensures counts { Counts (deal_of job.now.table) (runouts_after (state_of job.now.table.known)) result }
+    ensures some { 0 < result.runouts }
+    ensures steps { steps.new ≡ steps.old + length (runouts_after (state_of job.now.table.known)) }
+{
+    job.shape.unseen.rising();
+    let mut scratch = Scratch::new();
+    let mut total = count_block(job, 0, &mut scratch, steps);
+    for block in 1..job.blocks() {
+        let tally = count_block(job, block, &mut scratch, steps);
+        total.add(&tally);
+    }
+    total
+}
+
 /// The same with a counter of its own, which begins at 0.
 fn count_on<L: Ledger>(job: &Job, blank: Blank) -> Tally
     requires name { blank.name ≡ L.name }
@@ -38,7 +55,7 @@ fn count_on<L: Ledger>(job: &Job, blank: Blank) -> Tally
     ensures some { 0 < result.runouts }
 {
     let mut steps = Steps::<L>::new(blank);
-    count_plain(job, &mut steps)
+    count_blocks(job, &mut steps)
 }
 
 /// The tally of all runouts of a job, for a caller that counts no steps.

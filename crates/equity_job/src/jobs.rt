@@ -5,10 +5,11 @@ ghost use Rattle.std.specs.Result.{IsErrOf};
 ghost use Rattle.card_sets.specs.State.{state_of};
 ghost use Rattle.runout_ranges.specs.Shapes.{IsShapeOf};
 ghost use Rattle.showdown_tally.specs.Tallies.{runouts_after};
+ghost use Rattle.equity_job.specs.Blocks.{blocks_of};
 ghost use Rattle.equity_job.specs.Jobs.{IsDeckShort, IsAboveLimit};
 ghost use Rattle.equity_job.specs.declared.limits.TheConstants.{RUNOUT_MAX};
 
-use crate::RUNOUT_MAX;
+use crate::{BLOCK, RUNOUT_MAX};
 use runout_ranges::{Shape, count_runouts, shape};
 use showdown_tally::Table;
 
@@ -66,5 +67,12 @@ impl Job {
         ensures { result ≡ length (runouts_after (state_of self.now.table.known)) }
     {
         self.runouts
+    }
+
+    /// How many blocks of `BLOCK` they are, of which the last may be short.
+    pub fn blocks(&self) -> u32
+        ensures { result ≡ blocks_of (length (runouts_after (state_of self.now.table.known))) }
+    {
+        ((self.runouts + (BLOCK - 1)) / BLOCK) as u32
     }
 }

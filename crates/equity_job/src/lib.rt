@@ -1,15 +1,20 @@
-//! Equities that can be counted, and their count, one runout after another.
+//! Equities that can be counted, and their count, one block of runouts after another.
 //!
-//! A `Job` is a table whose runouts are few enough. To count it is to settle each of its runouts once, in the order of their
-//! listing, and to add them up in one `Tally`. Nothing here takes memory.
+//! A `Job` is a table whose runouts are few enough. To count it is to settle each of its runouts once, and to add them up in
+//! one `Tally`. The runouts stand in blocks of `BLOCK`, in the order of their listing, and `count_block` counts one of them,
+//! so that a job can be counted in parts. `count_plain` goes through all runouts in one walk. Nothing here takes memory.
 #![tactic(auto)]
 
+mod blocks;
 mod counting;
 mod jobs;
+mod laws;
 mod limits;
 #[cfg(test)]
 mod tests;
 
+pub use blocks::{Scratch, count_block};
 pub use counting::{count_job, count_plain};
 pub use jobs::{Job, JobFault};
-pub use limits::RUNOUT_MAX;
+pub use laws::{law_block_sums_add, law_blocks_add_up, law_blocks_are_all};
+pub use limits::{BLOCK, RUNOUT_MAX};

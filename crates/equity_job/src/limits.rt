@@ -2,3 +2,6 @@
 
 /// The most runouts that an equity is counted over.
 pub const RUNOUT_MAX: u64 = 10_000_000;
+
+/// How many runouts a block has, but for the last.
+pub const BLOCK: u64 = 4096;

@@ -323,6 +323,7 @@ fn one_dead_card_decides_on_the_limit(rt: HostRuntime) -> Result<(), Fail> {
         .ok()
         .ok_or("no job")?;
     assert_eq!(rt; job.runouts(), 8_717_940);
+    assert_eq!(rt; job.blocks(), 2_129, "2128 whole blocks and 1652 runouts");
     Ok(())
 }
 

@@ -1,0 +1,56 @@
+-- The sums of all blocks are those of the listing.
+use Rattle.std.proofs.Common.{◌≡◌, ℕ, zero, suc, ◌+◌, ◌*◌, ◌≤◌, ◌<◌, List, length, length-append, sum, refl, sym, ap, ◌∙◌, arith, cond}
+use Rattle.std.specs.List.{sum_by}
+use Rattle.std.proofs.lemmas.List.Sums.{sum_by-append}
+use Rattle.card_sets.specs.Cards.{IsRising}
+use Rattle.card_sets.specs.State.{State}
+use Rattle.runout_ranges.specs.Shapes.{IsShapeOf, slots_of}
+use Rattle.runout_ranges.specs.Slots.{counts_of}
+use Rattle.runout_ranges.specs.declared.shapes.Shape.{Shape}
+use Rattle.runout_ranges.proofs.Numbers.{length_runouts, ways_some}
+use Rattle.showdown_tally.specs.Cells.{Sums, cell_at, units_at}
+use Rattle.showdown_tally.specs.Showdown.{Showdown, wins, ties, loses, units}
+use Rattle.showdown_tally.specs.Tallies.{Counts, cell_over, runouts_after}
+use Rattle.equity_job.specs.Blocks.{block_of, blocks_of, blocks_below, sum_below, IsTotal}
+use Rattle.equity_job.specs.declared.limits.TheConstants.{BLOCK}
+use Rattle.equity_job.proofs.BlockLists.{blocks-all}
+use Rattle.equity_job.proofs.Walked.{of_state}
+
+pub enough_blocks : (runouts : ℕ) → runouts ≤ blocks_of runouts * BLOCK
+enough_blocks runouts = omega arith
+
+-- a sum over the blocks put together
+sum-blocks : {X : Type 0} (f : X → ℕ) (all : List X) (n : ℕ) → sum_by f (blocks_below all n) ≡ sum_below (λ b. sum_by f (block_of all b)) n
+sum-blocks f all zero = refl
+sum-blocks f all (suc n) = sum_by-append f (blocks_below all n) (block_of all n) ∙ ap (λ m. m + sum_by f (block_of all n)) (sum-blocks f all n)
+
+length-blocks : {X : Type 0} (all : List X) (n : ℕ) → length (blocks_below all n) ≡ sum_below (λ b. length (block_of all b)) n
+length-blocks all zero = refl
+length-blocks all (suc n) = length-append (blocks_below all n) (block_of all n) ∙ ap (λ m. m + length (block_of all n)) (length-blocks all n)
+
+sum-same : (f g : ℕ → ℕ) (n : ℕ) → ((k : ℕ) → k < n → f k ≡ g k) → sum_below f n ≡ sum_below g n
+sum-same f g zero h = refl
+sum-same f g (suc n) h = ap (λ m. m + f n) (sum-same f g n (λ k l. h k (omega arith))) ∙ ap (λ m. sum_below g n + m) (h n (omega arith))
+
+-- a total is a sum over all members
+sum-all : (f : List (List ℕ) → ℕ) (all : List (List (List ℕ))) (part : ℕ → ℕ) (total : ℕ) → total ≡ sum_below part (blocks_of (length all)) → ((b : ℕ) → b < blocks_of (length all) → part b ≡ sum_by f (block_of all b)) → total ≡ sum_by f all
+sum-all f all part total e h =
+    e ∙ sum-same part (λ b. sum_by f (block_of all b)) (blocks_of (length all)) h ∙ sym (sum-blocks f all (blocks_of (length all))) ∙ ap (sum_by f) (blocks-all all (blocks_of (length all)) (enough_blocks (length all)))
+
+pub blocks-add_up : (deal : Showdown) (all : List (List (List ℕ))) (part : ℕ → Sums) (total : Sums) → ((block : ℕ) → block < blocks_of (length all) → Counts deal (block_of all block) (part block)) → IsTotal part (blocks_of (length all)) total → Counts deal all total
+blocks-add_up deal all part total each is = record {
+  runouts = is.runouts ∙ sum-same (λ b. (part b).runouts) (λ b. length (block_of all b)) (blocks_of (length all)) (λ b l. (each b l).runouts) ∙ sym (length-blocks all (blocks_of (length all))) ∙ ap length (blocks-all all (blocks_of (length all)) (enough_blocks (length all)));
+  cells = λ pot hand side p h.
+      let won = sum-all (λ r. cond (wins deal pot hand side r) 1 0) all (λ b. (cell_at (part b) pot hand side).win) (cell_at total pot hand side).win (is.wins pot hand side p h) (λ b l. ap (λ c. c.win) ((each b l).cells pot hand side p h)) in
+      let tied = sum-all (λ r. cond (ties deal pot hand side r) 1 0) all (λ b. (cell_at (part b) pot hand side).tie) (cell_at total pot hand side).tie (is.ties pot hand side p h) (λ b l. ap (λ c. c.tie) ((each b l).cells pot hand side p h)) in
+      let lost = sum-all (λ r. cond (loses deal pot hand side r) 1 0) all (λ b. (cell_at (part b) pot hand side).lose) (cell_at total pot hand side).lose (is.losses pot hand side p h) (λ b l. ap (λ c. c.lose) ((each b l).cells pot hand side p h)) in
+      ap (λ n. record { win = n; tie = (cell_at total pot hand side).tie; lose = (cell_at total pot hand side).lose }) won
+      ∙ ap (λ n. record { win = (cell_over deal all pot hand side).win; tie = n; lose = (cell_at total pot hand side).lose }) tied
+      ∙ ap (λ n. record { win = (cell_over deal all pot hand side).win; tie = (cell_over deal all pot hand side).tie; lose = n }) lost;
+  units = λ pot hand p h. sum-all (units deal pot hand) all (λ b. units_at (part b) pot hand) (units_at total pot hand) (is.units pot hand p h) (λ b l. (each b l).units pot hand p h);
+}
+
+-- there is a way to deal
+pub some_runouts : (state : State) (shape : Shape) → IsShapeOf state shape → IsRising shape.unseen → sum (counts_of (slots_of shape)) ≤ length shape.unseen → 0 < length (runouts_after state)
+some_runouts state shape is rising enough =
+    of_state (λ all. 0 < length all) state shape is (omega (arith, length_runouts (counts_of (slots_of shape)) shape.unseen rising, ways_some (counts_of (slots_of shape)) (length shape.unseen) enough))

@@ -1,0 +1,51 @@
+//! The count of a block of a job's runouts.
+
+ghost use Rattle.std.specs.Prelude.{◌≡◌, ◌+◌, ◌<◌, length};
+ghost use Rattle.card_sets.specs.State.{state_of};
+ghost use Rattle.showdown_tally.specs.Deals.{deal_of};
+ghost use Rattle.showdown_tally.specs.Tallies.{Counts, runouts_after};
+ghost use Rattle.equity_job.specs.Blocks.{block_of, blocks_of};
+
+use crate::{BLOCK, Job};
+use runout_ranges::{Runout, advance, runout_at};
+use showdown_tally::{Tally, settle_runout};
+use std::sync::ledger::Ledger;
+use step_count::Steps;
+
+/// The room that a count works in. It is made once and lent to each count; what it held before makes
+/// no difference.
+#[derive(Debug, Drop)]
+pub struct Scratch {}
+
+impl Scratch {
+    /// An empty room.
+    pub fn new() -> Scratch {
+        Scratch {}
+    }
+}
+
+/// The tally of the runouts of a block of a job, by its number from 0. It takes one step a runout,
+/// and no memory.
+pub fn count_block<L: Ledger>(
+    job: &Job,
+    block: u32,
+    _scratch: &mut Scratch,
+    steps: &mut Steps<L>,
+) -> Tally
+    requires { block < blocks_of (length (runouts_after (state_of job.now.table.known))) }
+    ensures counts { Counts (deal_of job.now.table) (block_of (runouts_after (state_of job.now.table.known)) block) result }
+    ensures steps { steps.new ≡ steps.old + length (block_of (runouts_after (state_of job.now.table.known)) block) }
+{
+    let mut runout = Runout::new();
+    runout_at(&job.shape, u64::from(block) * BLOCK, &mut runout);
+    let mut tally = Tally::zero();
+    loop {
+        settle_runout(&job.table, &job.shape, &runout, &mut tally, steps);
+        if tally.runouts() == BLOCK {
+            return tally;
+        }
+        if !advance(&job.shape, &mut runout) {
+            return tally;
+        }
+    }
+}
