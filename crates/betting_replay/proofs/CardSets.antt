@@ -1,5 +1,5 @@
 -- Sets of cards with the cards of a bracket.
-use Rattle.std.proofs.Common.{◌≡◌, ℕ, ◌<◌, List, [], ◌∷◌, ◌++◌, refl, sym, ap, ◌∙◌, Bool, true, false, ◌||◌, ◌==◌, length, take, get_or, ◌+◌}
+use Rattle.std.proofs.Common.{◌≡◌, ℕ, ◌<◌, List, [], ◌∷◌, ◌++◌, refl, sym, ap, ◌∙◌, Bool, true, false, ◌||◌, ◌==◌, length, take, get_or, ◌+◌, arith}
 use Rattle.std.proofs.lemmas.List.{take_more}
 use Rattle.card_sets.specs.Cards.{has_card, with_card, union, IsCardSet}
 use Rattle.card_sets.specs.Bits.{cards_where_same, has-cards_where}
@@ -26,3 +26,16 @@ union-push s xs x = cards_where_same _ _ (λ k h.
 pub union_next : (s cards all : List ℕ) (i x : ℕ) → all ≡ union s (take i cards) → i < length cards → x ≡ get_or cards i x → with_card all x ≡ union s (take (i + 1) cards)
 union_next s cards all i x is h item =
     rw is (union-push s (take i cards) x ∙ ap (union s) (sym (take_more cards i x h ∙ ap (λ y. take i cards ++ y ∷ []) (sym item))))
+
+-- a bracket's first card put into the set before the others
+pub union-front : (s xs : List ℕ) (x : ℕ) → union s (x ∷ xs) ≡ union (with_card s x) xs
+union-front s xs x = cards_where_same _ _ (λ k h. rw (has-cards_where (λ j. (j == x) || has_card s j) k h) (front (has_card s k) (has_card xs k) (x == k) (k == x) (turned x k)))
+  where
+    turned : (x k : ℕ) → (x == k) ≡ (k == x)
+    turned x k = grind arith
+
+    front : (a b c d : Bool) → c ≡ d → (a || (c || b)) ≡ ((d || a) || b)
+    front true b true d e = rw (← e) refl
+    front true b false d e = rw (← e) refl
+    front false b true d e = rw (← e) refl
+    front false b false d e = rw (← e) refl

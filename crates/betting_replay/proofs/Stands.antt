@@ -14,12 +14,17 @@ use Rattle.betting_replay.specs.Events.{seat_of, button_after, bought, returned,
 use Rattle.betting_replay.specs.Streets.{begins, begins_later_by, is_later, is_first}
 use Rattle.betting_replay.specs.Sums.{street, button, opened, is_later_by, shows_down, shown_down, is_last_of, last_begun, small_posted, seated, live, dead, paid, stack, folded, acted, brought_in, last_actor}
 use Rattle.betting_replay.specs.Places.{owned, named, thrown, thrown_by, is_board, is_free, first_twice}
-use Rattle.betting_replay.specs.Tables.{Table, StandsFor, table_of, chips_of, acts_of, no_chips, no_acts, chips_at, acts_at, own_at, dealt_at, shown_at}
+use Rattle.betting_replay.specs.declared.seats.Deals.{Deals}
+use Rattle.betting_replay.specs.declared.seats.Draws.{Draws}
+use Rattle.betting_replay.specs.declared.points.Point.{Point}
+use Rattle.betting_replay.specs.Tables.{Table, StandsFor, table_of, table_with, point, chips_of, acts_of, no_chips, no_acts, no_deals, no_draws, chips_at, acts_at, own_at, dealt_at, shown_at, deals_at, row_at, draws_at}
 use Rattle.betting_replay.specs.Boards.{board_on, named_on}
 use Rattle.history_text.specs.declared.events.Street.TheVariants.{Flop, Turn, River}
-use Rattle.betting_replay.specs.Hands.{dealt as dealt_cards, shown as shown_cards, dealt_by, shown_by, whole}
-use Rattle.betting_replay.specs.Counting.{chips_after, acts_after, cleared_chips, cleared_acts, cleared_if, on_street, begun_with, begun, counted, after}
+use Rattle.betting_replay.specs.Hands.{dealt as dealt_cards, shown as shown_cards, row as row_cards, dealt_by, shown_after, row_by}
+use Rattle.betting_replay.specs.Dealing.{deals_of, draws_of, deals_after, draws_after}
+use Rattle.betting_replay.specs.Counting.{chips_after, acts_after, cleared_chips, cleared_acts, cleared_if, on_street, begun_with, begun, counted, pointed, after}
 use Rattle.betting_replay.specs.Faults.{fault_at, card_twice, fault_with}
+use Rattle.betting_replay.proofs.SamePoint.{same_now}
 use Rattle.betting_replay.proofs.BySeat.{at_by_seat, map_by_seat, same_by_seat, set_by_seat, with_at}
 use Rattle.betting_replay.proofs.Passed.{passed}
 use Rattle.betting_replay.proofs.Placed.{named_after, owned_other, owned_here}
@@ -76,8 +81,8 @@ step_by_seat {A} later clear old s f d new small same =
     clears false = set_by_seat old (f (old s)) s small
 
 -- the table with an event that counts for its seat, and a street that begins with it or doesn't
-abbrev table_now : Header → ℕ → List Event → Event → List Chips → List Acts → List (List ℕ) → List (List ℕ) → List (Option (List ℕ)) → List ℕ → Option StreetName → Table
-table_now g players h e chips acts own dealt shown all o = record {
+abbrev table_now : Header → ℕ → List Event → Event → List Chips → List Acts → List (List ℕ) → List (List ℕ) → List (Option (List ℕ)) → List Deals → List (Option (List ℕ)) → List Draws → Option Point → List ℕ → Option StreetName → Table
+table_now g players h e chips acts own dealt shown deals rows draws found all o = record {
   header = g;
   players = players;
   chips = cleared_where (begins_later_by o) (map cleared_chips) chips;
@@ -85,6 +90,9 @@ table_now g players h e chips acts own dealt shown all o = record {
   own = own;
   dealt = dealt;
   shown = shown;
+  deals = deals;
+  rows = rows;
+  draws = draws;
   named = all;
   thrown = union (thrown h) (thrown_by e);
   flop = union (board_on Flop h) (named_on Flop e);
@@ -97,10 +105,11 @@ table_now g players h e chips acts own dealt shown all o = record {
   last_begun = is_last_of g.game o || last_begun g h;
   small_posted = posts_small e || small_posted h;
   last = if begins_later_by o then None else (if is_act e then Some (seat_of e) else last_actor g h);
+  point = found;
 }
 
-abbrev counted_so : Header → ℕ → List Event → Event → List Chips → List Acts → List (List ℕ) → List (List ℕ) → List (Option (List ℕ)) → List ℕ → Table
-counted_so g players h e chips acts own dealt shown all = record {
+abbrev counted_so : Header → ℕ → List Event → Event → List Chips → List Acts → List (List ℕ) → List (List ℕ) → List (Option (List ℕ)) → List Deals → List (Option (List ℕ)) → List Draws → Option Point → List ℕ → Table
+counted_so g players h e chips acts own dealt shown deals rows draws found all = record {
   header = g;
   players = players;
   chips = chips;
@@ -108,6 +117,9 @@ counted_so g players h e chips acts own dealt shown all = record {
   own = own;
   dealt = dealt;
   shown = shown;
+  deals = deals;
+  rows = rows;
+  draws = draws;
   named = all;
   thrown = union (thrown h) (thrown_by e);
   flop = union (board_on Flop h) (named_on Flop e);
@@ -120,47 +132,75 @@ counted_so g players h e chips acts own dealt shown all = record {
   last_begun = last_begun g h;
   small_posted = posts_small e || small_posted h;
   last = if is_act e then Some (seat_of e) else last_actor g h;
+  point = found;
 }
 
-later_case : (g : Header) (players : ℕ) (h : List Event) (e : Event) (chips : List Chips) (acts : List Acts) (own : List (List ℕ)) (dealt : List (List ℕ)) (shown : List (Option (List ℕ))) (all : List ℕ) (s : StreetName) (b : Bool) → is_later s ≡ b
-    → cleared_if b (on_street (counted_so g players h e chips acts own dealt shown all) s) ≡ table_now g players h e chips acts own dealt shown all (Some s)
-later_case g players h e chips acts own dealt shown all s true is = rw is refl
-later_case g players h e chips acts own dealt shown all s false is = rw is refl
+later_case : (g : Header) (players : ℕ) (h : List Event) (e : Event) (chips : List Chips) (acts : List Acts) (own : List (List ℕ)) (dealt : List (List ℕ)) (shown : List (Option (List ℕ))) (deals : List Deals) (rows : List (Option (List ℕ))) (draws : List Draws) (found : Option Point) (all : List ℕ) (s : StreetName) (b : Bool) → is_later s ≡ b
+    → cleared_if b (on_street (counted_so g players h e chips acts own dealt shown deals rows draws found all) s) ≡ table_now g players h e chips acts own dealt shown deals rows draws found all (Some s)
+later_case g players h e chips acts own dealt shown deals rows draws found all s true is = rw is refl
+later_case g players h e chips acts own dealt shown deals rows draws found all s false is = rw is refl
 
-begun_case : (g : Header) (players : ℕ) (h : List Event) (e : Event) (chips : List Chips) (acts : List Acts) (own : List (List ℕ)) (dealt : List (List ℕ)) (shown : List (Option (List ℕ))) (all : List ℕ) (o : Option StreetName)
-    → begun_with o (counted_so g players h e chips acts own dealt shown all) ≡ table_now g players h e chips acts own dealt shown all o
-begun_case g players h e chips acts own dealt shown all None = refl
-begun_case g players h e chips acts own dealt shown all (Some s) = later_case g players h e chips acts own dealt shown all s (is_later s) refl
+begun_case : (g : Header) (players : ℕ) (h : List Event) (e : Event) (chips : List Chips) (acts : List Acts) (own : List (List ℕ)) (dealt : List (List ℕ)) (shown : List (Option (List ℕ))) (deals : List Deals) (rows : List (Option (List ℕ))) (draws : List Draws) (found : Option Point) (all : List ℕ) (o : Option StreetName)
+    → begun_with o (counted_so g players h e chips acts own dealt shown deals rows draws found all) ≡ table_now g players h e chips acts own dealt shown deals rows draws found all o
+begun_case g players h e chips acts own dealt shown deals rows draws found all None = refl
+begun_case g players h e chips acts own dealt shown deals rows draws found all (Some s) = later_case g players h e chips acts own dealt shown deals rows draws found all s (is_later s) refl
 
 pub no_card : (f : ℕ → BetFault) (o : Option ℕ) → fault_with f o ≡ None → o ≡ None
 no_card f None h = refl
 no_card f (Some n) h = cc
 
-own_case : (e : Event) (h : List Event) (board : Bool) → first_twice (is_free (named h) (owned h (seat_of e)) board) (thrown h) (cards_named e) ≡ None
+pub own_case : (e : Event) (h : List Event) (board : Bool) → first_twice (is_free (named h) (owned h (seat_of e)) board) (thrown h) (cards_named e) ≡ None
     → (p : ℕ) (b : Bool) → (seat_of e == p) ≡ b → owned (e ∷ h) p ≡ (if b then union (owned h p) (cards_named e) else owned h p)
 own_case e h board none p true is = let same : seat_of e ≡ p = grind arith in subst (λ (q : ℕ). owned (e ∷ h) q ≡ union (owned h q) (cards_named e)) same (owned_here e h board none)
 own_case e h board none p false is = owned_other e h p is
 
-pub stands : (g : Header) (players : ℕ) (h : List Event) (e : Event) → seat_of e < 11 → fault_at (table_of g players h) e ≡ None → after (table_of g players h) e ≡ table_of g players (e ∷ h)
-unfolding begun counted card_twice
-stands g players h e small legal =
-    let t : Table = table_of g players h in
+-- where an event may stand each of its cards is free
+pub cards_free : (g : Header) (players : ℕ) (h : List Event) (found : Option Point) (e : Event) → seat_of e < 11 → fault_at (table_with g players h found) e ≡ None → first_twice (is_free (named h) (owned h (seat_of e)) (is_board e)) (thrown h) (cards_named e) ≡ None
+unfolding card_twice
+cards_free g players h found e small legal =
+    let t : Table = table_with g players h found in
+    let free : first_twice (is_free (named h) (own_at t (seat_of e)) (is_board e)) (thrown h) (cards_named e) ≡ None = no_card _ _ (passed t e legal).card in
+    subst (λ (own : List ℕ). first_twice (is_free (named h) own (is_board e)) (thrown h) (cards_named e) ≡ None) (at_by_seat (owned h) (seat_of e) [] small) free
+
+-- the chips, cards and draws of each seat after an event are told by those before it
+deals_case : (g : Header) (h : List Event) (e : Event) (p : ℕ) (here : Bool) → (seat_of e == p) ≡ here → deals_of g (e ∷ h) p ≡ (if here then deals_after (street g h) e (deals_of g h p) else deals_of g h p)
+deals_case g h e p true is = rw is refl
+deals_case g h e p false is = rw is refl
+
+draws_case : (h : List Event) (e : Event) (p : ℕ) (here : Bool) → (seat_of e == p) ≡ here → draws_of (e ∷ h) p ≡ (if here then draws_after e (draws_of h p) else draws_of h p)
+draws_case h e p true is = rw is refl
+draws_case h e p false is = rw is refl
+
+-- the event counts, and its street begins
+moved : (g : Header) (players : ℕ) (h : List Event) (e : Event) (found : Option Point) → seat_of e < 11 → fault_at (table_with g players h found) e ≡ None → begun (counted (table_with g players h found) e) e ≡ table_with g players (e ∷ h) found
+unfolding begun counted
+moved g players h e found small legal =
+    let t : Table = table_with g players h found in
     let s : ℕ = seat_of e in
     let later : Bool = is_later_by g h e in
-    let own_is : own_at t s ≡ owned h s = at_by_seat (owned h) s [] small in
-    let free : first_twice (is_free (named h) (own_at t s) (is_board e)) (thrown h) (cards_named e) ≡ None = no_card _ _ (passed t e legal).card in
-    let free' : first_twice (is_free (named h) (owned h s) (is_board e)) (thrown h) (cards_named e) ≡ None = subst (λ (own : List ℕ). first_twice (is_free (named h) own (is_board e)) (thrown h) (cards_named e) ≡ None) own_is free in
+    let free : first_twice (is_free (named h) (owned h s) (is_board e)) (thrown h) (cards_named e) ≡ None = cards_free g players h found e small legal in
     let chips : by_seat (chips_of g (e ∷ h)) ≡ cleared_where later (map cleared_chips) (slice_set (by_seat (chips_of g h)) s (chips_after g.big (small_posted h) e (chips_at t s))) =
     step_by_seat later cleared_chips (chips_of g h) s (chips_after g.big (small_posted h) e) no_chips (chips_of g (e ∷ h)) small (λ p. chips_case g h e p later (s == p)) in
     let acts : by_seat (acts_of g (e ∷ h)) ≡ cleared_where later (map cleared_acts) (slice_set (by_seat (acts_of g h)) s (acts_after e (acts_at t s))) =
     step_by_seat later cleared_acts (acts_of g h) s (acts_after e) no_acts (acts_of g (e ∷ h)) small (λ p. acts_case g h e p later (s == p)) in
     let own : by_seat (owned (e ∷ h)) ≡ slice_set (by_seat (owned h)) s (union (own_at t s) (cards_named e)) =
-    step_by_seat false (λ (x : List ℕ). x) (owned h) s (λ (x : List ℕ). union x (cards_named e)) [] (owned (e ∷ h)) small (λ p. own_case e h (is_board e) free' p (s == p) refl) in
+    step_by_seat false (λ (x : List ℕ). x) (owned h) s (λ (x : List ℕ). union x (cards_named e)) [] (owned (e ∷ h)) small (λ p. own_case e h (is_board e) free p (s == p) refl) in
     let given : by_seat (dealt_cards (e ∷ h)) ≡ slice_set (by_seat (dealt_cards h)) s (union (dealt_at t s) (dealt_by e)) =
     step_by_seat false (λ (x : List ℕ). x) (dealt_cards h) s (λ (x : List ℕ). union x (dealt_by e)) [] (dealt_cards (e ∷ h)) small (λ p. refl) in
-    let seen : by_seat (shown_cards g (e ∷ h)) ≡ slice_set (by_seat (shown_cards g h)) s (or_else (whole g.game (shown_by e)) (shown_at t s)) =
-    step_by_seat false (λ (x : Option (List ℕ)). x) (shown_cards g h) s (λ (x : Option (List ℕ)). or_else (whole g.game (shown_by e)) x) None (shown_cards g (e ∷ h)) small (λ p. refl) in
-    begun_case g players h e _ _ _ _ _ _ (begins g.game (street g h) e) ∙ sym (rw (chips, acts, own, given, seen, named_after e h) refl)
+    let seen : by_seat (shown_cards g (e ∷ h)) ≡ slice_set (by_seat (shown_cards g h)) s (shown_after g.game e (shown_at t s)) =
+    step_by_seat false (λ (x : Option (List ℕ)). x) (shown_cards g h) s (shown_after g.game e) None (shown_cards g (e ∷ h)) small (λ p. refl) in
+    let deals : by_seat (deals_of g (e ∷ h)) ≡ slice_set (by_seat (deals_of g h)) s (deals_after (street g h) e (deals_at t s)) =
+    step_by_seat false (λ (x : Deals). x) (deals_of g h) s (deals_after (street g h) e) no_deals (deals_of g (e ∷ h)) small (λ p. deals_case g h e p (seat_of e == p) refl) in
+    let rows : by_seat (row_cards (e ∷ h)) ≡ slice_set (by_seat (row_cards h)) s (or_else (row_by e) (row_at t s)) =
+    step_by_seat false (λ (x : Option (List ℕ)). x) (row_cards h) s (λ (x : Option (List ℕ)). or_else (row_by e) x) None (row_cards (e ∷ h)) small (λ p. refl) in
+    let draws : by_seat (draws_of (e ∷ h)) ≡ slice_set (by_seat (draws_of h)) s (draws_after e (draws_at t s)) =
+    step_by_seat false (λ (x : Draws). x) (draws_of h) s (draws_after e) no_draws (draws_of (e ∷ h)) small (λ p. draws_case h e p (seat_of e == p) refl) in
+    begun_case g players h e _ _ _ _ _ _ _ _ found _ (begins g.game (street g h) e) ∙ sym (rw (chips, acts, own, given, seen, deals, rows, draws, named_after e h) refl)
+
+-- then the moment may be the point
+pub stands : (g : Header) (players : ℕ) (h : List Event) (e : Event) → seat_of e < 11 → fault_at (table_of g players h) e ≡ None → after (table_of g players h) e ≡ table_of g players (e ∷ h)
+unfolding pointed point
+stands g players h e small legal = ap pointed (moved g players h e (point g players h) small legal) ∙ ap (λ o. table_with g players (e ∷ h) (or_else (point g players h) o)) (same_now g players (e ∷ h) (point g players h))
 
 -- the same of any table that stands for the hand before
 pub stands_after : (t : Table) (e : Event) (g : Header) (players : ℕ) (h : List Event) → StandsFor t g players h → seat_of e < 11 → fault_at t e ≡ None → StandsFor (after t e) g players (e ∷ h)

@@ -1,7 +1,7 @@
 -- What each seat has put in and has left.
 use Rattle.std.specs.Prelude.{ℕ}
 use Rattle.pot_layers.specs.declared.paid.Paid.{Paid}
-use Rattle.betting_replay.specs.Tables.{Table, chips_at}
+use Rattle.betting_replay.specs.Table.{Table, chips_at}
 use Rattle.pot_layers.specs.Pots.{seats_below}
 use Rattle.betting_replay.specs.Turns.{is_contender}
 

@@ -7,12 +7,14 @@ use Rattle.betting_replay.specs.declared.seats.Chips.{Chips}
 use Rattle.betting_replay.specs.declared.seats.Acts.{Acts}
 use Rattle.betting_replay.specs.Events.{seat_of, button_after, bought, returned, live_in, dead_in, ante_in, put_in, posts_small, brings_in, folds, is_act, is_seat_line, cards_named}
 use Rattle.betting_replay.specs.Streets.{begins, is_later, is_showdown, is_last, is_first}
-use Rattle.betting_replay.specs.Tables.{Table, chips_at, acts_at, own_at, dealt_at, shown_at}
+use Rattle.betting_replay.specs.Table.{Table, chips_at, acts_at, own_at, dealt_at, shown_at, deals_at, row_at, draws_at}
 use Rattle.betting_replay.specs.Places.{thrown_by}
 use Rattle.betting_replay.specs.Boards.{named_on}
 use Rattle.history_text.specs.declared.events.Street.TheVariants.{Flop, Turn, River}
 use Rattle.betting_replay.specs.Seats.{or_else}
-use Rattle.betting_replay.specs.Hands.{dealt_by, shown_by, whole}
+use Rattle.betting_replay.specs.Hands.{dealt_by, shown_after, row_by}
+use Rattle.betting_replay.specs.Dealing.{deals_after, draws_after}
+use Rattle.betting_replay.specs.AllIn.{point_now}
 
 -- the chips of a seat after an event about it
 abbrev pub chips_after : ℕ → Bool → Event → Chips → Chips
@@ -59,7 +61,10 @@ counted t e = record t {
   acts = slice_set t.acts (seat_of e) (acts_after e (acts_at t (seat_of e)));
   own = slice_set t.own (seat_of e) (union (own_at t (seat_of e)) (cards_named e));
   dealt = slice_set t.dealt (seat_of e) (union (dealt_at t (seat_of e)) (dealt_by e));
-  shown = slice_set t.shown (seat_of e) (or_else (whole t.header.game (shown_by e)) (shown_at t (seat_of e)));
+  shown = slice_set t.shown (seat_of e) (shown_after t.header.game e (shown_at t (seat_of e)));
+  deals = slice_set t.deals (seat_of e) (deals_after t.street e (deals_at t (seat_of e)));
+  rows = slice_set t.rows (seat_of e) (or_else (row_by e) (row_at t (seat_of e)));
+  draws = slice_set t.draws (seat_of e) (draws_after e (draws_at t (seat_of e)));
   named = union t.named (cards_named e);
   thrown = union t.thrown (thrown_by e);
   flop = union t.flop (named_on Flop e);
@@ -70,6 +75,10 @@ counted t e = record t {
   last = if is_act e then Some (seat_of e) else t.last;
 }
 
--- the table after an event that may stand: it counts for its seat, and begins its street, if it begins one
+-- the first point is kept
+unfoldable pub pointed : Table → Table
+pointed t = record t { point = or_else t.point (point_now t) }
+
+-- the table after an event that may stand: it counts for its seat, and begins its street, if it begins one; then the moment may be the point
 abbrev pub after : Table → Event → Table
-after t e = begun (counted t e) e
+after t e = pointed (begun (counted t e) e)

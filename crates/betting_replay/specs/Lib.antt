@@ -6,9 +6,15 @@ pub mod Places
 pub mod Limits
 pub mod Boards
 pub mod Hands
-pub mod Tables
+pub mod Dealing
+pub mod Known
+pub mod Table
 pub mod Turns
+pub mod Accounts
+pub mod AllIn
+pub mod Tables
 pub mod Faults
 pub mod Accepted
+pub mod CardLaws
+pub mod PointLaws
 pub mod Counting
-pub mod Accounts

@@ -2,7 +2,7 @@
 use Rattle.std.specs.Prelude.{ℕ, ◌-◌, ◌==◌, ◌&&◌, ◌||◌, not, Bool, if◌then◌else◌, Option, Some, None, nat_lt, nat_le}
 use Rattle.betting_replay.specs.Seats.{has_seat, greatest_of, count_seats, first_from, first_between, first_after}
 use Rattle.betting_replay.specs.Streets.{is_first}
-use Rattle.betting_replay.specs.Tables.{Table, chips_at, acts_at}
+use Rattle.betting_replay.specs.Table.{Table, chips_at, acts_at}
 
 -- what a seat has put in live on the street, and the greatest of any
 abbrev pub live_at : Table → ℕ → ℕ

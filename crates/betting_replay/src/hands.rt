@@ -1,9 +1,9 @@
-//! The final cards of the players, in the games with a board.
+//! What events deal to the players, and show of their hands.
 
-ghost use Rattle.std.specs.Prelude.{◌≡◌, ℕ, ◌<◌};
+ghost use Rattle.std.specs.Prelude.{◌≡◌, ℕ, ◌<◌, length};
 ghost use Rattle.card_sets.specs.Games.{own_size};
-ghost use Rattle.betting_replay.specs.Hands.{dealt_by, shown_by, whole};
-ghost use Rattle.betting_replay.specs.Tables.{final_at, own_at};
+ghost use Rattle.betting_replay.specs.Hands.{dealt_by, shown_by, if_many, whole, is_discard, shown_after, row_by};
+ghost use Rattle.betting_replay.specs.Table.{own_at};
 
 use crate::places::with_cards;
 use crate::replay::Replay;
@@ -32,7 +32,7 @@ pub(crate) fn cards_shown(e: &Event) -> &[Card]
 }
 
 /// How many cards a player has of his own.
-fn own_size(game: Game) -> usize
+fn own_size(game: Game) -> u32
     ensures { result ≡ own_size game }
 {
     match game {
@@ -43,38 +43,56 @@ fn own_size(game: Game) -> usize
     }
 }
 
-/// A bracket of a whole hand, as a set.
-pub(crate) fn whole(game: Game, cards: &[Card]) -> Option<CardSet>
-    ensures { result ≡ whole game cards.now }
+/// So many cards, or none where there are more or fewer.
+pub(crate) fn if_many(count: u32, cards: CardSet) -> Option<CardSet>
+    ensures { result ≡ if_many count cards }
 {
-    if cards.len() == own_size(game) {
-        Some(with_cards(CardSet::empty(), cards))
+    if cards.count() == count {
+        Some(cards)
     } else {
         None
     }
 }
 
-impl Replay {
-    /// A seat's final cards in a game with a board: the last whole hand that it showed, or that the
-    /// summary gives, or else its dealt cards where they are a whole hand. None exactly where they are
-    /// unknown.
-    #[tactic(auto, unfolding(crate::specs::Tables::final_at))]
-    pub fn final_cards(&self, seat: u8) -> Option<CardSet>
-        requires { seat < 11 }
-        ensures { result ≡ final_at self.now seat }
-    {
-        let place = seat as usize;
-        if let Some(cards) = self.shown[place] {
-            return Some(cards);
-        }
-        let dealt = self.dealt[place];
-        if dealt.count() as usize == own_size(self.header.game) {
-            Some(dealt)
-        } else {
-            None
-        }
-    }
+/// A bracket of a whole hand, as a set.
+fn whole(game: Game, cards: &[Card]) -> Option<CardSet>
+    ensures { result ≡ whole game cards.now }
+{
+    if_many(own_size(game), with_cards(CardSet::empty(), cards))
+}
 
+/// Whether an event is a discard.
+fn is_discard(e: &Event) -> bool
+    ensures { result ≡ is_discard e.now }
+{
+    matches!(e, Event::Discard { .. })
+}
+
+/// The last whole hand that a seat showed, after an event about it.
+pub(crate) fn shown_after(game: Game, e: &Event, before: Option<CardSet>) -> Option<CardSet>
+    ensures { result ≡ shown_after game e.now before }
+{
+    if is_discard(e) {
+        return None;
+    }
+    whole(game, cards_shown(e)).or(before)
+}
+
+/// Seven cards in their order, or none where there are more or fewer.
+fn row_of(cards: &[Card]) -> Option<[Card; 7]>
+    ensures { result ≡ if_many 7 cards.now }
+{
+    <[Card; 7]>::try_from(cards).ok()
+}
+
+/// The bracket of seven cards that an event shows.
+pub(crate) fn row_by(e: &Event) -> Option<[Card; 7]>
+    ensures { result ≡ row_by e.now }
+{
+    row_of(cards_shown(e))
+}
+
+impl Replay {
     /// All cards of the board.
     pub fn board(&self) -> CardSet
         ensures { result ≡ own_at self.now 0 }

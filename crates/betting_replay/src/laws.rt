@@ -1,6 +1,8 @@
 //! What a replay keeps, in plain words. Each law is a call that does nothing.
 
-ghost use Rattle.betting_replay.specs.Accepted.{KeepsChips, ShowsSeats, TakesTurns};
+ghost use Rattle.betting_replay.specs.Accepted.{KeepsChips, ShowsSeats, ShowsDead, TakesTurns};
+ghost use Rattle.betting_replay.specs.PointLaws.{PointsHaveContenders};
+ghost use Rattle.betting_replay.specs.CardLaws.{PlacesAreApart, CardsBelongAfter, WholeBoards};
 
 /// After any accepted events a seat's stack, what it has paid and its dead chips are together what its
 /// seat line gave, and nothing before that line: no event makes chips, and none loses any.
@@ -18,4 +20,36 @@ pub fn law_turns_are_taken()
 /// that a replay stands for a hand reads from an accessor's value what the hand says.
 pub fn law_a_table_shows_each_seat()
     ensures { ShowsSeats }
+{}
+
+/// The table of some events has the dead cards that these events make.
+pub fn law_a_table_shows_dead_cards()
+    ensures { ShowsDead }
+{}
+
+/// Each card has one place, the board or a seat: two places share none.
+pub fn law_places_are_apart()
+    ensures { PlacesAreApart }
+{}
+
+/// After any accepted events the cards of a seat that are known belong to it, are as many as the game
+/// gives, and are in no other seat's and not on the board; those of the board belong to the board; and
+/// dead cards are neither the board's nor among the known ones of a player who hadn't folded at the
+/// all-in point.
+pub fn law_cards_belong()
+    ensures { CardsBelongAfter }
+{}
+
+/// After any accepted events whose markers have as many cards as come with them, a board has at most
+/// its cards, all of them where the last street has begun, and at the all-in point those of the streets
+/// up to it. Where a showdown's marker or the summary's stood, the last street has begun or fewer than
+/// two players are left.
+pub fn law_whole_boards()
+    ensures { WholeBoards }
+{}
+
+/// An all-in point has two contenders or more, all of them players, and whoever is a contender after
+/// any more events was one there.
+pub fn law_a_point_has_contenders()
+    ensures { PointsHaveContenders }
 {}

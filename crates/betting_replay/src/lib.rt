@@ -5,6 +5,10 @@
 //! rule that it breaks: there are sixteen, in the order of `BetFault`. After a refusal the replay is as
 //! it was. Nothing takes memory, and a step takes no longer in a long hand than in a short one.
 //!
+//! Beside its verdict a replay tells what a settlement and a count of equities ask for: what each seat
+//! has put in, its cards that are known at the end and on a street, the cards of the board, and the
+//! all-in point with the players who were in the hand there and the cards that are dead.
+//!
 //! Clauses see a replay as a `Table`: the chips, acts and cards of each seat, and what lies open. What
 //! each of them is after some events is defined over the list of these events alone, the latest first,
 //! with no running sums. `table_of` puts them together, and a replay stands for a hand so far where it
@@ -13,13 +17,17 @@
 #![tactic(auto)]
 
 mod accessors;
+mod all_in;
 mod boards;
 mod counting;
+mod dealing;
 mod faults;
 mod hands;
 mod judge;
+mod known;
 mod laws;
 mod places;
+mod points;
 mod replay;
 mod run;
 mod seats;
@@ -30,7 +38,11 @@ mod tests;
 mod turns;
 
 pub use faults::BetFault;
-pub use laws::{law_a_table_shows_each_seat, law_chips_stay, law_turns_are_taken};
+pub use laws::{
+    law_a_point_has_contenders, law_a_table_shows_dead_cards, law_a_table_shows_each_seat,
+    law_cards_belong, law_chips_stay, law_places_are_apart, law_turns_are_taken, law_whole_boards,
+};
+pub use points::Point;
 pub use replay::Replay;
 pub use run::first_fault;
-pub use seats::{Acts, Chips};
+pub use seats::{Acts, Chips, Deals, Draws};

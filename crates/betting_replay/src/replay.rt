@@ -1,7 +1,8 @@
 //! What a replay keeps of the events so far.
 
-use crate::seats::{Acts, Chips};
-use card_sets::CardSet;
+use crate::points::Point;
+use crate::seats::{Acts, Chips, Deals, Draws};
+use card_sets::{Card, CardSet};
 use history_text::{Header, Street};
 use std::marker::Model;
 
@@ -17,6 +18,9 @@ pub struct Replay {
     pub(crate) own: [CardSet; 11],
     pub(crate) dealt: [CardSet; 11],
     pub(crate) shown: [Option<CardSet>; 11],
+    pub(crate) deals: [Deals; 11],
+    pub(crate) rows: [Option<[Card; 7]>; 11],
+    pub(crate) draws: [Draws; 11],
     pub(crate) named: CardSet,
     pub(crate) thrown: CardSet,
     pub(crate) flop: CardSet,
@@ -29,17 +33,18 @@ pub struct Replay {
     pub(crate) last_begun: bool,
     pub(crate) small_posted: bool,
     pub(crate) last: Option<u8>,
+    pub(crate) point: Option<Point>,
 }
 
 impl Model for Replay {
-    ghost use Rattle.betting_replay.specs.Tables.{Table};
+    ghost use Rattle.betting_replay.specs.Table.{Table};
 
     ghost Value = { Table };
 
     ghost use Rattle.betting_replay.specs.Limits.{InLimits};
     ghost use Rattle.std.specs.Prelude.{All, IfSome, ◌≤◌};
 
-    ghost view = { λ r. record { header = r.header; players = r.players; chips = r.chips; acts = r.acts; own = r.own; dealt = r.dealt; shown = r.shown; named = r.named; thrown = r.thrown; flop = r.flop; turn = r.turn; river = r.river; button = r.button; street = r.street; opened = r.opened; shown_down = r.shown_down; last_begun = r.last_begun; small_posted = r.small_posted; last = r.last } };
+    ghost view = { λ r. record { header = r.header; players = r.players; chips = r.chips; acts = r.acts; own = r.own; dealt = r.dealt; shown = r.shown; deals = r.deals; rows = r.rows; draws = r.draws; named = r.named; thrown = r.thrown; flop = r.flop; turn = r.turn; river = r.river; button = r.button; street = r.street; opened = r.opened; shown_down = r.shown_down; last_begun = r.last_begun; small_posted = r.small_posted; last = r.last; point = r.point } };
 
     ghost invariant = { λ r. All InLimits r.chips × IfSome r.last (λ seat. seat ≤ 10) };
 }

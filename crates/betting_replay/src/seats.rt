@@ -1,5 +1,7 @@
 //! What each seat has, and has done.
 
+use card_sets::CardSet;
+
 /// The chips of a seat, in units.
 #[derive(Clone, Copy, Debug, PartialEq, Eq)]
 pub struct Chips {
@@ -24,4 +26,34 @@ pub struct Acts {
     pub acted: bool,
     /// He has brought in on the street.
     pub brought_in: bool,
+}
+
+/// What was dealt to a seat.
+#[derive(Clone, Copy, Debug)]
+pub struct Deals {
+    /// What was dealt to it on the first street, or before.
+    pub first: CardSet,
+    /// What was dealt to it on 4th street.
+    pub fourth: CardSet,
+    /// What was dealt to it on 5th street.
+    pub fifth: CardSet,
+    /// What was dealt to it on 6th street.
+    pub sixth: CardSet,
+    /// The cards that were dealt alone. They lie face up.
+    pub up: CardSet,
+    /// Those that weren't drawn for others.
+    pub given: CardSet,
+    /// Whether three cards were dealt at once: two face down and one face up.
+    pub down: bool,
+}
+
+/// How the player of a seat drew.
+#[derive(Clone, Copy, Debug, PartialEq, Eq)]
+pub struct Draws {
+    /// He discarded cards that weren't shown.
+    pub hidden: bool,
+    /// He stood pat.
+    pub pat: bool,
+    /// He discarded five at once.
+    pub five: bool,
 }

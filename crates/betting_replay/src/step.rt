@@ -12,11 +12,12 @@ ghost use Rattle.betting_replay.specs.Faults.{verdict, legal};
 
 use crate::boards::cards_on;
 use crate::counting::{acts_after, chips_after};
+use crate::dealing::{deals_after, draws_after};
 use crate::faults::BetFault;
-use crate::hands::{cards_dealt, cards_shown, whole};
+use crate::hands::{cards_dealt, row_by, shown_after};
 use crate::places::{cards_named, cards_thrown, seat_of, with_cards};
 use crate::replay::Replay;
-use crate::seats::{Acts, Chips};
+use crate::seats::{Acts, Chips, Deals, Draws};
 use card_sets::CardSet;
 use history_text::{Event, Header, PostKind, Street};
 
@@ -70,6 +71,21 @@ impl Replay {
             own: [CardSet::empty(); 11],
             dealt: [CardSet::empty(); 11],
             shown: [None; 11],
+            deals: [Deals {
+                first: CardSet::empty(),
+                fourth: CardSet::empty(),
+                fifth: CardSet::empty(),
+                sixth: CardSet::empty(),
+                up: CardSet::empty(),
+                given: CardSet::empty(),
+                down: false,
+            }; 11],
+            rows: [None; 11],
+            draws: [Draws {
+                hidden: false,
+                pat: false,
+                five: false,
+            }; 11],
             named: CardSet::empty(),
             thrown: CardSet::empty(),
             flop: CardSet::empty(),
@@ -82,6 +98,7 @@ impl Replay {
             last_begun: false,
             small_posted: false,
             last: None,
+            point: None,
         }
     }
 
@@ -99,7 +116,10 @@ impl Replay {
         self.acts[place] = acts_after(e, self.acts[place]);
         self.own[place] = with_cards(self.own[place], cards);
         self.dealt[place] = with_cards(self.dealt[place], cards_dealt(e));
-        self.shown[place] = whole(self.header.game, cards_shown(e)).or(self.shown[place]);
+        self.shown[place] = shown_after(self.header.game, e, self.shown[place]);
+        self.deals[place] = deals_after(self.street, e, self.deals[place]);
+        self.rows[place] = row_by(e).or(self.rows[place]);
+        self.draws[place] = draws_after(e, self.draws[place]);
         self.named = with_cards(self.named, cards);
         self.thrown = with_cards(self.thrown, cards_thrown(e));
         self.flop = with_cards(self.flop, cards_on(Street::Flop, e));
@@ -126,6 +146,7 @@ impl Replay {
         self.judge(e)?;
         self.count(e);
         self.begin_with(e);
+        self.keep_point();
         Ok(())
     }
 }

@@ -10,6 +10,8 @@ use history_text::{Act, Event, Header, Limit, Names, Part, Street, read_line};
 use std::alloc::Global;
 use std::test::Fail;
 
+mod all_in;
+
 /// Stakes of a half and a dollar.
 const DOLLARS: Header = Header {
     game: Game::Holdem,
@@ -89,9 +91,15 @@ fn seat_fits(e: &Event) -> bool
     }
 }
 
-/// Goes on by a line. None where it can't be read.
-fn step_line(replay: &mut Replay, names: &Names, line: &[u8]) -> Option<Result<(), BetFault>> {
-    match read_line(names, &DOLLARS, Part::Preamble, line) {
+/// Goes on by a line of a part of a hand. None where it can't be read.
+fn step_line(
+    replay: &mut Replay,
+    names: &Names,
+    header: &Header,
+    part: Part,
+    line: &[u8],
+) -> Option<Result<(), BetFault>> {
+    match read_line(names, header, part, line) {
         Ok(e) => {
             if seat_fits(&e) && amounts_fit(&e) {
                 Some(replay.step(&e))
@@ -110,7 +118,7 @@ fn step_lines(
     lines: &[&[u8]],
 ) -> Option<(usize, Option<BetFault>)> {
     for (place, line) in lines.iter().enumerate() {
-        if let Err(fault) = step_line(replay, names, *line)? {
+        if let Err(fault) = step_line(replay, names, &DOLLARS, Part::Preamble, *line)? {
             return Some((place, Some(fault)));
         }
     }

@@ -36,9 +36,9 @@ pub fn count_block<L: Ledger>(
     ensures counts { Counts (deal_of job.now.table) (block_of (runouts_after (state_of job.now.table.known)) block) result }
     ensures steps { steps.new ≡ steps.old + length (block_of (runouts_after (state_of job.now.table.known)) block) }
 {
+    let mut tally = Tally::zero();
     let mut runout = Runout::new();
     runout_at(&job.shape, u64::from(block) * BLOCK, &mut runout);
-    let mut tally = Tally::zero();
     loop {
         settle_runout(&job.table, &job.shape, &runout, &mut tally, steps);
         if tally.runouts() == BLOCK {

@@ -1,8 +1,11 @@
 //! Histories with their verdicts. The expected lines are worked out by hand from the rules.
 
-use crate::histories::{HEADS_UP, ODD_CHIPS, ODD_NAMES, SIDE_POTS, SIX_SEATS};
+use crate::histories::{
+    HEADS_UP, ODD_CHIPS, ODD_NAMES, SIDE_POTS, SIX_SEATS, as_typed, first_lines, with_line,
+    with_mucked_hand,
+};
 use crate::runs::{AMPLE, Edges, run};
-use std::alloc::{AllocError, Global};
+use std::alloc::Global;
 use std::process::Abort;
 use std::test::Fail;
 
@@ -27,42 +30,11 @@ fn reports(
     Ok(())
 }
 
-/// A text with another line, or with none, in place of one. Lines count from 1.
-fn with_line(alloc: Global, text: &str, number: usize, line: &str) -> Result<Vec<u8>, AllocError> {
-    let mut out = Vec::new(alloc);
-    let place = number.saturating_sub(1);
-    for (at, old) in text.lines().enumerate() {
-        if at == place {
-            out.extend_from_slice(line.as_bytes())?;
-        } else {
-            out.extend_from_slice(old.as_bytes())?;
-            out.extend_from_slice(b"\n")?;
-        }
-    }
-    Ok(out)
-}
-
-/// The first lines of a text, so many.
-fn first_lines(alloc: Global, text: &str, count: usize) -> Result<Vec<u8>, AllocError> {
-    let mut out = Vec::new(alloc);
-    for (at, line) in text.lines().enumerate() {
-        if at < count {
-            out.extend_from_slice(line.as_bytes())?;
-            out.extend_from_slice(b"\n")?;
-        }
-    }
-    Ok(out)
-}
-
 /// A byte order mark, carriage returns, chat and a time-out are no matter.
 #[test]
 fn a_cash_hand_of_six_seats(rt: HostRuntime) -> Result<(), Fail> {
     let alloc = rt.alloc();
-    let mut input = b"\xef\xbb\xbf".to_vec(alloc)?;
-    for line in SIX_SEATS.lines() {
-        input.extend_from_slice(line.as_bytes())?;
-        input.extend_from_slice(b"\r\n")?;
-    }
+    let input = as_typed(alloc, SIX_SEATS)?;
     let report = "hand 240000000001 accepted holdem rake 2.50\n\
 pot 0 gross 121.00 rake 2.50 checked\n\
 paid 118.50 carl\n";
@@ -127,16 +99,7 @@ fn another_line_has_another_verdict(rt: HostRuntime) -> Result<(), Fail> {
 #[test]
 fn a_mucked_hand_leaves_its_pot_unseen(rt: HostRuntime) -> Result<(), Fail> {
     let alloc = rt.alloc();
-    let mut input = Vec::new(alloc);
-    for (at, line) in SIDE_POTS.lines().enumerate() {
-        let other = match at {
-            25 => "b: mucks hand",
-            31 => "Seat 2: b (small blind) mucked",
-            _ => line,
-        };
-        input.extend_from_slice(other.as_bytes())?;
-        input.extend_from_slice(b"\n")?;
-    }
+    let input = with_mucked_hand(alloc)?;
     let report = "hand 88 accepted holdem rake 0\n\
 pot 0 gross 1500 rake 0 unseen\n\
 paid 1500 a\n\

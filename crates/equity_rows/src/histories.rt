@@ -1,5 +1,7 @@
 //! Histories of hands.
 
+use std::alloc::{AllocError, Global};
+
 /// A cash hand of six seats, with chat, a time-out, a call on the turn that is all-in, and a mucked hand.
 pub(crate) const SIX_SEATS: &str = "\
 PokerStars Hand #240000000001: Hold'em No Limit ($0.50/$1.00 USD) - 2023/01/15 20:11:05 ET\n\
@@ -162,3 +164,60 @@ Uncalled bet ($1) returned to x\n\
 x collected $2 from pot\n\
 *** SUMMARY ***\n\
 Total pot $2 | Rake $0\n";
+
+/// A text with another line, or with none, in place of one. Lines count from 1.
+pub(crate) fn with_line(
+    alloc: Global,
+    text: &str,
+    number: usize,
+    line: &str,
+) -> Result<Vec<u8>, AllocError> {
+    let mut out = Vec::new(alloc);
+    let place = number.saturating_sub(1);
+    for (at, old) in text.lines().enumerate() {
+        if at == place {
+            out.extend_from_slice(line.as_bytes())?;
+        } else {
+            out.extend_from_slice(old.as_bytes())?;
+            out.extend_from_slice(b"\n")?;
+        }
+    }
+    Ok(out)
+}
+
+/// The first lines of a text, so many.
+pub(crate) fn first_lines(alloc: Global, text: &str, count: usize) -> Result<Vec<u8>, AllocError> {
+    let mut out = Vec::new(alloc);
+    for (at, line) in text.lines().enumerate() {
+        if at < count {
+            out.extend_from_slice(line.as_bytes())?;
+            out.extend_from_slice(b"\n")?;
+        }
+    }
+    Ok(out)
+}
+
+/// A text with a byte order mark before it and a carriage return at the end of each line.
+pub(crate) fn as_typed(alloc: Global, text: &str) -> Result<Vec<u8>, AllocError> {
+    let mut out = b"\xef\xbb\xbf".to_vec(alloc)?;
+    for line in text.lines() {
+        out.extend_from_slice(line.as_bytes())?;
+        out.extend_from_slice(b"\r\n")?;
+    }
+    Ok(out)
+}
+
+/// The hand with side pots, whose shortest stack mucks cards that nobody sees.
+pub(crate) fn with_mucked_hand(alloc: Global) -> Result<Vec<u8>, AllocError> {
+    let mut out = Vec::new(alloc);
+    for (at, line) in SIDE_POTS.lines().enumerate() {
+        let other = match at {
+            25 => "b: mucks hand",
+            31 => "Seat 2: b (small blind) mucked",
+            _ => line,
+        };
+        out.extend_from_slice(other.as_bytes())?;
+        out.extend_from_slice(b"\n")?;
+    }
+    Ok(out)
+}

@@ -2,6 +2,8 @@
 #![tactic(auto)]
 
 #[cfg(test)]
+mod audits;
+#[cfg(test)]
 mod bytes;
 #[cfg(test)]
 mod checks;
@@ -17,3 +19,5 @@ mod refusals;
 mod runs;
 #[cfg(test)]
 mod spots;
+#[cfg(test)]
+mod words;

@@ -13,45 +13,60 @@ use Rattle.hand_audit.specs.declared.cause.Cause.{Cause}
 use Rattle.hand_audit.specs.declared.pot_names.Source.TheVariants.{Numbered}
 use Rattle.hand_audit.specs.declared.settlement.Payment.{Payment}
 use Rattle.hand_audit.specs.declared.settlement.Settlement.{Settlement}
-use Rattle.hand_audit.specs.AllIns.{Finding}
+use Rattle.history_text.specs.declared.events.Street.{Street}
+use Rattle.betting_replay.specs.Accepted.{ShowsSeats, ShowsDead}
+use Rattle.betting_replay.specs.CardLaws.{PlacesAreApart, CardsBelongAfter, WholeBoards}
+use Rattle.betting_replay.specs.Tables.{point}
+use Rattle.showdown_tally.specs.declared.table.Table.{Table}
+use Rattle.hand_audit.specs.AllIns.{all_in_of}
+use Rattle.hand_audit.specs.CardsKnown.{KnowsCards, all_known_at}
+use Rattle.hand_audit.specs.declared.audit.AllIn.TheVariants.{Known, Unknown}
 use Rattle.hand_audit.specs.Chips.{KeepsChips}
 use Rattle.hand_audit.specs.Departs.{departs, departs_behind, departs_from}
 use Rattle.hand_audit.specs.Lines.{nothing, players_of}
 use Rattle.hand_audit.specs.PotNames.{fits}
 use Rattle.hand_audit.specs.Settle.{Showing, beyond, beyond_if, beyond_in, beyond_of, beyond_from, settled, settled_of, pay_of, parts_of, part_of_seat, sides_of_seat, distance}
 use Rattle.hand_audit.specs.Showings.{rake, showing_of}
-use Rattle.hand_audit.specs.Splits.{IsSplitRightly}
+use Rattle.hand_audit.specs.Splits.{IsSplitRightly, IsWonBySomebody}
 use Rattle.hand_audit.specs.Verdict.{audit_of, audit_behind, judged, settlement_of, events_of}
 use Rattle.hand_audit.proofs.AllPlay.{others_idle}
-use Rattle.hand_audit.proofs.Chips.{kept, kept_within}
+use Rattle.hand_audit.proofs.Chips.{kept, kept_within, sound_all, start, has_total}
+use Rattle.pot_layers.specs.Eligible.{ExcludesFolded}
+use Rattle.hand_audit.proofs.Decided.{decided}
+use Rattle.hand_audit.proofs.Ranked.{KeepsOrder}
+use Rattle.hand_audit.proofs.WonPots.{won_pots}
+use Rattle.hand_audit.proofs.KnownCards.{known_cards}
+use Rattle.hand_audit.proofs.UnknownCards.{unknown_cards}
 use Rattle.hand_audit.proofs.Sums.{Idle}
 
 -- what an accepted hand's verdict says
-record IsAccepted (g : Header) (lines : List (List ℕ)) (number : ℕ) (settlement : Settlement) (players : ℕ) : Type 0 where
+record IsAccepted (g : Header) (lines : List (List ℕ)) (number : ℕ) (settlement : Settlement) (all_in : AllIn) (players : ℕ) : Type 0 where
   none : departs_from g players number nothing lines ≡ None
   made : settlement_of g players (events_of g lines) ≡ settlement
+  found : all_in_of g players (events_of g lines) ≡ all_in
   all_play : players_of g lines ≡ players
 
 some_is : {A : Type 0} (a b : A) → Some a ≡ Some b → a ≡ b
 some_is a b e = cc
 
-accepted_is : (find : Finding) (number : ℕ) (line : List ℕ) (lines : List (List ℕ)) (g : Header) (settlement : Settlement) (all_in : AllIn) (names : List (ℕ × List ℕ)) (players : ℕ) → header_of line ≡ Ok g
-    → audit_of find number (line ∷ lines) ≡ Some (Accepted settlement all_in names players) → IsAccepted g lines number settlement players
+accepted_is : (number : ℕ) (line : List ℕ) (lines : List (List ℕ)) (g : Header) (settlement : Settlement) (all_in : AllIn) (names : List (ℕ × List ℕ)) (players : ℕ) → header_of line ≡ Ok g
+    → audit_of number (line ∷ lines) ≡ Some (Accepted settlement all_in names players) → IsAccepted g lines number settlement all_in players
 unfolding departs
-accepted_is find number line lines g settlement all_in names players read is =
-    by (departs_from g (players_of g lines) number nothing lines) refl (some_is _ _ (sym (ap (λ header. audit_behind find number lines header (departs_behind number lines header)) read) ∙ is))
+accepted_is number line lines g settlement all_in names players read is =
+    by (departs_from g (players_of g lines) number nothing lines) refl (some_is _ _ (sym (ap (λ header. audit_behind number lines header (departs_behind number lines header)) read) ∙ is))
   where
-    by : (o : Option (ℕ × Cause)) → departs_from g (players_of g lines) number nothing lines ≡ o → judged find g lines o ≡ Accepted settlement all_in names players → IsAccepted g lines number settlement players
+    by : (o : Option (ℕ × Cause)) → departs_from g (players_of g lines) number nothing lines ≡ o → judged g lines o ≡ Accepted settlement all_in names players → IsAccepted g lines number settlement all_in players
     by (Some at) e h = cc
     by None e h =
         let same : players_of g lines ≡ players = cc in
         let made : settlement_of g (players_of g lines) (events_of g lines) ≡ settlement = cc in
-        record { none = ap (λ p. departs_from g p number nothing lines) (sym same) ∙ e; made = ap (λ p. settlement_of g p (events_of g lines)) (sym same) ∙ made; all_play = same }
+        let found : all_in_of g (players_of g lines) (events_of g lines) ≡ all_in = cc in
+        record { none = ap (λ p. departs_from g p number nothing lines) (sym same) ∙ e; made = ap (λ p. settlement_of g p (events_of g lines)) (sym same) ∙ made; found = ap (λ p. all_in_of g p (events_of g lines)) (sym same) ∙ found; all_play = same }
 
-pub accepted_kept : (find : Finding) (number : ℕ) (line : List ℕ) (lines : List (List ℕ)) (g : Header) → header_of line ≡ Ok g → (settlement : Settlement) (all_in : AllIn) (names : List (ℕ × List ℕ)) (players : ℕ)
-    → audit_of find number (line ∷ lines) ≡ Some (Accepted settlement all_in names players) → KeepsChips g (events_of g lines) settlement.rake
-accepted_kept find number line lines g read settlement all_in names players is =
-    let a = accepted_is find number line lines g settlement all_in names players read is in
+pub accepted_kept : (number : ℕ) (line : List ℕ) (lines : List (List ℕ)) (g : Header) → header_of line ≡ Ok g → (settlement : Settlement) (all_in : AllIn) (names : List (ℕ × List ℕ)) (players : ℕ)
+    → audit_of number (line ∷ lines) ≡ Some (Accepted settlement all_in names players) → KeepsChips g (events_of g lines) settlement.rake
+accepted_kept number line lines g read settlement all_in names players is =
+    let a = accepted_is number line lines g settlement all_in names players read is in
     let stated : rake (events_of g lines) ≡ settlement.rake = ap (λ (x : Settlement). x.rake) a.made in
     let others : Idle g players (events_of g lines) = subst (λ (n : ℕ). Idle g n (events_of g lines)) a.all_play (others_idle g number lines (ap (λ n. departs_from g n number nothing lines) a.all_play ∙ a.none)) in
     subst (λ (n : ℕ). KeepsChips g (events_of g lines) n) stated (kept g players number lines a.none others)
@@ -107,10 +122,35 @@ split_of s fit none number pot is p low high =
       near = all_near (pay_of s source pot) (λ q. sides_of_seat q (parts_of s source pot)) 1 10 p pot_none low (omega arith);
     }
 
-pub accepted_split : (find : Finding) (number : ℕ) (line : List ℕ) (lines : List (List ℕ)) (g : Header) → header_of line ≡ Ok g → (settlement : Settlement) (all_in : AllIn) (names : List (ℕ × List ℕ)) (players : ℕ)
-    → audit_of find number (line ∷ lines) ≡ Some (Accepted settlement all_in names players) → settlement.fits ≡ true → IsSplitRightly (showing_of g players (events_of g lines))
-accepted_split find number line lines g read settlement all_in names players is fit =
-    let a = accepted_is find number line lines g settlement all_in names players read is in
+pub accepted_split : (number : ℕ) (line : List ℕ) (lines : List (List ℕ)) (g : Header) → header_of line ≡ Ok g → (settlement : Settlement) (all_in : AllIn) (names : List (ℕ × List ℕ)) (players : ℕ)
+    → audit_of number (line ∷ lines) ≡ Some (Accepted settlement all_in names players) → settlement.fits ≡ true → IsSplitRightly (showing_of g players (events_of g lines))
+accepted_split number line lines g read settlement all_in names players is fit =
+    let a = accepted_is number line lines g settlement all_in names players read is in
     let s = showing_of g players (events_of g lines) in
     let fit_settled : (settled s).fits ≡ true = ap (λ (x : Settlement). x.fits) a.made ∙ fit in
     split_of s fit_settled (kept_within g players number lines a.none)
+
+pub accepted_knows : PlacesAreApart → CardsBelongAfter → ShowsSeats → ShowsDead → (number : ℕ) (line : List ℕ) (lines : List (List ℕ)) (g : Header) → header_of line ≡ Ok g
+    → (settlement : Settlement) (street : Street) (seats : List ℕ) (table : Table) (names : List (ℕ × List ℕ)) (players : ℕ)
+    → audit_of number (line ∷ lines) ≡ Some (Accepted settlement (Known street seats table) names players) → KnowsCards g players (events_of g lines) street seats table
+accepted_knows apart belong shows shows_dead number line lines g read settlement street seats table names players is =
+    let a = accepted_is number line lines g settlement (Known street seats table) names players read is in
+    let end = sound_all g players number lines nothing (start g players) a.none in
+    known_cards apart belong shows shows_dead g players (events_of g lines) street seats table end.0.accepted a.found
+
+pub accepted_unknown : PlacesAreApart → CardsBelongAfter → WholeBoards → ShowsSeats → ShowsDead → (number : ℕ) (line : List ℕ) (lines : List (List ℕ)) (g : Header) → header_of line ≡ Ok g
+    → (settlement : Settlement) (names : List (ℕ × List ℕ)) (players : ℕ)
+    → audit_of number (line ∷ lines) ≡ Some (Accepted settlement Unknown names players) → all_known_at g (events_of g lines) (point g players (events_of g lines)) ≡ false
+accepted_unknown apart belong boards shows shows_dead number line lines g read settlement names players is =
+    let a = accepted_is number line lines g settlement Unknown names players read is in
+    let end = sound_all g players number lines nothing (start g players) a.none in
+    unknown_cards apart belong boards shows shows_dead g players (events_of g lines) end.0.accepted end.0.markers a.found
+
+pub accepted_won : KeepsOrder → PlacesAreApart → CardsBelongAfter → WholeBoards → ShowsSeats → ExcludesFolded → (number : ℕ) (line : List ℕ) (lines : List (List ℕ)) (g : Header) → header_of line ≡ Ok g
+    → (settlement : Settlement) (all_in : AllIn) (names : List (ℕ × List ℕ)) (players : ℕ)
+    → audit_of number (line ∷ lines) ≡ Some (Accepted settlement all_in names players) → IsWonBySomebody (showing_of g players (events_of g lines))
+accepted_won law apart belong boards shows folded number line lines g read settlement all_in names players is =
+    let a = accepted_is number line lines g settlement all_in names players read is in
+    let end = sound_all g players number lines nothing (start g players) a.none in
+    let h = events_of g lines in
+    won_pots law shows g players h (decided apart belong boards shows folded g players h end.0.accepted end.0.markers (end.0.part (has_total g players h end.1)))

@@ -1,6 +1,6 @@
 -- In a hand with no line that departs, all that was put in is what was collected and the rake.
 use Rattle.std.proofs.Common.{◌≡◌, ℕ, ◌+◌, ◌<◌, ◌≤◌, List, [], ◌∷◌, refl, sym, ap, ◌∙◌, subst, Bool, true, false, ◌==◌, not, ◌||◌, arith}
-use Rattle.std.specs.Prelude.{Option, Some, None, Result, Ok, Err, All, if◌then◌else◌}
+use Rattle.std.specs.Prelude.{Option, Some, None, Result, Ok, Err, IfOk, All, if◌then◌else◌}
 use Rattle.std.specs.List.{list_any}
 use Rattle.std.proofs.lemmas.List.Elements.{All-push}
 use Rattle.history_text.specs.declared.events.Header.{Header}
@@ -26,7 +26,10 @@ use Rattle.hand_audit.specs.Departs.{is_total, bet_cause, total_cause, event_cau
 use Rattle.hand_audit.specs.Verdict.{read_all, events_of}
 use Rattle.hand_audit.specs.Chips.{IsBalanced, KeepsChips, sum_from, over_seats, closing, opening, collected_at}
 use Rattle.betting_replay.specs.Events.{SeatFits}
+use Rattle.betting_replay.specs.Accepted.{IsAccepted}
+use Rattle.betting_replay.specs.CardLaws.{MarkerFits, MarkersFit}
 use Rattle.betting_replay.specs.Limits.{Fits}
+use Rattle.hand_audit.proofs.MarkerCards.{line_fits}
 use Rattle.betting_replay.specs.Sums.{paid, dead}
 use Rattle.betting_replay.specs.Faults.{legal}
 use Rattle.betting_replay.specs.declared.faults.BetFault.{BetFault}
@@ -43,6 +46,8 @@ pub record Sound (g : Header) (players : ℕ) (so_far : SoFar) : Type 0 where
   pub chips : list_any is_total so_far.events ≡ true → IsBalanced g players so_far.events
   pub filled : (p : ℕ) → p < 11 → IsFilled g so_far.events p
   pub collectors : AreSeats (collections so_far.events)
+  pub accepted : IsAccepted g players so_far.events
+  pub markers : MarkersFit g.game so_far.events
 
 second : (a : Option Cause) (b : Option Cause) → or_else a b ≡ None → b ≡ None
 second None b h = h
@@ -148,13 +153,15 @@ sound_more g players so_far line e s is none =
           let k : stands_in SummaryPart e ≡ true = subst (λ (q : Part). stands_in q e ≡ true) p kind in balanced_more g players so_far.events e k none s.chips some;
       filled = filled_legal g players so_far.events e fits (seat_below e fits.seats) legal_none s.filled;
       collectors = collected_more (collections so_far.events) (collected_by e) s.collectors (collects e fits.seats);
+      accepted = (fits, legal_none, s.accepted);
+      markers = (subst (λ (r : Result Event TextFault). IfOk r (MarkerFits g.game)) is (line_fits so_far.names g (part_of so_far.events) line), s.markers);
     }
 
 pub no_bet : (number : ℕ) (a : Option Cause) (b : Option (ℕ × Cause)) → or_else (at_line number a) b ≡ None → (a ≡ None) × (b ≡ None)
 no_bet number None b h = (refl, h)
 no_bet number (Some c) b h = cc
 
-sound_all : (g : Header) (players number : ℕ) (lines : List (List ℕ)) (so_far : SoFar) → Sound g players so_far → departs_from g players number so_far lines ≡ None
+pub sound_all : (g : Header) (players number : ℕ) (lines : List (List ℕ)) (so_far : SoFar) → Sound g players so_far → departs_from g players number so_far lines ≡ None
     → Sound g players (read_all g so_far lines) × (end_cause g players (read_all g so_far lines).events ≡ None)
 sound_all g players number [] so_far s none = (s, last (end_cause g players so_far.events) none)
   where
@@ -174,7 +181,7 @@ sound_all g players number (line ∷ lines) so_far s none =
         let here : read_all g so_far (line ∷ lines) ≡ read_all g (with_event line e so_far) lines = rw is refl in
         subst (λ (t : SoFar). Sound g players t × (end_cause g players t.events ≡ None)) (sym here) (go (with_event line e so_far) (sound_more g players so_far line e s is both.0) both.1)
 
-has_total : (g : Header) (players : ℕ) (h : List Event) → end_cause g players h ≡ None → list_any is_total h ≡ true
+pub has_total : (g : Header) (players : ℕ) (h : List Event) → end_cause g players h ≡ None → list_any is_total h ≡ true
 unfolding end_cause
 has_total g players h none = by (list_any is_total h) refl none
   where
@@ -183,7 +190,7 @@ has_total g players h none = by (list_any is_total h) refl none
     by false e n = cc
 
 pub start : (g : Header) (players : ℕ) → Sound g players nothing
-start g players = record { seats = λ k d l. absurd (omega (arith, l)); part = λ h. cc; chips = λ h. cc; filled = λ p l. filled_none g p; collectors = tt }
+start g players = record { seats = λ k d l. absurd (omega (arith, l)); part = λ h. cc; chips = λ h. cc; filled = λ p l. filled_none g p; collectors = tt; accepted = tt; markers = tt }
 
 collected_is : (h : List Event) → collected h ≡ taken (collections h)
 unfolding collected

@@ -9,7 +9,6 @@ use Rattle.betting_replay.specs.Seats.{or_else}
 use Rattle.hand_audit.specs.declared.audit.HandAudit.TheVariants.{Rejected}
 use Rattle.hand_audit.specs.declared.cause.Cause.{Cause}
 use Rattle.hand_audit.specs.declared.cause.Cause.TheVariants.{Text}
-use Rattle.hand_audit.specs.AllIns.{Finding}
 use Rattle.hand_audit.specs.Before.{Stand, StandsBy}
 use Rattle.hand_audit.specs.Departs.{departs, departs_behind, departs_from, departs_by, at_line, end_cause, event_cause}
 use Rattle.hand_audit.specs.Lines.{SoFar, nothing, read_at, with_event, players_of}
@@ -64,13 +63,13 @@ behind g players number so_far (line ∷ lines) n c h = by (read_at g so_far lin
     by (Err f) is go r = let same : number + 1 ≡ n = same_number (number + 1, Text f) (n, c) r in here g players number so_far (line ∷ lines) n same
     by (Ok e) is go r = by_cause e (event_cause g players so_far.events e) is refl go r
 
-pub rejected_behind : (find : Finding) (number : ℕ) (line : List ℕ) (lines : List (List ℕ)) (g : Header) → header_of line ≡ Ok g → (n : ℕ) (c : Cause) (hundredths : Bool)
-    → audit_of find number (line ∷ lines) ≡ Some (Rejected n c hundredths) → Stand g (players_of g lines) nothing lines (n - number - 1)
+pub rejected_behind : (number : ℕ) (line : List ℕ) (lines : List (List ℕ)) (g : Header) → header_of line ≡ Ok g → (n : ℕ) (c : Cause) (hundredths : Bool)
+    → audit_of number (line ∷ lines) ≡ Some (Rejected n c hundredths) → Stand g (players_of g lines) nothing lines (n - number - 1)
 unfolding departs
-rejected_behind find number line lines g read n c hundredths is =
-    by (departs_from g (players_of g lines) number nothing lines) refl (sym (ap (λ header. audit_behind find number lines header (departs_behind number lines header)) read) ∙ is)
+rejected_behind number line lines g read n c hundredths is =
+    by (departs_from g (players_of g lines) number nothing lines) refl (sym (ap (λ header. audit_behind number lines header (departs_behind number lines header)) read) ∙ is)
   where
-    by : (o : Option (ℕ × Cause)) → departs_from g (players_of g lines) number nothing lines ≡ o → Some (judged find g lines o) ≡ Some (Rejected n c hundredths) → Stand g (players_of g lines) nothing lines (n - number - 1)
+    by : (o : Option (ℕ × Cause)) → departs_from g (players_of g lines) number nothing lines ≡ o → Some (judged g lines o) ≡ Some (Rejected n c hundredths) → Stand g (players_of g lines) nothing lines (n - number - 1)
     by None e h = cc
     by (Some at) e h =
         let same : at.0 ≡ n = cc in

@@ -10,14 +10,20 @@ use Rattle.history_text.specs.declared.events.TextFault.{TextFault}
 use Rattle.history_text.specs.Lines.{line_event}
 use Rattle.betting_replay.specs.declared.faults.BetFault.{BetFault}
 use Rattle.betting_replay.specs.Events.{SeatFits}
+use Rattle.betting_replay.specs.CardLaws.{MarkerFits, MarkersFit}
+use Rattle.betting_replay.specs.Limits.{Fits}
 use Rattle.betting_replay.specs.Tables.{StandsFor, table_of}
 use Rattle.betting_replay.specs.Faults.{legal, verdict}
 use Rattle.betting_replay.proofs.Passed.{no_fault}
-use Rattle.pot_layers.specs.Pots.{put_in_all}
+use Rattle.history_text.specs.declared.events.Part.TheVariants.{Summary as SummaryPart}
+use Rattle.betting_replay.specs.Accepted.{IsAccepted}
+use Rattle.betting_replay.specs.Table.{Table}
+use Rattle.pot_layers.specs.Pots.{pots, put_in_all}
+use Rattle.hand_audit.specs.Winning.{AreDecided}
 use Rattle.hand_audit.specs.declared.cause.Cause.{Cause}
 use Rattle.hand_audit.specs.declared.cause.Cause.TheVariants.{Text, Bet, Split, Unfinished}
 use Rattle.hand_audit.specs.declared.hand.Hand.{Hand}
-use Rattle.hand_audit.specs.Lines.{SoFar, part_after, read_at, named_by}
+use Rattle.hand_audit.specs.Lines.{SoFar, part_after, part_of, read_at, named_by}
 use Rattle.hand_audit.specs.Collections.{collected_by, collections, taken}
 use Rattle.hand_audit.specs.Showings.{paid_in, button_by, rake_by, showing_at, showing_of}
 use Rattle.hand_audit.specs.Departs.{is_total, total_cause, event_cause, end_cause, split_cause, put_in_by, collected}
@@ -79,11 +85,11 @@ seats_more _ line names fits all = all
 pub goes_on : (new hand : Hand) (g : Header) (players : ℕ) (so_far : SoFar) (line : List ℕ) (e : Event) (u : Unit {0}) → Keeps hand g players so_far
     → line_event hand.names g hand.part line ≡ Ok e → verdict (legal g players so_far.events e) ≡ Ok u
     → total_cause (put_in_all (paid_in hand.replay)) (taken hand.collections.items) e ≡ None
-    → SeatFits e → StandsFor new.replay g players (e ∷ so_far.events) → new.names ≡ named_by e line hand.names → new.part ≡ part_after e hand.part
+    → Fits e → MarkerFits g.game e → StandsFor new.replay g players (e ∷ so_far.events) → new.names ≡ named_by e line hand.names → new.part ≡ part_after e hand.part
     → new.collections.items ≡ hand.collections.items ++ collected_by e → new.button ≡ button_by e hand.button → new.rake ≡ rake_by e hand.rake
     → new.total ≡ (is_total e || hand.total)
     → Goes new g players so_far line (read_at g so_far line) None
-goes_on new hand g players so_far line e u k is bet total fits stands names part all button' rake' total' =
+goes_on new hand g players so_far line e u k is bet total fits marker stands names part all button' rake' total' =
     subst (λ (r : Result Event TextFault). Goes new g players so_far line r None) (sym is ∙ read_is hand g players so_far line k) (
       event_total g players so_far.events e u None bet (sym (counts_is hand g players so_far e k) ∙ total),
       record {
@@ -94,7 +100,9 @@ goes_on new hand g players so_far line e u k is bet total fits stands names part
         button = button' ∙ ap (button_by e) k.button;
         rake = rake' ∙ ap (rake_by e) k.rake;
         total = total' ∙ ap (λ b. is_total e || b) k.total;
-        seats = seats_more e line so_far.names fits k.seats;
+        seats = seats_more e line so_far.names fits.seats k.seats;
+        accepted = (fits, no_fault (legal g players so_far.events e) u bet, k.accepted);
+        markers = (marker, k.markers);
       },
     )
 
@@ -113,14 +121,24 @@ split_is : (hand : Hand) (g : Header) (players : ℕ) (so_far : SoFar) (first : 
 unfolding end_cause
 split_is hand g players so_far first k some is = let t : list_any is_total so_far.events ≡ true = sym k.total ∙ some in rw (t, is) refl
 
+-- behind an accepted hand's total line each pot is decided
+abbrev pub DecidesPots : Type 0
+DecidesPots = (g : Header) (players : ℕ) (h : List Event) → IsAccepted g players h → MarkersFit g.game h → part_of h ≡ SummaryPart → AreDecided (showing_of g players h) (pots (paid_in (table_of g players h)))
+
+decided_kept : (hand : Hand) (g : Header) (players : ℕ) (so_far : SoFar) (game : Game) → Keeps hand g players so_far → g.game ≡ game → DecidesPots → hand.part ≡ SummaryPart
+    → AreDecided (showing_at game hand.replay hand.collections.items hand.button) (pots (paid_in hand.replay))
+decided_kept hand g players so_far game k same decides ended =
+    subst (λ (t : Table). AreDecided (showing_at game hand.replay hand.collections.items hand.button) (pots (paid_in t))) (sym k.stands.is)
+    (subst (λ (s : Showing). AreDecided s (pots (paid_in (table_of g players so_far.events)))) (sym (showing_kept hand g players so_far game k same)) (decides g players so_far.events k.accepted k.markers (sym k.part ∙ ended)))
+
 pub settles : (hand : Hand) (g : Header) (players : ℕ) (so_far : SoFar) (game : Game) (settled : HandSettled) → Keeps hand g players so_far → g.game ≡ game → hand.total ≡ true
-    → IsOfHand (showing_at game hand.replay hand.collections.items hand.button) settled → settled.beyond ≡ None → EndsAs g players so_far.events (Ok settled)
-settles hand g players so_far game settled k same some is none =
-    let s : IsOfHand (showing_of g players so_far.events) settled = subst (λ (x : Showing). IsOfHand x settled) (showing_kept hand g players so_far game k same) is in
+    → DecidesPots → hand.part ≡ SummaryPart → (AreDecided (showing_at game hand.replay hand.collections.items hand.button) (pots (paid_in hand.replay)) → IsOfHand (showing_at game hand.replay hand.collections.items hand.button) settled) → settled.beyond ≡ None → EndsAs g players so_far.events (Ok settled)
+settles hand g players so_far game settled k same some decides ended is none =
+    let s : IsOfHand (showing_of g players so_far.events) settled = subst (λ (x : Showing). IsOfHand x settled) (showing_kept hand g players so_far game k same) (is (decided_kept hand g players so_far game k same decides ended)) in
     (split_is hand g players so_far None k some (sym s.beyond ∙ none), s)
 
 pub splits : (hand : Hand) (g : Header) (players : ℕ) (so_far : SoFar) (game : Game) (settled : HandSettled) (pay : Payment) → Keeps hand g players so_far → g.game ≡ game → hand.total ≡ true
-    → IsOfHand (showing_at game hand.replay hand.collections.items hand.button) settled → settled.beyond ≡ Some pay → EndsAs g players so_far.events (Err (Split pay.seat pay.due pay.got))
-splits hand g players so_far game settled pay k same some is one =
-    let s : IsOfHand (showing_of g players so_far.events) settled = subst (λ (x : Showing). IsOfHand x settled) (showing_kept hand g players so_far game k same) is in
+    → DecidesPots → hand.part ≡ SummaryPart → (AreDecided (showing_at game hand.replay hand.collections.items hand.button) (pots (paid_in hand.replay)) → IsOfHand (showing_at game hand.replay hand.collections.items hand.button) settled) → settled.beyond ≡ Some pay → EndsAs g players so_far.events (Err (Split pay.seat pay.due pay.got))
+splits hand g players so_far game settled pay k same some decides ended is one =
+    let s : IsOfHand (showing_of g players so_far.events) settled = subst (λ (x : Showing). IsOfHand x settled) (showing_kept hand g players so_far game k same) (is (decided_kept hand g players so_far game k same decides ended)) in
     split_is hand g players so_far (Some pay) k some (sym s.beyond ∙ one)

@@ -20,3 +20,17 @@ pub mod First
 pub mod AllPlay
 pub mod Accepted
 pub mod PaidIn
+pub mod Tens
+pub mod Tables
+pub mod Among
+pub mod Marked
+pub mod MarkFacts
+pub mod Won
+pub mod MorePots
+pub mod MarkerCards
+pub mod Decided
+pub mod KnownCards
+pub mod FewPots
+pub mod Tabled
+pub mod UnknownCards
+pub mod WonPots

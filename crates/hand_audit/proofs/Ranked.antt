@@ -12,8 +12,7 @@ use Rattle.showdown_tally.specs.Numbers.{side_number}
 use Rattle.showdown_tally.specs.Settling.{number_of}
 use Rattle.showdown_tally.specs.Showdown.{best, is_beaten_by}
 use Rattle.hand_audit.specs.Settle.{value_on, value_of_hand}
-use Rattle.hand_audit.specs.Showings.{is_full}
-use Rattle.hand_audit.specs.Winning.{Ranks, is_beaten, beaten_on, number_on}
+use Rattle.hand_audit.specs.Winning.{Ranks, is_beaten, beaten_on, number_on, is_full, full_with}
 
 -- the law on full hands
 abbrev pub KeepsOrder : Type 0
@@ -42,7 +41,7 @@ split_full true true false e = cc
 split_full true false c e = cc
 split_full false b c e = cc
 
-full_of : (game : Game) (own board : List ℕ) → IsCardSet own → IsCardSet board → is_full game board own ≡ true → IsFull game own board
+pub full_of : (game : Game) (own board : List ℕ) → IsCardSet own → IsCardSet board → is_full game board own ≡ true → IsFull game own board
 full_of game own board own_set board_set full =
     let parts = split_full (length own == own_size game) (length board == board_size game) (apart own board) full in
     record { own_cards = own_set; board_cards = board_set; own_size = (let h = parts.0 in grind arith); board_size = (let h = parts.1 in grind arith); apart = parts.2 }
@@ -78,3 +77,16 @@ same_ranks side values v w same r = record {
   some = λ p l. r.some p l ∙ ap is_some (same p l);
   order = λ p q l m. r.order p q l m ∙ ap (λ x. beaten_on side x (v q)) (same p l) ∙ ap (λ x. beaten_on side (w p) x) (same q m);
 }
+
+-- cards that can be shown down pass the test
+pub full_from : (game : Game) (own board : List ℕ) → IsFull game own board → is_full game board own ≡ true
+full_from game own board full =
+    let o = full.own_size in
+    let b = full.board_size in
+    let own_full : (length own == own_size game) ≡ true = grind (arith, o) in
+    let board_full : (length board == board_size game) ≡ true = grind (arith, b) in
+    rw (own_full, board_full, full.apart) refl
+
+pub same_full : (game : Game) (board : List ℕ) (x : Option (List ℕ)) → IfSome x (λ own. IsFull game own board) → full_with game board x ≡ x
+same_full game board None full = refl
+same_full game board (Some own) full = rw (full_from game own board full) refl

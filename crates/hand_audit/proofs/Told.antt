@@ -1,6 +1,6 @@
 -- Who wins by what is kept is who wins by the rules.
-use Rattle.std.proofs.Common.{◌≡◌, ℕ, zero, suc, ◌+◌, ◌<◌, ◌≤◌, List, [], ◌∷◌, refl, sym, ap, ◌∙◌, Bool, true, false, ◌==◌, ◌&&◌, ◌||◌, not, arith}
-use Rattle.std.specs.Prelude.{Option, Some, None, is_some, nat_lt, filter, if◌then◌else◌, slice_index_or}
+use Rattle.std.proofs.Common.{◌≡◌, ℕ, zero, suc, length, ◌+◌, ◌<◌, ◌≤◌, List, [], ◌∷◌, refl, sym, ap, ◌∙◌, Bool, true, false, ◌==◌, ◌&&◌, not, arith}
+use Rattle.std.specs.Prelude.{Option, Some, None, is_some, nat_lt, if◌then◌else◌, slice_index_or}
 use Rattle.std.specs.Int.{bit_at}
 use Rattle.std.specs.List.{list_all, list_any}
 use Rattle.card_sets.specs.declared.games.Side.{Side}
@@ -9,16 +9,22 @@ use Rattle.showdown_tally.specs.Settling.{number_of}
 use Rattle.showdown_tally.specs.Showdown.{is_beaten_by, winners_of}
 use Rattle.hand_audit.specs.Orders.{seats_from, seats_in, OfSeats}
 use Rattle.hand_audit.specs.Settle.{Showing, set_of, hand_of, value_on, worth_on, first_side, second_side, side_winners, is_alone, is_checked, first_winners, second_winners}
-use Rattle.hand_audit.specs.Winning.{Ranks, Tells, is_beaten, is_unbeaten, is_seat_in, wins, winners_by}
+use Rattle.hand_audit.specs.Marks.{mark_of}
+use Rattle.hand_audit.specs.Winning.{Ranks, Tells, AreFull, IsDecided, full_with, is_beaten, is_unbeaten, is_seat_in, wins, winners_by}
 use Rattle.hand_audit.specs.declared.standings.Standings.{Standings}
 use Rattle.card_sets.specs.declared.games.Game.{Game}
 use Rattle.betting_replay.specs.Seats.{by_seat}
 use Rattle.betting_replay.specs.Tables.{Table, own_at, final_at}
 use Rattle.betting_replay.proofs.BySeat.{at_by_seat}
 use Rattle.hand_audit.specs.declared.collections.Collection.{Collection}
-use Rattle.hand_audit.specs.Showings.{full_with, showing_at}
+use Rattle.hand_audit.specs.Showings.{showing_at}
+use Rattle.hand_audit.proofs.Among.{among_filter}
 use Rattle.hand_audit.proofs.Seats.{same_below, among_seats}
-use Rattle.hand_audit.proofs.Ranked.{same_ranks}
+use Rattle.hand_audit.proofs.Ranked.{same_ranks, same_full}
+
+off : (x : Bool) → (x && false) ≡ false
+off true = refl
+off false = refl
 
 -- a test of the seats of a set that agrees with another
 same_more : (f g : ℕ → Bool) (s p n : ℕ) → f p ≡ g p → list_all f (seats_from s (p + 1) n) ≡ list_all g (seats_from s (p + 1) n) → (b : Bool)
@@ -30,27 +36,8 @@ same_all_from : (f g : ℕ → Bool) (s p n : ℕ) → p + n ≤ 11 → ((q : �
 same_all_from f g s p zero l h = refl
 same_all_from f g s p (suc n) l h = same_more f g s p n (h p (omega arith)) (same_all_from f g s (p + 1) n (omega arith) h) (bit_at s p == 1)
 
-same_all : (f g : ℕ → Bool) (s : ℕ) → ((q : ℕ) → q < 11 → f q ≡ g q) → list_all f (seats_in s) ≡ list_all g (seats_in s)
+pub same_all : (f g : ℕ → Bool) (s : ℕ) → ((q : ℕ) → q < 11 → f q ≡ g q) → list_all f (seats_in s) ≡ list_all g (seats_in s)
 same_all f g s h = same_all_from f g s 1 10 (omega arith) h
-
--- who is among those that pass a test
-eq_same : (f : ℕ → Bool) (q p : ℕ) → (q == p) ≡ true → f q ≡ f p
-eq_same f q p e = let is : q ≡ p = grind arith in ap f is
-
-off : (x : Bool) → (x && false) ≡ false
-off true = refl
-off false = refl
-
-among_more : (f : ℕ → Bool) (q : ℕ) (xs : List ℕ) (p : ℕ) → list_any (λ r. r == p) (filter f xs) ≡ (list_any (λ r. r == p) xs && f p) → (a b : Bool) → f q ≡ a → (q == p) ≡ b
-    → list_any (λ r. r == p) (if a then q ∷ filter f xs else filter f xs) ≡ ((b || list_any (λ r. r == p) xs) && f p)
-among_more f q xs p ih true true ea eb = let here : f p ≡ true = sym (eq_same f q p eb) ∙ ea in rw (eb, here) refl
-among_more f q xs p ih true false ea eb = rw eb ih
-among_more f q xs p ih false true ea eb = let here : f p ≡ false = sym (eq_same f q p eb) ∙ ea in ih ∙ rw here (off (list_any (λ r. r == p) xs))
-among_more f q xs p ih false false ea eb = ih
-
-among_filter : (f : ℕ → Bool) (xs : List ℕ) (p : ℕ) → list_any (λ q. q == p) (filter f xs) ≡ (list_any (λ q. q == p) xs && f p)
-among_filter f [] p = refl
-among_filter f (q ∷ xs) p = among_more f q xs p (among_filter f xs p) (f q) (q == p) refl refl
 
 -- the winners by numbers are those by values
 one_seat : (side : Side) (values : List (Option ℕ)) (v : ℕ → Option (List ℕ)) (s p : ℕ) → Ranks (Some side) values v → p < 11 → wins values s p ≡ list_any (λ q. q == p) (winners_of side v (seats_in s))
@@ -98,21 +85,45 @@ pub checked_told : (w : Standings) (s : Showing) (eligible : ℕ) (known : Bool)
 unfolding is_checked
 checked_told w s eligible known t many are = rw many (are ∙ same_all (λ p. slice_index_or w.known p false) (λ p. is_some (hand_of s p)) eligible t.known)
 
-pub first_alone : (s : Showing) (eligible : ℕ) → is_alone eligible ≡ true → set_of (seats_in eligible) ≡ first_winners s eligible
+-- where nobody is eligible nobody wins
+not_winning : (values : List (Option ℕ)) (s p : ℕ) → p < 11 → seats_in s ≡ [] → wins values s p ≡ false
+unfolding wins
+not_winning values s p l none =
+    let out : is_seat_in s p ≡ false = sym (among_seats s p l) ∙ ap (list_any (λ q. q == p)) none in
+    ap (λ b. b && is_some (number_of values p) && is_unbeaten values s (number_of values p)) out
+
+nobody_wins : (values : List (Option ℕ)) (s : ℕ) → seats_in s ≡ [] → winners_by values s ≡ 0
+unfolding winners_by
+nobody_wins values s none = same_below (wins values s) (λ p. false) 11 (λ p l. not_winning values s p l none) ∙ nobody 11
+
+pub no_winners : (side : Option Side) (s : Showing) (eligible : ℕ) → seats_in eligible ≡ [] → side_winners side s eligible ≡ 0
+no_winners None s eligible none = refl
+no_winners (Some side) s eligible none = ap (λ xs. set_of (winners_of side (worth_on (Some side) s) xs)) none ∙ nobody 11
+
+-- a set has no seat, or one, or more
+pub data HowMany (eligible : ℕ) : Type 0 where
+  none : seats_in eligible ≡ [] → HowMany eligible
+  many : 2 ≤ length (seats_in eligible) → HowMany eligible
+
+pub how_many : (eligible : ℕ) → is_alone eligible ≡ false → HowMany eligible
+how_many eligible others = by (seats_in eligible) refl
+  where
+    by : (xs : List ℕ) → seats_in eligible ≡ xs → HowMany eligible
+    by [] e = none e
+    by (p ∷ []) e = let one : is_alone eligible ≡ true = ap (λ xs. length xs == 1) e in cc
+    by (p ∷ q ∷ xs) e = let l : length (seats_in eligible) ≡ suc (suc (length xs)) = ap length e in many (omega (arith, l))
+
+told : (side : Option Side) (values : List (Option ℕ)) (s : Showing) (eligible : ℕ) → (AreFull s → Ranks side values (worth_on side s)) → IsDecided s eligible → HowMany eligible → winners_by values eligible ≡ side_winners side s eligible
+told side values s eligible ranks d (none e) = nobody_wins values eligible e ∙ sym (no_winners side s eligible e)
+told side values s eligible ranks d (many m) = side_told side values s eligible (ranks (d m))
+
+pub first_told : (w : Standings) (s : Showing) (eligible : ℕ) → Tells w s → IsDecided s eligible → is_alone eligible ≡ false → winners_by w.first eligible ≡ first_winners s eligible
 unfolding first_winners
-first_alone s eligible one = rw one refl
+first_told w s eligible t d others = told (first_side s.game) w.first s eligible t.first d (how_many eligible others)
 
-pub first_told : (w : Standings) (s : Showing) (eligible : ℕ) → Tells w s → is_alone eligible ≡ false → winners_by w.first eligible ≡ first_winners s eligible
-unfolding first_winners
-first_told w s eligible t many = rw many (side_told (first_side s.game) w.first s eligible t.first)
-
-pub second_alone : (s : Showing) (eligible : ℕ) → is_alone eligible ≡ true → 0 ≡ second_winners s eligible
+pub second_told : (w : Standings) (s : Showing) (eligible : ℕ) → Tells w s → IsDecided s eligible → is_alone eligible ≡ false → winners_by w.second eligible ≡ second_winners s eligible
 unfolding second_winners
-second_alone s eligible one = rw one refl
-
-pub second_told : (w : Standings) (s : Showing) (eligible : ℕ) → Tells w s → is_alone eligible ≡ false → winners_by w.second eligible ≡ second_winners s eligible
-unfolding second_winners
-second_told w s eligible t many = rw many (side_told (second_side s.game) w.second s eligible t.second)
+second_told w s eligible t d others = told (second_side s.game) w.second s eligible t.second d (how_many eligible others)
 
 pub no_seats : OfSeats 0
 no_seats = record { small = omega arith; first = refl }
@@ -120,16 +131,21 @@ no_seats = record { small = omega arith; first = refl }
 -- what is kept of a hand so far tells who wins
 pub tells : (w : Standings) (game : Game) (t : Table) (all : List Collection) (button : ℕ) (hands : List (Option (List ℕ)))
     → ((p : ℕ) → p < 11 → slice_index_or hands p None ≡ full_with game (own_at t 0) (final_at t p))
-    → ((p : ℕ) → p < 11 → slice_index_or w.known p false ≡ is_some (slice_index_or hands p None))
+    → ((p : ℕ) → p < 11 → slice_index_or w.known p false ≡ is_some (final_at t p))
     → Ranks (first_side game) w.first (λ p. value_on (first_side game) game (own_at t 0) (slice_index_or hands p None))
     → Ranks (second_side game) w.second (λ p. value_on (second_side game) game (own_at t 0) (slice_index_or hands p None))
-    → w.button ≡ button → Tells w (showing_at game t all button)
+    → ((p : ℕ) → p < 11 → slice_index_or w.marks p 0 ≡ mark_of game (own_at t 0) (slice_index_or hands p None))
+    → w.game ≡ game → w.button ≡ button → Tells w (showing_at game t all button)
 unfolding showing_at
-tells w game t all button hands are known first second b =
-    let hand : (p : ℕ) → p < 11 → slice_index_or hands p None ≡ slice_index_or (by_seat (λ q. full_with game (own_at t 0) (final_at t q))) p None = (λ p l. are p l ∙ sym (at_by_seat (λ q. full_with game (own_at t 0) (final_at t q)) p None l)) in
+tells w game t all button hands are known first second marks g b =
+    let at : (p : ℕ) → p < 11 → slice_index_or (by_seat (final_at t)) p None ≡ final_at t p = (λ p l. at_by_seat (final_at t) p None l) in
+    let same : AreFull (showing_at game t all button) → (p : ℕ) → p < 11 → slice_index_or hands p None ≡ slice_index_or (by_seat (final_at t)) p None
+    = (λ full p l. are p l ∙ ap (full_with game (own_at t 0)) (sym (at p l)) ∙ same_full game (own_at t 0) (slice_index_or (by_seat (final_at t)) p None) (full p l)) in
     record {
-      known = λ p l. known p l ∙ ap is_some (hand p l);
-      first = same_ranks (first_side game) w.first _ _ (λ p l. ap (value_on (first_side game) game (own_at t 0)) (hand p l)) first;
-      second = same_ranks (second_side game) w.second _ _ (λ p l. ap (value_on (second_side game) game (own_at t 0)) (hand p l)) second;
+      game = g;
+      known = λ p l. known p l ∙ ap is_some (sym (at p l));
+      first = λ full. same_ranks (first_side game) w.first _ _ (λ p l. ap (value_on (first_side game) game (own_at t 0)) (same full p l)) first;
+      second = λ full. same_ranks (second_side game) w.second _ _ (λ p l. ap (value_on (second_side game) game (own_at t 0)) (same full p l)) second;
+      marks = λ full p l. marks p l ∙ ap (mark_of game (own_at t 0)) (same full p l);
       button = b;
     }

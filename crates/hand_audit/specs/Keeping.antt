@@ -7,6 +7,8 @@ use Rattle.history_text.specs.declared.events.Event.TheVariants.{Seat}
 use Rattle.history_text.specs.declared.events.TextFault.{TextFault}
 use Rattle.history_text.specs.declared.events.Part.TheVariants.{Summary as SummaryPart}
 use Rattle.history_text.specs.Within.{IsSeated}
+use Rattle.betting_replay.specs.Accepted.{IsAccepted}
+use Rattle.betting_replay.specs.CardLaws.{MarkersFit}
 use Rattle.betting_replay.specs.Tables.{StandsFor}
 use Rattle.hand_audit.specs.declared.cause.Cause.{Cause}
 use Rattle.hand_audit.specs.declared.cause.Cause.TheVariants.{Text}
@@ -36,6 +38,8 @@ pub record Keeps (hand : Hand) (header : Header) (players : ℕ) (so_far : SoFar
   pub rake : hand.rake ≡ rake so_far.events
   pub total : hand.total ≡ list_any is_total so_far.events
   pub seats : All IsSeated so_far.names
+  pub accepted : IsAccepted header players so_far.events
+  pub markers : MarkersFit header.game so_far.events
 
 -- what holds of it whatever the hand: the button is a seat or none; behind a total line the summary's lines alone are left, and
 -- what was collected is no more than the stated pot

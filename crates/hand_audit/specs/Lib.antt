@@ -2,11 +2,15 @@ pub mod Lines
 pub mod Collections
 pub mod PotNames
 pub mod Orders
+pub mod Marks
+pub mod MarkNumbers
 pub mod Settle
 pub mod Showings
 pub mod Winning
 pub mod Settling
 pub mod Departs
+pub mod KnownTables
+pub mod PotSeats
 pub mod AllIns
 pub mod Verdict
 pub mod Keeping
@@ -14,3 +18,4 @@ pub mod Chips
 pub mod Splits
 pub mod Before
 pub mod Passing
+pub mod CardsKnown

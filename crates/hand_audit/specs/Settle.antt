@@ -18,7 +18,8 @@ use Rattle.hand_audit.specs.Collections.{taken_from, got_from}
 use Rattle.hand_audit.specs.PotNames.{counts_from, fits}
 use Rattle.hand_audit.specs.declared.pot_names.Source.{Source}
 use Rattle.hand_audit.specs.declared.pot_names.Source.TheVariants.{Any, Numbered}
-use Rattle.hand_audit.specs.Orders.{odd_order, seats_in}
+use Rattle.hand_audit.specs.Orders.{odd_order, by_marks, seats_in}
+use Rattle.hand_audit.specs.Marks.{has_marks, mark_of}
 
 -- what a settlement looks at: the game, what each player paid, the collections, the button, the final cards by seat and the
 -- board's
@@ -72,25 +73,37 @@ abbrev pub side_winners : Option Side → Showing → ℕ → ℕ
 side_winners None s eligible = 0
 side_winners (Some side) s eligible = set_of (winners_of side (worth_on (Some side) s) (seats_in eligible))
 
--- the winners of the first side, and of the second; a player who is alone wins one side
+-- the winners of the first side, and of the second
 unfoldable pub first_winners : Showing → ℕ → ℕ
-first_winners s eligible = if is_alone eligible then set_of (seats_in eligible) else side_winners (first_side s.game) s eligible
+first_winners s eligible = side_winners (first_side s.game) s eligible
 
 unfoldable pub second_winners : Showing → ℕ → ℕ
-second_winners s eligible = if is_alone eligible then 0 else side_winners (second_side s.game) s eligible
+second_winners s eligible = side_winners (second_side s.game) s eligible
 
--- the order in which the winners of a side get odd units: that by the button, as in all games with a board and with a draw
-abbrev pub order_of : Option Side → Showing → ℕ → List ℕ
-order_of side s winners = odd_order s.button winners
+-- a player's mark, 0 where his final cards are unknown
+abbrev pub mark_at : Showing → ℕ → ℕ
+mark_at s p = mark_of s.game s.board (hand_of s p)
 
--- the rules' parts of so many units of a pot, by the winners of its two sides; what nobody wins has none
-abbrev pub parts_by : Showing → ℕ → ℕ → ℕ → List Share
-parts_by s units first second =
-    if first == 0 then [] else shares units first second (order_of (first_side s.game) s first) (order_of (second_side s.game) s second)
+-- the order in which the winners of a side get odd units: by their marks in stud and razz, and by the button in the games with a
+-- board and with a draw
+unfoldable pub order_of : Showing → ℕ → List ℕ
+order_of s winners = if has_marks s.game then by_marks (mark_at s) (seats_in winners) else odd_order s.button winners
+
+-- the rules' parts of so many units of a pot: a player who is alone has them all
+unfoldable pub parts_alone : ℕ → ℕ → List Share
+parts_alone eligible units = shares units (set_of (seats_in eligible)) 0 (seats_in eligible) []
+
+-- else they go to the winners of its two sides
+unfoldable pub parts_by : Showing → ℕ → ℕ → ℕ → List Share
+parts_by s units first second = shares units first second (order_of s first) (order_of s second)
+
+abbrev pub parts_among : Bool → Showing → ℕ → ℕ → List Share
+parts_among true s eligible units = parts_alone eligible units
+parts_among false s eligible units = parts_by s units (first_winners s eligible) (second_winners s eligible)
 
 -- and none where it isn't known who wins
 abbrev pub parts_if : Bool → Showing → ℕ → ℕ → List Share
-parts_if true s eligible units = parts_by s units (first_winners s eligible) (second_winners s eligible)
+parts_if true s eligible units = parts_among (is_alone eligible) s eligible units
 parts_if false s eligible units = []
 
 -- a seat's part, and the sides that it wins, which are its tolerance

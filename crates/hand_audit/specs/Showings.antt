@@ -1,7 +1,5 @@
 -- What a settlement looks at, after the events of a hand.
-use Rattle.std.specs.Prelude.{ℕ, zero, suc, ◌+◌, ◌==◌, ◌&&◌, Bool, if◌then◌else◌, List, [], ◌∷◌, length, Option, Some, None}
-use Rattle.card_sets.specs.Disjoint.{apart}
-use Rattle.card_sets.specs.Games.{own_size, board_size}
+use Rattle.std.specs.Prelude.{ℕ, zero, suc, ◌+◌, if◌then◌else◌, List, [], ◌∷◌}
 use Rattle.card_sets.specs.declared.games.Game.{Game}
 use Rattle.history_text.specs.declared.events.Header.{Header}
 use Rattle.history_text.specs.declared.events.Event.{Event}
@@ -31,14 +29,6 @@ paid_from t p (suc n) = if has_seat t.players p then paid_by t p ∷ paid_from t
 unfoldable pub paid_in : Table → List Paid
 paid_in t = paid_from t 1 10
 
--- final cards that can be shown down on a board: both have all their cards, and share none
-abbrev pub is_full : Game → List ℕ → List ℕ → Bool
-is_full game board own = (length own == own_size game) && (length board == board_size game) && apart own board
-
-abbrev pub full_with : Game → List ℕ → Option (List ℕ) → Option (List ℕ)
-full_with game board None = None
-full_with game board (Some own) = if is_full game board own then Some own else None
-
 -- what a settlement looks at of a table, with the game, the collections and the button
 unfoldable pub showing_at : Game → Table → List Collection → ℕ → Showing
 showing_at game t all button = record {
@@ -46,7 +36,7 @@ showing_at game t all button = record {
   paid = paid_in t;
   collections = all;
   button = button;
-  hands = by_seat (λ p. full_with game (own_at t 0) (final_at t p));
+  hands = by_seat (final_at t);
   board = own_at t 0;
 }
 

@@ -4,7 +4,7 @@ use Rattle.history_text.specs.declared.events.Header.{Header}
 use Rattle.history_text.specs.declared.events.Event.{Event}
 use Rattle.history_text.specs.declared.events.TextFault.{TextFault}
 use Rattle.history_text.specs.Headers.{header_of}
-use Rattle.hand_audit.specs.AllIns.{Finding}
+use Rattle.hand_audit.specs.AllIns.{all_in_of}
 use Rattle.hand_audit.specs.declared.audit.HandAudit.{HandAudit}
 use Rattle.hand_audit.specs.declared.audit.HandAudit.TheVariants.{Rejected, Accepted}
 use Rattle.hand_audit.specs.declared.cause.Cause.{Cause}
@@ -29,20 +29,20 @@ settlement_by header stated s = record { game = header.game; hundredths = header
 abbrev pub settlement_of : Header → ℕ → List Event → Settlement
 settlement_of header players h = settlement_by header (rake h) (settled (showing_of header players h))
 
-abbrev pub accepted_by : Finding → Header → ℕ → SoFar → HandAudit
-accepted_by all_in header players so_far = Accepted (settlement_of header players so_far.events) (all_in header players so_far.events) so_far.names players
+abbrev pub accepted_by : Header → ℕ → SoFar → HandAudit
+accepted_by header players so_far = Accepted (settlement_of header players so_far.events) (all_in_of header players so_far.events) so_far.names players
 
 -- the verdict: the first line that departs, or else what became of the chips
-abbrev pub judged : Finding → Header → List (List ℕ) → Option (ℕ × Cause) → HandAudit
-judged all_in header lines (Some at) = Rejected at.0 at.1 header.hundredths
-judged all_in header lines None = accepted_by all_in header (players_of header lines) (read_all header nothing lines)
+abbrev pub judged : Header → List (List ℕ) → Option (ℕ × Cause) → HandAudit
+judged header lines (Some at) = Rejected at.0 at.1 header.hundredths
+judged header lines None = accepted_by header (players_of header lines) (read_all header nothing lines)
 
 -- of a hand by its header; where that can't be read the hand counts in no hundredths
-abbrev pub audit_behind : Finding → ℕ → List (List ℕ) → Result Header TextFault → Option (ℕ × Cause) → Option HandAudit
-audit_behind all_in number lines (Ok header) first = Some (judged all_in header lines first)
-audit_behind all_in number lines (Err fault) None = None
-audit_behind all_in number lines (Err fault) (Some at) = Some (Rejected at.0 at.1 false)
+abbrev pub audit_behind : ℕ → List (List ℕ) → Result Header TextFault → Option (ℕ × Cause) → Option HandAudit
+audit_behind number lines (Ok header) first = Some (judged header lines first)
+audit_behind number lines (Err fault) None = None
+audit_behind number lines (Err fault) (Some at) = Some (Rejected at.0 at.1 false)
 
-abbrev pub audit_of : Finding → ℕ → List (List ℕ) → Option HandAudit
-audit_of all_in number [] = None
-audit_of all_in number (line ∷ lines) = audit_behind all_in number lines (header_of line) (departs number (line ∷ lines))
+abbrev pub audit_of : ℕ → List (List ℕ) → Option HandAudit
+audit_of number [] = None
+audit_of number (line ∷ lines) = audit_behind number lines (header_of line) (departs number (line ∷ lines))

@@ -3,13 +3,13 @@
 ghost use Rattle.std.specs.Prelude.{◌≡◌, ◌+◌, ◌<◌, ◌^◌, IfOk, IsTrue, Some, length};
 ghost use Rattle.line_text.specs.Lines.{lines};
 ghost use Rattle.hand_audit.specs.Departs.{begins_hand};
-ghost use Rattle.hand_audit.specs.AllIns.{no_all_in};
 ghost use Rattle.hand_audit.specs.Verdict.{audit_of, accepted_by};
 ghost use Rattle.hand_audit.specs.Lines.{SoFar};
 ghost use Rattle.hand_audit.specs.Showings.{showing_of};
 ghost use Rattle.hand_audit.specs.Settling.{IsOfHand};
 ghost use Rattle.hand_audit.specs.Keeping.{Keeps};
 
+use crate::all_in::all_in_by;
 use crate::cause::Cause;
 use crate::first_pass::players_of;
 use crate::follow::{Followed, follow};
@@ -56,7 +56,7 @@ pub enum HandAudit {
     Accepted {
         /// What became of the chips.
         settlement: Settlement,
-        /// The all-in. None is looked for yet, so this is always `AllIn::None`.
+        /// The all-in.
         all_in: AllIn,
         /// The seats and names of all seat lines before the first street, in their order.
         names: Names,
@@ -68,8 +68,9 @@ pub enum HandAudit {
 /// The verdict on a hand in which no line departs.
 fn accepted(header: &Header, players: u16, hand: Hand, settled: HandSettled) -> HandAudit
     ensures { (so_far : SoFar) → Keeps hand header.now players so_far → IsOfHand (showing_of header.now players so_far.events) settled
-        → result ≡ accepted_by no_all_in header.now players so_far }
+        → result ≡ accepted_by header.now players so_far }
 {
+    let all_in = all_in_by(header.game, &hand.replay, settled.pots.items());
     HandAudit::Accepted {
         settlement: Settlement {
             game: header.game,
@@ -79,7 +80,7 @@ fn accepted(header: &Header, players: u16, hand: Hand, settled: HandSettled) -> 
             pots: settled.pots,
             paid: settled.paid,
         },
-        all_in: AllIn::None,
+        all_in,
         names: hand.names,
         players,
     }
@@ -91,7 +92,7 @@ fn accepted(header: &Header, players: u16, hand: Hand, settled: HandSettled) -> 
 pub fn audit_hand(alloc: Global, bytes: &[u8], first_line: u32) -> Result<HandAudit, Memory>
     requires header { IsTrue (begins_hand (lines bytes.now)) }
     requires numbers { first_line + length (lines bytes.now) < 2 ^ 32 }
-    ensures verdict { IfOk result (λ audit. audit_of no_all_in first_line (lines bytes.now) ≡ Some audit) }
+    ensures verdict { IfOk result (λ audit. audit_of first_line (lines bytes.now) ≡ Some audit) }
 {
     let Some(head) = next_line(bytes, 0) else {
         unreachable!();

@@ -1,10 +1,12 @@
 //! What is kept of the lines of a hand so far.
 
 ghost use Rattle.std.specs.Prelude.{◌≡◌, ℕ, ◌+◌, ◌≤◌, ◌<◌, ◌^◌, ◌∷◌, ◌++◌, [], true, IfOk, OnOk, All, IsTrue};
-ghost use Rattle.pot_layers.specs.Pots.{put_in_all};
+ghost use Rattle.pot_layers.specs.Pots.{pots, put_in_all};
+ghost use Rattle.hand_audit.specs.Winning.{AreDecided};
 ghost use Rattle.history_text.specs.declared.events.Event.{Event};
 ghost use Rattle.history_text.specs.declared.events.Header.{Header};
 ghost use Rattle.history_text.specs.Lines.{line_event};
+ghost use Rattle.betting_replay.specs.CardLaws.{MarkerFits};
 ghost use Rattle.betting_replay.specs.Limits.{Fits};
 ghost use Rattle.betting_replay.specs.Tables.{StandsFor};
 ghost use Rattle.hand_audit.specs.Lines.{SoFar, nothing, part_after, read_at, named_by, with_event};
@@ -21,9 +23,12 @@ use crate::pot_names::{Source, taken_from};
 use crate::pots::pots_of;
 use crate::settling::{HandSettled, settle};
 use crate::standings::Standings;
-use betting_replay::Replay;
+use betting_replay::{
+    Replay, law_a_table_shows_each_seat, law_cards_belong, law_places_are_apart, law_whole_boards,
+};
 use card_sets::{Game, Memory};
 use history_text::{Event, Header, Names, Part, Street, TextFault, read_line};
+use pot_layers::law_a_folded_player_is_eligible_nowhere;
 use std::alloc::{AllocError, Global};
 
 /// What is kept of the lines of a hand so far.
@@ -127,6 +132,7 @@ pub(crate) fn read(
     ensures fits { IfOk result (λ e. Fits e) }
     ensures name { IfOk result (λ e. HasName e line.now) }
     ensures part { IfOk result (λ e. stands_in part e ≡ true) }
+    ensures cards { IfOk result (λ e. MarkerFits header.now.game e) }
 {
     read_line(names, header, part, line)
 }
@@ -231,7 +237,8 @@ impl Hand {
     fn settle(&self, alloc: Global, game: Game) -> Result<HandSettled, Memory>
         requires sound { IsSound self.now }
         requires total { self.now.total ≡ true }
-        ensures { IfOk result (λ settled. IsOfHand (showing_at game self.now.replay self.now.collections.items self.now.button) settled) }
+        ensures { IfOk result (λ settled. AreDecided (showing_at game self.now.replay self.now.collections.items self.now.button) (pots (paid_in self.now.replay))
+            → IsOfHand (showing_at game self.now.replay self.now.collections.items self.now.button) settled) }
     {
         let all = pots_of(alloc, &self.replay)?;
         let standings = Standings::of(&self.replay, game, self.button);
@@ -251,6 +258,11 @@ impl Hand {
         if !self.total {
             return Ok(Err(Cause::Unfinished));
         }
+        law_places_are_apart();
+        law_cards_belong();
+        law_whole_boards();
+        law_a_table_shows_each_seat();
+        law_a_folded_player_is_eligible_nowhere();
         let settled = self.settle(alloc, game)?;
         match settled.beyond {
             None => Ok(Ok(settled)),

@@ -1,19 +1,30 @@
 //! What holds of every hand.
 
-ghost use Rattle.std.specs.Prelude.{◌≡◌, ℕ, ◌-◌, ◌∷◌, Bool, true, List, Some, Ok};
+ghost use Rattle.std.specs.Prelude.{◌≡◌, ℕ, ◌-◌, ◌∷◌, Bool, true, false, List, Some, Ok};
 ghost use Rattle.history_text.specs.Headers.{header_of};
 ghost use Rattle.history_text.specs.declared.events.Header.{Header};
-ghost use Rattle.hand_audit.specs.AllIns.{no_all_in};
 ghost use Rattle.hand_audit.specs.Before.{Stand};
 ghost use Rattle.hand_audit.specs.Chips.{KeepsChips};
 ghost use Rattle.hand_audit.specs.Lines.{nothing, players_of};
 ghost use Rattle.hand_audit.specs.declared.cause.Cause.{Cause};
 ghost use Rattle.hand_audit.specs.Showings.{showing_of};
-ghost use Rattle.hand_audit.specs.Splits.{IsSplitRightly};
+ghost use Rattle.hand_audit.specs.Splits.{IsSplitRightly, IsWonBySomebody};
 ghost use Rattle.hand_audit.specs.Verdict.{audit_of, events_of};
 ghost use Rattle.hand_audit.specs.declared.audit.AllIn.{AllIn};
 ghost use Rattle.hand_audit.specs.declared.audit.HandAudit.TheVariants.{Accepted, Rejected};
+ghost use Rattle.hand_audit.specs.CardsKnown.{KnowsCards, all_known_at};
+ghost use Rattle.betting_replay.specs.Tables.{point};
 ghost use Rattle.hand_audit.specs.declared.settlement.Settlement.{Settlement};
+ghost use Rattle.history_text.specs.declared.events.Street.{Street};
+ghost use Rattle.showdown_tally.specs.declared.table.Table.{Table};
+
+use crate::audit::AllIn;
+use betting_replay::{
+    law_a_table_shows_dead_cards, law_a_table_shows_each_seat, law_cards_belong,
+    law_places_are_apart, law_whole_boards,
+};
+use pot_layers::law_a_folded_player_is_eligible_nowhere;
+use showdown_tally::law_values_keep_order;
 
 /// A law on chips. Of a hand that is accepted: no seat put in more than its opening stack, and over all
 /// seats the opening stacks, less what was put in, and what was collected, are the opening stacks
@@ -21,7 +32,7 @@ ghost use Rattle.hand_audit.specs.declared.settlement.Settlement.{Settlement};
 pub fn law_chips_are_kept()
     ensures { (number : ℕ) (line : List ℕ) (lines : List (List ℕ)) (header : Header) → header_of line ≡ Ok header
         → (settlement : Settlement) (all_in : AllIn) (names : List (ℕ × List ℕ)) (players : ℕ)
-        → audit_of no_all_in number (line ∷ lines) ≡ Some (Accepted settlement all_in names players)
+        → audit_of number (line ∷ lines) ≡ Some (Accepted settlement all_in names players)
         → KeepsChips header (events_of header lines) settlement.rake }
 {}
 
@@ -30,15 +41,61 @@ pub fn law_chips_are_kept()
 pub fn law_pots_are_split_by_the_rules()
     ensures { (number : ℕ) (line : List ℕ) (lines : List (List ℕ)) (header : Header) → header_of line ≡ Ok header
         → (settlement : Settlement) (all_in : AllIn) (names : List (ℕ × List ℕ)) (players : ℕ)
-        → audit_of no_all_in number (line ∷ lines) ≡ Some (Accepted settlement all_in names players)
+        → audit_of number (line ∷ lines) ≡ Some (Accepted settlement all_in names players)
         → settlement.fits ≡ true → IsSplitRightly (showing_of header players (events_of header lines)) }
 {}
+
+/// A law on pots. Of a hand that is accepted: in each pot of two players or more of which it is known who
+/// wins, somebody wins the first side.
+pub fn law_checked_pots_are_won()
+    ensures { (number : ℕ) (line : List ℕ) (lines : List (List ℕ)) (header : Header) → header_of line ≡ Ok header
+        → (settlement : Settlement) (all_in : AllIn) (names : List (ℕ × List ℕ)) (players : ℕ)
+        → audit_of number (line ∷ lines) ≡ Some (Accepted settlement all_in names players)
+        → IsWonBySomebody (showing_of header players (events_of header lines)) }
+{
+    law_values_keep_order();
+    law_places_are_apart();
+    law_cards_belong();
+    law_whole_boards();
+    law_a_table_shows_each_seat();
+    law_a_folded_player_is_eligible_nowhere();
+}
 
 /// A law on rejections. Of a hand that is rejected at a line: every line before it, behind the header
 /// line, can be read, and its event may stand after those of the lines before.
 pub fn law_lines_before_stand()
     ensures { (number : ℕ) (line : List ℕ) (lines : List (List ℕ)) (header : Header) → header_of line ≡ Ok header
         → (departs : ℕ) (cause : Cause) (hundredths : Bool)
-        → audit_of no_all_in number (line ∷ lines) ≡ Some (Rejected departs cause hundredths)
+        → audit_of number (line ∷ lines) ≡ Some (Rejected departs cause hundredths)
         → Stand header (players_of header lines) nothing lines (departs - number - 1) }
 {}
+
+/// A law on all-ins. Of a hand that is accepted and has an all-in whose cards are known: each hand of the
+/// table is what its seat has there, and its cards belong to the seat; the board is that of the streets
+/// up to the point; and no card that comes to the board later is in a hand or dead.
+pub fn law_all_in_cards()
+    ensures { (number : ℕ) (line : List ℕ) (lines : List (List ℕ)) (header : Header) → header_of line ≡ Ok header
+        → (settlement : Settlement) (street : Street) (seats : List ℕ) (table : Table) (names : List (ℕ × List ℕ)) (players : ℕ)
+        → audit_of number (line ∷ lines) ≡ Some (Accepted settlement (AllIn.Known street seats table) names players)
+        → KnowsCards header players (events_of header lines) street seats table }
+{
+    law_places_are_apart();
+    law_cards_belong();
+    law_a_table_shows_each_seat();
+    law_a_table_shows_dead_cards();
+}
+
+/// A law on all-ins that are unknown. Of a hand that is accepted whose all-in is unknown: the hand has an
+/// all-in point, and the cards of a contender at it aren't known there.
+pub fn law_unknown_all_ins_have_unknown_cards()
+    ensures { (number : ℕ) (line : List ℕ) (lines : List (List ℕ)) (header : Header) → header_of line ≡ Ok header
+        → (settlement : Settlement) (names : List (ℕ × List ℕ)) (players : ℕ)
+        → audit_of number (line ∷ lines) ≡ Some (Accepted settlement AllIn.Unknown names players)
+        → all_known_at header (events_of header lines) (point header players (events_of header lines)) ≡ false }
+{
+    law_places_are_apart();
+    law_cards_belong();
+    law_whole_boards();
+    law_a_table_shows_each_seat();
+    law_a_table_shows_dead_cards();
+}

@@ -4,16 +4,12 @@ ghost use Rattle.std.specs.Prelude.{◌≡◌, ℕ, ◌+◌, ◌-◌, ◌<◌, �
 ghost use Rattle.pot_layers.specs.declared.paid.Share.{Share};
 ghost use Rattle.hand_audit.specs.Settle.{part_of_seat, sides_of_seat, payment, is_payment, distance, payments_from, beyond_from};
 ghost use Rattle.hand_audit.specs.Collections.{taken_from, got_from};
-ghost use Rattle.hand_audit.specs.Orders.{odd_order, OfSeats};
-ghost use Rattle.pot_layers.specs.Split.{shares, given_in_all, IsOrder};
 ghost use Rattle.hand_audit.specs.PotNames.{counts_from};
 
 use crate::collections::Collection;
-use crate::orders::odd_order;
 use crate::pot_names::{Source, got_from};
 use crate::settlement::Payment;
-use card_sets::Memory;
-use pot_layers::{Share, Shares, SideWinners, split};
+use pot_layers::Share;
 use std::alloc::{AllocError, Global};
 
 /// What the rules give a seat.
@@ -130,30 +126,4 @@ pub(crate) fn beyond(
         }
     }
     None
-}
-
-/// The rules' parts of so many units of a pot, by the winners of its sides and the button.
-pub(crate) fn parts(
-    alloc: Global,
-    units: u64,
-    high: u16,
-    low: u16,
-    button: u8,
-) -> Result<Shares, Memory>
-    requires button { button ≤ 10 }
-    requires some { 0 < high }
-    requires high { OfSeats high }
-    requires low { OfSeats low }
-    ensures parts { IfOk result (λ all. all ≡ shares units high low (odd_order button high) (odd_order button low)) }
-    ensures whole { IfOk result (λ all. given_in_all all ≡ units) }
-{
-    let high_order = odd_order(button, high);
-    let low_order = odd_order(button, low);
-    split(
-        alloc,
-        units,
-        SideWinners { high, low },
-        &high_order,
-        &low_order,
-    )
 }

@@ -4,17 +4,18 @@ ghost use Rattle.std.specs.Prelude.{◌≡◌, ℕ, ◌+◌, ◌<◌, ◌≤◌,
 ghost use Rattle.pot_layers.specs.Pots.{pots};
 ghost use Rattle.hand_audit.specs.Collections.{taken_from};
 ghost use Rattle.hand_audit.specs.PotNames.{counts_from, each_taken};
-ghost use Rattle.hand_audit.specs.Settle.{Showing, parts_if, unfit_line};
-ghost use Rattle.hand_audit.specs.Winning.{Tells};
+ghost use Rattle.hand_audit.specs.Settle.{Showing, unfit_line};
+ghost use Rattle.hand_audit.specs.Winning.{Tells, IsReady, IsDecided, AreDecided};
 ghost use Rattle.hand_audit.specs.Settling.{IsOfPot, AreOfPots, IsOfHand};
 
 use crate::collections::Collection;
-use crate::payments::{beyond, parts, payments};
+use crate::parts::parts_if;
+use crate::payments::{beyond, payments};
 use crate::pot_names::{Source, fits, taken_from};
 use crate::settlement::{Payment, Payments, PotLine, PotLines};
 use crate::standings::Standings;
 use card_sets::Memory;
-use pot_layers::{Pot, Shares};
+use pot_layers::Pot;
 use std::alloc::{AllocError, Global};
 
 /// What became of the chips of a hand, and the first payment that is beyond its tolerance.
@@ -33,28 +34,6 @@ struct PotSettled {
     beyond: Option<Payment>,
 }
 
-/// The rules' parts of so many units of a pot; none where it isn't known who wins.
-fn parts_if(
-    alloc: Global,
-    checked: bool,
-    standings: &Standings,
-    eligible: u16,
-    units: u64,
-) -> Result<Shares, Memory>
-    requires { standings.now.button ≤ 10 }
-    ensures { IfOk result (λ all. (s : Showing) → Tells standings.now s → all ≡ parts_if checked s eligible units) }
-{
-    if !checked {
-        return Ok(Shares::of(Vec::new(alloc)));
-    }
-    let first = standings.first_winners(eligible);
-    let second = standings.second_winners(eligible);
-    if first == 0 {
-        return Ok(Shares::of(Vec::new(alloc)));
-    }
-    parts(alloc, units, first, second, standings.button)
-}
-
 /// One pot of those whose names fit.
 fn settle_pot(
     alloc: Global,
@@ -63,9 +42,9 @@ fn settle_pot(
     source: Source,
     pot: Pot,
 ) -> Result<PotSettled, Memory>
-    requires button { standings.now.button ≤ 10 }
+    requires ready { IsReady standings.now }
     requires taken { taken_from (counts_from source) all.now ≤ pot.units }
-    ensures { IfOk result (λ one. (s : Showing) → Tells standings.now s → s.collections ≡ all.now → IsOfPot s source pot one) }
+    ensures { IfOk result (λ one. (s : Showing) → Tells standings.now s → IsDecided s pot.eligible → s.collections ≡ all.now → IsOfPot s source pot one) }
 {
     let checked = standings.is_checked(pot.eligible);
     let net = taken_from(all, source) as u64;
@@ -103,10 +82,10 @@ fn settle_pots(
     layers: &[Pot],
     lines: &mut Vec<PotLine>,
 ) -> Result<Option<Payment>, Memory>
-    requires button { standings.now.button ≤ 10 }
+    requires ready { IsReady standings.now }
     requires each { each_taken count number layers.now all.now ≡ true }
     requires numbers { number + length layers.now < 2 ^ 64 }
-    ensures { IfOk result (λ first. (s : Showing) → Tells standings.now s → s.collections ≡ all.now
+    ensures { IfOk result (λ first. (s : Showing) → Tells standings.now s → AreDecided s layers.now → s.collections ≡ all.now
         → AreOfPots s count number layers.now lines.old.items lines.new.items first) }
 {
     match layers {
@@ -146,9 +125,9 @@ pub(crate) fn settle(
     all: &[Collection],
     most: u64,
 ) -> Result<HandSettled, Memory>
-    requires button { standings.now.button ≤ 10 }
+    requires ready { IsReady standings.now }
     requires taken { taken_from (counts_from Source.Any) all.now ≤ most }
-    ensures { IfOk result (λ one. (s : Showing) → Tells standings.now s → s.collections ≡ all.now → pots s.paid ≡ layers.now → IsOfHand s one) }
+    ensures { IfOk result (λ one. (s : Showing) → Tells standings.now s → AreDecided s layers.now → s.collections ≡ all.now → pots s.paid ≡ layers.now → IsOfHand s one) }
 {
     if !fits(layers, all) {
         let lines = unfit_lines(alloc, layers)?;

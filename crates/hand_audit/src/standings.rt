@@ -1,36 +1,42 @@
 //! Who stands how when the cards are shown.
 
-ghost use Rattle.std.specs.Prelude.{◌≡◌, ℕ, ◌<◌, true, false, None, IfSome, IsTrue, List, is_some, length, slice_index_or};
+ghost use Rattle.std.specs.Prelude.{◌≡◌, ℕ, ◌<◌, ◌≤◌, true, false, None, IfSome, IsTrue, List, is_some, length, slice_index_or};
 ghost use Rattle.std.specs.Option.{option_map};
 ghost use Rattle.card_sets.specs.Disjoint.{apart};
 ghost use Rattle.card_sets.specs.Games.{own_size, board_size};
-ghost use Rattle.hand_audit.specs.Settle.{value_on, first_side, second_side};
-ghost use Rattle.hand_audit.specs.Showings.{is_full, full_with};
-ghost use Rattle.hand_audit.specs.Winning.{Ranks, number_on};
+ghost use Rattle.hand_audit.specs.Settle.{is_alone, value_on, first_side, second_side};
+ghost use Rattle.hand_audit.specs.Winning.{Ranks, number_on, is_full, full_with};
 ghost use Rattle.hand_audit.specs.declared.collections.Collection.{Collection};
 ghost use Rattle.betting_replay.specs.Tables.{final_at};
 ghost use Rattle.card_sets.specs.Cards.{IsCardSet};
 
-use crate::winners::{are_known, is_alone, table_seats, winners};
+use crate::marks::{has_marks, marks};
+use crate::orders::{by_marks, odd_order};
+use crate::winners::{are_known, is_alone, winners};
 use betting_replay::Replay;
 use card_sets::{CardSet, Game, Side, sides};
+use pot_layers::OddOrder;
 use showdown_tally::{law_values_keep_order, side_value};
 
 /// What tells who wins: what is kept of the final cards, by seat, and the button.
 #[derive(Drop)]
 pub(crate) struct Standings {
+    /// The game.
+    pub(crate) game: Game,
     /// Whether the final cards are known.
     pub(crate) known: [bool; 11],
     /// What they are worth on the first side that the game has, as a number that is greater for better.
     pub(crate) first: [Option<u32>; 11],
     /// What they are worth on the second.
     pub(crate) second: [Option<u32>; 11],
+    /// By what winners get odd units in stud and razz: how high their highest cards count.
+    pub(crate) marks: [u8; 11],
     /// The seat of the button, 0 where there is none.
     pub(crate) button: u8,
 }
 
 /// How many cards a player has of his own.
-fn own_size(game: Game) -> u32
+pub(crate) fn own_size(game: Game) -> u32
     ensures { result ≡ own_size game }
 {
     match game {
@@ -42,7 +48,7 @@ fn own_size(game: Game) -> u32
 }
 
 /// How many cards the board has.
-fn board_size(game: Game) -> u32
+pub(crate) fn board_size(game: Game) -> u32
     ensures { result ≡ board_size game }
 {
     match game {
@@ -52,11 +58,11 @@ fn board_size(game: Game) -> u32
 }
 
 /// Whether no card is in both.
-fn are_apart(own: CardSet, board: CardSet) -> bool
-    ensures { result ≡ apart own board }
+pub(crate) fn are_apart(a: CardSet, b: CardSet) -> bool
+    ensures { result ≡ apart a b }
 {
-    for card in own.iter() {
-        if board.has(card) {
+    for card in a.iter() {
+        if b.has(card) {
             return false;
         }
     }
@@ -128,13 +134,13 @@ fn full_hands(replay: &Replay, game: Game, board: CardSet) -> [Option<CardSet>; 
     hands
 }
 
-/// Which hands are known.
-fn known(hands: &[Option<CardSet>; 11]) -> [bool; 11]
-    ensures { (p : ℕ) → p < 11 → slice_index_or result p false ≡ is_some (slice_index_or hands.now p None) }
+/// Whose final cards are known.
+fn known(replay: &Replay) -> [bool; 11]
+    ensures { (p : ℕ) → p < 11 → slice_index_or result p false ≡ is_some (final_at replay.now p) }
 {
     let mut known = [false; 11];
-    for seat in 0..11usize {
-        known[seat] = hands[seat].is_some();
+    for seat in 0..11u8 {
+        known[seat as usize] = replay.final_cards(seat).is_some();
     }
     known
 }
@@ -156,26 +162,30 @@ fn second_side(game: Game) -> Option<Side>
 }
 
 impl Standings {
-    ghost use Rattle.hand_audit.specs.Winning.{Tells};
+    ghost use Rattle.hand_audit.specs.Winning.{Tells, IsReady, AreFull, IsDecided};
     ghost use Rattle.hand_audit.specs.Showings.{showing_at};
 
     /// Of a hand so far.
     pub(crate) fn of(replay: &Replay, game: Game, button: u8) -> Standings
+        requires { button ≤ 10 }
         ensures tells { (all : List Collection) → Tells result (showing_at game replay.now all button) }
-        ensures button { result.button ≡ button }
+        ensures ready { IsReady result }
     {
         let board = replay.board();
         let hands = full_hands(replay, game, board);
         Standings {
-            known: known(&hands),
+            game,
+            known: known(replay),
             first: side_values(first_side(game), game, board, &hands),
             second: side_values(second_side(game), game, board, &hands),
+            marks: marks(game, board, &hands),
             button,
         }
     }
 
-    ghost use Rattle.hand_audit.specs.Settle.{Showing, is_checked, first_winners, second_winners};
+    ghost use Rattle.hand_audit.specs.Settle.{Showing, is_checked, first_winners, second_winners, order_of};
     ghost use Rattle.hand_audit.specs.Orders.{OfSeats};
+    ghost use Rattle.pot_layers.specs.Split.{IsOrder};
 
     /// Whether it is known who wins a pot.
     pub(crate) fn is_checked(&self, eligible: u16) -> bool
@@ -186,25 +196,31 @@ impl Standings {
 
     /// The winners of the first side of a pot.
     pub(crate) fn first_winners(&self, eligible: u16) -> u16
-        ensures value { (s : Showing) → Tells self.now s → result ≡ first_winners s eligible }
+        ensures value { (s : Showing) → Tells self.now s → IsDecided s eligible → is_alone eligible ≡ false → result ≡ first_winners s eligible }
         ensures seats { OfSeats result }
     {
-        if is_alone(eligible) {
-            table_seats(eligible)
-        } else {
-            winners(&self.first, eligible)
-        }
+        winners(&self.first, eligible)
     }
 
     /// The winners of the second side.
     pub(crate) fn second_winners(&self, eligible: u16) -> u16
-        ensures value { (s : Showing) → Tells self.now s → result ≡ second_winners s eligible }
+        ensures value { (s : Showing) → Tells self.now s → IsDecided s eligible → is_alone eligible ≡ false → result ≡ second_winners s eligible }
         ensures seats { OfSeats result }
     {
-        if is_alone(eligible) {
-            0
+        winners(&self.second, eligible)
+    }
+
+    /// The order in which the winners of a side get odd units.
+    pub(crate) fn order(&self, winners: u16) -> OddOrder
+        requires ready { IsReady self.now }
+        requires seats { OfSeats winners }
+        ensures value { (s : Showing) → Tells self.now s → AreFull s → result ≡ order_of s winners }
+        ensures order { IsOrder winners result }
+    {
+        if has_marks(self.game) {
+            by_marks(&self.marks, winners)
         } else {
-            winners(&self.second, eligible)
+            odd_order(self.button, winners)
         }
     }
 }

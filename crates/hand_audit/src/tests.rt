@@ -12,7 +12,7 @@ use std::alloc::{AllocError, Global};
 use std::test::Fail;
 
 /// A hand whose stacks make a main pot and a side pot.
-const SIDE_POT: &[u8] =
+pub(crate) const SIDE_POT: &[u8] =
     b"PokerStars Hand #1: Tournament #5, $1+$0.10 USD Hold'em No Limit - Level I (10/20)
 Table 'x' 3-max Seat #1 is the button
 Seat 1: ann (1000 in chips)
@@ -76,7 +76,7 @@ Total pot 25 | Rake 0
 Seat 3: cat (big blind) showed [2c 3c] and won (13)
 ";
 
-fn text(alloc: Global, parts: &[&[u8]]) -> Result<Vec<u8>, AllocError> {
+pub(crate) fn text(alloc: Global, parts: &[&[u8]]) -> Result<Vec<u8>, AllocError> {
     let mut bytes = Vec::new(alloc);
     for part in parts {
         bytes.extend_from_slice(part)?;
@@ -96,7 +96,7 @@ fn count_lines(bytes: &[u8]) -> usize
     count
 }
 
-fn audit(alloc: Global, bytes: &[u8]) -> Option<HandAudit> {
+pub(crate) fn audit(alloc: Global, bytes: &[u8]) -> Option<HandAudit> {
     let head = next_line(bytes, 0)?;
     if !is_header(&bytes[head.first..head.end]) || count_lines(bytes) > 99 {
         return None;

@@ -1,6 +1,6 @@
 //! Who wins a side of a pot.
 
-ghost use Rattle.std.specs.Prelude.{◌≡◌, ℕ, ◌<◌, ◌==◌, not, Bool, false, length, slice_index_or, List};
+ghost use Rattle.std.specs.Prelude.{◌≡◌, ℕ, ◌<◌, ◌==◌, not, Bool, false, slice_index_or, List};
 ghost use Rattle.std.specs.List.{list_all};
 ghost use Rattle.showdown_tally.specs.Settling.{number_of};
 ghost use Rattle.pot_layers.specs.Pots.{seats_below};
@@ -9,6 +9,7 @@ ghost use Rattle.hand_audit.specs.Settle.{is_alone, set_of};
 ghost use Rattle.hand_audit.specs.Winning.{is_beaten, is_unbeaten, wins, is_seat_in, winners_by};
 
 use crate::orders::is_in;
+use crate::seat_sets::count_seats;
 
 /// Whether a value is beaten by another.
 fn is_beaten(mine: Option<u32>, other: Option<u32>) -> bool
@@ -87,20 +88,6 @@ pub(crate) fn is_alone(seats: u16) -> bool
     ensures { result ≡ is_alone seats }
 {
     count_seats(seats) == 1
-}
-
-/// How many seats of the table a set has.
-fn count_seats(seats: u16) -> u8
-    ensures { result ≡ length (seats_in seats) }
-{
-    let mut count = 0u8;
-    for seat in 1..11u8 {
-        if !is_in(seats, seat) {
-            continue;
-        }
-        count += 1;
-    }
-    count
 }
 
 /// Whether something is known of all seats of a set.

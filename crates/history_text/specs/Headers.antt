@@ -125,22 +125,14 @@ other_words =
 -- the game that is played under a name, if it is one of those that are read
 abbrev pub played : GameName → Option Game
 played name.Holdem = Some Holdem
-played name.OmahaHiLo = None
-played name.SevenCardStud = None
-played name.Razz = None
-played name.SingleDraw = None
+played name.OmahaHiLo = Some Omaha8
+played name.SevenCardStud = Some Stud
+played name.Razz = Some Razz
+played name.SingleDraw = Some Lowball27
 played name.Omaha = None
 played name.SevenCardStudHiLo = None
 played name.TripleDraw = None
 played name.FiveCardDraw = None
-
--- the games that are played under some name
-abbrev pub is_played : Game → Bool
-is_played Holdem = true
-is_played Omaha8 = false
-is_played Stud = false
-is_played Razz = false
-is_played Lowball27 = false
 
 abbrev pub is_other_word : List ℕ → Bool
 is_other_word word = list_any (λ other. bytes_eq word other) other_words

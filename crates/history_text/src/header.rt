@@ -3,7 +3,7 @@
 ghost use Rattle.std.specs.Prelude.{◌≡◌, ◌==◌, ◌||◌, ◌≤◌, ◌+◌, ◌-◌, [], ◌∷◌, drop, length, option_map, take, IfOk, IfSome, IsTrue, MatchOption};
 ghost use Rattle.std.specs.List.{list_all};
 ghost use Rattle.history_text.specs.Acts.{first_opening};
-ghost use Rattle.history_text.specs.Headers.{behind_start, big_of, first_game, first_stakes, game_at, game_names, game_of, game_words, hand_number, header_behind, header_of, is_header, is_letter_or_space, is_other_word, is_played, is_start, is_title, last_word, limit_words, limits, opened, played, stakes_at, stakes_of, title, word_before};
+ghost use Rattle.history_text.specs.Headers.{behind_start, big_of, first_game, first_stakes, game_at, game_names, game_of, game_words, hand_number, header_behind, header_of, is_header, is_letter_or_space, is_other_word, is_start, is_title, last_word, limit_words, limits, opened, played, stakes_at, stakes_of, title, word_before};
 ghost use Rattle.history_text.specs.Games.{capped_stakes, kept_header, seen_found, seen_named};
 
 use crate::texts::{behind, cut_first, cut_last};
@@ -127,16 +127,15 @@ impl GameName {
 
     /// The game that is played under the name, if it is read.
     fn played(self) -> Option<Game>
-        ensures value { result ≡ played self }
-        ensures played { IfSome result (λ game. IsTrue (is_played game)) }
+        ensures { result ≡ played self }
     {
         match self {
             GameName::Holdem => Some(Game::Holdem),
-            GameName::OmahaHiLo
-            | GameName::SevenCardStud
-            | GameName::Razz
-            | GameName::SingleDraw
-            | GameName::Omaha
+            GameName::OmahaHiLo => Some(Game::Omaha8),
+            GameName::SevenCardStud => Some(Game::Stud),
+            GameName::Razz => Some(Game::Razz),
+            GameName::SingleDraw => Some(Game::Lowball27),
+            GameName::Omaha
             | GameName::SevenCardStudHiLo
             | GameName::TripleDraw
             | GameName::FiveCardDraw => None,
@@ -271,8 +270,7 @@ fn is_other_word(word: &[u8]) -> bool
 /// The game of a name, by what stands before it.
 #[tactic(auto, unfolding(crate::specs::Headers::game_of))]
 fn game_of(before: &[u8], name: GameName) -> Option<Game>
-    ensures value { result ≡ game_of before.now name }
-    ensures played { IfSome result (λ game. IsTrue (is_played game)) }
+    ensures { result ≡ game_of before.now name }
 {
     if is_other_word(word_before(before)) {
         None
@@ -372,12 +370,11 @@ fn header_behind(game: Game, limit: Limit, text: &[u8]) -> Result<Header, TextFa
 }
 
 /// What a header line says, or its first fault: the game, the limit, how the hand counts and the
-/// stated big blind in units, by a profile of the site's headers. The game is one that is played.
+/// stated big blind in units, by a profile of the site's headers.
 #[tactic(auto, unfolding(crate::specs::Headers::header_of))]
 pub fn read_header(line: &[u8]) -> Result<Header, TextFault>
     requires { IsTrue (is_header line.now) }
-    ensures value { result ≡ header_of line.now }
-    ensures played { IfOk result (λ header. IsTrue (is_played header.game)) }
+    ensures { result ≡ header_of line.now }
 {
     let text = behind_start(line).ok_or(TextFault::BadHeader)?;
     let (place, found) = first_game(text).ok_or(TextFault::UnknownGame)?;

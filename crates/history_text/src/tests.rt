@@ -66,7 +66,15 @@ fn headers_are_read(rt: HostRuntime) {
             big: 5
         }))
     );
-    assert_eq!(rt; header(RAZZ_TITLE), Some(Err(TextFault::UnknownGame)));
+    assert_eq!(rt;
+        header(RAZZ_TITLE),
+        Some(Ok(Header {
+            game: Game::Razz,
+            limit: Limit::Fixed,
+            hundredths: false,
+            big: 10
+        }))
+    );
     assert_eq!(rt; header(b"PokerStars Hand #x"), None);
 }
 

@@ -1,2 +1,5 @@
+pub mod Listed
+pub mod LineFacts
 pub mod AloneFacts
 pub mod SpotFacts
+pub mod EquityFacts

@@ -1,12 +1,17 @@
 -- What an equity says of a deal.
-use Rattle.std.specs.Prelude.{◌≤◌, length}
+use Rattle.std.specs.Prelude.{◌≤◌, Bool, true, false, length}
 use Rattle.equity_job.specs.Jobs.{IsDeckShort, IsAboveLimit}
 use Rattle.equity_job.specs.declared.jobs.JobFault.{JobFault}
 use Rattle.equity_job.specs.declared.jobs.JobFault.TheVariants.{DeckShort, AboveLimit}
 use Rattle.equity_job.specs.declared.limits.TheConstants.{RUNOUT_MAX}
+use Rattle.hand_audit.specs.declared.audit.AllIn.{AllIn}
+use Rattle.hand_audit.specs.declared.audit.AllIn.TheVariants.{None, Unknown, Known}
+use Rattle.hand_audit.specs.declared.audit.HandAudit.{HandAudit}
+use Rattle.hand_audit.specs.declared.audit.HandAudit.TheVariants.{Rejected, Accepted}
 use Rattle.report_table.specs.declared.equity.Equity.{Equity}
 use Rattle.report_table.specs.declared.equity.Equity.TheVariants.{NotAsked, Refused, Counted}
 use Rattle.showdown_tally.specs.Cells.{Sums}
+use Rattle.showdown_tally.specs.Deals.{deal_of}
 use Rattle.showdown_tally.specs.Showdown.{Showdown}
 use Rattle.showdown_tally.specs.Tallies.{Counts, runouts_after}
 
@@ -25,3 +30,26 @@ abbrev pub IsEquityOf : Showdown → Equity → Type 0
 IsEquityOf deal NotAsked = ⊥
 IsEquityOf deal (Refused fault) = IsRefused deal fault
 IsEquityOf deal (Counted sums) = IsFull deal sums
+
+-- whether an equity is asked for
+abbrev pub is_asked : Equity → Bool
+is_asked NotAsked = false
+is_asked (Refused fault) = true
+is_asked (Counted sums) = true
+
+-- an equity of a deal, where one is asked for
+abbrev pub IsOf : Showdown → Equity → Type 0
+IsOf deal NotAsked = Unit {0}
+IsOf deal (Refused fault) = IsEquityOf deal (Refused fault)
+IsOf deal (Counted sums) = IsEquityOf deal (Counted sums)
+
+-- an equity of an all-in: that of its table, where its cards are known. Where they aren't, any
+abbrev pub IsOfAllIn : AllIn → Equity → Type 0
+IsOfAllIn None equity = Unit {0}
+IsOfAllIn Unknown equity = Unit {0}
+IsOfAllIn (Known street seats table) equity = IsOf (deal_of table) equity
+
+-- an equity that may stand beside the verdict on a hand: that of its all-in, where one is asked for
+abbrev pub IsOfHand : HandAudit → Equity → Type 0
+IsOfHand (Rejected line cause hundredths) equity = Unit {0}
+IsOfHand (Accepted settlement all_in names players) equity = IsOfAllIn all_in equity

@@ -5,7 +5,9 @@ pub use Rattle.showdown_tally.specs.Tallies
 pub use Rattle.equity_job.specs.Jobs
 pub use Rattle.history_text.specs.Names
 pub mod Words
+pub mod Lines
 pub mod Spots
 pub mod Equities
 pub mod Causes
 pub mod Hands
+pub mod HandEquities

@@ -13,7 +13,9 @@ use Rattle.showdown_tally.specs.Showdown.{Showdown}
 use Rattle.showdown_tally.specs.Tallies.{cell_over, units_over, runouts_after}
 use Rattle.showdown_tally.specs.declared.cells.Cell.{Cell}
 use Rattle.spot_text.specs.declared.faults.SpotFault.{SpotFault}
+use Rattle.report_table.specs.Lines.{Line, plain, line_in}
 use Rattle.report_table.specs.Words.{game_word, side_word, fault_words}
+use Rattle.report_table.specs.declared.equity.Form.{Form}
 
 -- the hands numbered below n, rising
 abbrev pub every_hand : ℕ → List ℕ
@@ -33,61 +35,67 @@ percent count all = fixed_text (round (100 * count) all 2) 2
 unfoldable pub expected : ℕ → ℕ → List ℕ
 expected units all = fixed_text (round units (5040 * all) 3) 3
 
--- the beginning of a line of a spot; spots are numbered from 1
-unfoldable pub spot_name : ℕ → List ℕ
-spot_name place = codes "spot " ++ decimal place
+-- the first words of a line of a spot; spots are numbered from 1
+unfoldable pub spot_name : ℕ → List (List ℕ)
+spot_name place = codes "spot" ∷ decimal place ∷ []
 
--- the beginning of a line of a hand; hands are written from 1
-unfoldable pub hand_name : ℕ → List ℕ
-hand_name hand = codes "hand " ++ decimal (hand + 1)
+-- the first words of a line of a hand; hands are written from 1
+unfoldable pub hand_name : ℕ → List (List ℕ)
+hand_name hand = codes "hand" ∷ decimal (hand + 1) ∷ []
 
 -- how many runouts end in a way, and how much of all that is
-unfoldable pub share : List ℕ → ℕ → ℕ → List ℕ
-share way count all = codes " " ++ way ++ codes " " ++ decimal count ++ codes " " ++ percent count all
+unfoldable pub share : List ℕ → ℕ → ℕ → List (List ℕ)
+share way count all = way ∷ decimal count ∷ percent count all ∷ []
+
+-- a side, and how all runouts end there
+unfoldable pub side_columns : ℕ → Side → Cell → List (List ℕ)
+side_columns all side cell =
+    side_word side ∷ [] ++ share (codes "win") cell.win all ++ share (codes "tie") cell.tie all ++ share (codes "lose") cell.lose all
 
 -- how all runouts end for a hand on a side, as `hand 1 high win 42 95.45 tie 0 0.00 lose 2 4.55`
-unfoldable pub side_line : ℕ → ℕ → Side → Cell → List ℕ
-side_line all hand side cell =
-    hand_name hand ++ codes " " ++ side_word side ++ share (codes "win") cell.win all
-    ++ share (codes "tie") cell.tie all ++ share (codes "lose") cell.lose all ++ codes "\n"
+unfoldable pub side_line : ℕ → ℕ → Side → Cell → Line
+side_line all hand side cell = plain (hand_name hand ++ side_columns all side cell)
 
 -- what a hand may expect, as `hand 1 ev 0.955`
-unfoldable pub ev_line : ℕ → ℕ → ℕ → List ℕ
-ev_line all hand units = hand_name hand ++ codes " ev " ++ expected units all ++ codes "\n"
+unfoldable pub ev_line : ℕ → ℕ → ℕ → Line
+ev_line all hand units = plain (hand_name hand ++ codes "ev" ∷ expected units all ∷ [])
 
 -- the lines of a hand: one for each side that the game is played for, the high first, and then what it may expect; given are
 -- the number of all runouts, how they end for each hand on a side, and the units that they give each hand
-unfoldable pub hand_lines : Game → ℕ → (ℕ → Side → Cell) → (ℕ → ℕ) → ℕ → List ℕ
-hand_lines game all cell units hand =
-    flat_map (λ played. option_map_or (λ side. side_line all hand side (cell hand side)) played []) (sides_of game)
-    ++ ev_line all hand (units hand)
+unfoldable pub hand_lines : Form → Game → ℕ → (ℕ → Side → Cell) → (ℕ → ℕ) → ℕ → List ℕ
+hand_lines form game all cell units hand =
+    flat_map (λ played. option_map_or (λ side. line_in form (side_line all hand side (cell hand side))) played []) (sides_of game)
+    ++ line_in form (ev_line all hand (units hand))
 
 -- the first line of a spot that is counted, as `spot 1 holdem runouts 44`
-unfoldable pub counted_line : ℕ → Game → ℕ → List ℕ
-counted_line place game all =
-    spot_name place ++ codes " " ++ game_word game ++ codes " runouts " ++ decimal all ++ codes "\n"
+unfoldable pub counted_line : ℕ → Game → ℕ → Line
+counted_line place game all = plain (spot_name place ++ game_word game ∷ codes "runouts" ∷ decimal all ∷ [])
 
 -- a spot that is counted: how many runouts there are, and how all of them end for each hand
-unfoldable pub counted_block : ℕ → State → List ℕ
-counted_block place state =
+unfoldable pub counted_block : Form → ℕ → State → List ℕ
+counted_block form place state =
     let runouts = runouts_after state in
     let all = length runouts in
-    counted_line place state.game all
-    ++ flat_map (hand_lines state.game all (cell_over (alone state) runouts 0) (units_over (alone state) runouts 0))
+    line_in form (counted_line place state.game all)
+    ++ flat_map (hand_lines form state.game all (cell_over (alone state) runouts 0) (units_over (alone state) runouts 0))
     (every_hand (length state.hands))
 
--- a spot that has too many runouts to be counted, as `spot 1 stud refused above 10000000 runouts`
-unfoldable pub refused_block : ℕ → Game → List ℕ
-refused_block place game = spot_name place ++ codes " " ++ game_word game ++ codes " refused above 10000000 runouts\n"
+-- that there are more runouts than are counted
+unfoldable pub refused_words : List (List ℕ)
+refused_words = codes "refused" ∷ codes "above" ∷ codes "10000000" ∷ codes "runouts" ∷ []
 
--- the beginning of the line of a spot that isn't well written, with the number of the line that was read, as
+-- a spot that has too many runouts to be counted, as `spot 1 stud refused above 10000000 runouts`
+unfoldable pub refused_line : ℕ → Game → Line
+refused_line place game = plain (spot_name place ++ game_word game ∷ [] ++ refused_words)
+
+-- the first words of the line of a spot that isn't well written, with the number of the line that was read, as
 -- `spot 2 rejected line 3`
-unfoldable pub rejected_name : ℕ → ℕ → List ℕ
-rejected_name place number = spot_name place ++ codes " rejected line " ++ decimal number
+unfoldable pub rejected_name : ℕ → ℕ → List (List ℕ)
+rejected_name place number = spot_name place ++ codes "rejected" ∷ codes "line" ∷ decimal number ∷ []
 
 -- a spot that isn't well written, and why, as `spot 2 rejected line 3 TwiceCard As`
-unfoldable pub rejected_block : ℕ → ℕ → SpotFault → List ℕ
-rejected_block place number fault = rejected_name place number ++ codes " " ++ fault_words fault ++ codes "\n"
+unfoldable pub rejected_line : ℕ → ℕ → SpotFault → Line
+rejected_line place number fault = plain (rejected_name place number ++ fault_words fault)
 
 -- the known cards of a spot, seen as a plain record
 abbrev pub seen_spot : Result Known SpotFault → Result State SpotFault
@@ -100,7 +108,8 @@ runout_limit = 10000000
 
 -- the block of a spot: it is rejected for its fault, refused where it has too many runouts, or counted; given are its place
 -- among the spots and the number of its line
-unfoldable pub spot_block : ℕ → ℕ → Result State SpotFault → List ℕ
-spot_block place number (Err fault) = rejected_block place number fault
-spot_block place number (Ok state) =
-    if nat_lt runout_limit (length (runouts_after state)) then refused_block place state.game else counted_block place state
+unfoldable pub spot_block : Form → ℕ → ℕ → Result State SpotFault → List ℕ
+spot_block form place number (Err fault) = line_in form (rejected_line place number fault)
+spot_block form place number (Ok state) =
+    if nat_lt runout_limit (length (runouts_after state)) then line_in form (refused_line place state.game)
+    else counted_block form place state

@@ -1,5 +1,5 @@
 -- The words of the report, and its money.
-use Rattle.std.specs.Prelude.{ℕ, Bool, if◌then◌else◌, List, ◌++◌, Option, Some, None, codes}
+use Rattle.std.specs.Prelude.{ℕ, Bool, if◌then◌else◌, List, [], ◌∷◌, Option, Some, None, codes}
 use Rattle.card_sets.specs.CardText.{text_of_card}
 use Rattle.card_sets.specs.declared.games.Game.{Game}
 use Rattle.card_sets.specs.declared.games.Game.TheVariants.{Holdem, Omaha8, Stud, Razz, Lowball27}
@@ -46,11 +46,11 @@ unfoldable pub money : Bool → ℕ → List ℕ
 money hundredths units = fixed_text units (if hundredths then 2 else 0)
 
 -- the name of a spot's fault, and then what it carries
-unfoldable pub fault_words : SpotFault → List ℕ
-fault_words UnknownWord = codes "UnknownWord"
-fault_words BadCard = codes "BadCard"
-fault_words (TwiceCard card) = codes "TwiceCard " ++ text_of_card card
-fault_words HandSize = codes "HandSize"
-fault_words BoardSize = codes "BoardSize"
-fault_words PlayerCount = codes "PlayerCount"
-fault_words DeckShort = codes "DeckShort"
+unfoldable pub fault_words : SpotFault → List (List ℕ)
+fault_words UnknownWord = codes "UnknownWord" ∷ []
+fault_words BadCard = codes "BadCard" ∷ []
+fault_words (TwiceCard card) = codes "TwiceCard" ∷ text_of_card card ∷ []
+fault_words HandSize = codes "HandSize" ∷ []
+fault_words BoardSize = codes "BoardSize" ∷ []
+fault_words PlayerCount = codes "PlayerCount" ∷ []
+fault_words DeckShort = codes "DeckShort" ∷ []

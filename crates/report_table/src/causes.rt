@@ -1,11 +1,11 @@
-//! The words for why a hand is rejected. Each `write` appends to `out`; where memory is refused, it
-//! may have appended a part.
+//! The words for why a hand is rejected.
 
 ghost use Rattle.std.specs.Prelude.{◌≡◌, ◌++◌, OnOk};
 ghost use Rattle.report_table.specs.Causes.{bet_words, cause_words, chips_words, split_words, text_words, with_money, with_seat};
 
-use crate::numbers::{write_money, write_number};
-use crate::words::write_text;
+use crate::lines::Words;
+use crate::numbers::{push_money, push_number};
+use crate::words::push_text;
 use betting_replay::BetFault;
 use hand_audit::Cause;
 use history_text::TextFault;
@@ -30,109 +30,107 @@ fn text_words(fault: &TextFault) -> &'static str
 
 /// A name and a seat.
 #[tactic(auto, unfolding(crate::specs::Causes::with_seat))]
-fn write_with_seat(out: &mut Vec<u8>, name: &str, seat: u8) -> Result<(), AllocError>
-    ensures { OnOk result (out.new.items ≡ out.old.items ++ with_seat name.now seat) }
+fn push_with_seat(words: &mut Words, name: &str, seat: u8) -> Result<(), AllocError>
+    ensures { OnOk result (words.new ≡ words.old ++ with_seat name.now seat) }
 {
-    write_text(out, name)?;
-    write_text(out, " seat ")?;
-    write_number(out, u64::from(seat))
+    push_text(words, name)?;
+    push_text(words, "seat")?;
+    push_number(words, u64::from(seat))
 }
 
 /// A name and an amount in units.
 #[tactic(auto, unfolding(crate::specs::Causes::with_money))]
-fn write_with_money(
-    out: &mut Vec<u8>,
+fn push_with_money(
+    words: &mut Words,
     hundredths: bool,
     name: &str,
     units: u64,
 ) -> Result<(), AllocError>
-    ensures { OnOk result (out.new.items ≡ out.old.items ++ with_money hundredths name.now units) }
+    ensures { OnOk result (words.new ≡ words.old ++ with_money hundredths name.now units) }
 {
-    write_text(out, name)?;
-    write_text(out, " ")?;
-    write_money(out, hundredths, u128::from(units))
+    push_text(words, name)?;
+    push_money(words, hundredths, u128::from(units))
 }
 
 /// The name of a fault of an event, and then what it carries.
 #[tactic(auto, unfolding(crate::specs::Causes::bet_words))]
-fn write_bet_words(out: &mut Vec<u8>, hundredths: bool, fault: &BetFault) -> Result<(), AllocError>
-    ensures { OnOk result (out.new.items ≡ out.old.items ++ bet_words hundredths fault.now) }
+fn push_bet_words(words: &mut Words, hundredths: bool, fault: &BetFault) -> Result<(), AllocError>
+    ensures { OnOk result (words.new ≡ words.old ++ bet_words hundredths fault.now) }
 {
     match *fault {
-        BetFault::NotInHand => write_text(out, "NotInHand"),
-        BetFault::OutOfTurn(seat) => write_with_seat(out, "OutOfTurn", seat),
-        BetFault::NothingOwed => write_text(out, "NothingOwed"),
-        BetFault::CheckFacingBet(due) => write_with_money(out, hundredths, "CheckFacingBet", due),
-        BetFault::CallAmount(due) => write_with_money(out, hundredths, "CallAmount", due),
-        BetFault::BetFacingBet => write_text(out, "BetFacingBet"),
-        BetFault::RaiseAmount(greatest) => write_with_money(
-            out,
+        BetFault::NotInHand => push_text(words, "NotInHand"),
+        BetFault::OutOfTurn(seat) => push_with_seat(words, "OutOfTurn", seat),
+        BetFault::NothingOwed => push_text(words, "NothingOwed"),
+        BetFault::CheckFacingBet(due) => push_with_money(words, hundredths, "CheckFacingBet", due),
+        BetFault::CallAmount(due) => push_with_money(words, hundredths, "CallAmount", due),
+        BetFault::BetFacingBet => push_text(words, "BetFacingBet"),
+        BetFault::RaiseAmount(greatest) => push_with_money(
+            words,
             hundredths,
             "RaiseAmount",
             greatest,
         ),
-        BetFault::AboveStack(stack) => write_with_money(out, hundredths, "AboveStack", stack),
-        BetFault::AllInWord => write_text(out, "AllInWord"),
-        BetFault::StreetEarly(seat) => write_with_seat(out, "StreetEarly", seat),
-        BetFault::StreetOrder => write_text(out, "StreetOrder"),
-        BetFault::UncalledAmount(due) => write_with_money(out, hundredths, "UncalledAmount", due),
+        BetFault::AboveStack(stack) => push_with_money(words, hundredths, "AboveStack", stack),
+        BetFault::AllInWord => push_text(words, "AllInWord"),
+        BetFault::StreetEarly(seat) => push_with_seat(words, "StreetEarly", seat),
+        BetFault::StreetOrder => push_text(words, "StreetOrder"),
+        BetFault::UncalledAmount(due) => push_with_money(words, hundredths, "UncalledAmount", due),
         BetFault::CardTwice(card) => {
-            write_text(out, "CardTwice ")?;
-            out.extend_from_slice(&card.text())
+            push_text(words, "CardTwice")?;
+            words.push(&card.text())
         }
-        BetFault::PostLate => write_text(out, "PostLate"),
-        BetFault::SeatTwice => write_text(out, "SeatTwice"),
-        BetFault::TooManyCards(seat) => write_with_seat(out, "TooManyCards", seat),
+        BetFault::PostLate => push_text(words, "PostLate"),
+        BetFault::SeatTwice => push_text(words, "SeatTwice"),
+        BetFault::TooManyCards(seat) => push_with_seat(words, "TooManyCards", seat),
     }
 }
 
 /// A stated pot and what was counted, in units.
 #[tactic(auto, unfolding(crate::specs::Causes::chips_words))]
-fn write_chips_words(
-    out: &mut Vec<u8>,
+fn push_chips_words(
+    words: &mut Words,
     hundredths: bool,
     stated: u64,
     counted: u128,
 ) -> Result<(), AllocError>
-    ensures { OnOk result (out.new.items ≡ out.old.items ++ chips_words hundredths stated counted) }
+    ensures { OnOk result (words.new ≡ words.old ++ chips_words hundredths stated counted) }
 {
-    write_text(out, "Chips ")?;
-    write_money(out, hundredths, u128::from(stated))?;
-    write_text(out, " ")?;
-    write_money(out, hundredths, counted)
+    push_text(words, "Chips")?;
+    push_money(words, hundredths, u128::from(stated))?;
+    push_money(words, hundredths, counted)
 }
 
 /// A seat, what it was due and what it got, in units.
 #[tactic(auto, unfolding(crate::specs::Causes::split_words))]
-fn write_split_words(
-    out: &mut Vec<u8>,
+fn push_split_words(
+    words: &mut Words,
     hundredths: bool,
     seat: u8,
     due: u64,
     got: u64,
 ) -> Result<(), AllocError>
-    ensures { OnOk result (out.new.items ≡ out.old.items ++ split_words hundredths seat due got) }
+    ensures { OnOk result (words.new ≡ words.old ++ split_words hundredths seat due got) }
 {
-    write_with_seat(out, "Split", seat)?;
-    write_text(out, " due ")?;
-    write_money(out, hundredths, u128::from(due))?;
-    write_text(out, " got ")?;
-    write_money(out, hundredths, u128::from(got))
+    push_with_seat(words, "Split", seat)?;
+    push_text(words, "due")?;
+    push_money(words, hundredths, u128::from(due))?;
+    push_text(words, "got")?;
+    push_money(words, hundredths, u128::from(got))
 }
 
 /// Why a hand is rejected: the name of the cause, and then what it carries.
-pub(crate) fn write_cause(
-    out: &mut Vec<u8>,
+pub(crate) fn push_cause(
+    words: &mut Words,
     hundredths: bool,
     cause: &Cause,
 ) -> Result<(), AllocError>
-    ensures { OnOk result (out.new.items ≡ out.old.items ++ cause_words hundredths cause.now) }
+    ensures { OnOk result (words.new ≡ words.old ++ cause_words hundredths cause.now) }
 {
     match cause {
-        Cause::Text(fault) => write_text(out, text_words(fault)),
-        Cause::Bet(fault) => write_bet_words(out, hundredths, fault),
-        Cause::Chips { stated, counted } => write_chips_words(out, hundredths, *stated, *counted),
-        Cause::Split { seat, due, got } => write_split_words(out, hundredths, *seat, *due, *got),
-        Cause::Unfinished => write_text(out, "Unfinished"),
+        Cause::Text(fault) => push_text(words, text_words(fault)),
+        Cause::Bet(fault) => push_bet_words(words, hundredths, fault),
+        Cause::Chips { stated, counted } => push_chips_words(words, hundredths, *stated, *counted),
+        Cause::Split { seat, due, got } => push_split_words(words, hundredths, *seat, *due, *got),
+        Cause::Unfinished => push_text(words, "Unfinished"),
     }
 }

@@ -14,9 +14,26 @@ pub enum Equity {
     Counted(Tally),
 }
 
+impl Equity {
+    ghost use Rattle.std.specs.Prelude.{◌≡◌};
+    ghost use Rattle.report_table.specs.Equities.{is_asked};
+
+    /// Whether it is asked for.
+    pub fn is_asked(&self) -> bool
+        ensures { result ≡ is_asked self.now }
+    {
+        match self {
+            Equity::NotAsked => false,
+            Equity::Refused(_) | Equity::Counted(_) => true,
+        }
+    }
+}
+
 /// The form of a block.
 #[derive(Clone, Copy, Debug, PartialEq, Eq)]
 pub enum Form {
     /// Lines of words.
     Text,
+    /// Records of thirteen fields, the name of a player last.
+    Csv,
 }

@@ -17,6 +17,7 @@ use std::alloc::AllocError;
 #[tactic(auto, unfolding(crate::specs::Spots::spot_block))]
 fn write_known(
     out: &mut Vec<u8>,
+    form: Form,
     place: u64,
     line: u32,
     known: &Known,
@@ -24,11 +25,11 @@ fn write_known(
 ) -> Result<(), AllocError>
     requires enough { sum (counts_of (slots (state_of known.now))) ≤ length (unseen (state_of known.now)) }
     requires equity { IsEquityOf (alone (state_of known.now)) equity.now }
-    ensures { OnOk result (out.new.items ≡ out.old.items ++ spot_block place line (Ok (state_of known.now))) }
+    ensures { OnOk result (out.new.items ≡ out.old.items ++ spot_block form place line (Ok (state_of known.now))) }
 {
     match equity {
-        Equity::Counted(tally) => write_counted(out, place, known, tally),
-        Equity::Refused(JobFault::AboveLimit) => write_refused(out, place, known.game),
+        Equity::Counted(tally) => write_counted(out, form, place, known, tally),
+        Equity::Refused(JobFault::AboveLimit) => write_refused(out, form, place, known.game),
         Equity::Refused(JobFault::DeckShort) | Equity::NotAsked => unreachable!(),
     }
 }
@@ -37,6 +38,7 @@ fn write_known(
 #[tactic(auto, unfolding(crate::specs::Spots::spot_block))]
 fn write_block(
     out: &mut Vec<u8>,
+    form: Form,
     place: u64,
     line: u32,
     known: &Result<Known, SpotFault>,
@@ -44,11 +46,11 @@ fn write_block(
 ) -> Result<(), AllocError>
     requires enough { IfOk known.now (λ k. sum (counts_of (slots (state_of k))) ≤ length (unseen (state_of k))) }
     requires equity { IfOk known.now (λ k. IsEquityOf (alone (state_of k)) equity.now) }
-    ensures { OnOk result (out.new.items ≡ out.old.items ++ spot_block place line (seen_spot known.now)) }
+    ensures { OnOk result (out.new.items ≡ out.old.items ++ spot_block form place line (seen_spot known.now)) }
 {
     match known {
-        Ok(known) => write_known(out, place, line, known, equity),
-        Err(fault) => write_rejected(out, place, u64::from(line), fault),
+        Ok(known) => write_known(out, form, place, line, known, equity),
+        Err(fault) => write_rejected(out, form, place, u64::from(line), fault),
     }
 }
 
@@ -62,15 +64,15 @@ pub fn write_spot(
     line: u32,
     known: &Result<Known, SpotFault>,
     equity: &Equity,
-    _form: Form,
+    form: Form,
 ) -> Result<(), Memory>
     requires enough { IfOk known.now (λ k. sum (counts_of (slots (state_of k))) ≤ length (unseen (state_of k))) }
     requires equity { IfOk known.now (λ k. IsEquityOf (alone (state_of k)) equity.now) }
-    ensures block { OnOk result (out.new.items ≡ out.old.items ++ spot_block place line (seen_spot known.now)) }
+    ensures block { OnOk result (out.new.items ≡ out.old.items ++ spot_block form place line (seen_spot known.now)) }
     ensures memory { OnErr result (out.new.items ≡ out.old.items) }
 {
     let mut block = Vec::new(*out.allocator());
-    write_block(&mut block, place, line, known, equity)?;
+    write_block(&mut block, form, place, line, known, equity)?;
     out.extend_from_slice(&block)?;
     Ok(())
 }

@@ -1,19 +1,21 @@
-//! The words of the report. Each `write` appends to `out`.
+//! The words of the report.
 
-ghost use Rattle.std.specs.Prelude.{◌≡◌, ◌++◌, OnOk, Some, option_map};
+ghost use Rattle.std.specs.Prelude.{◌≡◌, [], ◌∷◌, ◌++◌, OnOk, Some, option_map};
 ghost use Rattle.history_text.specs.declared.events.Street.TheVariants.{First};
+ghost use Rattle.report_table.specs.Spots.{refused_words};
 ghost use Rattle.report_table.specs.Words.{fault_words, game_word, side_word, street_word};
 
+use crate::lines::Words;
 use card_sets::{Game, Side};
 use history_text::Street;
 use spot_text::SpotFault;
 use std::alloc::AllocError;
 
-/// A text as it stands.
-pub(crate) fn write_text(out: &mut Vec<u8>, text: &str) -> Result<(), AllocError>
-    ensures { OnOk result (out.new.items ≡ out.old.items ++ text.now) }
+/// One word more, as it stands.
+pub(crate) fn push_text(words: &mut Words, text: &str) -> Result<(), AllocError>
+    ensures { OnOk result (words.new ≡ words.old ++ text.now ∷ []) }
 {
-    out.extend_from_slice(text.as_bytes())
+    words.push(text.as_bytes())
 }
 
 /// How a game is written.
@@ -68,19 +70,30 @@ pub(crate) fn side_word(side: Side) -> &'static str
 
 /// The name of a spot's fault, and then what it carries.
 #[tactic(auto, unfolding(crate::specs::Words::fault_words))]
-pub(crate) fn write_fault(out: &mut Vec<u8>, fault: &SpotFault) -> Result<(), AllocError>
-    ensures { OnOk result (out.new.items ≡ out.old.items ++ fault_words fault.now) }
+pub(crate) fn push_fault(words: &mut Words, fault: &SpotFault) -> Result<(), AllocError>
+    ensures { OnOk result (words.new ≡ words.old ++ fault_words fault.now) }
 {
     match fault {
-        SpotFault::UnknownWord => write_text(out, "UnknownWord"),
-        SpotFault::BadCard => write_text(out, "BadCard"),
+        SpotFault::UnknownWord => push_text(words, "UnknownWord"),
+        SpotFault::BadCard => push_text(words, "BadCard"),
         SpotFault::TwiceCard(card) => {
-            write_text(out, "TwiceCard ")?;
-            out.extend_from_slice(&card.text())
+            push_text(words, "TwiceCard")?;
+            words.push(&card.text())
         }
-        SpotFault::HandSize => write_text(out, "HandSize"),
-        SpotFault::BoardSize => write_text(out, "BoardSize"),
-        SpotFault::PlayerCount => write_text(out, "PlayerCount"),
-        SpotFault::DeckShort => write_text(out, "DeckShort"),
+        SpotFault::HandSize => push_text(words, "HandSize"),
+        SpotFault::BoardSize => push_text(words, "BoardSize"),
+        SpotFault::PlayerCount => push_text(words, "PlayerCount"),
+        SpotFault::DeckShort => push_text(words, "DeckShort"),
     }
+}
+
+/// That there are more runouts than are counted.
+#[tactic(auto, unfolding(crate::specs::Spots::refused_words))]
+pub(crate) fn push_refused(words: &mut Words) -> Result<(), AllocError>
+    ensures { OnOk result (words.new ≡ words.old ++ refused_words) }
+{
+    push_text(words, "refused")?;
+    push_text(words, "above")?;
+    push_text(words, "10000000")?;
+    push_text(words, "runouts")
 }

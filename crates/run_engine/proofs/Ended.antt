@@ -4,7 +4,7 @@ use mathlib.Core.Bool.{true≢false}
 use Rattle.std.specs.Prelude.{IfSome}
 use Rattle.byte_ends.specs.Ends.{Rises, WritesAll, WritesFront}
 use Rattle.run_engine.specs.Command.{usage_line}
-use Rattle.run_engine.specs.declared.command.Mode.{Mode}
+use Rattle.run_engine.specs.declared.command.Command.{Command}
 use Rattle.run_engine.specs.Reading.{ReadWhole, ReadTooMuch}
 use Rattle.run_engine.specs.Headline.{IsRun, Ends, IsFinished, IsReadFault, IsWriteFault, IsTooLong, IsMemoryShort}
 
@@ -21,8 +21,8 @@ beyond limit None left' bytes Q r = tt
 beyond limit (Some all) left' bytes Q r = λ less. absurd (let l = r.0 in omega arith)
 
 -- all was read and written
-pub run_finished : (limit : ℕ) (mode : Mode) (status : ℕ) (old new : Ends) → (status ≡ 0) ⊎ (status ≡ 1) → IsFinished limit mode status old new → IsRun limit (Some mode) status old new
-run_finished limit mode status old new which end = record {
+pub run_finished : (limit : ℕ) (command : Command) (status : ℕ) (old new : Ends) → (status ≡ 0) ⊎ (status ≡ 1) → IsFinished limit command status old new → IsRun limit (Some command) status old new
+run_finished limit command status old new which end = record {
   known = small which;
   finished = λ _. end;
   usage = λ e. absurd (not_two which e);
@@ -103,8 +103,8 @@ run_usage_fault limit old new rises front left faults = record {
 }
 
 -- a read failed
-pub run_read_fault : (limit : ℕ) (mode : Mode) (old new : Ends) → IsReadFault limit mode old new → IsRun limit (Some mode) 3 old new
-run_read_fault limit mode old new fault = record {
+pub run_read_fault : (limit : ℕ) (command : Command) (old new : Ends) → IsReadFault limit command old new → IsRun limit (Some command) 3 old new
+run_read_fault limit command old new fault = record {
   known = omega arith;
   finished = λ s. absurd (elim s [ inl e ↦ omega arith | inr e ↦ omega arith ]);
   usage = λ e. absurd (omega arith);
@@ -121,8 +121,8 @@ run_read_fault limit mode old new fault = record {
 }
 
 -- a write failed
-pub run_write_fault : (limit : ℕ) (mode : Mode) (old new : Ends) → IsWriteFault limit mode old new → IsRun limit (Some mode) 4 old new
-run_write_fault limit mode old new fault = record {
+pub run_write_fault : (limit : ℕ) (command : Command) (old new : Ends) → IsWriteFault limit command old new → IsRun limit (Some command) 4 old new
+run_write_fault limit command old new fault = record {
   known = omega arith;
   finished = λ s. absurd (elim s [ inl e ↦ omega arith | inr e ↦ omega arith ]);
   usage = λ e. absurd (omega arith);
@@ -139,8 +139,8 @@ run_write_fault limit mode old new fault = record {
 }
 
 -- there was more than the limit
-pub run_too_long : (limit : ℕ) (mode : Mode) (old new : Ends) → IsTooLong limit mode old new → IsRun limit (Some mode) 5 old new
-run_too_long limit mode old new long = record {
+pub run_too_long : (limit : ℕ) (command : Command) (old new : Ends) → IsTooLong limit command old new → IsRun limit (Some command) 5 old new
+run_too_long limit command old new long = record {
   known = omega arith;
   finished = λ s. absurd (elim s [ inl e ↦ omega arith | inr e ↦ omega arith ]);
   usage = λ e. absurd (omega arith);
@@ -157,8 +157,8 @@ run_too_long limit mode old new long = record {
 }
 
 -- memory ran out
-pub run_memory : (limit : ℕ) (mode : Mode) (old new : Ends) → IsMemoryShort limit mode old new → IsRun limit (Some mode) 6 old new
-run_memory limit mode old new short = record {
+pub run_memory : (limit : ℕ) (command : Command) (old new : Ends) → IsMemoryShort limit command old new → IsRun limit (Some command) 6 old new
+run_memory limit command old new short = record {
   known = omega arith;
   finished = λ s. absurd (elim s [ inl e ↦ omega arith | inr e ↦ omega arith ]);
   usage = λ e. absurd (omega arith);
@@ -175,5 +175,29 @@ run_memory limit mode old new short = record {
 }
 
 -- the words ask for the same
-pub as_asked : (limit status : ℕ) (asked asked' : Option Mode) (old new : Ends) → asked ≡ asked' → IsRun limit asked' status old new → IsRun limit asked status old new
+pub as_asked : (limit status : ℕ) (asked asked' : Option Command) (old new : Ends) → asked ≡ asked' → IsRun limit asked' status old new → IsRun limit asked status old new
 as_asked limit status asked asked' old new same run = rw same run
+
+-- the words are in no form, and memory ran out before anything was written
+pub run_usage_short : (limit : ℕ) (old new : Ends) → new.left ≡ old.left → new.read_faults ≡ old.read_faults → new.taken ≡ old.taken → IsRun limit None 6 old new
+run_usage_short limit old new left faults taken = record {
+  known = omega arith;
+  finished = λ s. absurd (elim s [ inl e ↦ omega arith | inr e ↦ omega arith ]);
+  usage = λ e. absurd (omega arith);
+  unread = λ _. (left, faults);
+  read_fault = λ e. absurd (omega arith);
+  write_fault = λ _. tt;
+  usage_fault = λ e. absurd (omega arith);
+  too_long = λ e. absurd (omega arith);
+  memory = λ _. tt;
+  usage_memory = λ _. taken;
+  complete = λ some _. absurd (true≢false (sym some));
+  complete_long = λ some _. absurd (true≢false (sym some));
+  complete_usage = λ _ _. inr refl;
+}
+
+-- the words are in no form: the usage line is written, or its write failed
+pub told_usage : (limit status : ℕ) (old new : Ends) → (status ≡ 2 → WritesAll old.taken new.taken usage_line × (new.write_faults ≡ old.write_faults)) → (status ≡ 4 → Rises old.write_faults new.write_faults × WritesFront old.taken new.taken usage_line) → (status ≡ 2) ⊎ (status ≡ 4)
+    → new.left ≡ old.left → new.read_faults ≡ old.read_faults → IsRun limit None status old new
+told_usage limit status old new fine fault (inl two) left faults = rw two (run_usage limit old new (fine two).0 left faults)
+told_usage limit status old new fine fault (inr four) left faults = rw four (let why = fault four in run_usage_fault limit old new why.0 why.1 left faults)

@@ -13,11 +13,11 @@ use Rattle.line_text.specs.Lines.{lines, text_of, front_line, behind_line, has_n
 use Rattle.line_text.specs.declared.lines.Line.{Line}
 use Rattle.line_text.specs.Places.{IsWithin, line_at}
 use Rattle.line_text.proofs.LineFacts.{behind_line-drop, lines-front}
+use Rattle.report_table.specs.declared.equity.Form.{Form}
 use Rattle.run_engine.specs.declared.cursor.Cursor.{Cursor}
 use Rattle.run_engine.specs.declared.hands.Reach.{Reach}
-use Rattle.run_engine.specs.declared.command.Mode.TheVariants.{Check}
 use Rattle.run_engine.specs.Histories.{HandLines, hands_from, up_to_header, hand_block, is_rejected_hand}
-use Rattle.run_engine.specs.Writing.{IsInside, GoesOn, IsAtEnd, Reaches}
+use Rattle.run_engine.specs.Writing.{IsInside, GoesOn, IsAtEnd, Reaches, blocks_at, hand_mode, hands_at, rejects_at}
 use Rattle.run_engine.proofs.Lines.{IsWhole, whole_none, whole_append, front_whole, front_open, front_length, lines-first, lines-one, next_place}
 
 passed_step : (x : List ℕ) (xs ys : List (List ℕ)) (v : Bool) → (up_to_header xs ≡ xs → up_to_header (xs ++ ys) ≡ xs ++ up_to_header ys)
@@ -219,9 +219,9 @@ pub slice_of_hand : (bytes : List ℕ) (c : Cursor) (before behind : Reach) (nex
     → lines (slice_range bytes before.end behind.end) ≡ text ∷ lines (slice_range bytes next behind.end)
 slice_of_hand bytes c before behind next text h = hand_slice bytes before.end next behind.end text h.some h.place h.lines_behind.onward h.texts
 
-hands_at : (bytes : List ℕ) (c : Cursor) (before behind : Reach) (next : ℕ) (text : List ℕ) → IsHandAt bytes c before behind next text
-    → hands_from c.line (lines (drop c.at bytes)) ≡ the_hand bytes c before behind ∷ hands_from (c.line + before.count + 1 + behind.count) (lines (drop behind.end bytes))
-hands_at bytes c before behind next text h =
+hands_here : (bytes : List ℕ) (c : Cursor) (before behind : Reach) (next : ℕ) (text : List ℕ) → IsHandAt bytes c before behind next text
+    → hands_at bytes c ≡ the_hand bytes c before behind ∷ hands_from (c.line + before.count + 1 + behind.count) (lines (drop behind.end bytes))
+hands_here bytes c before behind next text h =
     let n = c.line + before.count in
     let header = header_behind bytes c.at before text (drop next bytes) h.lines_before h.texts in
     let later = lines (drop next bytes) in
@@ -249,25 +249,35 @@ hand_numbers bytes c before behind next text inside h forward =
     let l = inside.lines in
     omega arith
 
+-- what is reported from a cursor on, whether equities are asked for or not
+blocks_of_hands : (form : Form) (asked : Bool) (bytes : List ℕ) (c : Cursor) → blocks_at form (hand_mode asked) bytes c ≡ map (hand_block form asked) (hands_at bytes c)
+blocks_of_hands form true bytes c = refl
+blocks_of_hands form false bytes c = refl
+
+rejects_of_hands : (asked : Bool) (bytes : List ℕ) (c : Cursor) → rejects_at (hand_mode asked) bytes c ≡ count_by is_rejected_hand (hands_at bytes c)
+rejects_of_hands true bytes c = refl
+rejects_of_hands false bytes c = refl
+
 -- the cursor goes on by the hand
-pub goes_on_by_hand : (bytes : List ℕ) (old new : Cursor) (before behind : Reach) (next : ℕ) (text block : List ℕ) (rejected : Bool) → IsInside old bytes
+pub goes_on_by_hand : (form : Form) (asked : Bool) (bytes : List ℕ) (old new : Cursor) (before behind : Reach) (next : ℕ) (text block : List ℕ) (rejected : Bool) → IsInside old bytes
     → IsHandAt bytes old before behind next text → next ≤ behind.end → before.end < next
     → new.at ≡ behind.end → new.line ≡ old.line + before.count + 1 + behind.count → new.place ≡ old.place + 1
-    → block ≡ hand_block (the_hand bytes old before behind) → rejected ≡ is_rejected_hand (the_hand bytes old before behind)
-    → GoesOn Check bytes block rejected old new
-goes_on_by_hand bytes old new before behind next text block rejected inside h onward forward at line place block_is rejected_is =
-    let hands = hands_at bytes old before behind next text h in
-    let rest : hands_from (old.line + before.count + 1 + behind.count) (lines (drop behind.end bytes)) ≡ hands_from new.line (lines (drop new.at bytes)) =
+    → block ≡ hand_block form asked (the_hand bytes old before behind) → rejected ≡ is_rejected_hand (the_hand bytes old before behind)
+    → GoesOn form (hand_mode asked) bytes block rejected old new
+goes_on_by_hand form asked bytes old new before behind next text block rejected inside h onward forward at line place block_is rejected_is =
+    let hands = hands_here bytes old before behind next text h in
+    let rest : hands_from (old.line + before.count + 1 + behind.count) (lines (drop behind.end bytes)) ≡ hands_at bytes new =
     ap (λ n. hands_from n (lines (drop behind.end bytes))) (sym line) ∙ ap (λ n. hands_from new.line (lines (drop n bytes))) (sym at) in
-    let all : hands_from old.line (lines (drop old.at bytes)) ≡ the_hand bytes old before behind ∷ hands_from new.line (lines (drop new.at bytes)) =
+    let all : hands_at bytes old ≡ the_hand bytes old before behind ∷ hands_at bytes new =
     hands ∙ ap (λ hs. the_hand bytes old before behind ∷ hs) rest in
-    let later = hands_from new.line (lines (drop new.at bytes)) in
+    let later = hands_at bytes new in
     let a = h.lines_before in
     let b = h.lines_behind in
     record {
-      block_is = ap (map hand_block) all ∙ ap (λ x. x ∷ map hand_block later) (sym block_is);
-      counted = ap (count_by is_rejected_hand) all ∙ sum_by-cons (λ x. cond (is_rejected_hand x) 1 0) (the_hand bytes old before behind) later
-          ∙ ap (λ v. cond v 1 0 + count_by is_rejected_hand later) (sym rejected_is);
+      block_is = blocks_of_hands form asked bytes old ∙ ap (map (hand_block form asked)) all ∙ ap (λ x. x ∷ map (hand_block form asked) later) (sym block_is)
+          ∙ ap (λ xs. block ∷ xs) (sym (blocks_of_hands form asked bytes new));
+      counted = rejects_of_hands asked bytes old ∙ ap (count_by is_rejected_hand) all ∙ sum_by-cons (λ x. cond (is_rejected_hand x) 1 0) (the_hand bytes old before behind) later
+          ∙ ap (λ v. cond v 1 0 + count_by is_rejected_hand later) (sym rejected_is) ∙ ap (λ n. cond rejected 1 0 + n) (sym (rejects_of_hands asked bytes new));
       inside = record {
         within = (let w = b.within in omega arith);
         lines = (let i = inside.lines in let f = a.few in let g = b.few in omega arith);
@@ -277,8 +287,8 @@ goes_on_by_hand bytes old new before behind next text block rejected inside h on
     }
 
 -- no hand is left
-pub no_hand_left : (bytes : List ℕ) (c : Cursor) (before : Reach) → Reaches bytes c.at before → before.end ≡ length bytes → IsAtEnd Check bytes c
-no_hand_left bytes c before r all =
+pub no_hand_left : (form : Form) (asked : Bool) (bytes : List ℕ) (c : Cursor) (before : Reach) → Reaches bytes c.at before → before.end ≡ length bytes → IsAtEnd form (hand_mode asked) bytes c
+no_hand_left form asked bytes c before r all =
     let none : lines (drop before.end bytes) ≡ [] = ap lines (drop_all before.end bytes (omega arith)) in
-    let hands : hands_from c.line (lines (drop c.at bytes)) ≡ [] = hands-reach c.line bytes c.at before r ∙ ap (hands_from (c.line + before.count)) none in
-    record { no_block = ap (map hand_block) hands; none_rejected = ap (count_by is_rejected_hand) hands }
+    let hands : hands_at bytes c ≡ [] = hands-reach c.line bytes c.at before r ∙ ap (hands_from (c.line + before.count)) none in
+    record { no_block = blocks_of_hands form asked bytes c ∙ ap (map (hand_block form asked)) hands; none_rejected = rejects_of_hands asked bytes c ∙ ap (count_by is_rejected_hand) hands }

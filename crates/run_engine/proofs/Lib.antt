@@ -9,3 +9,9 @@ pub mod SpotSteps
 pub mod HandSteps
 pub mod Numbers
 pub mod Starts
+mod LineRows
+mod WordSteps
+mod WordKinds
+mod WordWalks
+mod LineFaults
+mod LineWords

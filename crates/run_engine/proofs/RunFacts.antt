@@ -1,5 +1,5 @@
 -- How the parts of a run make a run.
-use Rattle.std.proofs.Common.{◌≡◌, ℕ, ◌+◌, ◌≤◌, ◌==◌, true, false, cond, List, [], ◌∷◌, ◌++◌, length, map, take, Option, Some, None, inl, inr, ◌⊎◌, arith, refl, sym, ap, ◌∙◌, append_assoc, append-nil, length-append}
+use Rattle.std.proofs.Common.{◌≡◌, ℕ, ◌+◌, ◌≤◌, ◌==◌, Bool, true, false, cond, List, [], ◌∷◌, ◌++◌, length, map, take, Option, Some, None, inl, inr, ◌⊎◌, arith, refl, sym, ap, ◌∙◌, append_assoc, append-nil, length-append}
 use mathlib.Core.Bool.{true≢false}
 use Rattle.std.specs.List.{concat}
 use Rattle.std.proofs.lemmas.List.{take-append-le, length-take, map-append}
@@ -7,32 +7,34 @@ use Rattle.byte_ends.specs.Ends.{Rises, WritesAll, WritesFront}
 use Rattle.line_text.specs.Lines.{lines, closed as closed_lines, unclosed}
 use Rattle.line_text.specs.Laws.{ClosesLines, AllCloseLines, EndsInNewline}
 use Rattle.report_table.specs.Spots.{spot_block}
+use Rattle.report_table.specs.declared.equity.Form.{Form}
 use Rattle.spot_text.specs.Spot.{spot_of}
 use Rattle.spot_text.specs.Words.{is_blank}
+use Rattle.run_engine.specs.declared.command.Command.{Command}
 use Rattle.run_engine.specs.declared.command.Mode.{Mode}
-use Rattle.run_engine.specs.declared.command.Mode.TheVariants.{Spots, Check}
+use Rattle.run_engine.specs.declared.command.Mode.TheVariants.{Spots, Check, Audit}
 use Rattle.run_engine.specs.declared.reading.Ending.{Ending}
 use Rattle.run_engine.specs.declared.reading.Ending.TheVariants.{Whole, Failed, TooLong}
 use Rattle.run_engine.specs.Closed.{closed, closed_hands}
 use Rattle.run_engine.specs.Histories.{hand_block, hands_from}
 use Rattle.run_engine.specs.Reading.{Takes, Counted, EndsSo, reported}
-use Rattle.run_engine.specs.Report.{blocks, spots_from, report, rejects}
+use Rattle.run_engine.specs.Report.{blocks, hand_blocks, spots_from, report, rejects}
 use Rattle.run_engine.specs.Writing.{WritesBlocks}
 use Rattle.run_engine.specs.Headline.{IsRun, Ends, written_status}
 use Rattle.run_engine.proofs.ClosedHands.{closes_hands, hands_front}
-use Rattle.run_engine.proofs.Ended.{run_finished, run_read_fault, run_write_fault, run_too_long, run_memory}
+use Rattle.run_engine.proofs.Ended.{run_usage_short, run_finished, run_read_fault, run_write_fault, run_too_long, run_memory}
 use Rattle.run_engine.proofs.Lines.{whole_newline}
 use Rattle.run_engine.proofs.WriteFacts.{concat-append, writes_none}
 
 -- the blocks of some spots come first where more lines follow
-spots_front : (place number : ℕ) (xs ys : List (List ℕ)) → (more : List (List ℕ)) × (spots_from place number (xs ++ ys) ≡ spots_from place number xs ++ more)
-spots_front place number [] ys = (spots_from place number ys, refl)
-spots_front place number (x ∷ xs) ys =
-    let passed = spots_front place (number + 1) xs ys in
-    let later = spots_front (place + 1) (number + 1) xs ys in
-    elim (is_blank x) as (λ b. (more : List (List ℕ)) × (cond b (spots_from place (number + 1) (xs ++ ys)) (spot_block place number (spot_of x) ∷ spots_from (place + 1) (number + 1) (xs ++ ys)) ≡ cond b (spots_from place (number + 1) xs) (spot_block place number (spot_of x) ∷ spots_from (place + 1) (number + 1) xs) ++ more)) [
+spots_front : (form : Form) (place number : ℕ) (xs ys : List (List ℕ)) → (more : List (List ℕ)) × (spots_from form place number (xs ++ ys) ≡ spots_from form place number xs ++ more)
+spots_front form place number [] ys = (spots_from form place number ys, refl)
+spots_front form place number (x ∷ xs) ys =
+    let passed = spots_front form place (number + 1) xs ys in
+    let later = spots_front form (place + 1) (number + 1) xs ys in
+    elim (is_blank x) as (λ b. (more : List (List ℕ)) × (cond b (spots_from form place (number + 1) (xs ++ ys)) (spot_block form place number (spot_of x) ∷ spots_from form (place + 1) (number + 1) (xs ++ ys)) ≡ cond b (spots_from form place (number + 1) xs) (spot_block form place number (spot_of x) ∷ spots_from form (place + 1) (number + 1) xs) ++ more)) [
       | true ↦ passed
-      | false ↦ (later.0, ap (λ bs. spot_block place number (spot_of x) ∷ bs) later.1)
+      | false ↦ (later.0, ap (λ bs. spot_block form place number (spot_of x) ∷ bs) later.1)
     ]
 
 -- the lines that a newline closes come first, whatever bytes follow
@@ -47,31 +49,40 @@ closed_lines_front bytes rest law = front_step law.ends
         ap (λ r. lines (r ++ rest)) (sym law.parts ∙ ap (λ r. r ++ unclosed bytes) some.1) ∙ ap lines (append_assoc (some.0 ++ 10 ∷ []) (unclosed bytes) rest)
         ∙ whole.split (unclosed bytes ++ rest) ∙ ap (λ r. lines r ++ lines (unclosed bytes ++ rest)) (sym some.1)
 
--- the blocks of the closed part come first, whatever bytes follow
-blocks_front : (mode : Mode) (bytes rest : List ℕ) → ClosesLines bytes → (more : List (List ℕ)) × (blocks mode (bytes ++ rest) ≡ blocks mode (closed mode bytes) ++ more)
-blocks_front Spots bytes rest law =
-    let front = spots_front 1 1 (lines (closed_lines bytes)) (lines (unclosed bytes ++ rest)) in
-    (front.0, ap (spots_from 1 1) (closed_lines_front bytes rest law) ∙ front.1)
-blocks_front Check bytes rest law =
+-- the blocks of the closed hands come first, whatever bytes follow
+hand_blocks_front : (form : Form) (asked : Bool) (bytes rest : List ℕ) → (more : List (List ℕ)) × (hand_blocks form asked (bytes ++ rest) ≡ hand_blocks form asked (closed_hands bytes) ++ more)
+hand_blocks_front form asked bytes rest =
     let front = hands_front bytes rest in
-    (map hand_block front.0, ap (map hand_block) front.1 ∙ map-append hand_block (hands_from 1 (lines (closed_hands bytes))) front.0)
+    (map (hand_block form asked) front.0, ap (map (hand_block form asked)) front.1 ∙ map-append (hand_block form asked) (hands_from 1 (lines (closed_hands bytes))) front.0)
+
+-- the blocks of the closed part come first, whatever bytes follow
+blocks_front : (form : Form) (mode : Mode) (bytes rest : List ℕ) → ClosesLines bytes → (more : List (List ℕ)) × (blocks form mode (bytes ++ rest) ≡ blocks form mode (closed mode bytes) ++ more)
+blocks_front form Spots bytes rest law =
+    let front = spots_front form 1 1 (lines (closed_lines bytes)) (lines (unclosed bytes ++ rest)) in
+    (front.0, ap (spots_from form 1 1) (closed_lines_front bytes rest law) ∙ front.1)
+blocks_front form Check bytes rest law = hand_blocks_front form false bytes rest
+blocks_front form Audit bytes rest law = hand_blocks_front form true bytes rest
 
 -- the report of the closed part is a front of the report, whatever bytes follow
-pub closed_stays : (mode : Mode) (bytes rest : List ℕ) → ClosesLines bytes → (more : List ℕ) × (report mode (bytes ++ rest) ≡ report mode (closed mode bytes) ++ more)
+pub closed_stays : (form : Form) (mode : Mode) (bytes rest : List ℕ) → ClosesLines bytes → (more : List ℕ) × (report form mode (bytes ++ rest) ≡ report form mode (closed mode bytes) ++ more)
 unfolding report
-closed_stays mode bytes rest law =
-    let front = blocks_front mode bytes rest law in
-    (concat front.0, ap concat front.1 ∙ concat-append (blocks mode (closed mode bytes)) front.0)
+closed_stays form mode bytes rest law =
+    let front = blocks_front form mode bytes rest law in
+    (concat front.0, ap concat front.1 ∙ concat-append (blocks form mode (closed mode bytes)) front.0)
 
-report_front : (mode : Mode) (bytes : List ℕ) → ClosesLines bytes → (more : List ℕ) × (report mode bytes ≡ report mode (closed mode bytes) ++ more)
-report_front mode bytes law =
-    let front = closed_stays mode bytes [] law in
-    (front.0, ap (report mode) (sym (append-nil bytes)) ∙ front.1)
+report_front : (form : Form) (mode : Mode) (bytes : List ℕ) → ClosesLines bytes → (more : List ℕ) × (report form mode bytes ≡ report form mode (closed mode bytes) ++ more)
+report_front form mode bytes law =
+    let front = closed_stays form mode bytes [] law in
+    (front.0, ap (report form mode) (sym (append-nil bytes)) ∙ front.1)
+
+closed_hands_short : (bytes : List ℕ) → length (closed_hands bytes) ≤ length bytes
+closed_hands_short bytes = let c = closes_hands bytes in omega (arith, ap length c.parts, length-append (closed_hands bytes) c.tail)
 
 -- the closed part is no longer than all
 closed_short : (mode : Mode) (bytes : List ℕ) → ClosesLines bytes → length (closed mode bytes) ≤ length bytes
 closed_short Spots bytes law = omega (arith, ap length law.parts, length-append (closed_lines bytes) (unclosed bytes))
-closed_short Check bytes law = let c = closes_hands bytes in omega (arith, ap length c.parts, length-append (closed_hands bytes) c.tail)
+closed_short Check bytes law = closed_hands_short bytes
+closed_short Audit bytes law = closed_hands_short bytes
 
 front_of_more : (old new : Option (List ℕ)) (a b : List ℕ) → WritesFront old new a → WritesFront old new (a ++ b)
 front_of_more None new a b w = w
@@ -79,10 +90,10 @@ front_of_more (Some taken) new a b w =
     let size : w.0 ≤ length (a ++ b) = (let l = w.1 in omega (arith, length-append a b)) in
     (w.0, size, w.2 ∙ ap (λ xs. Some (taken ++ xs)) (sym (take-append-le w.0 a b w.1)))
 
-pub reported_front : (mode : Mode) (ending : Ending) (bytes : List ℕ) (old new : Option (List ℕ)) → AllCloseLines → WritesFront old new (report mode (reported mode ending bytes)) → WritesFront old new (report mode bytes)
-reported_front mode Whole bytes old new law w = w
-reported_front mode Failed bytes old new law w = let m = report_front mode bytes (law bytes) in rw m.1 (front_of_more old new (report mode (closed mode bytes)) m.0 w)
-reported_front mode TooLong bytes old new law w = let m = report_front mode bytes (law bytes) in rw m.1 (front_of_more old new (report mode (closed mode bytes)) m.0 w)
+pub reported_front : (form : Form) (mode : Mode) (ending : Ending) (bytes : List ℕ) (old new : Option (List ℕ)) → AllCloseLines → WritesFront old new (report form mode (reported mode ending bytes)) → WritesFront old new (report form mode bytes)
+reported_front form mode Whole bytes old new law w = w
+reported_front form mode Failed bytes old new law w = let m = report_front form mode bytes (law bytes) in rw m.1 (front_of_more old new (report form mode (closed mode bytes)) m.0 w)
+reported_front form mode TooLong bytes old new law w = let m = report_front form mode bytes (law bytes) in rw m.1 (front_of_more old new (report form mode (closed mode bytes)) m.0 w)
 
 -- what the report is made of is within the limit
 pub reported_small : (limit : ℕ) (mode : Mode) (old new : Option (List ℕ)) (ending : Ending) (bytes : List ℕ) → AllCloseLines → Counted limit old new bytes → length (reported mode ending bytes) ≤ limit
@@ -94,11 +105,11 @@ zero_or_one : (rejected : ℕ) → (◌≡◌ {A = ℕ} (cond (rejected == 0) 0 
 zero_or_one rejected = elim (rejected == 0) as (λ b. (◌≡◌ {A = ℕ} (cond b 0 1) 0) ⊎ (◌≡◌ {A = ℕ} (cond b 0 1) 1)) [ true ↦ inl refl | false ↦ inr refl ]
 
 -- the report was written
-pub run_written : (limit : ℕ) (mode : Mode) (ending : Ending) (rejected : ℕ) (bytes : List ℕ) (old new : Ends) → Counted limit old.left new.left bytes
-    → EndsSo limit old.left new.left old.read_faults new.read_faults bytes ending → rejected ≡ rejects mode (reported mode ending bytes) → WritesAll old.taken new.taken (report mode (reported mode ending bytes)) → new.write_faults ≡ old.write_faults
-    → IsRun limit (Some mode) (written_status ending rejected) old new
-run_written limit mode Whole rejected bytes old new counted ends count written fine =
-    run_finished limit mode (cond (rejected == 0) 0 1) old new (zero_or_one rejected) (record {
+pub run_written : (limit : ℕ) (command : Command) (ending : Ending) (rejected : ℕ) (bytes : List ℕ) (old new : Ends) → Counted limit old.left new.left bytes
+    → EndsSo limit old.left new.left old.read_faults new.read_faults bytes ending → rejected ≡ rejects command.mode (reported command.mode ending bytes) → WritesAll old.taken new.taken (report command.form command.mode (reported command.mode ending bytes)) → new.write_faults ≡ old.write_faults
+    → IsRun limit (Some command) (written_status ending rejected) old new
+run_written limit command Whole rejected bytes old new counted ends count written fine =
+    run_finished limit command (cond (rejected == 0) 0 1) old new (zero_or_one rejected) (record {
       bytes = bytes;
       read = ends.0;
       written = written;
@@ -106,31 +117,31 @@ run_written limit mode Whole rejected bytes old new counted ends count written f
       no_read_fault = ends.1;
       no_write_fault = fine;
     })
-run_written limit mode Failed rejected bytes old new counted ends count written fine =
-    run_read_fault limit mode old new (record { rises = ends; bytes = bytes; counted = counted; written = written })
-run_written limit mode TooLong rejected bytes old new counted ends count written fine =
-    run_too_long limit mode old new (record { bytes = bytes; read = ends.0; written = written })
+run_written limit command Failed rejected bytes old new counted ends count written fine =
+    run_read_fault limit command old new (record { rises = ends; bytes = bytes; counted = counted; written = written })
+run_written limit command TooLong rejected bytes old new counted ends count written fine =
+    run_too_long limit command old new (record { bytes = bytes; read = ends.0; written = written })
 
 -- a write of the report failed
-pub run_unwritten : (limit : ℕ) (mode : Mode) (ending : Ending) (bytes : List ℕ) (old new : Ends) → AllCloseLines → Counted limit old.left new.left bytes
-    → Rises old.write_faults new.write_faults → WritesFront old.taken new.taken (report mode (reported mode ending bytes)) → IsRun limit (Some mode) 4 old new
-run_unwritten limit mode ending bytes old new law counted rises front =
-    run_write_fault limit mode old new (record { rises = rises; bytes = bytes; counted = counted; written = reported_front mode ending bytes old.taken new.taken law front })
+pub run_unwritten : (limit : ℕ) (command : Command) (ending : Ending) (bytes : List ℕ) (old new : Ends) → AllCloseLines → Counted limit old.left new.left bytes
+    → Rises old.write_faults new.write_faults → WritesFront old.taken new.taken (report command.form command.mode (reported command.mode ending bytes)) → IsRun limit (Some command) 4 old new
+run_unwritten limit command ending bytes old new law counted rises front =
+    run_write_fault limit command old new (record { rises = rises; bytes = bytes; counted = counted; written = reported_front command.form command.mode ending bytes old.taken new.taken law front })
 
 -- memory ran out while the report was written
-pub run_cut : (limit : ℕ) (mode : Mode) (ending : Ending) (bytes : List ℕ) (old new : Ends) → Counted limit old.left new.left bytes
-    → EndsSo limit old.left new.left old.read_faults new.read_faults bytes ending → WritesBlocks old.taken new.taken (blocks mode (reported mode ending bytes)) → IsRun limit (Some mode) 6 old new
-run_cut limit mode Whole bytes old new counted ends written =
-    run_memory limit mode old new (record { bytes = bytes; counted = counted; whole = true; to_the_end = λ e. ends.0; count = written.0; written = written.1 })
-run_cut limit mode Failed bytes old new counted ends written =
-    run_memory limit mode old new (record { bytes = bytes; counted = counted; whole = false; to_the_end = λ e. absurd (true≢false (sym e)); count = written.0; written = written.1 })
-run_cut limit mode TooLong bytes old new counted ends written =
-    run_memory limit mode old new (record { bytes = bytes; counted = counted; whole = false; to_the_end = λ e. absurd (true≢false (sym e)); count = written.0; written = written.1 })
+pub run_cut : (limit : ℕ) (command : Command) (ending : Ending) (bytes : List ℕ) (old new : Ends) → Counted limit old.left new.left bytes
+    → EndsSo limit old.left new.left old.read_faults new.read_faults bytes ending → WritesBlocks old.taken new.taken (blocks command.form command.mode (reported command.mode ending bytes)) → IsRun limit (Some command) 6 old new
+run_cut limit command Whole bytes old new counted ends written =
+    run_memory limit command old new (record { bytes = bytes; counted = counted; whole = true; to_the_end = λ e. ends.0; count = written.0; written = written.1 })
+run_cut limit command Failed bytes old new counted ends written =
+    run_memory limit command old new (record { bytes = bytes; counted = counted; whole = false; to_the_end = λ e. absurd (true≢false (sym e)); count = written.0; written = written.1 })
+run_cut limit command TooLong bytes old new counted ends written =
+    run_memory limit command old new (record { bytes = bytes; counted = counted; whole = false; to_the_end = λ e. absurd (true≢false (sym e)); count = written.0; written = written.1 })
 
 -- memory ran out while the input was read: nothing is written
-pub run_unread : (limit : ℕ) (mode : Mode) (taken : List ℕ) (old new : Ends) → Takes old.left new.left taken → new.taken ≡ old.taken → IsRun limit (Some mode) 6 old new
-run_unread limit mode taken old new takes same =
-    run_memory limit mode old new (record {
+pub run_unread : (limit : ℕ) (command : Command) (taken : List ℕ) (old new : Ends) → Takes old.left new.left taken → new.taken ≡ old.taken → IsRun limit (Some command) 6 old new
+run_unread limit command taken old new takes same =
+    run_memory limit command old new (record {
       bytes = take limit taken;
       counted = (taken, takes, refl);
       whole = false;
@@ -138,3 +149,12 @@ run_unread limit mode taken old new takes same =
       count = 0;
       written = (let w = writes_none old.taken in rw same w);
     })
+
+-- memory ran out before anything was read or written, whatever the words ask for
+pub run_unstarted : (limit : ℕ) (asked : Option Command) (old new : Ends) → new.left ≡ old.left → new.read_faults ≡ old.read_faults → new.taken ≡ old.taken → IsRun limit asked 6 old new
+run_unstarted limit None old new left faults taken = run_usage_short limit old new left faults taken
+run_unstarted limit (Some command) old new left faults taken = run_unread limit command [] old new (takes_none old.left new.left left) taken
+  where
+    takes_none : (a b : Option (List ℕ)) → b ≡ a → Takes a b []
+    takes_none None b same = same
+    takes_none (Some all) b same = (all, same, refl)

@@ -3,7 +3,7 @@ use Rattle.std.specs.Prelude.{ℕ, Bool, false, ◌&&◌, ◌||◌, if◌then◌
 use Rattle.history_text.specs.Headers.{is_header}
 use Rattle.line_text.specs.Lines.{closed as closed_lines, front_line, has_newline, is_newline, text_of}
 use Rattle.run_engine.specs.declared.command.Mode.{Mode}
-use Rattle.run_engine.specs.declared.command.Mode.TheVariants.{Spots, Check}
+use Rattle.run_engine.specs.declared.command.Mode.TheVariants.{Spots, Check, Audit}
 
 -- the bytes begin with a header line and its newline
 abbrev pub begins_header : List ℕ → Bool
@@ -23,3 +23,4 @@ closed_hands (byte ∷ rest) = if holds_header (is_newline byte) rest then byte 
 abbrev pub closed : Mode → List ℕ → List ℕ
 closed Spots bytes = closed_lines bytes
 closed Check bytes = closed_hands bytes
+closed Audit bytes = closed_hands bytes

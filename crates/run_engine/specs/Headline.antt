@@ -4,7 +4,7 @@ use Rattle.std.specs.List.{concat}
 use Rattle.byte_ends.specs.Ends.{Rises, WritesAll, WritesFront}
 use Rattle.run_engine.specs.Closed.{closed}
 use Rattle.run_engine.specs.Command.{usage_line}
-use Rattle.run_engine.specs.declared.command.Mode.{Mode}
+use Rattle.run_engine.specs.declared.command.Command.{Command}
 use Rattle.run_engine.specs.Reading.{Counted, ReadWhole, ReadTooMuch}
 use Rattle.run_engine.specs.declared.reading.Ending.{Ending}
 use Rattle.run_engine.specs.declared.reading.Ending.TheVariants.{Whole, Failed, TooLong}
@@ -23,63 +23,63 @@ pub record IsFaultless (old new : Ends) : Type 0 where
   pub write : ¬ Rises old.write_faults new.write_faults
 
 -- all was read and written: the report of what was read stands behind what was taken before
-pub record IsFinished (limit : ℕ) (mode : Mode) (status : ℕ) (old new : Ends) : Type 0 where
+pub record IsFinished (limit : ℕ) (command : Command) (status : ℕ) (old new : Ends) : Type 0 where
   pub bytes : List ℕ
   pub read : ReadWhole limit old.left new.left bytes
-  pub written : WritesAll old.taken new.taken (report mode bytes)
-  pub status_is : status ≡ (if rejects mode bytes == 0 then 0 else 1)
+  pub written : WritesAll old.taken new.taken (report command.form command.mode bytes)
+  pub status_is : status ≡ (if rejects command.mode bytes == 0 then 0 else 1)
   pub no_read_fault : new.read_faults ≡ old.read_faults
   pub no_write_fault : new.write_faults ≡ old.write_faults
 
 -- a read failed: the report of the closed part of what was taken is written
-pub record IsReadFault (limit : ℕ) (mode : Mode) (old new : Ends) : Type 0 where
+pub record IsReadFault (limit : ℕ) (command : Command) (old new : Ends) : Type 0 where
   pub rises : Rises old.read_faults new.read_faults
   pub bytes : List ℕ
   pub counted : Counted limit old.left new.left bytes
-  pub written : WritesAll old.taken new.taken (report mode (closed mode bytes))
+  pub written : WritesAll old.taken new.taken (report command.form command.mode (closed command.mode bytes))
 
 -- a write failed: a front of the report of what was taken is written
-pub record IsWriteFault (limit : ℕ) (mode : Mode) (old new : Ends) : Type 0 where
+pub record IsWriteFault (limit : ℕ) (command : Command) (old new : Ends) : Type 0 where
   pub rises : Rises old.write_faults new.write_faults
   pub bytes : List ℕ
   pub counted : Counted limit old.left new.left bytes
-  pub written : WritesFront old.taken new.taken (report mode bytes)
+  pub written : WritesFront old.taken new.taken (report command.form command.mode bytes)
 
 -- there was more than the limit: the report of the closed part of the bytes within the limit is written
-pub record IsTooLong (limit : ℕ) (mode : Mode) (old new : Ends) : Type 0 where
+pub record IsTooLong (limit : ℕ) (command : Command) (old new : Ends) : Type 0 where
   pub bytes : List ℕ
   pub read : ReadTooMuch limit old.left new.left bytes
-  pub written : WritesAll old.taken new.taken (report mode (closed mode bytes))
+  pub written : WritesAll old.taken new.taken (report command.form command.mode (closed command.mode bytes))
 
 -- memory ran out: the first blocks of the report are written, each whole. The report is that of all that was taken where
 -- the source was read to its end, and else of its closed part
-pub record IsMemoryShort (limit : ℕ) (mode : Mode) (old new : Ends) : Type 0 where
+pub record IsMemoryShort (limit : ℕ) (command : Command) (old new : Ends) : Type 0 where
   pub bytes : List ℕ
   pub counted : Counted limit old.left new.left bytes
   pub whole : Bool
   pub to_the_end : whole ≡ true → ReadWhole limit old.left new.left bytes
   pub count : ℕ
-  pub written : WritesAll old.taken new.taken (concat (take count (blocks mode (if whole then bytes else closed mode bytes))))
+  pub written : WritesAll old.taken new.taken (concat (take count (blocks command.form command.mode (if whole then bytes else closed command.mode bytes))))
 
 -- a run whose words ask for a mode, or for none, that ends with a status, between these ends
-pub record IsRun (limit : ℕ) (asked : Option Mode) (status : ℕ) (old new : Ends) : Type 0 where
+pub record IsRun (limit : ℕ) (asked : Option Command) (status : ℕ) (old new : Ends) : Type 0 where
   -- one of seven statuses
   pub known : status ≤ 6
   -- 0 and 1: all was read and written; which of the two, by whether a spot or a hand was rejected
-  pub finished : (status ≡ 0) ⊎ (status ≡ 1) → IsSomeAnd asked (λ mode. IsFinished limit mode status old new)
+  pub finished : (status ≡ 0) ⊎ (status ≡ 1) → IsSomeAnd asked (λ command. IsFinished limit command status old new)
   -- 2: the words are in no form, and the usage line is written
   pub usage : status ≡ 2 → IsNone asked × WritesAll old.taken new.taken usage_line
   -- with words in no form nothing is read
   pub unread : IsNone asked → (new.left ≡ old.left) × (new.read_faults ≡ old.read_faults)
   -- 3: only where a read failed
-  pub read_fault : status ≡ 3 → IsSomeAnd asked (λ mode. IsReadFault limit mode old new)
+  pub read_fault : status ≡ 3 → IsSomeAnd asked (λ command. IsReadFault limit command old new)
   -- 4: only where a write failed
-  pub write_fault : status ≡ 4 → IfSome asked (λ mode. IsWriteFault limit mode old new)
+  pub write_fault : status ≡ 4 → IfSome asked (λ command. IsWriteFault limit command old new)
   pub usage_fault : status ≡ 4 → IfNone asked (Rises old.write_faults new.write_faults × WritesFront old.taken new.taken usage_line)
   -- 5: only where the source gave more than the limit
-  pub too_long : status ≡ 5 → IsSomeAnd asked (λ mode. IsTooLong limit mode old new)
+  pub too_long : status ≡ 5 → IsSomeAnd asked (λ command. IsTooLong limit command old new)
   -- 6: memory ran out
-  pub memory : status ≡ 6 → IfSome asked (λ mode. IsMemoryShort limit mode old new)
+  pub memory : status ≡ 6 → IfSome asked (λ command. IsMemoryShort limit command old new)
   pub usage_memory : status ≡ 6 → IfNone asked (new.taken ≡ old.taken)
   -- words in form, no fault and an input within the limit end in 0 or 1, or for want of memory in 6
   pub complete : IsSome asked → IsFaultless old new → IfSome old.left (λ bytes. length bytes ≤ limit → (status ≡ 0) ⊎ (status ≡ 1) ⊎ (status ≡ 6))

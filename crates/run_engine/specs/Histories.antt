@@ -2,11 +2,11 @@
 use Rattle.std.specs.Prelude.{ℕ, ◌+◌, Bool, true, false, if◌then◌else◌, List, [], ◌∷◌, Option, Some, None}
 use Rattle.std.specs.List.{slice_range}
 use Rattle.history_text.specs.Headers.{is_header, hand_number}
-use Rattle.hand_audit.specs.AllIns.{no_all_in}
 use Rattle.hand_audit.specs.Verdict.{audit_of}
 use Rattle.hand_audit.specs.declared.audit.HandAudit.{HandAudit}
 use Rattle.hand_audit.specs.declared.audit.HandAudit.TheVariants.{Rejected, Accepted}
-use Rattle.report_table.specs.Hands.{verdict_block}
+use Rattle.report_table.specs.HandEquities.{hand_block as audit_block}
+use Rattle.report_table.specs.declared.equity.Form.{Form}
 
 -- a hand: the number of its header line, and its lines, the header line first
 pub record HandLines : Type 0 where
@@ -33,15 +33,16 @@ number_text (line ∷ later) = slice_range line (hand_number line).0 (hand_numbe
 
 -- the verdict on a hand
 unfoldable pub verdict_of : HandLines → Option HandAudit
-verdict_of hand = audit_of no_all_in hand.first hand.lines
+verdict_of hand = audit_of hand.first hand.lines
 
 -- the block of a hand, by its verdict
-abbrev pub block_by : List ℕ → Option HandAudit → List ℕ
-block_by number None = []
-block_by number (Some audit) = verdict_block number audit
+abbrev pub block_by : Form → Bool → List ℕ → Option HandAudit → List ℕ
+block_by form asked number None = []
+block_by form asked number (Some audit) = audit_block form asked number audit
 
-unfoldable pub hand_block : HandLines → List ℕ
-hand_block hand = block_by (number_text hand.lines) (verdict_of hand)
+-- the block of a hand in a form; given is whether equities are asked for
+unfoldable pub hand_block : Form → Bool → HandLines → List ℕ
+hand_block form asked hand = block_by form asked (number_text hand.lines) (verdict_of hand)
 
 -- whether a line of the hand departs from the rules
 abbrev pub is_rejection : HandAudit → Bool

@@ -6,7 +6,10 @@ pub use Rattle.spot_text.specs.Words
 pub use Rattle.spot_text.specs.Spot
 pub use Rattle.report_table.specs.Spots
 pub use Rattle.report_table.specs.Hands
+pub use Rattle.report_table.specs.HandEquities
+pub use Rattle.line_text.specs.Amounts
 pub mod Command
+pub mod CommandLine
 pub mod Closed
 pub mod Histories
 pub mod Report

@@ -16,7 +16,7 @@ pub(crate) fn closed_part(mode: Mode, bytes: &[u8]) -> &[u8]
 {
     match mode {
         Mode::Spots => closed_lines(bytes),
-        Mode::Check => closed_hands(bytes),
+        Mode::Check | Mode::Audit => closed_hands(bytes),
     }
 }
 

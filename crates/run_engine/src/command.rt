@@ -1,36 +1,29 @@
-//! The words of the command.
+//! What a command asks for.
 
-ghost use Rattle.std.specs.Prelude.{◌≡◌, map, string_bytes};
-ghost use Rattle.run_engine.specs.Command.{command, mode_named};
+use report_table::Form;
 
 /// What a run reads and reports.
 #[derive(Clone, Copy, Debug, PartialEq, Eq)]
-pub(crate) enum Mode {
-    /// Spot lines, each with its equity.
-    Spots,
+pub enum Mode {
+    /// Hand histories, each with its verdict and the equity of its all-in.
+    Audit,
     /// Hand histories, each with its verdict.
     Check,
+    /// Spot lines, each with its equity.
+    Spots,
 }
 
-/// The mode that the words ask for; none where they are in no form.
-pub(crate) fn command(words: &[String]) -> Option<Mode>
-    ensures { result ≡ command (map string_bytes words.now) }
-{
-    match words {
-        [word] => mode_named(word.as_str()),
-        _ => None,
-    }
-}
-
-/// The mode that a word names.
-fn mode_named(word: &str) -> Option<Mode>
-    ensures { result ≡ mode_named word.now }
-{
-    if word == "spots" {
-        Some(Mode::Spots)
-    } else if word == "check" {
-        Some(Mode::Check)
-    } else {
-        None
-    }
+/// What the words of a command line ask for.
+#[derive(Clone, Copy, Debug, PartialEq, Eq)]
+pub struct Command {
+    /// What is read and reported.
+    pub mode: Mode,
+    /// How many workers count: 1 to 16.
+    pub workers: u32,
+    /// The form of the report.
+    pub form: Form,
+    /// The seed of made input.
+    pub seed: u64,
+    /// How many hands are made: at most 10,000.
+    pub hands: u32,
 }

@@ -4,16 +4,16 @@ ghost use Rattle.std.specs.Prelude.{◌≡◌, ◌<◌, ◌≤◌, ◌+◌, ◌^
 ghost use Rattle.hand_audit.specs.Departs.{begins_hand};
 ghost use Rattle.line_text.specs.Lines.{lines};
 ghost use Rattle.run_engine.specs.Histories.{HandLines, hand_block, is_rejected_hand, is_rejection, number_text};
-ghost use Rattle.run_engine.specs.Writing.{IsInside, Reaches, StepsTo};
-ghost use Rattle.run_engine.specs.declared.command.Mode.TheVariants.{Check};
+ghost use Rattle.run_engine.specs.Writing.{IsInside, Reaches, StepsTo, hand_mode};
 
 use crate::cursor::Cursor;
+use crate::equities::equity_of_hand;
 use crate::reading::INPUT_MAX;
 use card_sets::Memory;
 use hand_audit::{HandAudit, audit_hand};
 use history_text::{hand_number, is_header};
 use line_text::next_line;
-use report_table::{Equity, Form, write_hand};
+use report_table::{Form, write_hand};
 use std::alloc::Global;
 
 /// How far some lines reach: the place behind them, and how many they are.
@@ -71,28 +71,32 @@ fn is_rejection(audit: &HandAudit) -> bool
 }
 
 /// Appends the block of a hand, and answers whether the hand is rejected. The bytes are the lines of the
-/// hand, its header line first, which has the number `first`.
-fn write_lines(alloc: Global, bytes: &[u8], first: u32, block: &mut Vec<u8>) -> Result<bool, Memory>
+/// hand, its header line first, which has the number `first`. Its equity is counted where it is asked for.
+fn write_lines(
+    alloc: Global,
+    form: Form,
+    asked: bool,
+    bytes: &[u8],
+    first: u32,
+    block: &mut Vec<u8>,
+) -> Result<bool, Memory>
     requires header { IsTrue (begins_hand (lines bytes.now)) }
     requires numbers { first + length (lines bytes.now) < 2 ^ 32 }
-    ensures block { OnOk result (block.new.items ≡ block.old.items ++ hand_block (record { first = first; lines = lines bytes.now })) }
+    ensures block { OnOk result (block.new.items ≡ block.old.items ++ hand_block form asked (record { first = first; lines = lines bytes.now })) }
     ensures rejected { IfOk result (λ rejected. rejected ≡ is_rejected_hand (record { first = first; lines = lines bytes.now })) }
 {
     let audit = audit_hand(alloc, bytes, first)?;
-    write_hand(
-        block,
-        number_text(bytes),
-        &audit,
-        &Equity::NotAsked,
-        Form::Text,
-    )?;
+    let equity = equity_of_hand(asked, &audit);
+    write_hand(block, number_text(bytes), &audit, &equity, form)?;
     Ok(is_rejection(&audit))
 }
 
 /// Makes the block of the next hand, goes on behind its lines, and answers whether the hand is rejected;
-/// none where no hand is left. Each line is looked at a few times at the most.
+/// none where no hand is left. Equities are counted where they are asked for. Each line is looked at a few times at the most.
 pub(crate) fn next_hand(
     alloc: Global,
+    form: Form,
+    asked: bool,
     bytes: &[u8],
     cursor: &mut Cursor,
     block: &mut Vec<u8>,
@@ -100,7 +104,7 @@ pub(crate) fn next_hand(
     requires small { length bytes.now ≤ INPUT_MAX }
     requires inside { IsInside cursor.old bytes.now }
     requires empty { block.old.items ≡ [] }
-    ensures { IfOk result (λ next. StepsTo Check bytes.now block.new.items cursor.old cursor.new next) }
+    ensures { IfOk result (λ next. StepsTo form (hand_mode asked) bytes.now block.new.items cursor.old cursor.new next) }
 {
     let before = up_to_header(bytes, cursor.at);
     let Some(head) = next_line(bytes, before.end) else {
@@ -111,6 +115,13 @@ pub(crate) fn next_hand(
     cursor.at = behind.end;
     cursor.line = first + 1 + behind.count;
     cursor.place += 1;
-    let rejected = write_lines(alloc, &bytes[before.end..behind.end], first, block)?;
+    let rejected = write_lines(
+        alloc,
+        form,
+        asked,
+        &bytes[before.end..behind.end],
+        first,
+        block,
+    )?;
     Ok(Some(rejected))
 }

@@ -5,12 +5,16 @@
 mod closing;
 mod command;
 mod cursor;
+mod equities;
 mod hands;
 mod reading;
 mod report;
 mod run;
 mod spots;
+mod words;
 
 pub use closing::law_closed_blocks_stay;
+pub use command::{Command, Mode};
 pub use reading::INPUT_MAX;
 pub use run::run_alone;
+pub use words::{WordFault, read_words};

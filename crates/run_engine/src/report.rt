@@ -12,6 +12,7 @@ use crate::reading::INPUT_MAX;
 use crate::spots::next_spot;
 use byte_ends::{Failed, Sink, write_all};
 use card_sets::Memory;
+use report_table::Form;
 use std::alloc::Global;
 
 /// Why a report wasn't written whole.
@@ -49,6 +50,7 @@ impl From<Memory> for WriteFault {
 /// where no block is left.
 fn next_block(
     alloc: Global,
+    form: Form,
     mode: Mode,
     bytes: &[u8],
     cursor: &mut Cursor,
@@ -57,11 +59,12 @@ fn next_block(
     requires small { length bytes.now ≤ INPUT_MAX }
     requires inside { IsInside cursor.old bytes.now }
     requires empty { block.old.items ≡ [] }
-    ensures { IfOk result (λ next. StepsTo mode bytes.now block.new.items cursor.old cursor.new next) }
+    ensures { IfOk result (λ next. StepsTo form mode bytes.now block.new.items cursor.old cursor.new next) }
 {
     match mode {
-        Mode::Spots => next_spot(bytes, cursor, block),
-        Mode::Check => next_hand(alloc, bytes, cursor, block),
+        Mode::Spots => next_spot(form, bytes, cursor, block),
+        Mode::Check => next_hand(alloc, form, false, bytes, cursor, block),
+        Mode::Audit => next_hand(alloc, form, true, bytes, cursor, block),
     }
 }
 
@@ -69,24 +72,25 @@ fn next_block(
 /// Answers how many spots or hands are rejected.
 pub(crate) fn write_report<K: Sink>(
     alloc: Global,
+    form: Form,
     mode: Mode,
     bytes: &[u8],
     sink: &mut K,
 ) -> Result<u64, WriteFault>
     requires { length bytes.now ≤ INPUT_MAX }
     ensures rejected { IfOk result (λ n. n ≡ rejects mode bytes.now) }
-    ensures written { OnOk result (WritesAll (K.taken sink.old) (K.taken sink.new) (report mode bytes.now)) }
+    ensures written { OnOk result (WritesAll (K.taken sink.old) (K.taken sink.new) (report form mode bytes.now)) }
     ensures fine { OnOk result (K.faults sink.new ≡ K.faults sink.old) }
     ensures fault { IsErrOf result WriteFault.Failed → Rises (K.faults sink.old) (K.faults sink.new) }
-    ensures front { IsErrOf result WriteFault.Failed → WritesFront (K.taken sink.old) (K.taken sink.new) (report mode bytes.now) }
-    ensures memory { IsErrOf result WriteFault.Memory → WritesBlocks (K.taken sink.old) (K.taken sink.new) (blocks mode bytes.now) }
+    ensures front { IsErrOf result WriteFault.Failed → WritesFront (K.taken sink.old) (K.taken sink.new) (report form mode bytes.now) }
+    ensures memory { IsErrOf result WriteFault.Memory → WritesBlocks (K.taken sink.old) (K.taken sink.new) (blocks form mode bytes.now) }
 {
     let mut block = Vec::new(alloc);
     let mut cursor = Cursor::start();
     let mut rejects = 0;
     'each: loop {
         block.clear();
-        let Some(rejected) = next_block(alloc, mode, bytes, &mut cursor, &mut block)? else {
+        let Some(rejected) = next_block(alloc, form, mode, bytes, &mut cursor, &mut block)? else {
             return Ok(rejects);
         };
         rejects += u64::from(rejected);

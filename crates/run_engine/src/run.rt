@@ -1,12 +1,13 @@
 //! The top call.
 
-ghost use Rattle.std.specs.Prelude.{◌≡◌, map, string_bytes};
-ghost use Rattle.run_engine.specs.Command.{command};
+ghost use Rattle.std.specs.Prelude.{◌≡◌, ◌⊎◌, map, string_bytes};
+ghost use Rattle.byte_ends.specs.Ends.{Rises, WritesAll, WritesFront};
+ghost use Rattle.run_engine.specs.Command.{command, usage_line};
 ghost use Rattle.run_engine.specs.Headline.{IsRun, written_status};
 
-use crate::command::command;
 use crate::reading::{Ending, INPUT_MAX, read_all};
 use crate::report::{WriteFault, write_report};
+use crate::words::{WordFault, read_words};
 use byte_ends::{Sink, Source, write_all};
 use line_text::law_closed_lines;
 use std::alloc::Global;
@@ -29,20 +30,37 @@ pub fn run_alone<S: Source, K: Sink>(
         (record { left = S.left source.old; read_faults = S.faults source.old; taken = K.taken sink.old; write_faults = K.faults sink.old })
         (record { left = S.left source.new; read_faults = S.faults source.new; taken = K.taken sink.new; write_faults = K.faults sink.new }) }
 {
-    let Some(mode) = command(words) else {
-        return match write_all(sink, USAGE_LINE) {
-            Ok(()) => 2,
-            Err(_) => 4,
-        };
+    let asked = match read_words(alloc, words) {
+        Ok(asked) => asked,
+        Err(WordFault::Usage) => return write_usage(sink),
+        Err(WordFault::Memory) => return 6,
     };
     let Ok(input) = read_all(alloc, source) else {
         return 6;
     };
     law_closed_lines();
-    match write_report(alloc, mode, input.reported(mode), sink) {
+    match write_report(
+        alloc,
+        asked.form,
+        asked.mode,
+        input.reported(asked.mode),
+        sink,
+    ) {
         Ok(rejected) => status_of(input.ending, rejected),
         Err(WriteFault::Failed) => 4,
         Err(WriteFault::Memory) => 6,
+    }
+}
+
+/// Writes the usage line, and answers the status of a run whose words are in no form.
+fn write_usage<K: Sink>(sink: &mut K) -> u8
+    ensures fine { result ≡ 2 → WritesAll (K.taken sink.old) (K.taken sink.new) usage_line × (K.faults sink.new ≡ K.faults sink.old) }
+    ensures fault { result ≡ 4 → Rises (K.faults sink.old) (K.faults sink.new) × WritesFront (K.taken sink.old) (K.taken sink.new) usage_line }
+    ensures known { (result ≡ 2) ⊎ (result ≡ 4) }
+{
+    match write_all(sink, USAGE_LINE) {
+        Ok(()) => 2,
+        Err(_) => 4,
     }
 }
 

@@ -10,40 +10,44 @@ ghost use Rattle.run_engine.specs.declared.command.Mode.TheVariants.{Spots};
 ghost use Rattle.spot_text.specs.Spot.{spot_of};
 
 use crate::cursor::Cursor;
+use crate::equities::equity_of_table;
 use crate::reading::INPUT_MAX;
 use card_sets::{Known, Memory};
-use equity_job::{Job, count_job};
 use line_text::next_line;
 use report_table::{Equity, Form, table_alone, write_spot};
 use spot_text::{SpotFault, has_word, read_spot};
 
 /// The equity of a spot; none is asked for where it is rejected.
-fn equity_of(known: &Result<Known, SpotFault>) -> Equity
+fn equity_of_spot(known: &Result<Known, SpotFault>) -> Equity
     ensures { IfOk known.now (λ k. IsEquityOf (alone (state_of k)) result) }
 {
     let Ok(known) = known else {
         return Equity::NotAsked;
     };
-    match Job::make(&table_alone(*known)) {
-        Ok(job) => Equity::Counted(count_job(&job)),
-        Err(fault) => Equity::Refused(fault),
-    }
+    equity_of_table(&table_alone(*known))
 }
 
 /// Appends the block of a spot line, and answers whether the spot is rejected.
-fn write_line(block: &mut Vec<u8>, place: u64, number: u32, line: &[u8]) -> Result<bool, Memory>
-    ensures block { OnOk result (block.new.items ≡ block.old.items ++ spot_block place number (spot_of line.now)) }
+fn write_line(
+    block: &mut Vec<u8>,
+    form: Form,
+    place: u64,
+    number: u32,
+    line: &[u8],
+) -> Result<bool, Memory>
+    ensures block { OnOk result (block.new.items ≡ block.old.items ++ spot_block form place number (spot_of line.now)) }
     ensures rejected { IfOk result (λ rejected. rejected ≡ is_err (spot_of line.now)) }
 {
     let known = read_spot(line);
-    let equity = equity_of(&known);
-    write_spot(block, place, number, &known, &equity, Form::Text)?;
+    let equity = equity_of_spot(&known);
+    write_spot(block, place, number, &known, &equity, form)?;
     Ok(known.is_err())
 }
 
 /// Makes the block of the next spot, goes on behind its line, and answers whether the spot is rejected;
 /// none where no spot is left.
 pub(crate) fn next_spot(
+    form: Form,
     bytes: &[u8],
     cursor: &mut Cursor,
     block: &mut Vec<u8>,
@@ -51,7 +55,7 @@ pub(crate) fn next_spot(
     requires small { length bytes.now ≤ INPUT_MAX }
     requires inside { IsInside cursor.old bytes.now }
     requires empty { block.old.items ≡ [] }
-    ensures { IfOk result (λ next. StepsTo Spots bytes.now block.new.items cursor.old cursor.new next) }
+    ensures { IfOk result (λ next. StepsTo form Spots bytes.now block.new.items cursor.old cursor.new next) }
 {
     'lines: while let Some(line) = next_line(bytes, cursor.at) {
         let text = &bytes[line.first..line.end];
@@ -64,7 +68,7 @@ pub(crate) fn next_spot(
         cursor.line += 1;
         if has_word(text) {
             cursor.place += 1;
-            let rejected = write_line(block, place, number, text)?;
+            let rejected = write_line(block, form, place, number, text)?;
             return Ok(Some(rejected));
         }
     }

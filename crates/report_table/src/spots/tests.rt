@@ -1,4 +1,5 @@
 use super::{write_counted_line, write_ev_line, write_refused, write_rejected, write_side_line};
+use crate::equity::Form;
 use card_sets::{Card, Game, Side};
 use showdown_tally::Cell;
 use spot_text::SpotFault;
@@ -36,7 +37,7 @@ fn a_rejected_line_has_its_place_its_number_and_its_fault(rt: HostRuntime) -> Re
     ];
     for (place, number, fault, text) in cases {
         let mut out = Vec::new(rt.alloc());
-        write_rejected(&mut out, place, number, &fault)?;
+        write_rejected(&mut out, Form::Text, place, number, &fault)?;
         assert_eq!(rt; out.as_slice(), text);
     }
     Ok(())
@@ -54,7 +55,7 @@ fn a_counted_spot_begins_with_its_game_and_its_runouts(rt: HostRuntime) -> Resul
     ];
     for (place, game, all, text) in cases {
         let mut out = Vec::new(rt.alloc());
-        write_counted_line(&mut out, place, game, all)?;
+        write_counted_line(&mut out, Form::Text, place, game, all)?;
         assert_eq!(rt; out.as_slice(), text);
     }
     Ok(())
@@ -76,7 +77,7 @@ fn a_spot_above_the_limit_has_one_line(rt: HostRuntime) -> Result<(), Fail> {
     ];
     for (place, game, text) in cases {
         let mut out = Vec::new(rt.alloc());
-        write_refused(&mut out, place, game)?;
+        write_refused(&mut out, Form::Text, place, game)?;
         assert_eq!(rt; out.as_slice(), text);
     }
     Ok(())
@@ -92,15 +93,15 @@ fn the_lines_of_a_hand_round_percent_to_two_places_and_ev_to_three(
         tie: 0,
         lose: 2,
     };
-    write_side_line(&mut out, 44, 0, Side::High, ahead)?;
-    write_ev_line(&mut out, 44, 0, 42 * 5040)?;
+    write_side_line(&mut out, Form::Text, 44, 0, Side::High, ahead)?;
+    write_ev_line(&mut out, Form::Text, 44, 0, 42 * 5040)?;
     let behind = Cell {
         win: 2,
         tie: 0,
         lose: 42,
     };
-    write_side_line(&mut out, 44, 1, Side::High, behind)?;
-    write_ev_line(&mut out, 44, 1, 2 * 5040)?;
+    write_side_line(&mut out, Form::Text, 44, 1, Side::High, behind)?;
+    write_ev_line(&mut out, Form::Text, 44, 1, 2 * 5040)?;
     assert_eq!(rt;
         out.as_slice(),
         b"hand 1 high win 42 95.45 tie 0 0.00 lose 2 4.55\n\
@@ -120,16 +121,16 @@ fn a_split_a_low_and_the_tenth_hand_are_written(rt: HostRuntime) -> Result<(), F
         tie: 44,
         lose: 0,
     };
-    write_side_line(&mut out, 44, 1, Side::High, split)?;
-    write_ev_line(&mut out, 44, 1, 44 * 2520)?;
+    write_side_line(&mut out, Form::Text, 44, 1, Side::High, split)?;
+    write_ev_line(&mut out, Form::Text, 44, 1, 44 * 2520)?;
     let mixed = Cell {
         win: 1,
         tie: 2,
         lose: 5,
     };
-    write_side_line(&mut out, 8, 9, Side::Low, mixed)?;
-    write_ev_line(&mut out, 8, 9, 0)?;
-    write_ev_line(&mut out, 8, 9, 8 * 5040)?;
+    write_side_line(&mut out, Form::Text, 8, 9, Side::Low, mixed)?;
+    write_ev_line(&mut out, Form::Text, 8, 9, 0)?;
+    write_ev_line(&mut out, Form::Text, 8, 9, 8 * 5040)?;
     assert_eq!(rt;
         out.as_slice(),
         b"hand 2 high win 0 0.00 tie 44 100.00 lose 0 0.00\n\

@@ -1,7 +1,6 @@
 use Rattle.std.proofs.Common.{◌∙◌, sym, subst}
 use Rattle.std.specs.Prelude.{slice_range, drop}
 use Rattle.line_text.specs.Lines.{lines}
-use Rattle.hand_audit.specs.AllIns.{no_all_in}
 use Rattle.hand_audit.specs.Keeping.{Follows}
 use Rattle.hand_audit.specs.Lines.{nothing}
 use Rattle.hand_audit.specs.Verdict.{read_all}
@@ -11,7 +10,7 @@ use Rattle.hand_audit.proofs.audit.audit_hand.Goals as goal
 pub returns-in-Err : goal.returns-in-Err
 returns-in-Err c =
     let text = slice_range c.args.bytes.now c.in-Some.head.first c.in-Some.head.end in
-    record { verdict = audit_fault no_all_in c.args.first_line (lines c.args.bytes.now) text (lines (drop c.in-Some.head.next c.args.bytes.now)) c.in-Err.fault c.in-Some.ensures.texts (sym c.read_header.ensures.value ∙ c.in-Err.is) }
+    record { verdict = audit_fault c.args.first_line (lines c.args.bytes.now) text (lines (drop c.in-Some.head.next c.args.bytes.now)) c.in-Err.fault c.in-Some.ensures.texts (sym c.read_header.ensures ∙ c.in-Err.is) }
 
 pub returns-in-Departs : goal.returns-in-Departs
 returns-in-Departs c =
@@ -20,7 +19,7 @@ returns-in-Departs c =
     let g = c.in-Ok.header in
     let players = c.in_ok-players.players in
     record {
-      verdict = audit_departs no_all_in c.args.first_line (lines c.args.bytes.now) text rest g players c.in-Departs.line c.in-Departs.cause c.in-Some.ensures.texts (sym c.read_header.ensures.value ∙ c.in-Ok.is) c.in_ok-players.ensures
+      verdict = audit_departs c.args.first_line (lines c.args.bytes.now) text rest g players c.in-Departs.line c.in-Departs.cause c.in-Some.ensures.texts (sym c.read_header.ensures ∙ c.in-Ok.is) c.in_ok-players.ensures
           (subst (Follows g players c.args.first_line rest) c.in-Departs.is c.in_ok-line.ensures);
     }
 
@@ -32,6 +31,6 @@ returns-in-Ends c =
     let players = c.in_ok-players.players in
     let ends = subst (Follows g players c.args.first_line rest) c.in-Ends.is c.in_ok-line.ensures in
     record {
-      verdict = audit_ends no_all_in c.args.first_line (lines c.args.bytes.now) text rest g players c.accepted.result c.in-Some.ensures.texts (sym c.read_header.ensures.value ∙ c.in-Ok.is) c.in_ok-players.ensures
+      verdict = audit_ends c.args.first_line (lines c.args.bytes.now) text rest g players c.accepted.result c.in-Some.ensures.texts (sym c.read_header.ensures ∙ c.in-Ok.is) c.in_ok-players.ensures
           ends.0 (c.accepted.ensures (read_all g nothing rest) ends.1 ends.2);
     }

@@ -1,6 +1,5 @@
-use Rattle.hand_audit.specs.AllIns.{no_all_in}
 use Rattle.hand_audit.proofs.Accepted.{accepted_kept}
 use Rattle.hand_audit.proofs.laws.law_chips_are_kept.Goals as goal
 
 pub returns : goal.returns
-returns c = accepted_kept no_all_in
+returns c = accepted_kept

@@ -1,6 +1,5 @@
-use Rattle.hand_audit.specs.AllIns.{no_all_in}
 use Rattle.hand_audit.proofs.First.{rejected_behind}
 use Rattle.hand_audit.proofs.laws.law_lines_before_stand.Goals as goal
 
 pub returns : goal.returns
-returns c = rejected_behind no_all_in
+returns c = rejected_behind

@@ -1,6 +1,5 @@
-use Rattle.hand_audit.specs.AllIns.{no_all_in}
 use Rattle.hand_audit.proofs.Accepted.{accepted_split}
 use Rattle.hand_audit.proofs.laws.law_pots_are_split_by_the_rules.Goals as goal
 
 pub returns : goal.returns
-returns c = accepted_split no_all_in
+returns c = accepted_split

@@ -5,4 +5,4 @@ use Rattle.card_sets.specs.Disjoint.{apart}
 use Rattle.hand_audit.proofs.standings.are_apart.Given as goal
 
 abbrev pub invariant-loop-card : goal.invariant-loop-card
-invariant-loop-card l = list_all (λ card. not (has_card l.board card)) l.card-iterator.rest ≡ apart l.fn.own l.board
+invariant-loop-card l = list_all (λ card. not (has_card l.b card)) l.card-iterator.rest ≡ apart l.fn.a l.b

@@ -1,6 +1,6 @@
 use Rattle.std.specs.Prelude.{◌≡◌, ◌<◌, ℕ, length, true, None, IfSome, slice_index_or}
 use Rattle.betting_replay.specs.Tables.{final_at}
-use Rattle.hand_audit.specs.Showings.{is_full, full_with}
+use Rattle.hand_audit.specs.Winning.{is_full, full_with}
 use Rattle.hand_audit.proofs.standings.full_hands.Given as goal
 
 abbrev pub invariant-loop-seat : goal.invariant-loop-seat

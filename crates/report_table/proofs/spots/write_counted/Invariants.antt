@@ -1,5 +1,6 @@
 use Rattle.std.proofs.Common.{◌≡◌, ◌++◌}
 use Rattle.std.specs.List.{flat_map}
+use Rattle.report_table.specs.Lines.{line_in}
 use Rattle.report_table.specs.Spots.{counted_line, every_hand, hand_lines}
 use Rattle.showdown_tally.specs.Cells.{cell_at, units_at}
 use Rattle.report_table.proofs.spots.write_counted.Given as goal
@@ -7,5 +8,5 @@ use Rattle.report_table.proofs.spots.write_counted.Given as goal
 abbrev pub invariant-loop-hand : goal.invariant-loop-hand
 invariant-loop-hand l =
     l.out.items
-    ≡ (l.fn.out.items ++ counted_line l.place l.known.game l.tally.runouts)
-    ++ flat_map (hand_lines l.known.game l.tally.runouts (cell_at l.tally 0) (units_at l.tally 0)) (every_hand l.hand)
+    ≡ (l.fn.out.items ++ line_in l.form (counted_line l.place l.known.game l.tally.runouts))
+    ++ flat_map (hand_lines l.form l.known.game l.tally.runouts (cell_at l.tally 0) (units_at l.tally 0)) (every_hand l.hand)

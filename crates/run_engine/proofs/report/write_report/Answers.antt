@@ -10,7 +10,7 @@ pub each-init : goal.each-init
 each-init g c = rw c.start-cursor.ensures (record {
   inside = record { within = omega arith; lines = omega arith; places = omega arith };
   few = omega arith;
-  so_far = written_start (blocks-start c.args.mode c.args.bytes.now);
+  so_far = written_start (blocks-start c.args.form c.args.mode c.args.bytes.now);
   count = zero-add _ ∙ sym (rejects-start c.args.mode c.args.bytes.now);
   fine = refl;
 })
@@ -21,12 +21,12 @@ returns-in_err-rejected-clause-memory g c m = written_blocks _ _ _ _ c.each.inva
 pub returns-in_default-clause-written : goal.returns-in_default-clause-written
 unfolding report
 returns-in_default-clause-written g c =
-    let end : IsAtEnd c.args.mode c.args.bytes.now c.each.cursor = rw c.in_default.is at c.in_ok-rejected.ensures in
+    let end : IsAtEnd c.args.form c.args.mode c.args.bytes.now c.each.cursor = rw c.in_default.is at c.in_ok-rejected.ensures in
     written_all _ _ _ _ c.each.invariant.so_far end.no_block
 
 pub each-preserved : goal.each-preserved
 each-preserved g c =
-    let goes : GoesOn c.args.mode c.args.bytes.now c.next_block.new.block.items c.in-Some.rejected c.each.cursor c.next_block.new.cursor = rw c.in-Some.is at c.in_ok-rejected.ensures in
+    let goes : GoesOn c.args.form c.args.mode c.args.bytes.now c.next_block.new.block.items c.in-Some.rejected c.each.cursor c.next_block.new.cursor = rw c.in-Some.is at c.in_ok-rejected.ensures in
     let written : WritesAll (g.K.Sink.taken c.each.sink) (g.K.Sink.taken c.write_all.new.sink) c.next_block.new.block.items = rw c.deref.ensures.value at c.in_ok-write_all.ensures.ok in
     let one : c.from-rejects.result ≡ one_if c.in-Some.rejected = c.from-rejects.ensures ∙ bool_byte-one c.in-Some.rejected in
     let small : one_if c.in-Some.rejected ≤ 1 = one_small c.in-Some.rejected in
@@ -41,6 +41,6 @@ each-preserved g c =
 pub returns-in_err-write_all-clause-front : goal.returns-in_err-write_all-clause-front
 unfolding report
 returns-in_err-write_all-clause-front g c m =
-    let goes : GoesOn c.args.mode c.args.bytes.now c.next_block.new.block.items c.in-Some.rejected c.each.cursor c.next_block.new.cursor = rw c.in-Some.is at c.in_ok-rejected.ensures in
+    let goes : GoesOn c.args.form c.args.mode c.args.bytes.now c.next_block.new.block.items c.in-Some.rejected c.each.cursor c.next_block.new.cursor = rw c.in-Some.is at c.in_ok-rejected.ensures in
     let front : WritesFront (g.K.Sink.taken c.each.sink) (g.K.Sink.taken c.write_all.new.sink) c.next_block.new.block.items = rw c.deref.ensures.value at c.in_err-write_all.ensures.front in
     written_front _ _ _ _ _ _ c.next_block.new.block.items c.each.invariant.so_far goes.block_is front

@@ -2,7 +2,7 @@ use Rattle.std.proofs.Common.{◌∷◌, ◌≡◌, ap, ◌∙◌, sym, subst, r
 use Rattle.betting_replay.specs.Events.{seat_of}
 use Rattle.betting_replay.specs.Limits.{InLimits}
 use Rattle.betting_replay.specs.Tables.{Table, StandsFor, chips_at}
-use Rattle.betting_replay.specs.Counting.{begun, after}
+use Rattle.betting_replay.specs.Counting.{begun, pointed, after}
 use Rattle.betting_replay.specs.Faults.{fault_at}
 use Rattle.betting_replay.proofs.Afford.{affords}
 use Rattle.betting_replay.proofs.Passed.{no_fault}
@@ -18,6 +18,6 @@ count-requires-clause-affords c =
 pub returns-clause-ok : goal.returns-clause-ok
 returns-clause-ok c g players h s =
     let legal : fault_at c.args.self.now c.args.e.now ≡ None = no_fault _ _ (sym c.judge.ensures ∙ c.in_ok-judge.was) in
-    let is : c.begin_with.new.self ≡ after c.args.self.now c.args.e.now = c.begin_with.ensures ∙ ap (λ t. begun t c.args.e.now) c.count.ensures in
+    let is : c.keep_point.new.self ≡ after c.args.self.now c.args.e.now = c.keep_point.ensures ∙ ap pointed (c.begin_with.ensures ∙ ap (λ t. begun t c.args.e.now) c.count.ensures) in
     let P : Table → Type 0 = λ t. StandsFor t g players (c.args.e.now ∷ h) in
     subst P (sym is) (stands_after c.args.self.now c.args.e.now g players h s (seat_below c.args.e.now c.requires.seats) legal)

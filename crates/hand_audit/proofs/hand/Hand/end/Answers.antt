@@ -1,4 +1,5 @@
 use Rattle.std.proofs.Common.{◌≡◌, true, false, arith}
+use Rattle.hand_audit.proofs.Decided.{decided}
 use Rattle.hand_audit.proofs.Kept.{unfinished, settles, splits}
 use Rattle.hand_audit.proofs.hand.Hand.end.Goals as goal
 
@@ -8,9 +9,11 @@ returns-then-not-self c g players so_far k same = let none : c.args.self.now.tot
 pub returns-in-None : goal.returns-in-None
 returns-in-None c g players so_far k same =
     let some : c.args.self.now.total ≡ true = grind arith in
-    settles c.args.self.now g players so_far c.args.game c.in_ok-settled.settled k same some c.in_ok-settled.ensures c.in-None.is
+    let decides = decided c.law_places_are_apart.ensures c.law_cards_belong.ensures c.law_whole_boards.ensures c.law_a_table_shows_each_seat.ensures c.law_a_folded_player_is_eligible_nowhere.ensures in
+    settles c.args.self.now g players so_far c.args.game c.in_ok-settled.settled k same some decides (c.requires.sound.part some) c.in_ok-settled.ensures c.in-None.is
 
 pub returns-in-Some : goal.returns-in-Some
 returns-in-Some c g players so_far k same =
     let some : c.args.self.now.total ≡ true = grind arith in
-    splits c.args.self.now g players so_far c.args.game c.in_ok-settled.settled c.in-Some.pay k same some c.in_ok-settled.ensures c.in-Some.is
+    let decides = decided c.law_places_are_apart.ensures c.law_cards_belong.ensures c.law_whole_boards.ensures c.law_a_table_shows_each_seat.ensures c.law_a_folded_player_is_eligible_nowhere.ensures in
+    splits c.args.self.now g players so_far c.args.game c.in_ok-settled.settled c.in-Some.pay k same some decides (c.requires.sound.part some) c.in_ok-settled.ensures c.in-Some.is

@@ -1,7 +1,8 @@
-use Rattle.std.proofs.Common.{◌∙◌, sym}
+use Rattle.std.proofs.Common.{◌∙◌, List, sym, subst}
 use Rattle.std.proofs.lemmas.Result.{IfOk-weaker}
 use Rattle.hand_audit.specs.Showings.{showing_at}
-use Rattle.hand_audit.specs.Settling.{IsOfHand}
+use Rattle.pot_layers.specs.declared.paid.Pot.{Pot}
+use Rattle.hand_audit.specs.Winning.{AreDecided}
 use Rattle.hand_audit.proofs.Shown.{collections_shown, pots_shown}
 use Rattle.hand_audit.proofs.hand.Hand.settle.Goals as goal
 
@@ -11,4 +12,4 @@ returns c =
     let s = showing_at c.args.game c.args.self.now.replay items c.args.self.now.button in
     let coll = collections_shown c.args.game c.args.self.now.replay items c.args.self.now.button ∙ sym c.deref-2.ensures.value in
     let all = pots_shown c.args.game c.args.self.now.replay items c.args.self.now.button ∙ sym c.in_ok-all.ensures ∙ sym c.items.ensures in
-    IfOk-weaker c.settle.result _ (λ settled. IsOfHand s settled) (λ settled made. made s (c.of-standings.ensures.tells items) coll all) c.settle.ensures
+    IfOk-weaker c.settle.result _ _ (λ settled made d. made s (c.of-standings.ensures.tells items) (subst (λ (xs : List Pot). AreDecided s xs) (sym c.in_ok-all.ensures ∙ sym c.items.ensures) d) coll all) c.settle.ensures

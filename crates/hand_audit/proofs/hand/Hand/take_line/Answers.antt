@@ -36,6 +36,6 @@ returns c =
       goes = λ players so_far k.
           goes_on _ c.args.self.now c.args.header.now players so_far c.args.line.now c.in-Ok.e _ k (sym c.read.ensures.value ∙ c.in-Ok.is)
           (sym (c.step.ensures.verdict c.args.header.now players so_far.events k.stands) ∙ c.in_default.is) (sym c.total_cause-amiss.ensures ∙ c.in_default-amiss.is)
-          c.in-Ok.ensures.fits.seats (c.in_default.ensures.ok c.args.header.now players so_far.events k.stands) c.in_ok-seat_name.ensures c.part_after-self.ensures c.in_ok-collect.ensures
+          c.in-Ok.ensures.fits c.in-Ok.ensures.cards (c.in_default.ensures.ok c.args.header.now players so_far.events k.stands) c.in_ok-seat_name.ensures c.part_after-self.ensures c.in_ok-collect.ensures
           c.button_by-self.ensures c.rake_by-self.ensures total;
     }

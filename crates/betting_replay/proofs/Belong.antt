@@ -1,0 +1,179 @@
+-- After accepted events a seat's known cards belong to it, and dead cards belong to nobody who is in the hand.
+use Rattle.std.proofs.Common.{◌≡◌, ℕ, ◌<◌, List, [], ◌∷◌, refl, sym, ◌∙◌, Bool, true, false, ◌||◌, ◌==◌, ◌⊎◌, inl, inr, arith, length}
+use Rattle.std.specs.Prelude.{Option, Some, None, if◌then◌else◌}
+use mathlib.Core.Bool.{true≢false}
+use Rattle.card_sets.specs.Cards.{has_card, union, IsCardSet}
+use Rattle.card_sets.specs.Bits.{IsCardSet-cards_where}
+use Rattle.card_sets.specs.Disjoint.{apart}
+use Rattle.history_text.specs.declared.events.Header.{Header}
+use Rattle.history_text.specs.declared.events.Event.{Event}
+use Rattle.history_text.specs.declared.events.Event.TheVariants.{Deal, Street, Act, Show, SeatCards, Discard}
+use Rattle.history_text.specs.declared.events.Street.{Street as StreetName}
+use Rattle.history_text.specs.declared.events.Street.TheVariants.{First, Flop, Turn, River}
+use Rattle.betting_replay.specs.Accepted.{IsAccepted}
+use Rattle.betting_replay.specs.Boards.{board_on, named_on, board_up_to}
+use Rattle.betting_replay.specs.CardLaws.{Among}
+use Rattle.betting_replay.specs.Dealing.{counts_on, dealt_on, dealt_then, gathered, up_by, given_by}
+use Rattle.betting_replay.specs.Events.{seat_of, cards_named}
+use Rattle.betting_replay.specs.Hands.{dealt, dealt_by, shown, shown_by}
+use Rattle.betting_replay.specs.Places.{place, is_at, owned, thrown_by, is_board}
+use Rattle.betting_replay.specs.Streets.{same_street}
+use Rattle.betting_replay.specs.Sums.{street}
+use Rattle.betting_replay.specs.Tables.{point}
+use Rattle.betting_replay.proofs.Members.{in_where, in_union, union_left, union_right, no_cards, apart_from}
+use Rattle.betting_replay.proofs.Stands.{seat_below, cards_free, own_case}
+
+-- an event that may stand gives its cards to its place, and takes none from any
+pub own_step : (g : Header) (players : ℕ) (e : Event) (h : List Event) (p : ℕ) → IsAccepted g players (e ∷ h) → owned (e ∷ h) p ≡ (if seat_of e == p then union (owned h p) (cards_named e) else owned h p)
+own_step g players e h p ok =
+    own_case e h (is_board e) (cards_free g players h (point g players h) e (seat_below e ok.0.seats) ok.1) p (seat_of e == p) refl
+
+pub own_more : (g : Header) (players : ℕ) (e : Event) (h : List Event) (p k : ℕ) → IsAccepted g players (e ∷ h) → has_card (owned h p) k ≡ true → has_card (owned (e ∷ h) p) k ≡ true
+own_more g players e h p k ok has = rw (own_step g players e h p ok) (at (seat_of e == p))
+  where
+    at : (b : Bool) → has_card (if b then union (owned h p) (cards_named e) else owned h p) k ≡ true
+    at true = union_left (owned h p) (cards_named e) k (in_where (λ card. is_at p (place h card)) k has).0 has
+    at false = has
+
+pub own_here : (g : Header) (players : ℕ) (e : Event) (h : List Event) (p k : ℕ) → IsAccepted g players (e ∷ h) → (seat_of e == p) ≡ true → k < 52 → has_card (cards_named e) k ≡ true → has_card (owned (e ∷ h) p) k ≡ true
+own_here g players e h p k ok here l has = rw (own_step g players e h p ok, here) (union_right (owned h p) (cards_named e) k l has)
+
+-- a card has one place
+pub one_place : (h : List Event) (p q k : ℕ) → has_card (owned h p) k ≡ true → has_card (owned h q) k ≡ true → p ≡ q
+one_place h p q k a b = same (place h k) (in_where (λ card. is_at p (place h card)) k a).1 (in_where (λ card. is_at q (place h card)) k b).1
+  where
+    same : (o : Option ℕ) → is_at p o ≡ true → is_at q o ≡ true → p ≡ q
+    same None x y = absurd (true≢false (sym x))
+    same (Some s) x y = (let a : s ≡ p = grind arith in let b : s ≡ q = grind arith in sym a ∙ b)
+
+pub places_apart : (h : List Event) (p q : ℕ) → (p == q) ≡ false → apart (owned h p) (owned h q) ≡ true
+places_apart h p q other = apart_from (owned h p) (owned h q) (λ k x y. let same : p ≡ q = one_place h p q k x y in let yes : (p == q) ≡ true = grind arith in true≢false (sym yes ∙ other))
+
+-- a card that is gathered from the events of a place came with one before, or with this one
+abbrev pub Comes : (List Event → List ℕ) → ℕ → Type 0
+Comes all p = (e : Event) (h : List Event) (k : ℕ) → has_card (all (e ∷ h)) k ≡ true → (has_card (all h) k ≡ true) ⊎ (((seat_of e == p) ≡ true) × (k < 52) × (has_card (cards_named e) k ≡ true))
+
+pub gather : (all : List Event → List ℕ) (p : ℕ) → ((k : ℕ) → has_card (all []) k ≡ true → ⊥) → Comes all p
+    → (g : Header) (players : ℕ) (h : List Event) (k : ℕ) → IsAccepted g players h → has_card (all h) k ≡ true → has_card (owned h p) k ≡ true
+gather all p none comes g players [] k ok has = absurd (none k has)
+gather all p none comes g players (e ∷ h) k ok has = elim (comes e h k has) [
+  | inl before ↦ own_more g players e h p k ok (gather all p none comes g players h k ok.2 before)
+  | inr now ↦ own_here g players e h p k ok now.0 now.1 now.2
+]
+
+-- where each event about a seat adds some of the cards that it names
+pub comes_by : (old by : List ℕ) (e : Event) (p k : ℕ) (b : Bool) → (seat_of e == p) ≡ b → (has_card by k ≡ true → has_card (cards_named e) k ≡ true) → has_card (if b then union old by else old) k ≡ true
+    → (has_card old k ≡ true) ⊎ (((seat_of e == p) ≡ true) × (k < 52) × (has_card (cards_named e) k ≡ true))
+comes_by old by e p k true is part has = (let w = in_union old by k has in elim w.1 [
+  | inl before ↦ inl before
+  | inr now ↦ inr (is, w.0, part now)
+])
+comes_by old by e p k false is part has = inl has
+
+pub no_card : (k : ℕ) → has_card [] k ≡ true → ⊥
+no_card k h = true≢false (sym h)
+
+-- what is dealt, given up, shown or gives a board its cards is named
+dealt_named : (e : Event) (k : ℕ) → has_card (dealt_by e) k ≡ true → has_card (cards_named e) k ≡ true
+dealt_named (Deal seat cards drawn) k h = h
+dealt_named _ k h = absurd (no_card k h)
+
+pub shown_named : (e : Event) (k : ℕ) → has_card (shown_by e) k ≡ true → has_card (cards_named e) k ≡ true
+shown_named (Act seat act all_in shown) k h = h
+shown_named (Show seat cards) k h = h
+shown_named (SeatCards seat cards) k h = h
+shown_named _ k h = absurd (no_card k h)
+
+pub thrown_named : (e : Event) (k : ℕ) → has_card (thrown_by e) k ≡ true → has_card (cards_named e) k ≡ true
+thrown_named (Discard seat count cards) k h = h
+thrown_named _ k h = absurd (no_card k h)
+
+given_named : (e : Event) (k : ℕ) → has_card (given_by e) k ≡ true → has_card (cards_named e) k ≡ true
+given_named (Deal seat cards true) k h = absurd (no_card k h)
+given_named (Deal seat cards false) k h = h
+given_named _ k h = absurd (no_card k h)
+
+on_named : (s : StreetName) (now : Option StreetName) (e : Event) (k : ℕ) → has_card (dealt_on s now e) k ≡ true → has_card (cards_named e) k ≡ true
+on_named s now e k h = one (counts_on s now) h
+  where
+    one : (b : Bool) → has_card (if b then dealt_by e else []) k ≡ true → has_card (cards_named e) k ≡ true
+    one true h = dealt_named e k h
+    one false h = absurd (no_card k h)
+
+up_named : (e : Event) (k : ℕ) → has_card (up_by e) k ≡ true → has_card (cards_named e) k ≡ true
+up_named e k h = one (length (dealt_by e) == 1) h
+  where
+    one : (b : Bool) → has_card (if b then dealt_by e else []) k ≡ true → has_card (cards_named e) k ≡ true
+    one true h = dealt_named e k h
+    one false h = absurd (no_card k h)
+
+-- a set that grows by unions is a set
+set_by : (old by : List ℕ) (b : Bool) → IsCardSet old → IsCardSet (if b then union old by else old)
+set_by old by true set = IsCardSet-cards_where (λ k. has_card old k || has_card by k)
+set_by old by false set = set
+
+dealt_set : (h : List Event) (p : ℕ) → IsCardSet (dealt h p)
+dealt_set [] p = no_cards
+dealt_set (e ∷ h) p = set_by (dealt h p) (dealt_by e) (seat_of e == p) (dealt_set h p)
+
+then_set : (g : Header) (s : StreetName) (h : List Event) (p : ℕ) → IsCardSet (dealt_then g s h p)
+then_set g s [] p = no_cards
+then_set g s (e ∷ h) p = set_by (dealt_then g s h p) (dealt_on s (street g h) e) (seat_of e == p) (then_set g s h p)
+
+gathered_set : (by : Event → List ℕ) (h : List Event) (p : ℕ) → IsCardSet (gathered by h p)
+gathered_set by [] p = no_cards
+gathered_set by (e ∷ h) p = set_by (gathered by h p) (by e) (seat_of e == p) (gathered_set by h p)
+
+board_set : (s : StreetName) (h : List Event) → IsCardSet (board_on s h)
+board_set s [] = no_cards
+board_set s (e ∷ h) = set_by (board_on s h) (named_on s e) true (board_set s h)
+
+-- what was dealt to a seat belongs to it
+pub dealt_among : (g : Header) (players : ℕ) (h : List Event) (p : ℕ) → IsAccepted g players h → Among (dealt h p) (owned h p)
+dealt_among g players h p ok = record {
+  set = dealt_set h p;
+  each = (λ k has. gather (λ h. dealt h p) p no_card (λ e h k has. comes_by (dealt h p) (dealt_by e) e p k (seat_of e == p) refl (dealt_named e k) has) g players h k ok has);
+}
+
+pub then_among : (g : Header) (players : ℕ) (s : StreetName) (h : List Event) (p : ℕ) → IsAccepted g players h → Among (dealt_then g s h p) (owned h p)
+then_among g players s h p ok = record {
+  set = then_set g s h p;
+  each = (λ k has. gather (λ h. dealt_then g s h p) p no_card (λ e h k has. comes_by (dealt_then g s h p) (dealt_on s (street g h) e) e p k (seat_of e == p) refl (on_named s (street g h) e k) has) g players h k ok has);
+}
+
+pub given_among : (g : Header) (players : ℕ) (h : List Event) (p : ℕ) → IsAccepted g players h → Among (gathered given_by h p) (owned h p)
+given_among g players h p ok = record {
+  set = gathered_set given_by h p;
+  each = (λ k has. gather (λ h. gathered given_by h p) p no_card (λ e h k has. comes_by (gathered given_by h p) (given_by e) e p k (seat_of e == p) refl (given_named e k) has) g players h k ok has);
+}
+
+-- and what came to the board on a street belongs to the board
+board_comes : (s : StreetName) → Comes (board_on s) 0
+board_comes s (Street marker cards) h k has = (let w = in_union (board_on s h) (named_on s (Street marker cards)) k has in elim w.1 [
+  | inl before ↦ inl before
+  | inr now ↦ inr (refl, w.0, one (same_street marker (Some s)) now)
+])
+  where
+    one : (b : Bool) → has_card (if b then cards else []) k ≡ true → has_card cards k ≡ true
+    one true h = h
+    one false h = absurd (no_card k h)
+board_comes s e h k has = (let w = in_union (board_on s h) (named_on s e) k has in elim w.1 [
+  | inl before ↦ inl before
+  | inr now ↦ absurd (no_card k now)
+])
+
+pub board_among : (g : Header) (players : ℕ) (s : StreetName) (h : List Event) → IsAccepted g players h → Among (board_on s h) (owned h 0)
+board_among g players s h ok = record { set = board_set s h; each = (λ k has. gather (board_on s) 0 no_card (board_comes s) g players h k ok has) }
+
+-- two parts of a set together
+pub union_among : (a b own : List ℕ) → Among a own → Among b own → Among (union a b) own
+union_among a b own x y = record {
+  set = IsCardSet-cards_where (λ k. has_card a k || has_card b k);
+  each = (λ k has. elim (in_union a b k has).1 [ inl l ↦ x.each k l | inr r ↦ y.each k r ]);
+}
+
+pub up_to_among : (g : Header) (players : ℕ) (s : StreetName) (h : List Event) → IsAccepted g players h → Among (board_up_to h s) (owned h 0)
+up_to_among g players First h ok = record { set = no_cards; each = (λ k has. absurd (no_card k has)) }
+up_to_among g players Flop h ok = board_among g players Flop h ok
+up_to_among g players Turn h ok = union_among _ _ _ (board_among g players Flop h ok) (board_among g players Turn h ok)
+up_to_among g players _ h ok = union_among _ _ _ (union_among _ _ _ (board_among g players Flop h ok) (board_among g players Turn h ok)) (board_among g players River h ok)

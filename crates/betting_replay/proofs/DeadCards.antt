@@ -1,0 +1,267 @@
+-- After accepted events: cards that were thrown away, and those of players who had folded, are nobody's who is in the hand.
+use Rattle.std.proofs.Common.{◌≡◌, ℕ, zero, suc, ◌<◌, ◌≤◌, List, [], ◌∷◌, refl, sym, ap, ◌∙◌, Bool, true, false, not, ◌||◌, ◌&&◌, ◌==◌, ◌⊎◌, inl, inr, arith}
+use Rattle.std.specs.Prelude.{Option, Some, None, if◌then◌else◌, nat_lt, nat_le}
+use mathlib.Core.Bool.{true≢false}
+use Rattle.card_sets.specs.Cards.{has_card, with_card, union, minus, IsCardSet}
+use Rattle.card_sets.specs.Bits.{IsCardSet-cards_where}
+use Rattle.card_sets.specs.Disjoint.{apart}
+use Rattle.card_sets.specs.declared.games.Game.{Game}
+use Rattle.card_sets.specs.declared.games.Game.TheVariants.{Holdem, Omaha8, Stud, Razz, Lowball27}
+use Rattle.history_text.specs.declared.events.Header.{Header}
+use Rattle.history_text.specs.declared.events.Event.{Event}
+use Rattle.history_text.specs.declared.events.Event.TheVariants.{Street, Discard, Pat}
+use Rattle.history_text.specs.declared.events.Street.{Street as StreetName}
+use Rattle.history_text.specs.declared.events.Street.TheVariants.{First, Flop, Turn, Fourth, Fifth, Sixth, Draw}
+use Rattle.betting_replay.specs.declared.points.Point.{Point}
+use Rattle.betting_replay.specs.Accepted.{IsAccepted}
+use Rattle.betting_replay.specs.AllIn.{had_folded, cards_of_seats, dead_by}
+use Rattle.betting_replay.specs.Dealing.{gathered, given_by, draws_of}
+use Rattle.card_sets.specs.Games.{own_size}
+use Rattle.betting_replay.specs.Events.{seat_of, cards_named, SeatFits}
+use Rattle.betting_replay.specs.Turns.{contender_count}
+use Rattle.betting_replay.specs.Faults.{street_order, marker_stands, draw_stands, is_draw}
+use Rattle.betting_replay.specs.Hands.{dealt, shown, shown_by, shown_after, whole, is_discard, if_many}
+use Rattle.betting_replay.specs.Known.{holding_of, final_drawn, draws_openly, kept, known_drawn, known_by}
+use Rattle.betting_replay.specs.Places.{owned, named, thrown, thrown_by, is_board, is_free, first_twice}
+use Rattle.betting_replay.specs.Seats.{has_seat, or_else}
+use Rattle.betting_replay.specs.Streets.{begun_by_drawing, next_street, next_in_board, next_in_stud, same_street}
+use Rattle.betting_replay.specs.Sums.{street}
+use Rattle.betting_replay.specs.Tables.{table_of, point, dead}
+use Rattle.betting_replay.proofs.Afford.{not_not}
+use Rattle.betting_replay.proofs.Passed.{passed, not_failed}
+use Rattle.betting_replay.proofs.Stands.{seat_below, cards_free}
+use Rattle.betting_replay.proofs.Members.{in_union, in_minus, no_cards, either, or_right, both, not_both, where_in}
+use Rattle.betting_replay.proofs.Belong.{own_step, own_more, own_here, one_place, thrown_named, shown_named, no_card}
+use Rattle.betting_replay.proofs.KnownCards.{if_many_is, shown_holds}
+
+-- no card of a bracket with no fault stood before it
+all_new : (free : ℕ → Bool) (cards before : List ℕ) (k : ℕ) → first_twice free before cards ≡ None → k < 52 → has_card cards k ≡ true → has_card before k ≡ true → ⊥
+all_new free [] before k none l has old = no_card k has
+all_new free (card ∷ cards) before k none l has old =
+    one (has_card before card) (free card) refl refl none (either (card == k) (has_card cards k) has) (λ rest more. all_new free cards (with_card before card) k rest l more (where_in (λ j. (j == card) || has_card before j) k l (or_right (k == card) (has_card before k) old)))
+  where
+    one : (b f : Bool) → has_card before card ≡ b → free card ≡ f → (if b || not f then Some card else first_twice free (with_card before card) cards) ≡ None → ((card == k) ≡ true) ⊎ (has_card cards k ≡ true)
+        → (first_twice free (with_card before card) cards ≡ None → has_card cards k ≡ true → ⊥) → ⊥
+    one true f eb ef none w go = cc
+    one false false eb ef none w go = cc
+    one false true eb ef none (inl here) go = (let same : card ≡ k = grind arith in true≢false (sym old ∙ ap (has_card before) (sym same) ∙ eb))
+    one false true eb ef none (inr rest) go = go none rest
+
+-- a card that an event names wasn't thrown away before
+pub named_new : (g : Header) (players : ℕ) (e : Event) (h : List Event) (k : ℕ) → IsAccepted g players (e ∷ h) → k < 52 → has_card (cards_named e) k ≡ true → has_card (thrown h) k ≡ true → ⊥
+named_new g players e h k ok l has old = all_new (is_free (named h) (owned h (seat_of e)) (is_board e)) (cards_named e) (thrown h) k (cards_free g players h (point g players h) e (seat_below e ok.0.seats) ok.1) l has old
+
+only_discards : (e : Event) (k : ℕ) → is_discard e ≡ false → has_card (thrown_by e) k ≡ true → ⊥
+only_discards (Discard seat count cards) k other h = cc
+only_discards _ k other h = no_card k h
+
+-- what an event throws away belongs to its seat
+thrown_seat : (e : Event) (k : ℕ) → SeatFits e → has_card (thrown_by e) k ≡ true → 1 ≤ seat_of e
+thrown_seat (Discard seat count cards) k fits h = fits.0
+thrown_seat _ k fits h = absurd (no_card k h)
+
+thrown_own : (g : Header) (players : ℕ) (e : Event) (h : List Event) (k : ℕ) → IsAccepted g players (e ∷ h) → k < 52 → has_card (thrown_by e) k ≡ true → has_card (owned (e ∷ h) (seat_of e)) k ≡ true
+thrown_own g players e h k ok l has = (let here : (seat_of e == seat_of e) ≡ true = grind arith in own_here g players e h (seat_of e) k ok here l (thrown_named e k has))
+
+-- so no card of the board is
+pub thrown_not_board : (g : Header) (players : ℕ) (h : List Event) (k : ℕ) → IsAccepted g players h → has_card (thrown h) k ≡ true → has_card (owned h 0) k ≡ true → ⊥
+thrown_not_board g players [] k ok has own = no_card k has
+thrown_not_board g players (e ∷ h) k ok has own =
+    (let w = in_union (thrown h) (thrown_by e) k has in elim w.1 [
+      | inl old ↦ before (thrown_not_board g players h k ok.2 old) w.0 old (seat_of e == 0) (ap (λ xs. has_card xs k) (sym (own_step g players e h 0 ok)) ∙ own)
+      | inr now ↦ (let same : seat_of e ≡ 0 = one_place (e ∷ h) (seat_of e) 0 k (thrown_own g players e h k ok w.0 now) own in let seat : 1 ≤ seat_of e = thrown_seat e k ok.0.seats now in absurd (omega arith))
+    ])
+  where
+    before : (has_card (owned h 0) k ≡ true → ⊥) → k < 52 → has_card (thrown h) k ≡ true → (b : Bool) → has_card (if b then union (owned h 0) (cards_named e) else owned h 0) k ≡ true → ⊥
+    before ih l old true own = elim (in_union (owned h 0) (cards_named e) k own).1 [
+      | inl there ↦ ih there
+      | inr named ↦ named_new g players e h k ok l named old
+    ]
+    before ih l old false own = ih own
+
+-- no whole hand that a seat showed has a card that anybody threw away: a discard of its own ends what it showed
+pub shown_not_thrown : (g : Header) (players : ℕ) (h : List Event) (p : ℕ) (cards : List ℕ) (k : ℕ) → IsAccepted g players h → shown g h p ≡ Some cards → has_card cards k ≡ true → has_card (thrown h) k ≡ true → ⊥
+shown_not_thrown g players [] p cards k ok is has gone = no_card k gone
+shown_not_thrown g players (e ∷ h) p cards k ok is has gone =
+    (let w = in_union (thrown h) (thrown_by e) k gone in at w.0 w.1 (λ before old. shown_not_thrown g players h p cards k ok.2 before has old) (seat_of e == p) refl is)
+  where
+    new_hand : k < 52 → (xs : List ℕ) → whole g.game (shown_by e) ≡ Some xs → xs ≡ cards → has_card (thrown h) k ≡ true → ⊥
+    new_hand l xs w same old =
+        let set : union [] (shown_by e) ≡ xs = (if_many_is (own_size g.game) (union [] (shown_by e)) xs w).0 in
+        let there : has_card (union [] (shown_by e)) k ≡ true = ap (λ ys. has_card ys k) (set ∙ same) ∙ has in
+        elim (in_union [] (shown_by e) k there).1 [
+          | inl none ↦ no_card k none
+          | inr now ↦ named_new g players e h k ok l (shown_named e k now) old
+        ]
+
+    last : k < 52 → (shown g h p ≡ Some cards → has_card (thrown h) k ≡ true → ⊥) → has_card (thrown h) k ≡ true → (o : Option (List ℕ)) → whole g.game (shown_by e) ≡ o → or_else o (shown g h p) ≡ Some cards → ⊥
+    last l ih old None w is = ih is old
+    last l ih old (Some xs) w is = new_hand l xs w (let same : xs ≡ cards = cc in same) old
+
+    kept_by : k < 52 → ((has_card (thrown h) k ≡ true) ⊎ (has_card (thrown_by e) k ≡ true)) → (shown g h p ≡ Some cards → has_card (thrown h) k ≡ true → ⊥) → (b : Bool) → is_discard e ≡ b
+        → (if b then None else or_else (whole g.game (shown_by e)) (shown g h p)) ≡ Some cards → ⊥
+    kept_by l w ih true d is = cc
+    kept_by l (inl old) ih false d is = last l ih old (whole g.game (shown_by e)) refl is
+    kept_by l (inr now) ih false d is = only_discards e k d now
+
+    at : k < 52 → ((has_card (thrown h) k ≡ true) ⊎ (has_card (thrown_by e) k ≡ true)) → (shown g h p ≡ Some cards → has_card (thrown h) k ≡ true → ⊥) → (b : Bool) → (seat_of e == p) ≡ b
+        → (if b then shown_after g.game e (shown g h p) else shown g h p) ≡ Some cards → ⊥
+    at l w ih true here is = kept_by l w ih (is_discard e) refl is
+    at l (inl old) ih false here is = ih is old
+    at l (inr now) ih false here is =
+        let mine : has_card (owned (e ∷ h) p) k ≡ true = own_more g players e h p k ok ((shown_holds g players h p cards ok.2 is).among.each k has) in
+        let same : seat_of e ≡ p = one_place (e ∷ h) (seat_of e) p k (thrown_own g players e h k ok l now) mine in
+        let yes : (seat_of e == p) ≡ true = grind arith in
+        true≢false (sym yes ∙ here)
+
+-- a game has a draw
+abbrev pub has_draw : Game → Bool
+has_draw Holdem = false
+has_draw Omaha8 = false
+has_draw Stud = false
+has_draw Razz = false
+has_draw Lowball27 = true
+
+pub none_begun : (game : Game) (o : Option StreetName) → has_draw game ≡ false → begun_by_drawing game o ≡ None
+none_begun Holdem o no_draw = refl
+none_begun Omaha8 o no_draw = refl
+none_begun Stud o no_draw = refl
+none_begun Razz o no_draw = refl
+none_begun Lowball27 o no_draw = cc
+
+not_in_board : (s : StreetName) → same_street Draw (next_in_board s) ≡ false
+not_in_board First = refl
+not_in_board Flop = refl
+not_in_board Turn = refl
+not_in_board _ = refl
+
+not_in_stud : (s : StreetName) → same_street Draw (next_in_stud s) ≡ false
+not_in_stud First = refl
+not_in_stud Fourth = refl
+not_in_stud Fifth = refl
+not_in_stud Sixth = refl
+not_in_stud _ = refl
+
+never_next : (game : Game) (o : Option StreetName) → has_draw game ≡ false → same_street Draw (next_street game o) ≡ false
+never_next game None no_draw = refl
+never_next Holdem (Some s) no_draw = not_in_board s
+never_next Omaha8 (Some s) no_draw = not_in_board s
+never_next Stud (Some s) no_draw = not_in_stud s
+never_next Razz (Some s) no_draw = not_in_stud s
+never_next Lowball27 (Some s) no_draw = cc
+
+-- the test of streets that an event passes
+pub order_of : (g : Header) (players : ℕ) (e : Event) (h : List Event) → IsAccepted g players (e ∷ h) → street_order (table_of g players h) e ≡ None
+order_of g players e h ok = (passed (table_of g players h) e ok.1).order
+
+pub marker_of : (g : Header) (players : ℕ) (s : StreetName) (cards : List ℕ) (h : List Event) → IsAccepted g players (Street s cards ∷ h) → marker_stands (table_of g players h) s ≡ true
+unfolding street_order
+marker_of g players s cards h ok = not_not _ (not_failed _ _ (order_of g players (Street s cards) h ok))
+
+-- a game with no draw never comes to one, and nothing is thrown away in it
+not_drawing : (g : Header) (players : ℕ) (h : List Event) → IsAccepted g players h → has_draw g.game ≡ false → is_draw (street g h) ≡ false
+not_drawing g players [] ok no_draw = refl
+not_drawing g players (Street Draw cards ∷ h) ok no_draw =
+    (let s = both (same_street Draw (next_street g.game (street g h))) (nat_le 2 (contender_count (table_of g players h))) (marker_of g players Draw cards h ok) in absurd (true≢false (sym s.0 ∙ never_next g.game (street g h) no_draw)))
+not_drawing g players (Street s cards ∷ h) ok no_draw = refl
+not_drawing g players (Discard seat count cards ∷ h) ok no_draw = rw (none_begun g.game (street g h) no_draw) (not_drawing g players h ok.2 no_draw)
+not_drawing g players (Pat seat ∷ h) ok no_draw = rw (none_begun g.game (street g h) no_draw) (not_drawing g players h ok.2 no_draw)
+not_drawing g players (e ∷ h) ok no_draw = not_drawing g players h ok.2 no_draw
+
+not_now : (g : Header) (players : ℕ) (e : Event) (h : List Event) (k : ℕ) → IsAccepted g players (e ∷ h) → has_draw g.game ≡ false → has_card (thrown_by e) k ≡ true → ⊥
+unfolding street_order
+not_now g players (Discard seat count cards) h k ok no_draw now =
+    let stands : draw_stands (table_of g players h) ≡ true = not_not _ (not_failed _ _ (order_of g players (Discard seat count cards) h ok)) in
+    let off : is_draw (street g h) ≡ false = not_drawing g players h ok.2 no_draw in
+    let none : begun_by_drawing g.game (street g h) ≡ None = none_begun g.game (street g h) no_draw in
+    let never : draw_stands (table_of g players h) ≡ false = rw (off, none) refl in
+    true≢false (sym stands ∙ never)
+not_now g players _ h k ok no_draw now = no_card k now
+
+pub nothing_thrown : (g : Header) (players : ℕ) (h : List Event) (k : ℕ) → IsAccepted g players h → has_draw g.game ≡ false → has_card (thrown h) k ≡ true → ⊥
+nothing_thrown g players [] k ok no_draw has = no_card k has
+nothing_thrown g players (e ∷ h) k ok no_draw has = elim (in_union (thrown h) (thrown_by e) k has).1 [
+  | inl old ↦ nothing_thrown g players h k ok.2 no_draw old
+  | inr now ↦ not_now g players e h k ok no_draw now
+]
+
+-- a card of some seats that pass a test is of one of them
+of_some : (test : ℕ → Bool) (own : ℕ → List ℕ) (n k : ℕ) → has_card (cards_of_seats test own n) k ≡ true → (q : ℕ) × (test q ≡ true) × (has_card (own q) k ≡ true)
+of_some test own zero k has = absurd (no_card k has)
+of_some test own (suc n) k has = one (test n) refl has (of_some test own n k)
+  where
+    one : (b : Bool) → test n ≡ b → has_card (if b then union (cards_of_seats test own n) (own n) else cards_of_seats test own n) k ≡ true → (has_card (cards_of_seats test own n) k ≡ true → (q : ℕ) × (test q ≡ true) × (has_card (own q) k ≡ true)) → (q : ℕ) × (test q ≡ true) × (has_card (own q) k ≡ true)
+    one true is has go = elim (in_union (cards_of_seats test own n) (own n) k has).1 [
+      | inl below ↦ go below
+      | inr here ↦ (n, is, here)
+    ]
+    one false is has go = go has
+
+-- no known card was thrown away
+drawn_not_thrown : (g : Header) (players : ℕ) (h : List Event) (p : ℕ) (cards : List ℕ) (k : ℕ) → IsAccepted g players h → final_drawn (holding_of g h p) ≡ Some cards → has_card cards k ≡ true → has_card (thrown h) k ≡ true → ⊥
+drawn_not_thrown g players h p cards k ok is has gone = one (shown g h p) refl (draws_of h p).hidden is
+  where
+    one : (o : Option (List ℕ)) → shown g h p ≡ o → (b : Bool) → or_else o (if b then None else if_many 5 (minus (dealt h p) (thrown h))) ≡ Some cards → ⊥
+    one (Some xs) s b is = shown_not_thrown g players h p cards k ok (s ∙ is) has gone
+    one None s true is = cc
+    one None s false is =
+        let same : minus (dealt h p) (thrown h) ≡ cards = (if_many_is 5 (minus (dealt h p) (thrown h)) cards is).0 in
+        (in_minus (dealt h p) (thrown h) k (ap (λ xs. has_card xs k) same ∙ has)).2 gone
+
+kept_not_thrown : (g : Header) (players : ℕ) (h : List Event) (p : ℕ) (cards : List ℕ) (k : ℕ) → IsAccepted g players h → kept (holding_of g h p) ≡ Some cards → has_card cards k ≡ true → has_card (thrown h) k ≡ true → ⊥
+kept_not_thrown g players h p cards k ok is has gone = one (draws_openly (holding_of g h p)) ((draws_of h p).pat && apart (owned h p) (thrown h)) (draws_of h p).five is
+  where
+    one : (a b c : Bool) → (if a then Some (minus (gathered given_by h p) (thrown h)) else (if b then final_drawn (holding_of g h p) else (if c then Some [] else None))) ≡ Some cards → ⊥
+    one true b c is =
+        let same : minus (gathered given_by h p) (thrown h) ≡ cards = cc in
+        (in_minus (gathered given_by h p) (thrown h) k (ap (λ xs. has_card xs k) same ∙ has)).2 gone
+    one false true c is = drawn_not_thrown g players h p cards k ok is has gone
+    one false false true is = (let same : [] ≡ cards = cc in no_card k (ap (λ xs. has_card xs k) same ∙ has))
+    one false false false is = cc
+
+known_drawn_not_thrown : (g : Header) (players : ℕ) (h : List Event) (p : ℕ) (s : StreetName) (cards : List ℕ) (k : ℕ) → IsAccepted g players h → known_drawn (holding_of g h p) s ≡ Some cards → has_card cards k ≡ true → has_card (thrown h) k ≡ true → ⊥
+known_drawn_not_thrown g players h p First cards k ok is has gone = kept_not_thrown g players h p cards k ok is has gone
+known_drawn_not_thrown g players h p _ cards k ok is has gone = drawn_not_thrown g players h p cards k ok is has gone
+
+pub known_not_thrown : (g : Header) (players : ℕ) (h : List Event) (p : ℕ) (s : StreetName) (cards : List ℕ) (k : ℕ) (game : Game) → g.game ≡ game → IsAccepted g players h → known_by game (holding_of g h p) s ≡ Some cards
+    → has_card cards k ≡ true → has_card (thrown h) k ≡ true → ⊥
+known_not_thrown g players h p s cards k Lowball27 game ok is has gone = known_drawn_not_thrown g players h p s cards k ok is has gone
+known_not_thrown g players h p s cards k Holdem game ok is has gone = nothing_thrown g players h k ok (ap has_draw game) gone
+known_not_thrown g players h p s cards k Omaha8 game ok is has gone = nothing_thrown g players h k ok (ap has_draw game) gone
+known_not_thrown g players h p s cards k Stud game ok is has gone = nothing_thrown g players h k ok (ap has_draw game) gone
+known_not_thrown g players h p s cards k Razz game ok is has gone = nothing_thrown g players h k ok (ap has_draw game) gone
+
+-- a dead card was thrown away, or is of a player who had folded
+in_dead : (players : ℕ) (h : List Event) (o : Option Point) (k : ℕ) → has_card (dead_by players o (owned h) (thrown h)) k ≡ true
+    → (has_card (thrown h) k ≡ true) ⊎ ((found : Point) × (o ≡ Some found) × ((q : ℕ) × (had_folded players found q ≡ true) × (has_card (owned h q) k ≡ true)))
+in_dead players h None k has = absurd (no_card k has)
+in_dead players h (Some found) k has = elim (in_union (thrown h) (cards_of_seats (had_folded players found) (owned h) 11) k has).1 [
+  | inl gone ↦ inl gone
+  | inr folded ↦ inr (found, refl, of_some (had_folded players found) (owned h) 11 k folded)
+]
+
+pub dead_is_set : (players : ℕ) (h : List Event) (o : Option Point) → IsCardSet (dead_by players o (owned h) (thrown h))
+dead_is_set players h None = no_cards
+dead_is_set players h (Some found) = IsCardSet-cards_where (λ k. has_card (thrown h) k || has_card (cards_of_seats (had_folded players found) (owned h) 11) k)
+
+pub dead_not_board : (g : Header) (players : ℕ) (h : List Event) (k : ℕ) → IsAccepted g players h → has_card (dead g players h) k ≡ true → has_card (owned h 0) k ≡ true → ⊥
+dead_not_board g players h k ok has own = elim (in_dead players h (point g players h) k has) [
+  | inl gone ↦ thrown_not_board g players h k ok gone own
+  | inr f ↦ (let seat : nat_lt 0 f.2.0 ≡ true = (both _ _ (both _ _ f.2.1).0).0 in let same : f.2.0 ≡ 0 = one_place h f.2.0 0 k f.2.2 own in no_seat f.2.0 seat same)
+]
+  where
+    no_seat : (q : ℕ) → nat_lt 0 q ≡ true → q ≡ 0 → ⊥
+    no_seat q seat same = true≢false (sym seat ∙ ap (nat_lt 0) same)
+
+pub dead_not_known : (g : Header) (players : ℕ) (h : List Event) (found : Point) (p : ℕ) (s : StreetName) (cards : List ℕ) (k : ℕ) → IsAccepted g players h → point g players h ≡ Some found → has_seat found.contenders p ≡ true
+    → known_by g.game (holding_of g h p) s ≡ Some cards → ((j : ℕ) → has_card cards j ≡ true → has_card (owned h p) j ≡ true) → has_card (dead g players h) k ≡ true → has_card cards k ≡ true → ⊥
+dead_not_known g players h found p s cards k ok at is_in known own has mine = elim (in_dead players h (point g players h) k has) [
+  | inl gone ↦ known_not_thrown g players h p s cards k g.game refl ok known mine gone
+  | inr f ↦
+      (let out : not (has_seat f.0.contenders f.2.0) ≡ true = (both (nat_lt 0 f.2.0 && has_seat players f.2.0) (not (has_seat f.0.contenders f.2.0)) f.2.1).1 in
+      let same : f.2.0 ≡ p = one_place h f.2.0 p k f.2.2 (own k mine) in
+      let one : Some f.0 ≡ Some found = sym f.1 ∙ at in
+      let pt : f.0 ≡ found = cc in
+      let here : has_seat f.0.contenders f.2.0 ≡ true = ap (λ (q : ℕ). has_seat f.0.contenders q) same ∙ ap (λ (x : Point). has_seat x.contenders p) pt ∙ is_in in
+      not_both _ out here)
+]

@@ -1,0 +1,95 @@
+-- After accepted events whose markers have their cards, a board has the cards of its streets.
+use Rattle.std.proofs.Common.{◌≡◌, ℕ, ◌+◌, ◌<◌, ◌≤◌, List, [], ◌∷◌, refl, sym, ap, ◌∙◌, Bool, true, false, not, ◌||◌, ◌==◌, ◌⊎◌, inl, inr, arith, length, add-zero}
+use Rattle.std.specs.Prelude.{Option, Some, None, if◌then◌else◌, is_some}
+use mathlib.Core.Bool.{true≢false}
+use Rattle.card_sets.specs.Cards.{has_card, with_card, union, IsCardSet}
+use Rattle.card_sets.specs.Bits.{IsCardSet-cards_where}
+use Rattle.history_text.specs.declared.events.Header.{Header}
+use Rattle.history_text.specs.declared.events.Event.{Event}
+use Rattle.history_text.specs.declared.events.Event.TheVariants.{Deal, Street, Act, Show, SeatCards, Discard}
+use Rattle.history_text.specs.declared.events.Street.{Street as StreetName}
+use Rattle.betting_replay.specs.Accepted.{IsAccepted}
+use Rattle.betting_replay.specs.Boards.{board_on, named_on}
+use Rattle.betting_replay.specs.CardLaws.{Among}
+use Rattle.betting_replay.specs.Events.{seat_of, cards_named, SeatFits}
+use Rattle.betting_replay.specs.Places.{place, is_at, owned, named, thrown, is_board, is_free, first_twice}
+use Rattle.betting_replay.specs.Tables.{point}
+use Rattle.betting_replay.proofs.CardSets.{union-nil, union-front}
+use Rattle.betting_replay.proofs.Members.{in_where, where_in, either, or_left, or_right, length-with_card}
+use Rattle.betting_replay.proofs.Stands.{cards_free, seat_below}
+use Rattle.betting_replay.proofs.Belong.{own_step, board_among}
+
+-- a set of named cards grows by each card of a marker
+grown : (all own cards before s : List ℕ) → first_twice (is_free all own true) before cards ≡ None → ((k : ℕ) → has_card cards k ≡ true → k < 52) → IsCardSet s → ((k : ℕ) → k < 52 → has_card s k ≡ true → (has_card all k ≡ true) ⊎ (has_card before k ≡ true))
+    → length (union s cards) ≡ length s + length cards
+grown all own [] before s none deck set old = ap length (union-nil s set) ∙ sym (add-zero (length s))
+grown all own (c ∷ cards) before s none deck set old =
+    one (has_card before c) (is_free all own true c) refl refl none (λ rest.
+    grown all own cards (with_card before c) (with_card s c) rest (λ k h. deck k (or_right (c == k) (has_card cards k) h)) (IsCardSet-cards_where (λ k. (k == c) || has_card s k)) (λ k l h. later k l (either (k == c) (has_card s k) (in_where (λ j. (j == c) || has_card s j) k h).1)))
+  where
+    of_deck : c < 52
+    of_deck = deck c (or_left (c == c) (has_card cards c) (let here : (c == c) ≡ true = grind arith in here))
+
+    later : (k : ℕ) → k < 52 → ((k == c) ≡ true) ⊎ (has_card s k ≡ true) → (has_card all k ≡ true) ⊎ (has_card (with_card before c) k ≡ true)
+    later k l (inl here) = inr (where_in (λ j. (j == c) || has_card before j) k l (or_left (k == c) (has_card before k) here))
+    later k l (inr mine) = elim (old k l mine) [
+      | inl a ↦ inl a
+      | inr b ↦ inr (where_in (λ j. (j == c) || has_card before j) k l (or_right (k == c) (has_card before k) b))
+    ]
+
+    out : (b : Bool) → has_card s c ≡ b → has_card before c ≡ false → is_free all own true c ≡ true → has_card s c ≡ false
+    out true is eb ef = elim (old c of_deck is) [
+      | inl a ↦ (let closed : is_free all own true c ≡ false = rw a refl in absurd (true≢false (sym ef ∙ closed)))
+      | inr b ↦ absurd (true≢false (sym b ∙ eb))
+    ]
+    out false is eb ef = is
+
+    one : (b f : Bool) → has_card before c ≡ b → is_free all own true c ≡ f → (if b || not f then Some c else first_twice (is_free all own true) (with_card before c) cards) ≡ None
+        → (first_twice (is_free all own true) (with_card before c) cards ≡ None → length (union (with_card s c) cards) ≡ length (with_card s c) + length cards) → length (union s (c ∷ cards)) ≡ length s + length (c ∷ cards)
+    one true f eb ef none go = cc
+    one false false eb ef none go = cc
+    one false true eb ef none go =
+        let front : length (union s (c ∷ cards)) ≡ length (union (with_card s c) cards) = ap length (union-front s cards c) in
+        let more : length (with_card s c) ≡ length s + 1 = length-with_card s c set (out (has_card s c) refl eb ef) of_deck in
+        omega (arith, front, more, go none)
+
+-- what belongs to a place was named
+owned_named : (h : List Event) (p k : ℕ) → has_card (owned h p) k ≡ true → has_card (named h) k ≡ true
+owned_named h p k has = (let w = in_where (λ card. is_at p (place h card)) k has in where_in (λ card. is_some (place h card)) k w.0 (one (place h k) w.1))
+  where
+    one : (o : Option ℕ) → is_at p o ≡ true → is_some o ≡ true
+    one None is = absurd (true≢false (sym is))
+    one (Some q) is = refl
+
+-- so does a set of the board's cards with those of a marker
+pub marker_grows : (g : Header) (players : ℕ) (s : StreetName) (cards : List ℕ) (h : List Event) (part : List ℕ) → IsAccepted g players (Street s cards ∷ h) → ((k : ℕ) → has_card cards k ≡ true → k < 52) → Among part (owned h 0)
+    → length (union part cards) ≡ length part + length cards
+marker_grows g players s cards h part ok deck a =
+    grown (named h) (owned h 0) cards (thrown h) part (cards_free g players h (point g players h) (Street s cards) (seat_below (Street s cards) ok.0.seats) ok.1) deck a.set (λ k l has. inl (owned_named h 0 k (a.each k has)))
+
+-- an event that is no marker leaves the board
+zero_seat : (seat : ℕ) (cards : List ℕ) → (1 ≤ seat) × (seat ≤ 10) → (seat == 0) ≡ true → cards ≡ []
+zero_seat seat cards fits here = (let none : seat ≡ 0 = grind arith in let some : 1 ≤ seat = fits.0 in absurd (omega arith))
+
+no_names : (e : Event) → SeatFits e → is_board e ≡ false → (seat_of e == 0) ≡ true → cards_named e ≡ []
+no_names (Street s cards) fits plain here = cc
+no_names (Deal seat cards drawn) fits plain here = zero_seat seat cards fits here
+no_names (Act seat act all_in shown) fits plain here = zero_seat seat shown fits here
+no_names (Show seat cards) fits plain here = zero_seat seat cards fits here
+no_names (SeatCards seat cards) fits plain here = zero_seat seat cards fits here
+no_names (Discard seat count cards) fits plain here = zero_seat seat cards fits here
+no_names _ fits plain here = refl
+
+pub own_same : (g : Header) (players : ℕ) (e : Event) (h : List Event) → IsAccepted g players (e ∷ h) → is_board e ≡ false → owned (e ∷ h) 0 ≡ owned h 0
+own_same g players e h ok plain = own_step g players e h 0 ok ∙ one (seat_of e == 0) refl
+  where
+    one : (b : Bool) → (seat_of e == 0) ≡ b → (if b then union (owned h 0) (cards_named e) else owned h 0) ≡ owned h 0
+    one true is = (let none : cards_named e ≡ [] = no_names e ok.0.seats plain is in rw none (union-nil (owned h 0) (IsCardSet-cards_where (λ card. is_at 0 (place h card)))))
+    one false is = refl
+
+pub none_on : (s : StreetName) (e : Event) → is_board e ≡ false → named_on s e ≡ []
+none_on s (Street marker cards) plain = cc
+none_on s _ plain = refl
+
+pub same_on : (g : Header) (players : ℕ) (s : StreetName) (e : Event) (h : List Event) → IsAccepted g players h → named_on s e ≡ [] → board_on s (e ∷ h) ≡ board_on s h
+same_on g players s e h ok none = rw none (union-nil (board_on s h) (board_among g players s h ok).set)

@@ -1,0 +1,5 @@
+use Rattle.betting_replay.proofs.Belong.{places_apart}
+use Rattle.betting_replay.proofs.laws.law_places_are_apart.Goals as goal
+
+pub returns : goal.returns
+returns c = places_apart

@@ -1,0 +1,123 @@
+-- What accepted events make of the cards: each has one place, a player's known cards are his, and a board has its cards.
+use Rattle.std.specs.Prelude.{◌≡◌, ◌≤◌, ◌<◌, ℕ, ◌==◌, ◌||◌, Bool, true, false, List, [], ◌∷◌, length, Option, Some, None, nat_lt}
+use Rattle.card_sets.specs.declared.games.Game.{Game}
+use Rattle.card_sets.specs.declared.games.Game.TheVariants.{Holdem, Omaha8, Stud, Razz, Lowball27}
+use Rattle.card_sets.specs.Cards.{has_card, IsCardSet}
+use Rattle.card_sets.specs.Disjoint.{apart}
+use Rattle.card_sets.specs.Games.{own_size, board_size}
+use Rattle.history_text.specs.declared.events.Header.{Header}
+use Rattle.history_text.specs.declared.events.Event.{Event}
+use Rattle.history_text.specs.declared.events.Event.TheVariants.{Street}
+use Rattle.history_text.specs.declared.events.Street.{Street as StreetName}
+use Rattle.history_text.specs.declared.events.Street.TheVariants.{Flop, Turn, River, ShowDown, Summary}
+use Rattle.betting_replay.specs.declared.points.Point.{Point}
+use Rattle.betting_replay.specs.Accepted.{IsAccepted}
+use Rattle.betting_replay.specs.Boards.{board_up_to}
+use Rattle.betting_replay.specs.Known.{final_cards, cards_at}
+use Rattle.betting_replay.specs.Places.{owned}
+use Rattle.betting_replay.specs.Seats.{has_seat}
+use Rattle.betting_replay.specs.Sums.{street, last_begun}
+use Rattle.betting_replay.specs.Tables.{table_of, point, dead}
+use Rattle.betting_replay.specs.Turns.{contender_count}
+
+-- two different places share no card
+abbrev pub PlacesAreApart : Type 0
+PlacesAreApart = (h : List Event) (p q : ℕ) → (p == q) ≡ false → apart (owned h p) (owned h q) ≡ true
+
+-- a set of cards, each of which is among others
+pub record Among (cards others : List ℕ) : Type 0 where
+  pub set : IsCardSet cards
+  pub each : (card : ℕ) → has_card cards card ≡ true → has_card others card ≡ true
+
+-- after accepted events the cards of a seat that are known belong to it, are as many as the game gives, and are in no other seat's and not on the board;
+-- those of the board belong to the board; and dead cards are neither the board's nor those of a player who hadn't folded at the point
+pub record CardsBelong (header : Header) (players : ℕ) (h : List Event) : Type 0 where
+  pub final : (p : ℕ) (cards : List ℕ) → final_cards header h p ≡ Some cards → Among cards (owned h p)
+  pub whole : (p : ℕ) (cards : List ℕ) → final_cards header h p ≡ Some cards → length cards ≡ own_size header.game
+  pub final_and_board : (p : ℕ) → (p == 0) ≡ false → (cards : List ℕ) → final_cards header h p ≡ Some cards → apart cards (owned h 0) ≡ true
+  pub known : (p : ℕ) (street : StreetName) (cards : List ℕ) → cards_at header h p street ≡ Some cards → Among cards (owned h p)
+  pub few : (p : ℕ) (street : StreetName) (cards : List ℕ) → cards_at header h p street ≡ Some cards → length cards ≤ own_size header.game
+  pub two_seats : (p q : ℕ) → (p == q) ≡ false → (street : StreetName) (some others : List ℕ) → cards_at header h p street ≡ Some some → cards_at header h q street ≡ Some others → apart some others ≡ true
+  pub board : (street : StreetName) → Among (board_up_to h street) (owned h 0)
+  pub seat_and_board : (p : ℕ) → (p == 0) ≡ false → (street shown : StreetName) (cards : List ℕ) → cards_at header h p street ≡ Some cards → apart cards (board_up_to h shown) ≡ true
+  pub dead_set : IsCardSet (dead header players h)
+  pub dead_and_board : apart (dead header players h) (owned h 0) ≡ true
+  pub dead_and_shown : (street : StreetName) → apart (dead header players h) (board_up_to h street) ≡ true
+  pub dead_and_known : (found : Point) → point header players h ≡ Some found → (p : ℕ) → has_seat found.contenders p ≡ true → (street : StreetName) (cards : List ℕ) → cards_at header h p street ≡ Some cards
+      → apart (dead header players h) cards ≡ true
+
+abbrev pub CardsBelongAfter : Type 0
+CardsBelongAfter = (header : Header) (players : ℕ) (h : List Event) → IsAccepted header players h → CardsBelong header players h
+
+-- how many cards come to the board with the marker of a street
+abbrev pub marker_size : StreetName → ℕ
+marker_size Flop = 3
+marker_size Turn = 1
+marker_size River = 1
+marker_size _ = 0
+
+abbrev pub street_size : Game → StreetName → ℕ
+street_size Holdem street = marker_size street
+street_size Omaha8 street = marker_size street
+street_size Stud street = 0
+street_size Razz street = 0
+street_size Lowball27 street = 0
+
+-- how many it has on a street before the last
+abbrev pub board_on_street : StreetName → ℕ
+board_on_street Flop = 3
+board_on_street Turn = 4
+board_on_street _ = 0
+
+abbrev pub board_then : Game → StreetName → ℕ
+board_then Holdem street = board_on_street street
+board_then Omaha8 street = board_on_street street
+board_then Stud street = 0
+board_then Razz street = 0
+board_then Lowball27 street = 0
+
+-- a marker has as many cards as come with it
+pub record HasCards (game : Game) (street : StreetName) (cards : List ℕ) : Type 0 where
+  pub many : length cards ≡ street_size game street
+  pub deck : (card : ℕ) → has_card cards card ≡ true → card < 52
+
+abbrev pub MarkerFits : Game → Event → Type 0
+MarkerFits game (Street street cards) = HasCards game street cards
+MarkerFits game _ = Unit {0}
+
+abbrev pub MarkersFit : Game → List Event → Type 0
+MarkersFit game [] = Unit {0}
+MarkersFit game (e ∷ h) = MarkerFits game e × MarkersFit game h
+
+-- a showdown or the summary, and whether the marker of one stood
+abbrev pub is_end : StreetName → Bool
+is_end ShowDown = true
+is_end Summary = true
+is_end _ = false
+
+abbrev pub is_end_of : Option StreetName → Bool
+is_end_of None = false
+is_end_of (Some marker) = is_end marker
+
+abbrev pub ends : Event → Bool
+ends (Street street cards) = is_end street
+ends _ = false
+
+abbrev pub has_ended : List Event → Bool
+has_ended [] = false
+has_ended (e ∷ h) = ends e || has_ended h
+
+-- after accepted events whose markers have their cards a board that has all streets is whole, and never has more cards; at the point it has those of the streets up to it
+pub record HasBoard (header : Header) (players : ℕ) (h : List Event) : Type 0 where
+  pub last : last_begun header h ≡ true → length (owned h 0) ≡ board_size header.game
+  pub few : (street : StreetName) → length (board_up_to h street) ≤ board_size header.game
+  pub at_point : (found : Point) → point header players h ≡ Some found → length (board_up_to h found.street) ≡ board_then header.game found.street
+
+-- where a hand has ended its last street has begun, or fewer than two contenders are left
+pub record HasEnded (header : Header) (players : ℕ) (h : List Event) : Type 0 where
+  pub marker : is_end_of (street header h) ≡ true → has_ended h ≡ true
+  pub played : has_ended h ≡ true → (last_begun header h || nat_lt (contender_count (table_of header players h)) 2) ≡ true
+
+pub record WholeBoards : Type 0 where
+  pub boards : (header : Header) (players : ℕ) (h : List Event) → IsAccepted header players h → MarkersFit header.game h → HasBoard header players h
+  pub ends : (header : Header) (players : ℕ) (h : List Event) → IsAccepted header players h → HasEnded header players h

@@ -1,0 +1,93 @@
+-- What was dealt to a seat, street by street, and how it drew.
+use Rattle.std.specs.Prelude.{ℕ, ◌==◌, ◌&&◌, ◌||◌, Bool, true, false, if◌then◌else◌, List, [], ◌∷◌, length, Option, None, nat_lt}
+use Rattle.card_sets.specs.Cards.{union}
+use Rattle.history_text.specs.declared.events.Header.{Header}
+use Rattle.history_text.specs.declared.events.Event.{Event}
+use Rattle.history_text.specs.declared.events.Event.TheVariants.{Deal, Discard, Pat}
+use Rattle.history_text.specs.declared.events.Street.{Street as StreetName}
+use Rattle.history_text.specs.declared.events.Street.TheVariants.{First, Fourth, Fifth, Sixth}
+use Rattle.betting_replay.specs.declared.seats.Deals.{Deals}
+use Rattle.betting_replay.specs.declared.seats.Draws.{Draws}
+use Rattle.betting_replay.specs.Events.{seat_of}
+use Rattle.betting_replay.specs.Streets.{same_street}
+use Rattle.betting_replay.specs.Sums.{street}
+use Rattle.betting_replay.specs.Hands.{dealt_by}
+
+-- a deal counts on the street of the hand, and before the first street on that one
+abbrev pub counts_on : StreetName → Option StreetName → Bool
+counts_on First None = true
+counts_on place now = same_street place now
+
+-- the cards that an event deals on a street, where the hand is on one
+abbrev pub dealt_on : StreetName → Option StreetName → Event → List ℕ
+dealt_on place now e = if counts_on place now then dealt_by e else []
+
+-- a card dealt alone, which lies face up
+abbrev pub up_by : Event → List ℕ
+up_by e = if length (dealt_by e) == 1 then dealt_by e else []
+
+-- the cards of a deal that weren't drawn for others
+abbrev pub given_by : Event → List ℕ
+given_by (Deal seat cards drawn) = if drawn then [] else cards
+given_by _ = []
+
+-- three cards are dealt at once
+abbrev pub deals_three : Event → Bool
+deals_three e = length (dealt_by e) == 3
+
+-- a discard of which not every card is shown, a stand-pat, a discard of five
+abbrev pub hides : Event → Bool
+hides (Discard seat count cards) = nat_lt (length cards) count
+hides _ = false
+
+abbrev pub stands_pat : Event → Bool
+stands_pat (Pat seat) = true
+stands_pat _ = false
+
+abbrev pub discards_five : Event → Bool
+discards_five (Discard seat count cards) = count == 5
+discards_five _ = false
+
+-- all cards that the events about a seat give it in some way, and whether any of them passes a test
+abbrev pub gathered : (Event → List ℕ) → List Event → ℕ → List ℕ
+gathered by [] p = []
+gathered by (e ∷ h) p = if seat_of e == p then union (gathered by h p) (by e) else gathered by h p
+
+abbrev pub marked : (Event → Bool) → List Event → ℕ → Bool
+marked by [] p = false
+marked by (e ∷ h) p = ((seat_of e == p) && by e) || marked by h p
+
+-- all cards dealt to a seat on a street
+abbrev pub dealt_then : Header → StreetName → List Event → ℕ → List ℕ
+dealt_then header place [] p = []
+dealt_then header place (e ∷ h) p = if seat_of e == p then union (dealt_then header place h p) (dealt_on place (street header h) e) else dealt_then header place h p
+
+-- what was dealt to a seat, and how it drew
+abbrev pub deals_of : Header → List Event → ℕ → Deals
+deals_of header h p = record {
+  first = dealt_then header First h p;
+  fourth = dealt_then header Fourth h p;
+  fifth = dealt_then header Fifth h p;
+  sixth = dealt_then header Sixth h p;
+  up = gathered up_by h p;
+  given = gathered given_by h p;
+  down = marked deals_three h p;
+}
+
+abbrev pub draws_of : List Event → ℕ → Draws
+draws_of h p = record { hidden = marked hides h p; pat = marked stands_pat h p; five = marked discards_five h p }
+
+-- the same after one event more about the seat
+abbrev pub deals_after : Option StreetName → Event → Deals → Deals
+deals_after now e d = record {
+  first = union d.first (dealt_on First now e);
+  fourth = union d.fourth (dealt_on Fourth now e);
+  fifth = union d.fifth (dealt_on Fifth now e);
+  sixth = union d.sixth (dealt_on Sixth now e);
+  up = union d.up (up_by e);
+  given = union d.given (given_by e);
+  down = deals_three e || d.down;
+}
+
+abbrev pub draws_after : Event → Draws → Draws
+draws_after e d = record { hidden = hides e || d.hidden; pat = stands_pat e || d.pat; five = discards_five e || d.five }

@@ -1,0 +1,103 @@
+-- The cards of the players that are known: at the end of the hand, and at a street of it. Source: the usual rules of poker, and of what a history shows.
+use Rattle.std.specs.Prelude.{ℕ, zero, suc, ◌==◌, ◌&&◌, not, Bool, if◌then◌else◌, List, [], ◌∷◌, length, Option, Some, None}
+use Rattle.card_sets.specs.declared.games.Game.{Game}
+use Rattle.card_sets.specs.declared.games.Game.TheVariants.{Holdem, Omaha8, Stud, Razz, Lowball27}
+use Rattle.card_sets.specs.Cards.{has_card, union, minus}
+use Rattle.card_sets.specs.Disjoint.{apart}
+use Rattle.history_text.specs.declared.events.Header.{Header}
+use Rattle.history_text.specs.declared.events.Event.{Event}
+use Rattle.history_text.specs.declared.events.Street.{Street as StreetName}
+use Rattle.history_text.specs.declared.events.Street.TheVariants.{First, Fourth, Fifth, Sixth}
+use Rattle.betting_replay.specs.declared.seats.Deals.{Deals}
+use Rattle.betting_replay.specs.declared.seats.Draws.{Draws}
+use Rattle.betting_replay.specs.Seats.{or_else}
+use Rattle.betting_replay.specs.Places.{owned, thrown}
+use Rattle.betting_replay.specs.Hands.{dealt, shown, row, if_many}
+use Rattle.betting_replay.specs.Dealing.{deals_of, draws_of}
+
+-- what the text gives of a seat's cards: all that belong to it, all dealt ones, the last whole hand that it showed, its deals, its last bracket of seven,
+-- how it drew; and all cards that anybody threw away face up
+pub record Holding : Type 0 where
+  pub own : List ℕ
+  pub dealt : List ℕ
+  pub shown : Option (List ℕ)
+  pub deals : Deals
+  pub row : Option (List ℕ)
+  pub draws : Draws
+  pub thrown : List ℕ
+
+-- in a draw game: the last whole hand shown, or else what was dealt and drawn less what was thrown away, where these are five and no discard was hidden
+abbrev pub final_drawn : Holding → Option (List ℕ)
+final_drawn x = or_else x.shown (if x.draws.hidden then None else if_many 5 (minus x.dealt x.thrown))
+
+-- with a board: the last whole hand shown, or else the dealt cards, where they are so many
+abbrev pub final_with : ℕ → Holding → Option (List ℕ)
+final_with n x = or_else x.shown (if_many n x.dealt)
+
+-- a player's final cards; in stud and razz all seven
+abbrev pub final_by : Game → Holding → Option (List ℕ)
+final_by Holdem x = final_with 2 x
+final_by Omaha8 x = final_with 4 x
+final_by Stud x = if_many 7 x.own
+final_by Razz x = if_many 7 x.own
+final_by Lowball27 x = final_drawn x
+
+-- the first so many cards of a row that aren't among others
+abbrev pub first_outside : ℕ → List ℕ → List ℕ → List ℕ
+first_outside zero others cards = []
+first_outside (suc n) others [] = []
+first_outside (suc n) others (card ∷ cards) = if has_card others card then first_outside (suc n) others cards else card ∷ first_outside n others cards
+
+-- cards with the two that lie face down: the first two of a bracket of seven that don't lie face up
+abbrev pub with_down : List ℕ → List ℕ → Option (List ℕ) → Option (List ℕ)
+with_down cards up None = None
+with_down cards up (Some row) = Some (union cards (first_outside 2 up row))
+
+-- some dealt cards and those face down, which were dealt too where three came at once
+abbrev pub with_first : Holding → List ℕ → Option (List ℕ)
+with_first x cards = if x.deals.down then Some cards else with_down cards x.deals.up x.row
+
+-- these, where they are so many
+abbrev pub so_many : ℕ → Option (List ℕ) → Option (List ℕ)
+so_many n None = None
+so_many n (Some cards) = if_many n cards
+
+-- in stud and razz the cards of the streets up to one; on the last all seven
+abbrev pub known_stud : Holding → StreetName → Option (List ℕ)
+known_stud x First = so_many 3 (with_first x x.deals.first)
+known_stud x Fourth = so_many 4 (with_first x (union x.deals.first x.deals.fourth))
+known_stud x Fifth = so_many 5 (with_first x (union (union x.deals.first x.deals.fourth) x.deals.fifth))
+known_stud x Sixth = so_many 6 (with_first x (union (union (union x.deals.first x.deals.fourth) x.deals.fifth) x.deals.sixth))
+known_stud x street = if_many 7 x.own
+
+-- five were dealt in the text, no discard was hidden, and none was of another card
+abbrev pub draws_openly : Holding → Bool
+draws_openly x = (length x.deals.given == 5) && not x.draws.hidden && apart (minus x.own x.deals.given) x.thrown
+
+-- what a player keeps when he draws: the five less the discards; or his final five, where he stands pat and threw none away face up; or nothing, where he discards five
+abbrev pub kept : Holding → Option (List ℕ)
+kept x =
+    if draws_openly x then Some (minus x.deals.given x.thrown)
+    else (if x.draws.pat && apart x.own x.thrown then final_drawn x else (if x.draws.five then Some [] else None))
+
+abbrev pub known_drawn : Holding → StreetName → Option (List ℕ)
+known_drawn x First = kept x
+known_drawn x street = final_drawn x
+
+-- a player's cards on a street, by the whole text: with a board his final cards
+abbrev pub known_by : Game → Holding → StreetName → Option (List ℕ)
+known_by Holdem x street = final_by Holdem x
+known_by Omaha8 x street = final_by Omaha8 x
+known_by Stud x street = known_stud x street
+known_by Razz x street = known_stud x street
+known_by Lowball27 x street = known_drawn x street
+
+-- what the events so far give of a seat's cards
+abbrev pub holding_of : Header → List Event → ℕ → Holding
+holding_of header h p = record { own = owned h p; dealt = dealt h p; shown = shown header h p; deals = deals_of header h p; row = row h p; draws = draws_of h p; thrown = thrown h }
+
+abbrev pub final_cards : Header → List Event → ℕ → Option (List ℕ)
+final_cards header h p = final_by header.game (holding_of header h p)
+
+abbrev pub cards_at : Header → List Event → ℕ → StreetName → Option (List ℕ)
+cards_at header h p street = known_by header.game (holding_of header h p) street

@@ -1,0 +1,100 @@
+-- The table: what each seat has and has done, and what lies open.
+use Rattle.std.specs.Prelude.{ℕ, Bool, false, List, [], Option, None, slice_index_or}
+use Rattle.history_text.specs.declared.events.Header.{Header}
+use Rattle.history_text.specs.declared.events.Street.{Street as StreetName}
+use Rattle.betting_replay.specs.declared.points.Point.{Point}
+use Rattle.betting_replay.specs.declared.seats.Chips.{Chips}
+use Rattle.betting_replay.specs.declared.seats.Acts.{Acts}
+use Rattle.betting_replay.specs.declared.seats.Deals.{Deals}
+use Rattle.betting_replay.specs.declared.seats.Draws.{Draws}
+use Rattle.betting_replay.specs.Boards.{up_to}
+use Rattle.betting_replay.specs.Known.{Holding, final_by, known_by}
+
+-- a table, as a replay is seen
+pub record Table : Type 0 where
+  pub header : Header
+  -- bit s for seat s
+  pub players : ℕ
+  -- by seat
+  pub chips : List Chips
+  pub acts : List Acts
+  -- the cards that belong to each seat, and to the board at number 0
+  pub own : List (List ℕ)
+  -- the cards dealt to each seat, and the last whole hand that it showed
+  pub dealt : List (List ℕ)
+  pub shown : List (Option (List ℕ))
+  -- what was dealt to each seat street by street, the last bracket of seven that it showed, and how it drew
+  pub deals : List Deals
+  pub rows : List (Option (List ℕ))
+  pub draws : List Draws
+  -- all cards that were named
+  pub named : List ℕ
+  -- those that were thrown away face up
+  pub thrown : List ℕ
+  -- the cards that came to the board on each street
+  pub flop : List ℕ
+  pub turn : List ℕ
+  pub river : List ℕ
+  -- the seat of the button, 0 where there is none
+  pub button : ℕ
+  pub street : Option StreetName
+  -- whether the first street has begun, whether the showdown's marker stood, and whether the last street has begun
+  pub opened : Bool
+  pub shown_down : Bool
+  pub last_begun : Bool
+  pub small_posted : Bool
+  pub last : Option ℕ
+  -- the first moment that was an all-in point
+  pub point : Option Point
+
+abbrev pub no_chips : Chips
+no_chips = record { seated = false; stack = 0; paid = 0; dead = 0; live = 0 }
+
+abbrev pub no_acts : Acts
+no_acts = record { folded = false; acted = false; brought_in = false }
+
+abbrev pub no_deals : Deals
+no_deals = record { first = []; fourth = []; fifth = []; sixth = []; up = []; given = []; down = false }
+
+abbrev pub no_draws : Draws
+no_draws = record { hidden = false; pat = false; five = false }
+
+-- what a seat of the table has, and has done
+abbrev pub chips_at : Table → ℕ → Chips
+chips_at t p = slice_index_or t.chips p no_chips
+
+abbrev pub acts_at : Table → ℕ → Acts
+acts_at t p = slice_index_or t.acts p no_acts
+
+abbrev pub own_at : Table → ℕ → List ℕ
+own_at t p = slice_index_or t.own p []
+
+abbrev pub dealt_at : Table → ℕ → List ℕ
+dealt_at t p = slice_index_or t.dealt p []
+
+abbrev pub shown_at : Table → ℕ → Option (List ℕ)
+shown_at t p = slice_index_or t.shown p None
+
+abbrev pub deals_at : Table → ℕ → Deals
+deals_at t p = slice_index_or t.deals p no_deals
+
+abbrev pub row_at : Table → ℕ → Option (List ℕ)
+row_at t p = slice_index_or t.rows p None
+
+abbrev pub draws_at : Table → ℕ → Draws
+draws_at t p = slice_index_or t.draws p no_draws
+
+-- the board's cards of the streets up to one
+abbrev pub board_at : Table → StreetName → List ℕ
+board_at t street = up_to street t.flop t.turn t.river
+
+-- what the text gives of a seat's cards
+abbrev pub holding_at : Table → ℕ → Holding
+holding_at t p = record { own = own_at t p; dealt = dealt_at t p; shown = shown_at t p; deals = deals_at t p; row = row_at t p; draws = draws_at t p; thrown = t.thrown }
+
+-- a seat's final cards, and its cards on a street
+unfoldable pub final_at : Table → ℕ → Option (List ℕ)
+final_at t p = final_by t.header.game (holding_at t p)
+
+unfoldable pub known_at : Table → ℕ → StreetName → Option (List ℕ)
+known_at t p street = known_by t.header.game (holding_at t p) street

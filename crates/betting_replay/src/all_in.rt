@@ -1,0 +1,124 @@
+//! The moment from which a hand is played out with no more acts.
+
+ghost use Rattle.std.specs.Prelude.{◌≡◌, ℕ, ◌<◌};
+ghost use Rattle.betting_replay.specs.Table.{own_at};
+ghost use Rattle.betting_replay.specs.AllIn.{funded_count, is_point, point_on, point_now, point_street, point_contenders, had_folded, cards_of_seats, dead_at};
+ghost use Rattle.betting_replay.specs.Counting.{pointed};
+
+use crate::points::Point;
+use crate::replay::Replay;
+use card_sets::CardSet;
+use history_text::Street;
+
+/// A point on a street, with the contenders there.
+fn point_on(street: Option<Street>, contenders: u16) -> Option<Point>
+    ensures { result ≡ point_on street contenders }
+{
+    Some(Point {
+        street: street?,
+        contenders,
+    })
+}
+
+impl Replay {
+    /// How many contenders have chips left.
+    #[tactic(auto, unfolding(crate::specs::AllIn::funded_count))]
+    fn funded_count(&self) -> u8
+        ensures { result ≡ funded_count self.now }
+    {
+        let mut count = 0;
+        for seat in 0..11 {
+            if self.is_contender(seat) && self.has_chips(seat) {
+                count += 1;
+            }
+        }
+        count
+    }
+
+    /// Whether nobody can bet any more and cards are to come.
+    #[tactic(auto, unfolding(crate::specs::AllIn::is_point))]
+    fn is_point(&self) -> bool
+        ensures { result ≡ is_point self.now }
+    {
+        self.opened
+            && self.contender_count() >= 2
+            && self.funded_count() <= 1
+            && self.owes().is_none()
+            && !self.last_begun
+    }
+
+    /// The point that this moment is, if it is one.
+    #[tactic(auto, unfolding(crate::specs::AllIn::point_now))]
+    fn point_now(&self) -> Option<Point>
+        ensures { result ≡ point_now self.now }
+    {
+        if self.is_point() {
+            point_on(self.street, self.contenders())
+        } else {
+            None
+        }
+    }
+
+    /// The first point is kept.
+    #[tactic(auto, unfolding(crate::specs::Counting::pointed))]
+    pub(crate) fn keep_point(&mut self)
+        ensures { self.new ≡ pointed self.old }
+    {
+        self.point = self.point.or(self.point_now());
+    }
+
+    /// The street of the all-in point: the first moment behind the first street's marker with two
+    /// players or more in the hand, at most one of them with chips left, nobody who owes an act, and
+    /// the last street to come. None exactly where no moment so far was one.
+    pub fn all_in_point(&self) -> Option<Street>
+        ensures { result ≡ point_street self.now.point }
+    {
+        match self.point {
+            Some(point) => Some(point.street),
+            None => None,
+        }
+    }
+
+    /// The players who hadn't folded at that point: bit s for seat s. 0 where no moment was one.
+    pub fn all_in_contenders(&self) -> u16
+        ensures { result ≡ point_contenders self.now.point }
+    {
+        match self.point {
+            Some(point) => point.contenders,
+            None => 0,
+        }
+    }
+
+    /// Whether the seat is of a player who had folded at a point.
+    fn had_folded(&self, point: Point, seat: u8) -> bool
+        requires { seat < 11 }
+        ensures { result ≡ had_folded self.now.players point seat }
+    {
+        seat > 0 && self.is_player(seat) && (point.contenders >> seat) & 1 != 1
+    }
+
+    /// The cards of all players who had folded at a point.
+    fn cards_of_folded(&self, point: Point) -> CardSet
+        ensures { result ≡ cards_of_seats (had_folded self.now.players point) (own_at self.now) 11 }
+    {
+        let mut cards = CardSet::empty();
+        for seat in 0..11 {
+            if self.had_folded(point, seat) {
+                cards = cards.union(self.own[seat as usize]);
+            }
+        }
+        cards
+    }
+
+    /// The cards that are dead at that point: all that were thrown away face up, and all of the players
+    /// who had folded there, by the whole text. None are where no moment was one.
+    #[tactic(auto, unfolding(crate::specs::AllIn::dead_at))]
+    pub fn dead(&self) -> CardSet
+        ensures { result ≡ dead_at self.now }
+    {
+        match self.point {
+            Some(point) => self.thrown.union(self.cards_of_folded(point)),
+            None => CardSet::empty(),
+        }
+    }
+}

@@ -1,0 +1,110 @@
+//! What was dealt to a seat, street by street, and how it drew.
+
+ghost use Rattle.std.specs.Prelude.{◌≡◌, ℕ, length, []};
+ghost use Rattle.betting_replay.specs.Dealing.{counts_on, dealt_on, up_by, given_by, deals_three, hides, stands_pat, discards_five, deals_after, draws_after};
+
+use crate::hands::cards_dealt;
+use crate::places::with_cards;
+use crate::seats::{Deals, Draws};
+use crate::streets::same_street;
+use card_sets::Card;
+use history_text::{Event, Street};
+
+/// Whether a deal counts on a street, where the hand is on one.
+fn counts_on(place: Street, now: Option<Street>) -> bool
+    ensures { result ≡ counts_on place now }
+{
+    match (place, now) {
+        (Street::First, None) => true,
+        _ => same_street(place, now),
+    }
+}
+
+/// The cards that an event deals on a street.
+fn dealt_on(place: Street, now: Option<Street>, e: &Event) -> &[Card]
+    ensures { result.now ≡ dealt_on place now e.now }
+{
+    if counts_on(place, now) {
+        cards_dealt(e)
+    } else {
+        &[]
+    }
+}
+
+/// A card dealt alone.
+fn up_by(e: &Event) -> &[Card]
+    ensures { result.now ≡ up_by e.now }
+{
+    let cards = cards_dealt(e);
+    if cards.len() == 1 { cards } else { &[] }
+}
+
+/// The cards of a deal that weren't drawn for others.
+fn given_by(e: &Event) -> &[Card]
+    ensures { result.now ≡ given_by e.now }
+{
+    match e {
+        Event::Deal { cards, drawn, .. } => { if *drawn { &[] } else { cards.items() } }
+        _ => &[],
+    }
+}
+
+/// Whether three cards are dealt at once.
+fn deals_three(e: &Event) -> bool
+    ensures { result ≡ deals_three e.now }
+{
+    cards_dealt(e).len() == 3
+}
+
+/// What was dealt to a seat, after an event about it.
+pub(crate) fn deals_after(now: Option<Street>, e: &Event, deals: Deals) -> Deals
+    ensures { result ≡ deals_after now e.now deals }
+{
+    Deals {
+        first: with_cards(deals.first, dealt_on(Street::First, now, e)),
+        fourth: with_cards(deals.fourth, dealt_on(Street::Fourth, now, e)),
+        fifth: with_cards(deals.fifth, dealt_on(Street::Fifth, now, e)),
+        sixth: with_cards(deals.sixth, dealt_on(Street::Sixth, now, e)),
+        up: with_cards(deals.up, up_by(e)),
+        given: with_cards(deals.given, given_by(e)),
+        down: deals_three(e) || deals.down,
+    }
+}
+
+/// Whether not every card of a discard is shown.
+fn hides(e: &Event) -> bool
+    ensures { result ≡ hides e.now }
+{
+    match e {
+        Event::Discard { count, cards, .. } => cards.count() < *count as usize,
+        _ => false,
+    }
+}
+
+/// Whether an event is a stand-pat.
+fn stands_pat(e: &Event) -> bool
+    ensures { result ≡ stands_pat e.now }
+{
+    matches!(e, Event::Pat { .. })
+}
+
+/// Whether an event is a discard of five.
+fn discards_five(e: &Event) -> bool
+    ensures { result ≡ discards_five e.now }
+{
+    match e {
+        Event::Discard { count, .. } => *count == 5,
+        _ => false,
+    }
+}
+
+/// How a player drew, after an event about his seat.
+pub(crate) fn draws_after(e: &Event, draws: Draws) -> Draws
+    ensures { result ≡ draws_after e.now draws }
+{
+    Draws {
+        hidden: hides(e) || draws.hidden,
+        pat: stands_pat(e) || draws.pat,
+        five: discards_five(e) || draws.five,
+    }
+}

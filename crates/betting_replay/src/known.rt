@@ -1,0 +1,187 @@
+//! The cards of the players that are known: at the end of the hand, and at a street of it.
+
+ghost use Rattle.std.specs.Prelude.{◌≡◌, ℕ, ◌<◌};
+ghost use Rattle.card_sets.specs.Cards.{union, minus};
+ghost use Rattle.card_sets.specs.Disjoint.{apart};
+ghost use Rattle.betting_replay.specs.Known.{final_drawn, final_with, final_by, first_outside, with_down, with_first, so_many, known_stud, draws_openly, kept, known_drawn, known_by};
+ghost use Rattle.betting_replay.specs.Table.{holding_at, final_at, known_at};
+
+use crate::hands::if_many;
+use crate::replay::Replay;
+use card_sets::{Card, CardSet, Game};
+use history_text::Street;
+
+/// Whether no card is in both.
+fn are_apart(some: CardSet, others: CardSet) -> bool
+    ensures { result ≡ apart some others }
+{
+    for card in some.iter() {
+        if others.has(card) {
+            return false;
+        }
+    }
+    true
+}
+
+/// A set with the first two cards of a bracket that aren't among others.
+fn with_two(cards: CardSet, others: CardSet, row: &[Card]) -> CardSet
+    ensures { result ≡ union cards (first_outside 2 others row.now) }
+{
+    let mut all = cards;
+    let mut left: u8 = 2;
+    for card in row {
+        if left == 0 {
+            continue;
+        }
+        if others.has(*card) {
+            continue;
+        }
+        all = all.with(*card);
+        left -= 1;
+    }
+    all.rising();
+    all
+}
+
+/// Cards with the two that lie face down, by a bracket of seven.
+fn with_down(cards: CardSet, up: CardSet, row: Option<[Card; 7]>) -> Option<CardSet>
+    ensures { result ≡ with_down cards up row }
+{
+    match row {
+        Some(row) => Some(with_two(cards, up, &row)),
+        None => None,
+    }
+}
+
+impl Replay {
+    /// The last whole hand that a seat showed, or else its dealt cards, where they are so many.
+    fn final_with(&self, seat: u8, count: u32) -> Option<CardSet>
+        requires { seat < 11 }
+        ensures { result ≡ final_with count (holding_at self.now seat) }
+    {
+        let place = seat as usize;
+        self.shown[place].or(if_many(count, self.dealt[place]))
+    }
+
+    /// The final cards of a draw game.
+    fn final_drawn(&self, seat: u8) -> Option<CardSet>
+        requires { seat < 11 }
+        ensures { result ≡ final_drawn (holding_at self.now seat) }
+    {
+        let place = seat as usize;
+        if let Some(cards) = self.shown[place] {
+            return Some(cards);
+        }
+        if self.draws[place].hidden {
+            return None;
+        }
+        if_many(5, self.dealt[place].minus(self.thrown))
+    }
+
+    /// A seat's final cards. With a board they are the last whole hand that it showed, or that the
+    /// summary gives, or else its dealt cards, where they are a whole hand. In stud and razz they are
+    /// all seven. In a draw game they are the last whole hand behind its last discard, or else what it
+    /// was dealt and drew less what it threw away, where these are five and each discard was shown.
+    /// None exactly where they are unknown.
+    #[tactic(auto, unfolding(crate::specs::Table::final_at))]
+    pub fn final_cards(&self, seat: u8) -> Option<CardSet>
+        requires { seat < 11 }
+        ensures { result ≡ final_at self.now seat }
+    {
+        match self.header.game {
+            Game::Holdem => self.final_with(seat, 2),
+            Game::Omaha8 => self.final_with(seat, 4),
+            Game::Stud | Game::Razz => if_many(7, self.own[seat as usize]),
+            Game::Lowball27 => self.final_drawn(seat),
+        }
+    }
+
+    /// Some dealt cards with those face down, where they are so many.
+    fn so_many(&self, seat: u8, count: u32, cards: CardSet) -> Option<CardSet>
+        requires { seat < 11 }
+        ensures { result ≡ so_many count (with_first (holding_at self.now seat) cards) }
+    {
+        let deals = self.deals[seat as usize];
+        if deals.down {
+            return if_many(count, cards);
+        }
+        match with_down(cards, deals.up, self.rows[seat as usize]) {
+            Some(cards) => if_many(count, cards),
+            None => None,
+        }
+    }
+
+    /// The cards of the streets up to one in stud and razz.
+    fn known_stud(&self, seat: u8, street: Street) -> Option<CardSet>
+        requires { seat < 11 }
+        ensures { result ≡ known_stud (holding_at self.now seat) street }
+    {
+        let deals = self.deals[seat as usize];
+        let fourth = deals.first.union(deals.fourth);
+        let fifth = fourth.union(deals.fifth);
+        match street {
+            Street::First => self.so_many(seat, 3, deals.first),
+            Street::Fourth => self.so_many(seat, 4, fourth),
+            Street::Fifth => self.so_many(seat, 5, fifth),
+            Street::Sixth => self.so_many(seat, 6, fifth.union(deals.sixth)),
+            _ => if_many(7, self.own[seat as usize]),
+        }
+    }
+
+    /// Whether five were dealt in the text, and the discards are shown and are of these.
+    fn draws_openly(&self, seat: u8) -> bool
+        requires { seat < 11 }
+        ensures { result ≡ draws_openly (holding_at self.now seat) }
+    {
+        let place = seat as usize;
+        let given = self.deals[place].given;
+        given.count() == 5
+            && !self.draws[place].hidden
+            && are_apart(self.own[place].minus(given), self.thrown)
+    }
+
+    /// What a player keeps when he draws.
+    fn kept(&self, seat: u8) -> Option<CardSet>
+        requires { seat < 11 }
+        ensures { result ≡ kept (holding_at self.now seat) }
+    {
+        let place = seat as usize;
+        if self.draws_openly(seat) {
+            return Some(self.deals[place].given.minus(self.thrown));
+        }
+        if self.draws[place].pat && are_apart(self.own[place], self.thrown) {
+            return self.final_drawn(seat);
+        }
+        if self.draws[place].five {
+            return Some(CardSet::empty());
+        }
+        None
+    }
+
+    /// The cards of a draw game on a street.
+    fn known_drawn(&self, seat: u8, street: Street) -> Option<CardSet>
+        requires { seat < 11 }
+        ensures { result ≡ known_drawn (holding_at self.now seat) street }
+    {
+        match street {
+            Street::First => self.kept(seat),
+            _ => self.final_drawn(seat),
+        }
+    }
+
+    /// A seat's cards on a street, by the whole text: its final cards with a board and on the last
+    /// street. Before it, in stud and razz, what it was dealt on the streets up to this one, where that
+    /// is as much as the street has dealt, with its two cards face down by a later bracket where they
+    /// weren't dealt in the text; in a draw game what it keeps. None exactly where they are unknown.
+    #[tactic(auto, unfolding(crate::specs::Table::known_at, crate::specs::Table::final_at))]
+    pub fn cards_at(&self, seat: u8, street: Street) -> Option<CardSet>
+        requires { seat < 11 }
+        ensures { result ≡ known_at self.now seat street }
+    {
+        match self.header.game {
+            Game::Holdem | Game::Omaha8 => self.final_cards(seat),
+            Game::Stud | Game::Razz => self.known_stud(seat, street),
+            Game::Lowball27 => self.known_drawn(seat, street),
+        }
+    }
+}

@@ -1,0 +1,97 @@
+//! Histories with the equity of their all-ins. The expected counts are those of a listing of the rivers by
+//! hand: which of them make a better hand for whom.
+
+use crate::histories::{
+    HEADS_UP, SIDE_POTS, SIX_SEATS, as_typed, first_lines, with_line, with_mucked_hand,
+};
+use crate::runs::{AMPLE, run};
+use std::alloc::Global;
+use std::process::Abort;
+use std::test::Fail;
+
+/// Of 42 rivers `5s` gives carl a full house, and `Js` four of a kind; the other seven spades are dora's.
+const SIX_SEATS_REPORT: &str = "hand 240000000001 accepted holdem rake 2.50\n\
+pot 0 gross 121.00 rake 2.50 checked\n\
+paid 118.50 carl\n\
+all-in turn runouts 42\n\
+pot 0 high win 35 83.33 tie 0 0.00 lose 7 16.67 carl\n\
+pot 0 ev 0.833 carl\n\
+pot 0 high win 7 16.67 tie 0 0.00 lose 35 83.33 dora\n\
+pot 0 ev 0.167 dora\n\
+expect 100.83 carl\n\
+expect 20.17 dora\n";
+
+/// What a expects of both pots is rounded once: 928.57 and 1285.71 are 2214.29.
+const SIDE_POTS_REPORT: &str = "hand 88 accepted holdem rake 0\n\
+pot 0 gross 1500 rake 0 checked\n\
+paid 1500 a\n\
+pot 1 gross 2000 rake 0 checked\n\
+paid 2000 a\n\
+all-in turn runouts 42\n\
+pot 0 high win 26 61.90 tie 0 0.00 lose 16 38.10 a\n\
+pot 0 ev 0.619 a\n\
+pot 0 high win 1 2.38 tie 0 0.00 lose 41 97.62 b\n\
+pot 0 ev 0.024 b\n\
+pot 0 high win 15 35.71 tie 0 0.00 lose 27 64.29 c\n\
+pot 0 ev 0.357 c\n\
+pot 1 high win 27 64.29 tie 0 0.00 lose 15 35.71 a\n\
+pot 1 ev 0.643 a\n\
+pot 1 high win 15 35.71 tie 0 0.00 lose 27 64.29 c\n\
+pot 1 ev 0.357 c\n\
+expect 2214 a\n\
+expect 36 b\n\
+expect 1250 c\n";
+
+/// The audit of the input has this report, and the run ends with this status.
+fn audits(
+    rt: &impl Abort,
+    alloc: Global,
+    input: &[u8],
+    status: u8,
+    report: &str,
+) -> Result<(), Fail> {
+    let ran = run(alloc, &["audit"], input, AMPLE)?;
+    assert_eq!(rt; ran.written.as_slice(), report.as_bytes(), "{report}");
+    assert_eq!(rt; ran.status, status, "{report}");
+    Ok(())
+}
+
+/// A cash hand and a hand with side pots, and behind a hand that is cut off.
+#[test]
+fn a_known_all_in_has_its_equity(rt: HostRuntime) -> Result<(), Fail> {
+    let alloc = rt.alloc();
+    let input = as_typed(alloc, SIX_SEATS)?;
+    audits(&rt, alloc, &input, 0, SIX_SEATS_REPORT)?;
+    let mut input = first_lines(alloc, SIDE_POTS, 12)?;
+    input.extend_from_slice(SIDE_POTS.as_bytes())?;
+    let report = format!(in alloc; "hand 88 rejected line 12 Unfinished\n{SIDE_POTS_REPORT}")?;
+    audits(&rt, alloc, &input, 1, report.as_str())
+}
+
+/// A hand with no all-in, one with cards that nobody saw, one that is rejected, and no hand.
+#[test]
+fn other_hands_have_none(rt: HostRuntime) -> Result<(), Fail> {
+    let alloc = rt.alloc();
+    let checked_down = "hand 2 accepted holdem rake 0.00\n\
+pot 0 gross 6.00 rake 0.00 checked\n\
+paid 6.00 x\n\
+all-in none\n";
+    audits(&rt, alloc, HEADS_UP.as_bytes(), 0, checked_down)?;
+    let input = with_mucked_hand(alloc)?;
+    let mucked = "hand 88 accepted holdem rake 0\n\
+pot 0 gross 1500 rake 0 unseen\n\
+paid 1500 a\n\
+pot 1 gross 2000 rake 0 checked\n\
+paid 2000 a\n\
+all-in unknown\n";
+    audits(&rt, alloc, &input, 0, mucked)?;
+    let input = with_line(alloc, SIDE_POTS, 21, "*** RIVER *** [7h 8h 2c Qs] [As]\n")?;
+    audits(
+        &rt,
+        alloc,
+        &input,
+        1,
+        "hand 88 rejected line 23 CardTwice As\n",
+    )?;
+    audits(&rt, alloc, b"holdem As Ah - Ks Kh\n", 0, "")
+}

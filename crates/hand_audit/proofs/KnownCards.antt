@@ -1,0 +1,174 @@
+-- What is known at the all-in of an accepted hand.
+use Rattle.std.proofs.Common.{◌≡◌, ℕ, zero, suc, ◌<◌, ◌≤◌, List, [], ◌∷◌, refl, sym, ap, ◌∙◌, subst, Bool, true, false, ◌==◌, ◌&&◌, ◌-◌, length, map, arith}
+use Rattle.std.specs.Prelude.{Option, Some, None, is_some, unwrap_or, replicate, slice_index_or, if◌then◌else◌}
+use Rattle.std.specs.List.{list_all}
+use Rattle.std.proofs.lemmas.List.{length-map, get_or_append_left}
+use Rattle.card_sets.specs.Cards.{has_card}
+use Rattle.card_sets.specs.declared.games.Game.{Game}
+use Rattle.history_text.specs.declared.events.Header.{Header}
+use Rattle.history_text.specs.declared.events.Event.{Event}
+use Rattle.history_text.specs.declared.events.Street.{Street}
+use Rattle.betting_replay.specs.Accepted.{IsAccepted, ShowsSeats, ShowsDead}
+use Rattle.betting_replay.specs.AllIn.{point_street, point_contenders}
+use Rattle.betting_replay.specs.Boards.{board_up_to}
+use Rattle.betting_replay.specs.CardLaws.{PlacesAreApart, CardsBelongAfter}
+use Rattle.betting_replay.specs.Known.{cards_at}
+use Rattle.betting_replay.specs.Places.{owned}
+use Rattle.betting_replay.specs.Seats.{by_seat}
+use Rattle.betting_replay.specs.Table.{Table as Replayed, known_at}
+use Rattle.betting_replay.specs.Tables.{table_of, dead}
+use Rattle.betting_replay.proofs.BySeat.{at_by_seat}
+use Rattle.betting_replay.proofs.Members.{from_apart}
+use Rattle.pot_layers.specs.Split.{InRange}
+use Rattle.pot_layers.specs.Pots.{pots}
+use Rattle.showdown_tally.specs.declared.table.Table.{Table}
+use Rattle.hand_audit.specs.AllIns.{cards_or_none, bare_of, all_in_at, known_with, known_there, eligible_in, all_in_on, all_in_by, all_in_of}
+use Rattle.hand_audit.specs.CardsKnown.{IsHandOf, IsStillHidden, KnowsCards}
+use Rattle.hand_audit.specs.KnownTables.{Bare, ten, holds, with_facts, table_if, table_from, all_hold}
+use Rattle.hand_audit.specs.Orders.{seats_in}
+use Rattle.hand_audit.specs.Showings.{paid_in}
+use Rattle.hand_audit.specs.declared.all_in.AtPoint.{AtPoint}
+use Rattle.hand_audit.specs.declared.audit.AllIn.TheVariants.{Unknown, Known}
+use Rattle.hand_audit.proofs.Order.{range_from}
+use Rattle.hand_audit.proofs.Tens.{bare}
+
+-- what a known all-in is made of
+record IsMade (point : AtPoint) (all : List ℕ) (street : Street) (seats : List ℕ) (table : Table) : Type 0 where
+  known : list_all (λ p. is_some (slice_index_or point.cards p None)) (seats_in point.contenders) ≡ true
+  street_is : point.street ≡ street
+  seats_are : seats ≡ ten 0 (seats_in point.contenders)
+  bare_is : bare table ≡ bare_of point all
+
+known_parts : (a b : Street) (x y : List ℕ) (t u : Table) → Known a x t ≡ Known b y u → (a ≡ b) × (x ≡ y) × (t ≡ u)
+known_parts a b x y t u e = (cc, cc, cc)
+
+one_table : (t u : Table) → Some t ≡ Some u → t ≡ u
+one_table t u e = cc
+
+table_bare : (b : Bare) (table : Table) → table_from b ≡ Some table → bare table ≡ b
+unfolding table_from with_facts
+table_bare b table is = by (holds b) refl is
+  where
+    by : (known : Bool) (e : holds b ≡ known) → table_if b known e ≡ Some table → bare table ≡ b
+    by true e h = let same : with_facts b (all_hold b e) ≡ table = one_table _ _ h in sym (ap bare same)
+    by false e h = cc
+
+made_of : (point : AtPoint) (all : List ℕ) (street : Street) (seats : List ℕ) (table : Table) → all_in_at point all ≡ Known street seats table → IsMade point all street seats table
+unfolding all_in_at
+made_of point all street seats table is = by (list_all (λ p. is_some (slice_index_or point.cards p None)) (seats_in point.contenders)) refl is
+  where
+    from : (o : Option Table) → table_from (bare_of point all) ≡ o → list_all (λ p. is_some (slice_index_or point.cards p None)) (seats_in point.contenders) ≡ true → known_with point.street (seats_in point.contenders) o ≡ Known street seats table → IsMade point all street seats table
+    from None e k h = cc
+    from (Some t) e k h =
+        let parts = known_parts point.street street (ten 0 (seats_in point.contenders)) seats t table h in
+        record { known = k; street_is = parts.0; seats_are = sym parts.1; bare_is = table_bare (bare_of point all) table (e ∙ ap (λ (x : Table). Some x) parts.2) }
+
+    by : (b : Bool) → list_all (λ p. is_some (slice_index_or point.cards p None)) (seats_in point.contenders) ≡ b
+        → (if b then known_with point.street (seats_in point.contenders) (table_from (bare_of point all)) else Unknown) ≡ Known street seats table → IsMade point all street seats table
+    by true k h = from (table_from (bare_of point all)) refl k h
+    by false k h = cc
+
+street_there : (game : Game) (t : Replayed) (found street : Street) → (known_there game t found).street ≡ street → found ≡ street
+unfolding known_there
+street_there game t found street is = is
+
+made_at : (game : Game) (t : Replayed) (o : Option Street) (street : Street) (seats : List ℕ) (table : Table) → all_in_on game t o ≡ Known street seats table → IsMade (known_there game t street) (eligible_in (pots (paid_in t))) street seats table
+made_at game t None street seats table is = cc
+made_at game t (Some found) street seats table is =
+    let m = made_of (known_there game t found) (eligible_in (pots (paid_in t))) street seats table is in
+    subst (λ (st : Street). IsMade (known_there game t st) (eligible_in (pots (paid_in t))) street seats table) (street_there game t found street m.street_is) m
+
+-- the places of ten
+in_ten : {A : Type 0} → (none : A) (xs : List A) (i : ℕ) (d : A) → i < length xs → slice_index_or (ten none xs) i d ≡ slice_index_or xs i d
+unfolding ten
+in_ten none xs i d l = get_or_append_left xs (replicate (10 - length xs) none) d i l
+
+in_map : {A : Type 0} → (f : ℕ → A) (xs : List ℕ) (i : ℕ) (d : A) → i < length xs → slice_index_or (map f xs) i d ≡ f (slice_index_or xs i 0)
+in_map f [] i d l = absurd (omega arith)
+in_map f (x ∷ xs) zero d l = refl
+in_map f (x ∷ xs) (suc i) d l = in_map f xs i d (omega (arith, l))
+
+all_index : (f : ℕ → Bool) (xs : List ℕ) (i : ℕ) → list_all f xs ≡ true → i < length xs → f (slice_index_or xs i 0) ≡ true
+all_index f [] i all l = absurd (omega arith)
+all_index f (x ∷ xs) i all l = by i l (f x) refl all (λ k m rest. all_index f xs k rest m)
+  where
+    by : (k : ℕ) → k < length (x ∷ xs) → (b : Bool) → f x ≡ b → (b && list_all f xs) ≡ true → ((j : ℕ) → j < length xs → list_all f xs ≡ true → f (slice_index_or xs j 0) ≡ true) → f (slice_index_or (x ∷ xs) k 0) ≡ true
+    by zero m true e rest later = e
+    by (suc k) m true e rest later = later k (omega (arith, m)) rest
+    by k m false e rest later = cc
+
+range_index : (xs : List ℕ) (i : ℕ) → InRange xs → i < length xs → (1 ≤ slice_index_or xs i 0) × (slice_index_or xs i 0 ≤ 10)
+range_index [] i r l = absurd (omega arith)
+range_index (x ∷ xs) zero r l = (r.0, r.1)
+range_index (x ∷ xs) (suc i) r l = range_index xs i r.2 (omega (arith, l))
+
+pub some_is : (o : Option (List ℕ)) → is_some o ≡ true → o ≡ Some (unwrap_or o [])
+some_is None e = cc
+some_is (Some cards) e = refl
+
+some_seat : (p : ℕ) → 1 ≤ p → (p == 0) ≡ false
+some_seat p l = grind arith
+
+hidden : (b : Bool) (own : List ℕ) (card : ℕ) → has_card own card ≡ b → (has_card own card ≡ true → ⊥) → b ≡ false
+hidden true own card e no_card = absurd (no_card e)
+hidden false own card e no_card = refl
+
+pub known_cards : PlacesAreApart → CardsBelongAfter → ShowsSeats → ShowsDead → (g : Header) (players : ℕ) (h : List Event) (street : Street) (seats : List ℕ) (table : Table) → IsAccepted g players h → all_in_of g players h ≡ Known street seats table
+    → KnowsCards g players h street seats table
+unfolding all_in_by known_there bare_of
+known_cards apart belong shows shows_dead g players h street seats table ok is =
+    record { hands = hands; board = board; dead = dead_is; later = later }
+  where
+    t : Replayed
+    t = table_of g players h
+
+    xs : List ℕ
+    xs = seats_in (point_contenders t.point)
+
+    made : IsMade (known_there g.game t street) (eligible_in (pots (paid_in t))) street seats table
+    made = made_at g.game t (point_street t.point) street seats table is
+
+    board : table.known.board ≡ board_up_to h street
+    board = ap (λ (b : Bare). b.board) made.bare_is
+
+    dead_is : table.known.dead ≡ dead g players h
+    dead_is = ap (λ (b : Bare). b.dead) made.bare_is ∙ shows_dead g players h
+
+    cards : List (Option (List ℕ))
+    cards = by_seat (λ p. known_at t p street)
+
+    hand_at : (i : ℕ) → i < length xs → (p : ℕ) → slice_index_or xs i 0 ≡ p → p < 11 → IsHandOf g h street p (cards_or_none cards p)
+    hand_at i l p at few =
+        let there : slice_index_or cards p None ≡ cards_at g h p street = at_by_seat (λ q. known_at t q street) p None few ∙ (shows g players h p few).known street in
+        let known : is_some (slice_index_or cards p None) ≡ true = ap (λ q. is_some (slice_index_or cards q None)) (sym at) ∙ all_index (λ q. is_some (slice_index_or cards q None)) xs i made.known l in
+        let is_hand : cards_at g h p street ≡ Some (cards_or_none cards p) = sym there ∙ some_is (slice_index_or cards p None) known in
+        record { cards = is_hand; own = (belong g players h ok).known p street (cards_or_none cards p) is_hand }
+
+    hands : (i : ℕ) → i < table.known.count → IsHandOf g h street (slice_index_or seats i 0) (slice_index_or table.known.hands i [])
+    hands i l =
+        let count : table.known.count ≡ length xs = ap (λ (b : Bare). b.count) made.bare_is in
+        let inside : i < length xs = omega (arith, l, count) in
+        let mapped : length (map (cards_or_none cards) xs) ≡ length xs = length-map xs (cards_or_none cards) in
+        let p = slice_index_or xs i 0 in
+        let range = range_index xs i (range_from (point_contenders t.point) 1 10 (omega arith) (omega arith)) inside in
+        let seat : slice_index_or seats i 0 ≡ p = ap (λ s. slice_index_or s i 0) made.seats_are ∙ in_ten 0 xs i 0 inside in
+        let hand : slice_index_or table.known.hands i [] ≡ cards_or_none cards p
+        = ap (λ (b : Bare). slice_index_or b.hands i []) made.bare_is ∙ in_ten [] (map (cards_or_none cards) xs) i [] (omega (arith, inside, mapped)) ∙ in_map (cards_or_none cards) xs i [] inside in
+        subst (λ (q : ℕ). IsHandOf g h street q (slice_index_or table.known.hands i [])) (sym seat)
+        (subst (λ (own : List ℕ). IsHandOf g h street p own) (sym hand) (hand_at i inside p refl (omega (arith, range.1))))
+
+    seat_some : (i : ℕ) → i < table.known.count → (slice_index_or seats i 0 == 0) ≡ false
+    seat_some i l =
+        let count : table.known.count ≡ length xs = ap (λ (b : Bare). b.count) made.bare_is in
+        let inside : i < length xs = omega (arith, l, count) in
+        let range = range_index xs i (range_from (point_contenders t.point) 1 10 (omega arith) (omega arith)) inside in
+        let seat : slice_index_or seats i 0 ≡ slice_index_or xs i 0 = ap (λ s. slice_index_or s i 0) made.seats_are ∙ in_ten 0 xs i 0 inside in
+        some_seat (slice_index_or seats i 0) (omega (arith, seat, range.0))
+
+    later : (card : ℕ) → has_card (owned h 0) card ≡ true → has_card (board_up_to h street) card ≡ false → IsStillHidden table card
+    later card here after = record {
+      hands = λ i l. hidden (has_card (slice_index_or table.known.hands i []) card) (slice_index_or table.known.hands i []) card refl
+          (λ has. from_apart (owned h (slice_index_or seats i 0)) (owned h 0) card (apart h (slice_index_or seats i 0) 0 (seat_some i l)) ((hands i l).own.each card has) here);
+      dead = hidden (has_card table.known.dead card) table.known.dead card refl
+          (λ has. from_apart (dead g players h) (owned h 0) card (belong g players h ok).dead_and_board (subst (λ (cards : List ℕ). has_card cards card ≡ true) dead_is has) here);
+    }

@@ -1,0 +1,232 @@
+-- Who has a pot's units.
+use Rattle.std.proofs.Common.{◌≡◌, ℕ, zero, suc, ◌+◌, ◌<◌, ◌≤◌, List, [], ◌∷◌, refl, sym, ap, ◌∙◌, subst, Bool, true, false, ◌==◌, ◌&&◌, ◌||◌, not, length, arith}
+use Rattle.std.specs.Prelude.{Option, Some, None, is_some, unwrap_or, IfSome, map, nat_le, nat_lt}
+use Rattle.std.specs.Int.{bit_at}
+use Rattle.std.specs.List.{list_all, list_any}
+use Rattle.std.proofs.lemmas.Nat.Bits.{bit_at-zero}
+use Rattle.std.proofs.lemmas.List.{length-map}
+use Rattle.card_sets.specs.Cards.{union}
+use Rattle.card_sets.specs.Choose.{choose}
+use Rattle.card_sets.specs.declared.games.Game.{Game}
+use Rattle.card_sets.specs.declared.games.Game.TheVariants.{Holdem, Omaha8, Stud, Razz, Lowball27}
+use Rattle.rank_high.proofs.Sets.{length-union, Apart-apart}
+use Rattle.rank_low.specs.Low.{low_a5, low_27, least_of}
+use Rattle.rank_low.proofs.BestFive.{some-choice}
+use Rattle.showdown_tally.specs.Laws.{IsFull}
+use Rattle.hand_audit.specs.declared.standings.Standings.{Standings}
+use Rattle.pot_layers.specs.declared.paid.Share.{Share}
+use Rattle.pot_layers.specs.Pots.{seats_below}
+use Rattle.pot_layers.specs.Split.{InRange, IsOrder, OrdersItsSeats, shares, shares_from, sides_won, is_among}
+use Rattle.hand_audit.specs.Orders.{seats_in}
+use Rattle.hand_audit.specs.Settle.{Showing, value_on, worth_on, set_of, is_alone, is_checked, are_known, hand_of, first_winners, second_winners, first_side, second_side, side_winners, parts_alone, parts_by, parts_if, parts_among, order_of}
+use Rattle.hand_audit.specs.Winning.{AreFull, IsDecided, Ranks, Tells, is_beaten, is_unbeaten, is_seat_in, wins, winners_by}
+use Rattle.hand_audit.proofs.Order.{differ_from, range_from}
+use Rattle.showdown_tally.specs.Settling.{number_of}
+use Rattle.hand_audit.proofs.Seats.{bits_below, among_seats}
+use Rattle.hand_audit.proofs.Told.{HowMany, how_many, no_winners, side_told}
+use Rattle.hand_audit.proofs.Told.HowMany.{many, none}
+
+-- who has no bit has no part
+nobody_from : (units : ℕ) (order other : List ℕ) (seat n : ℕ) → shares_from units 0 0 order other seat n ≡ []
+nobody_from units order other seat zero = refl
+nobody_from units order other seat (suc n) =
+    let zero_won : sides_won 0 0 seat ≡ 0 = (let z : bit_at 0 seat ≡ 0 = bit_at-zero seat in rw z refl) in
+    rw zero_won (nobody_from units order other (seat + 1) n)
+
+nobody_shares : (units : ℕ) (order other : List ℕ) → shares units 0 0 order other ≡ []
+unfolding shares
+nobody_shares units order other = nobody_from units order other 1 10
+
+no_parts : (s : Showing) (units eligible : ℕ) → seats_in eligible ≡ [] → [] ≡ parts_by s units (first_winners s eligible) (second_winners s eligible)
+unfolding parts_by first_winners second_winners
+no_parts s units eligible nowhere =
+    let first : side_winners (first_side s.game) s eligible ≡ 0 = no_winners (first_side s.game) s eligible nowhere in
+    let second : side_winners (second_side s.game) s eligible ≡ 0 = no_winners (second_side s.game) s eligible nowhere in
+    sym (nobody_shares units (order_of s 0) (order_of s 0)) ∙ ap (λ f. shares units f 0 (order_of s f) (order_of s 0)) (sym first) ∙ ap (λ g. shares units (side_winners (first_side s.game) s eligible) g (order_of s (side_winners (first_side s.game) s eligible)) (order_of s g)) (sym second)
+
+-- a set that some seat is in isn't empty
+has_some : (f : ℕ → Bool) (p : ℕ) → p < 11 → f p ≡ true → 0 < seats_below f 11
+has_some f p l passes = by (seats_below f 11) refl
+  where
+    by : (n : ℕ) → seats_below f 11 ≡ n → 0 < n
+    by zero e =
+        let z : bit_at 0 p ≡ 0 = bit_at-zero p in
+        let off : (bit_at 0 p == 1) ≡ false = rw z refl in
+        let on : (bit_at 0 p == 1) ≡ true = ap (λ w. bit_at w p == 1) (sym e) ∙ bits_below f 11 p l ∙ passes in cc
+    by (suc n) e = omega arith
+
+-- the set of one seat isn't
+one_some : (xs : List ℕ) → (length xs == 1) ≡ true → InRange xs → 0 < set_of xs
+one_some [] one r = cc
+one_some (p ∷ xs) one r = has_some (λ q. list_any (λ s. s == q) (p ∷ xs)) p (omega (arith, r.1)) (let same : (p == p) ≡ true = grind arith in rw same refl)
+
+alone_some : (eligible : ℕ) → is_alone eligible ≡ true → 0 < set_of (seats_in eligible)
+alone_some eligible one = one_some (seats_in eligible) one (range_from eligible 1 10 (omega arith) (omega arith))
+
+pub some_alone : (eligible high : ℕ) → is_alone eligible ≡ true → high ≡ set_of (seats_in eligible) → 0 < high
+some_alone eligible high one is = let h : 0 < set_of (seats_in eligible) = alone_some eligible one in rw is h
+
+pub order_alone : OrdersItsSeats → (eligible high : ℕ) (order : List ℕ) → high ≡ set_of (seats_in eligible) → order ≡ seats_in eligible → IsOrder high order
+order_alone law eligible high order is are =
+    subst (λ (w : ℕ). IsOrder w order) (sym is) (subst (λ (xs : List ℕ). IsOrder (set_of (seats_in eligible)) xs) (sym are) (law (seats_in eligible) (differ_from eligible 1 10) (range_from eligible 1 10 (omega arith) (omega arith))))
+
+pub order_nobody : (order : List ℕ) → order ≡ [] → IsOrder 0 order
+order_nobody order is = subst (λ (xs : List ℕ). IsOrder 0 xs) (sym is) (record { once = tt; seats = tt; each = λ seat. (let z : bit_at 0 seat ≡ 0 = bit_at-zero seat in rw z refl); none = λ e. refl })
+
+pub alone_is : (eligible units high : ℕ) (order other : List ℕ) (all : List Share) → high ≡ set_of (seats_in eligible) → order ≡ seats_in eligible → other ≡ [] → all ≡ shares units high 0 order other → all ≡ parts_alone eligible units
+unfolding parts_alone
+alone_is eligible units high order other all h o e is = is ∙ ap (λ w. shares units w 0 order other) h ∙ ap (λ xs. shares units (set_of (seats_in eligible)) 0 xs other) o ∙ ap (λ xs. shares units (set_of (seats_in eligible)) 0 (seats_in eligible) xs) e
+
+pub by_is : (s : Showing) (units first second : ℕ) (order other : List ℕ) (all : List Share) → order ≡ order_of s first → other ≡ order_of s second → all ≡ shares units first second order other → all ≡ parts_by s units first second
+unfolding parts_by
+by_is s units first second order other all o e is = is ∙ ap (λ xs. shares units first second xs other) o ∙ ap (λ xs. shares units first second (order_of s first) xs) e
+
+pub if_alone : (s : Showing) (eligible units : ℕ) → is_alone eligible ≡ true → parts_alone eligible units ≡ parts_if true s eligible units
+if_alone s eligible units one = ap (λ b. parts_among b s eligible units) (sym one)
+
+pub if_others : (s : Showing) (eligible units : ℕ) → is_alone eligible ≡ false → parts_by s units (first_winners s eligible) (second_winners s eligible) ≡ parts_if true s eligible units
+if_others s eligible units others = ap (λ b. parts_among b s eligible units) (sym others)
+
+-- whole hands have a value on the first side of their game
+least_some : (ls : List (List ℕ)) → 0 < length ls → is_some (least_of ls) ≡ true
+least_some [] h = absurd (omega arith)
+least_some (l ∷ ls) h = refl
+
+some_five : (n : ℕ) (game : Game) (own board : List ℕ) (f : List ℕ → List ℕ) → IsFull game own board → 5 ≤ length own + length board → is_some (least_of (map f (choose 5 (union own board)))) ≡ true
+some_five n game own board f full enough =
+    let size : length (union own board) ≡ length own + length board = length-union own board full.own_cards full.board_cards (Apart-apart own board full.apart) in
+    let more : 0 < length (choose 5 (union own board)) = some-choice 5 (union own board) (omega (arith, size, enough)) in
+    let mapped : length (map f (choose 5 (union own board))) ≡ length (choose 5 (union own board)) = length-map (choose 5 (union own board)) f in
+    least_some (map f (choose 5 (union own board))) (omega (arith, more, mapped))
+
+first_some : (game : Game) (own board : List ℕ) → IsFull game own board → is_some (value_on (first_side game) game board (Some own)) ≡ true
+first_some Holdem own board full = refl
+first_some Omaha8 own board full = refl
+first_some Stud own board full = refl
+first_some Razz own board full = some_five 5 Razz own board low_a5 full (omega (arith, full.own_size))
+first_some Lowball27 own board full = some_five 5 Lowball27 own board low_27 full (omega (arith, full.own_size))
+
+hand_some : (s : Showing) (o : Option (List ℕ)) → is_some o ≡ true → IfSome o (λ own. IsFull s.game own s.board) → is_some (value_on (first_side s.game) s.game s.board o) ≡ true
+hand_some s None known full = cc
+hand_some s (Some own) known full = first_some s.game own s.board full
+
+-- of some numbers one is the greatest
+all_up : (f : ℕ → ℕ) (m n : ℕ) (xs : List ℕ) → m ≤ n → list_all (λ j. nat_le (f j) m) xs ≡ true → list_all (λ j. nat_le (f j) n) xs ≡ true
+all_up f m n [] l all = refl
+all_up f m n (x ∷ xs) l all = by (nat_le (f x) m) refl all (λ rest. all_up f m n xs l rest)
+  where
+    by : (b : Bool) → nat_le (f x) m ≡ b → (b && list_all (λ j. nat_le (f j) m) xs) ≡ true → (list_all (λ j. nat_le (f j) m) xs ≡ true → list_all (λ j. nat_le (f j) n) xs ≡ true)
+        → (nat_le (f x) n && list_all (λ j. nat_le (f j) n) xs) ≡ true
+    by true e rest later = let k : f x ≤ m = grind arith in let up : nat_le (f x) n ≡ true = (let u : f x ≤ n = omega (arith, k, l) in grind arith) in rw up (later rest)
+    by false e rest later = cc
+
+record Top (f : ℕ → ℕ) (xs : List ℕ) : Type 0 where
+  seat : ℕ
+  among : is_among seat xs ≡ true
+  above : list_all (λ j. nat_le (f j) (f seat)) xs ≡ true
+
+top_of : (f : ℕ → ℕ) (x : ℕ) (xs : List ℕ) → Top f (x ∷ xs)
+top_of f x [] = record { seat = x; among = (let same : (x == x) ≡ true = grind arith in rw same refl); above = (let self : nat_le (f x) (f x) ≡ true = grind arith in rw self refl) }
+top_of f x (y ∷ ys) = by (top_of f y ys) (nat_le (f x) (f (top_of f y ys).seat)) refl
+  where
+    or_true : (a b : Bool) → b ≡ true → (a || b) ≡ true
+    or_true true b e = refl
+    or_true false b e = e
+
+    by : (rest : Top f (y ∷ ys)) (b : Bool) → nat_le (f x) (f rest.seat) ≡ b → Top f (x ∷ y ∷ ys)
+    by rest true e = record { seat = rest.seat; among = or_true (x == rest.seat) (is_among rest.seat (y ∷ ys)) rest.among; above = rw e rest.above }
+    by rest false e =
+        let l : f rest.seat ≤ f x = grind arith in
+        let same : (x == x) ≡ true = grind arith in
+        let self : nat_le (f x) (f x) ≡ true = grind arith in
+        record { seat = x; among = rw same refl; above = rw self (all_up f (f rest.seat) (f x) (y ∷ ys) l rest.above) }
+
+-- what holds of all holds of one among them
+all_at : (f : ℕ → Bool) (xs : List ℕ) (p : ℕ) → list_all f xs ≡ true → is_among p xs ≡ true → f p ≡ true
+all_at f [] p all among = cc
+all_at f (x ∷ xs) p all among = by (f x) (x == p) refl refl all among (λ rest here. all_at f xs p rest here)
+  where
+    by : (a b : Bool) → f x ≡ a → (x == p) ≡ b → (a && list_all f xs) ≡ true → (b || is_among p xs) ≡ true → (list_all f xs ≡ true → is_among p xs ≡ true → f p ≡ true) → f p ≡ true
+    by true true e same rest here later = let i : x ≡ p = grind arith in ap f (sym i) ∙ e
+    by true false e other rest here later = later rest here
+    by false b e other rest here later = cc
+
+range_at : (xs : List ℕ) (p : ℕ) → InRange xs → is_among p xs ≡ true → p < 11
+range_at [] p r among = cc
+range_at (x ∷ xs) p r among = by (x == p) refl among (λ here. range_at xs p r.2 here)
+  where
+    by : (b : Bool) → (x == p) ≡ b → (b || is_among p xs) ≡ true → (is_among p xs ≡ true → p < 11) → p < 11
+    by true e here later = let i : x ≡ p = grind arith in omega (arith, i, r.1)
+    by false e here later = later here
+
+-- the number of a seat, 0 for none
+kept : List (Option ℕ) → ℕ → ℕ
+kept values p = unwrap_or (number_of values p) 0
+
+not_beaten : (mine other : Option ℕ) → nat_le (unwrap_or other 0) (unwrap_or mine 0) ≡ true → not (is_beaten mine other) ≡ true
+not_beaten None other l = refl
+not_beaten (Some mine) None l = refl
+not_beaten (Some mine) (Some other) l = let no_less : nat_lt mine other ≡ false = grind arith in ap not no_less
+
+unbeaten : (values : List (Option ℕ)) (p : ℕ) (xs : List ℕ) → list_all (λ j. nat_le (kept values j) (kept values p)) xs ≡ true → list_all (λ q. not (is_beaten (number_of values p) (number_of values q))) xs ≡ true
+unfolding kept
+unbeaten values p [] all = refl
+unbeaten values p (x ∷ xs) all = by (nat_le (kept values x) (kept values p)) refl all (λ rest. unbeaten values p xs rest)
+  where
+    by : (b : Bool) → nat_le (kept values x) (kept values p) ≡ b → (b && list_all (λ j. nat_le (kept values j) (kept values p)) xs) ≡ true
+        → (list_all (λ j. nat_le (kept values j) (kept values p)) xs ≡ true → list_all (λ q. not (is_beaten (number_of values p) (number_of values q))) xs ≡ true)
+        → (not (is_beaten (number_of values p) (number_of values x)) && list_all (λ q. not (is_beaten (number_of values p) (number_of values q))) xs) ≡ true
+    by true e rest later = let here : not (is_beaten (number_of values p) (number_of values x)) ≡ true = not_beaten (number_of values p) (number_of values x) e in rw here (later rest)
+    by false e rest later = cc
+
+-- the seat with the greatest number wins
+top_wins : (values : List (Option ℕ)) (eligible : ℕ) (top : Top (kept values) (seats_in eligible)) → is_some (number_of values top.seat) ≡ true → wins values eligible top.seat ≡ true
+unfolding wins
+top_wins values eligible top some =
+    let p = top.seat in
+    let l : p < 11 = range_at (seats_in eligible) p (range_from eligible 1 10 (omega arith) (omega arith)) top.among in
+    let here : is_seat_in eligible p ≡ true = sym (among_seats eligible p l) ∙ top.among in
+    ap (λ b. b && is_some (number_of values p) && is_unbeaten values eligible (number_of values p)) here
+    ∙ ap (λ b. b && is_unbeaten values eligible (number_of values p)) some
+    ∙ unbeaten values p (seats_in eligible) top.above
+
+known_all : (s : Showing) (eligible : ℕ) → is_checked s eligible ≡ true → is_alone eligible ≡ false → are_known s eligible ≡ true
+unfolding is_checked
+known_all s eligible checked others = sym (ap (λ b. b || are_known s eligible) others) ∙ checked
+
+top_among : (f : ℕ → ℕ) (xs : List ℕ) → 2 ≤ length xs → Top f xs
+top_among f [] more = absurd (omega arith)
+top_among f (x ∷ xs) more = top_of f x xs
+
+winners_some : (values : List (Option ℕ)) (eligible p : ℕ) → p < 11 → wins values eligible p ≡ true → 0 < winners_by values eligible
+unfolding winners_by
+winners_some values eligible p l won = has_some (wins values eligible) p l won
+
+-- somebody wins a pot of which it is known who wins, where somebody is eligible
+pub some_win : (values : List (Option ℕ)) (s : Showing) (eligible : ℕ) → Ranks (first_side s.game) values (worth_on (first_side s.game) s) → AreFull s → is_checked s eligible ≡ true → is_alone eligible ≡ false → 2 ≤ length (seats_in eligible) → first_winners s eligible ≡ 0 → ⊥
+unfolding first_winners
+some_win values s eligible ranks full checked others more nobody =
+    let xs = seats_in eligible in
+    let top = top_among (kept values) xs more in
+    let p = top.seat in
+    let l : p < 11 = range_at xs p (range_from eligible 1 10 (omega arith) (omega arith)) top.among in
+    let known : is_some (hand_of s p) ≡ true = all_at (λ q. is_some (hand_of s q)) xs p (known_all s eligible checked others) top.among in
+    let some : is_some (number_of values p) ≡ true = ranks.some p l ∙ hand_some s (hand_of s p) known (full p l) in
+    let won : 0 < winners_by values eligible = winners_some values eligible p l (top_wins values eligible top some) in
+    let same : winners_by values eligible ≡ 0 = side_told (first_side s.game) values s eligible ranks ∙ nobody in
+    omega (arith, won, same)
+
+pub won_full : (s : Showing) (eligible : ℕ) → IsDecided s eligible → is_alone eligible ≡ false → (first_winners s eligible ≡ 0 → ⊥) → AreFull s
+unfolding first_winners
+won_full s eligible d others somebody = by (how_many eligible others)
+  where
+    by : HowMany eligible → AreFull s
+    by (none e) = absurd (somebody (no_winners (first_side s.game) s eligible e))
+    by (many m) = d m
+
+pub not_won : (w : Standings) (s : Showing) (eligible units : ℕ) → Tells w s → IsDecided s eligible → is_checked s eligible ≡ true → is_alone eligible ≡ false → first_winners s eligible ≡ 0 → [] ≡ parts_if true s eligible units
+not_won w s eligible units t d checked others nobody = by (how_many eligible others)
+  where
+    by : HowMany eligible → [] ≡ parts_if true s eligible units
+    by (none e) = no_parts s units eligible e ∙ if_others s eligible units others
+    by (many m) = absurd (some_win w.first s eligible (t.first (d m)) (d m) checked others m nobody)

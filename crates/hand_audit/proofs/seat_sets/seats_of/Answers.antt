@@ -1,0 +1,23 @@
+use Rattle.std.proofs.Common.{◌≡◌, ◌==◌, ◌∙◌, ap, true, false, arith, map, refl}
+use Rattle.std.specs.Int.{bit_at}
+use Rattle.hand_audit.specs.KnownTables.{ten}
+use Rattle.hand_audit.proofs.Tens.{count_none, count_some, fill_none, fill_some, all_before, ten_none, ten_same}
+use Rattle.hand_audit.proofs.seat_sets.seats_of.Goals as goal
+
+pub loop-seat-init : goal.loop-seat-init
+loop-seat-init c = record { count = refl; few = omega arith; all = ten_none 0 }
+
+pub loop-seat-preserved-then-not-is_in : goal.loop-seat-preserved-then-not-is_in
+loop-seat-preserved-then-not-is_in c =
+    let none : (bit_at c.args.seats c.loop-seat.seat == 1) ≡ false = grind (arith, c.is_in.ensures, c.if-not-is_in.true) in
+    let few = c.loop-seat.invariant.few in
+    record { count = count_none _ _ _ c.loop-seat.auto.seat none c.loop-seat.invariant.count; few = omega (arith, few); all = fill_none 0 (λ p. p) _ _ _ c.loop-seat.auto.seat none c.loop-seat.invariant.all }
+
+pub loop-seat-preserved : goal.loop-seat-preserved
+loop-seat-preserved c =
+    let some : (bit_at c.args.seats c.loop-seat.seat == 1) ≡ true = grind (arith, c.is_in.ensures, c.if-not-is_in.false) in
+    let few = c.loop-seat.invariant.few in
+    record { count = count_some _ _ _ c.loop-seat.auto.seat some c.loop-seat.invariant.count; few = omega (arith, few); all = fill_some 0 (λ p. p) _ _ _ _ c.loop-seat.auto.seat (omega arith) some c.loop-seat.invariant.count c.loop-seat.invariant.all }
+
+pub returns : goal.returns
+returns c = let end : c.loop-seat.seat ≡ 11 = omega arith in c.loop-seat.invariant.all ∙ ap (λ xs. ten 0 (map (λ p. p) xs)) (all_before c.args.seats c.loop-seat.seat end) ∙ ten_same _

@@ -1,0 +1,113 @@
+//! The all-in of a hand.
+
+ghost use Rattle.std.specs.Prelude.{◌≡◌, ◌<◌, None, is_some, slice_index_or};
+ghost use Rattle.std.specs.List.{list_all};
+ghost use Rattle.hand_audit.specs.Orders.{seats_in};
+ghost use Rattle.pot_layers.specs.Pots.{pots};
+ghost use Rattle.betting_replay.specs.Seats.{by_seat};
+ghost use Rattle.betting_replay.specs.Table.{known_at};
+ghost use Rattle.hand_audit.specs.PotSeats.{eligible_of};
+ghost use Rattle.hand_audit.specs.Showings.{paid_in};
+ghost use Rattle.hand_audit.specs.AllIns.{all_in_at, known_there, eligible_in, all_in_by};
+
+use crate::audit::AllIn;
+use crate::known_tables::known_table;
+use crate::orders::is_in;
+use crate::seat_sets::seats_of;
+use crate::settlement::PotLine;
+use betting_replay::Replay;
+use card_sets::{CardSet, Game};
+use history_text::Street;
+
+/// What is known at an all-in point.
+#[derive(Clone, Copy)]
+pub(crate) struct AtPoint {
+    /// The game.
+    pub(crate) game: Game,
+    /// The street on which it lies.
+    pub(crate) street: Street,
+    /// The contenders there: bit s for seat s.
+    pub(crate) contenders: u16,
+    /// The cards of each seat, where they are known.
+    pub(crate) cards: [Option<CardSet>; 11],
+    /// The cards of the board.
+    pub(crate) board: CardSet,
+    /// The cards that are known not to come.
+    pub(crate) dead: CardSet,
+}
+
+/// Whether a seat's cards are known.
+fn is_known(cards: &[Option<CardSet>; 11], seat: u8) -> bool
+    requires { seat < 11 }
+    ensures { result ≡ is_some (slice_index_or cards.now seat None) }
+{
+    cards[seat as usize].is_some()
+}
+
+/// Whether the cards of each seat of a set are known.
+fn are_all_known(cards: &[Option<CardSet>; 11], seats: u16) -> bool
+    ensures { result ≡ list_all (λ p. is_some (slice_index_or cards.now p None)) (seats_in seats) }
+{
+    for seat in 1..11u8 {
+        if !is_in(seats, seat) {
+            continue;
+        }
+        if !is_known(cards, seat) {
+            return false;
+        }
+    }
+    true
+}
+
+/// The all-in of what is known at a point, and the pots of the hand.
+fn all_in_at(point: &AtPoint, lines: &[PotLine]) -> AllIn
+    ensures { result ≡ all_in_at point.now (eligible_of lines.now) }
+{
+    if !are_all_known(&point.cards, point.contenders) {
+        return AllIn::Unknown;
+    }
+    match known_table(point, lines) {
+        Some(table) => AllIn::Known {
+            street: point.street,
+            seats: seats_of(point.contenders),
+            table,
+        },
+        None => AllIn::Unknown,
+    }
+}
+
+/// The cards of each seat on a street, by seat.
+fn cards_on(replay: &Replay, street: Street) -> [Option<CardSet>; 11]
+    ensures { result ≡ by_seat (λ p. known_at replay.now p street) }
+{
+    let mut cards = [None; 11];
+    for seat in 0..11u8 {
+        cards[seat as usize] = replay.cards_at(seat, street);
+    }
+    cards
+}
+
+/// What a replay tells of a point on a street.
+#[tactic(auto, unfolding(crate::specs::AllIns::known_there))]
+fn known_there(game: Game, replay: &Replay, street: Street) -> AtPoint
+    ensures { result ≡ known_there game replay.now street }
+{
+    AtPoint {
+        game,
+        street,
+        contenders: replay.all_in_contenders(),
+        cards: cards_on(replay, street),
+        board: replay.board_at(street),
+        dead: replay.dead(),
+    }
+}
+
+/// The all-in of a hand, by its replay and what its pots hold.
+pub(crate) fn all_in_by(game: Game, replay: &Replay, lines: &[PotLine]) -> AllIn
+    ensures { eligible_of lines.now ≡ eligible_in (pots (paid_in replay.now)) → result ≡ all_in_by game replay.now }
+{
+    match replay.all_in_point() {
+        Some(street) => all_in_at(&known_there(game, replay, street), lines),
+        None => AllIn::None,
+    }
+}

@@ -1,0 +1,164 @@
+//! The table of an all-in: the known cards, and which hands may win which pot.
+
+ghost use Rattle.std.specs.Prelude.{◌≡◌, ◌<◌, ◌≤◌, [], map, length, nat_le};
+ghost use Rattle.std.specs.List.{list_all};
+ghost use Rattle.card_sets.specs.Disjoint.{apart, all_apart, all_empty};
+ghost use Rattle.showdown_tally.specs.Tables.{all_within};
+ghost use Rattle.hand_audit.specs.Orders.{seats_in};
+ghost use Rattle.hand_audit.specs.KnownTables.{ten, places_in, holds, table_from};
+ghost use Rattle.hand_audit.specs.PotSeats.{eligible_of};
+ghost use Rattle.hand_audit.specs.AllIns.{cards_or_none, bare_of};
+
+use crate::all_in::AtPoint;
+use crate::orders::is_in;
+use crate::seat_sets::{count_seats, places_in};
+use crate::settlement::PotLine;
+use crate::standings::{are_apart, board_size, own_size};
+use card_sets::{CardSet, Game, Known};
+use showdown_tally::Table;
+
+/// A seat's cards, and none where they are unknown.
+fn cards_at(cards: &[Option<CardSet>; 11], seat: u8) -> CardSet
+    requires { seat < 11 }
+    ensures { result ≡ cards_or_none cards.now seat }
+{
+    cards[seat as usize].unwrap_or(CardSet::empty())
+}
+
+/// The cards of the seats of a set, in ten places.
+fn hands_of(cards: &[Option<CardSet>; 11], seats: u16) -> [CardSet; 10]
+    ensures { result ≡ ten [] (map (cards_or_none cards.now) (seats_in seats)) }
+{
+    let mut all = [CardSet::empty(); 10];
+    let mut count = 0usize;
+    for seat in 1..11u8 {
+        if !is_in(seats, seat) {
+            continue;
+        }
+        all[count] = cards_at(cards, seat);
+        count += 1;
+    }
+    all
+}
+
+/// What of each pot's players has a place among some seats, in ten places.
+fn eligible_of(pots: &[PotLine], seats: u16) -> [u16; 10]
+    requires { length pots.now ≤ 10 }
+    ensures { result ≡ ten 0 (map (λ pot. places_in (seats_in seats) pot.eligible) pots.now) }
+{
+    let mut all = [0; 10];
+    for (number, pot) in pots.iter().enumerate() {
+        all[number] = places_in(seats, pot.eligible);
+    }
+    all
+}
+
+/// Whether a set shares no card with any of some others.
+fn apart_from_all(cards: CardSet, sets: &[CardSet]) -> bool
+    ensures { result ≡ list_all (apart cards) sets.now }
+{
+    match sets {
+        [] => true,
+        [first, others @ ..] => are_apart(cards, *first) && apart_from_all(cards, others),
+    }
+}
+
+/// Whether no two of some sets share a card.
+fn all_apart(sets: &[CardSet]) -> bool
+    ensures { result ≡ all_apart sets.now }
+{
+    match sets {
+        [] => true,
+        [first, others @ ..] => apart_from_all(*first, others) && all_apart(others),
+    }
+}
+
+/// Whether no set has a card.
+fn all_empty(sets: &[CardSet]) -> bool
+    ensures { result ≡ all_empty sets.now }
+{
+    match sets {
+        [] => true,
+        [first, others @ ..] => first.count() == 0 && all_empty(others),
+    }
+}
+
+/// Whether no set is larger than so many cards.
+fn all_small(sets: &[CardSet], most: u32) -> bool
+    ensures { result ≡ list_all (λ hand. nat_le (length hand) most) sets.now }
+{
+    match sets {
+        [] => true,
+        [first, others @ ..] => first.count() <= most && all_small(others, most),
+    }
+}
+
+/// Whether no set of hands has a hand that there isn't.
+fn all_within(count: u8, sets: &[u16]) -> bool
+    requires { count ≤ 10 }
+    ensures { result ≡ all_within count sets.now }
+{
+    match sets {
+        [] => true,
+        [first, others @ ..] => *first < 1 << count && all_within(count, others),
+    }
+}
+
+/// Whether these can be a table's: whether what holds of every table holds of them.
+fn holds(
+    game: Game,
+    count: u8,
+    hands: &[CardSet; 10],
+    board: CardSet,
+    dead: CardSet,
+    pots: usize,
+    eligible: &[u16; 10],
+) -> bool
+    requires { count ≤ 10 }
+    ensures { result ≡ holds (record { game = game; count = count; hands = hands.now; board = board; dead = dead; pots = pots; eligible = eligible.now }) }
+{
+    let hands = &hands[..];
+    are_apart(board, dead)
+        && apart_from_all(board, hands)
+        && apart_from_all(dead, hands)
+        && all_apart(hands)
+        && all_empty(&hands[usize::from(count)..])
+        && board.count() <= board_size(game)
+        && all_small(hands, own_size(game))
+        && pots <= 10
+        && all_within(count, eligible)
+}
+
+/// The table of what is known at a point and the pots, where there can be one.
+pub(crate) fn known_table(point: &AtPoint, pots: &[PotLine]) -> Option<Table>
+    ensures { result ≡ table_from (bare_of point.now (eligible_of pots.now)) }
+{
+    if 10 < pots.len() {
+        return None;
+    }
+    let count = count_seats(point.contenders);
+    let hands = hands_of(&point.cards, point.contenders);
+    let eligible = eligible_of(pots, point.contenders);
+    if !holds(
+        point.game,
+        count,
+        &hands,
+        point.board,
+        point.dead,
+        pots.len(),
+        &eligible,
+    ) {
+        return None;
+    }
+    Some(Table {
+        known: Known {
+            game: point.game,
+            count,
+            hands,
+            board: point.board,
+            dead: point.dead,
+        },
+        pots: pots.len() as u8,
+        eligible,
+    })
+}

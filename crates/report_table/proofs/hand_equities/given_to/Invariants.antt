@@ -1,0 +1,9 @@
+use Rattle.std.proofs.Common.{◌≡◌, ◌≤◌, ◌*◌, ◌^◌}
+use Rattle.report_table.specs.HandEquities.{given_to, tally_figures}
+use Rattle.report_table.proofs.hand_equities.given_to.Given as goal
+
+abbrev pub invariant-loop-k : goal.invariant-loop-k
+invariant-loop-k l = record {
+  few : l.given ≤ l.k * 2 ^ 101;
+  so_far : l.given ≡ given_to l.pots (tally_figures l.tally) l.hand l.k;
+}
