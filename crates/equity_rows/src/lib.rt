@@ -14,6 +14,8 @@ mod games;
 #[cfg(test)]
 mod histories;
 #[cfg(test)]
+mod mixed;
+#[cfg(test)]
 mod refusals;
 #[cfg(test)]
 mod runs;
