@@ -1,5 +1,5 @@
 -- Of a hand in which no line departs the first pass reads every line, and so whoever put in chips is a player.
-use Rattle.std.proofs.Common.{◌≡◌, ℕ, ◌+◌, ◌-◌, ◌^◌, ◌<◌, ◌≤◌, min, List, [], ◌∷◌, refl, sym, ap, ◌∙◌, subst, Bool, true, false, ◌==◌, ◌&&◌, ◌||◌, length, take, drop, codes, arith}
+use Rattle.std.proofs.Common.{◌≡◌, ℕ, ◌+◌, ◌-◌, ◌<◌, ◌≤◌, List, [], ◌∷◌, refl, sym, ap, ◌∙◌, subst, Bool, true, false, ◌==◌, ◌&&◌, ◌||◌, length, take, drop, codes, arith}
 use Rattle.std.specs.Prelude.{nat_le, Option, Some, None, Result, Ok, Err, if◌then◌else◌}
 use Rattle.std.specs.List.{list_any}
 use Rattle.std.proofs.lemmas.List.Folds.{list_any-append}
@@ -63,9 +63,6 @@ seat_of_number n s is = by (nat_le 1 n) (nat_le n 10) refl is
     by true false few h = cc
     by false b few h = cc
 
-kept_small : (n : ℕ) → n ≤ 10 → min n (2 ^ 64 - 1) ≡ n
-kept_small n few = omega (arith, few)
-
 preamble_seat : (names : List (ℕ × List ℕ)) (g : Header) (line : List ℕ) (s : ℕ) (e : Event) → seat_number line ≡ Some s → preamble_event names g line ≡ Ok e → (is_seat_line e ≡ true) × (seat_of e ≡ s)
 unfolding preamble_event seated_line seat_line seat_number seat_opening seat_front seat_event
 preamble_seat names g line s e is read = by_word (behind (codes "Seat ") line) refl
@@ -74,9 +71,8 @@ preamble_seat names g line s e is read = by_word (behind (codes "Seat ") line) r
     by_seat text rest before first None seat number event = let no : seat_event names g first None rest before ≡ Err BadHeader = refl in cc
     by_seat text rest before first (Some n) seat number event =
         let small = seat_of_number (number_of (take (digit_count text) text)) n seat in
-        let kept = kept_small (number_of (take (digit_count text) text)) small.1 in
         let both = seat_event_is names g first n rest before e event in
-        (both.0, both.1 ∙ small.0 ∙ sym kept ∙ number)
+        (both.0, both.1 ∙ small.0 ∙ number)
 
     by_cut : (text rest : List ℕ) (cut : Option (List ℕ × List ℕ)) → behind (codes "Seat ") line ≡ Some text → (digit_count text == 0) ≡ false → behind (codes ": ") (drop (digit_count text) text) ≡ Some rest → cut_last (codes " in chips") rest ≡ cut → (is_seat_line e ≡ true) × (seat_of e ≡ s)
     by_cut text rest None et ed er ec = let no : seat_number line ≡ None = rw (et, ed, er, ec) refl in cc

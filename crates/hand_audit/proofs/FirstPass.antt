@@ -1,12 +1,13 @@
 -- The first pass.
 use Rattle.std.proofs.Common.{◌≡◌, ℕ, ◌<◌, List, [], ◌∷◌, refl, sym, ap, ◌∙◌, subst, Bool, true, false, ◌==◌, ◌||◌}
 use Rattle.std.proofs.lemmas.List.Folds.{list_any-append}
-use Rattle.std.specs.BTreeSet.{BTreeSet, Updates, contains}
+use Rattle.std.specs.BTreeSet.{BTreeSet, UpdatesBy, contains_by}
 use Rattle.std.specs.BTreeMap.{is_at as is_at_key}
-use Rattle.std.specs.Cmp.{unsigned_tied}
+use Rattle.std.specs.Cmp.Lexicographic.{slice_cmp}
+use denote.Ref.{Bor}
 use Rattle.std.specs.List.{list_any}
 use Rattle.std.specs.Ordering.{nat_cmp}
-use Rattle.std.specs.Prelude.{cond, Some, None, Ok, Err, if◌then◌else◌, slice_index_or, slice_set}
+use Rattle.std.specs.Prelude.{Option, cond, option_map, Some, None, Ok, Err, if◌then◌else◌, slice_index_or, slice_set}
 use Rattle.pot_layers.specs.Pots.{seats_below}
 use Rattle.history_text.specs.declared.events.Header.{Header}
 use Rattle.history_text.specs.declared.events.Event.{Event}
@@ -19,8 +20,9 @@ use Rattle.betting_replay.specs.Seats.{by_seat}
 use Rattle.betting_replay.proofs.BySeat.{at_by_seat, same_by_seat, set_by_seat, with_at}
 use Rattle.hand_audit.specs.declared.first_pass.Pass.{Pass}
 use Rattle.hand_audit.specs.Lines.{SoFar, nothing, part_of, part_after, read_at, named_by, with_event, with_line, with_line_by, seat_at, is_again, with_seat, player_of, plays, players_in, players_of, read_events}
-use Rattle.hand_audit.specs.Passing.{HasNumbers, Passes, Took}
+use Rattle.hand_audit.specs.Passing.{HasNumbers, Passes, Took, digits_text}
 use Rattle.hand_audit.proofs.Kept.{seats_more}
+use Rattle.hand_audit.proofs.SeatDigits.{same_text, set_has}
 use Rattle.hand_audit.proofs.Seats.{same_below}
 
 -- the seat of an event plays
@@ -41,18 +43,35 @@ pub players_are : (made : List Bool) (h : List Event) → made ≡ by_seat (play
 players_are made h is = same_below (λ p. slice_index_or made p false) (plays h) 11 (λ p l. ap (λ xs. slice_index_or xs p false) is ∙ at_by_seat (plays h) p false l)
 
 -- the numbers of a set that has none, and one more
-pub has_none : (set : BTreeSet ℕ) → set.keys ≡ [] → HasNumbers set []
-has_none set is n = ap (λ keys. list_any (is_at_key (nat_cmp n)) keys) is
+pub has_none : (set : BTreeSet (Bor (List ℕ))) → set.keys ≡ [] → HasNumbers set []
+has_none set is n = ap (λ keys. list_any (is_at_key (λ k. slice_cmp nat_cmp (digits_text n) k.now)) keys) is
 
-pub has_more : (old new : BTreeSet ℕ) (before : List ℕ) (seat : ℕ) → Updates nat_cmp old new seat true → HasNumbers old before → HasNumbers new (with_seat before (Some seat))
+pub has_more : (old new : BTreeSet (Bor (List ℕ))) (before : List ℕ) (seat : ℕ) → UpdatesBy (λ x y. slice_cmp nat_cmp x.now y.now) (λ k. slice_cmp nat_cmp (digits_text seat) k.now) old new true
+    → HasNumbers old before → HasNumbers new (with_seat before (Some seat))
 has_more old new before seat updates has n =
-    updates.0 n ∙ ap (λ a. cond a true (contains nat_cmp old n)) (unsigned_tied seat n) ∙ ap (cond (seat == n) true) (has n) ∙ either (seat == n) (list_any (λ s. s == n) before) ∙ sym (list_any-append (λ s. s == n) before (seat ∷ []))
+    set_has old new (digits_text seat) updates (digits_text n) ∙ ap (λ a. cond a true (contains_by (λ k. slice_cmp nat_cmp (digits_text n) k.now) old)) (same_text seat n)
+    ∙ ap (cond (seat == n) true) (has n) ∙ either (seat == n) (list_any (λ s. s == n) before) ∙ sym (list_any-append (λ s. s == n) before (seat ∷ []))
   where
     either : (a b : Bool) → cond a true b ≡ (b || (a || false))
     either true true = refl
     either true false = refl
     either false true = refl
     either false false = refl
+
+-- a text that says a number, looked for in the set and added to it
+pub again_of : (set : BTreeSet (Bor (List ℕ))) (before : List ℕ) (text : List ℕ) (number : Option ℕ) → Some text ≡ option_map digits_text number → HasNumbers set before
+    → contains_by (λ k. slice_cmp nat_cmp text k.now) set ≡ is_again before number
+again_of set before text None e has = cc
+again_of set before text (Some n) e has =
+    let same : text ≡ digits_text n = (let said : Some text ≡ Some (digits_text n) = e in cc) in
+    subst (λ t. contains_by (λ k. slice_cmp nat_cmp t k.now) set ≡ is_again before (Some n)) (sym same) (has n)
+
+pub noted_of : (old new : BTreeSet (Bor (List ℕ))) (before : List ℕ) (text : List ℕ) (number : Option ℕ) → Some text ≡ option_map digits_text number
+    → UpdatesBy (λ x y. slice_cmp nat_cmp x.now y.now) (λ k. slice_cmp nat_cmp text k.now) old new true → HasNumbers old before → HasNumbers new (with_seat before number)
+noted_of old new before text None e updates has = (let no : Some text ≡ None = e in cc)
+noted_of old new before text (Some n) e updates has =
+    let same : text ≡ digits_text n = (let said : Some text ≡ Some (digits_text n) = e in cc) in
+    has_more old new before n (subst (λ t. UpdatesBy (λ x y. slice_cmp nat_cmp x.now y.now) (λ k. slice_cmp nat_cmp t k.now) old new true) same updates) has
 
 -- what a line makes of the pass
 read_is : (pass : Pass) (g : Header) (so_far : SoFar) (seats : List ℕ) (line : List ℕ) → Passes pass so_far seats → line_event pass.names g pass.part line ≡ read_at g so_far line

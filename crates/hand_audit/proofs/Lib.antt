@@ -34,3 +34,4 @@ pub mod FewPots
 pub mod Tabled
 pub mod UnknownCards
 pub mod WonPots
+pub mod SeatDigits

@@ -1,5 +1,5 @@
 -- The events of the lines of a hand.
-use Rattle.std.specs.Prelude.{ℕ, ◌-◌, ◌^◌, ◌==◌, min, Bool, false, if◌then◌else◌, List, [], ◌∷◌, ◌++◌, take, codes, Option, Some, None, option_map, option_and_then, Result, Ok, Err}
+use Rattle.std.specs.Prelude.{ℕ, ◌==◌, Bool, false, if◌then◌else◌, List, [], ◌∷◌, ◌++◌, take, codes, Option, Some, None, option_map, option_and_then, Result, Ok, Err}
 use Rattle.std.specs.List.{list_any, slice_range}
 use Rattle.line_text.specs.Amounts.{digit_count, number_of}
 use Rattle.history_text.specs.declared.events.Header.{Header}
@@ -53,9 +53,9 @@ with_line_by line so_far (Err fault) = so_far
 abbrev pub with_line : Header → SoFar → List ℕ → SoFar
 with_line header so_far line = with_line_by line so_far (read_at header so_far line)
 
--- the number that the digits at the front of a text say; numbers above 2 ^ 64 - 1 count as that one
+-- the number that the digits at the front of a text say
 abbrev pub front_number : List ℕ → ℕ
-front_number text = min (number_of (take (digit_count text) text)) (2 ^ 64 - 1)
+front_number text = number_of (take (digit_count text) text)
 
 -- the number of a seat line, in form or not, a seat or not; none where the line is no seat line
 unfoldable pub seat_number : List ℕ → Option ℕ

@@ -1,17 +1,24 @@
 -- What the first pass over the lines keeps.
-use Rattle.std.specs.Prelude.{◌≡◌, ℕ, ◌==◌, Bool, true, false, List, All}
+use Rattle.std.specs.Prelude.{◌≡◌, ℕ, ◌+◌, ◌==◌, Bool, true, false, List, All, map}
+use Rattle.std.specs.Cmp.Lexicographic.{slice_cmp}
+use Rattle.std.specs.Int.Digits.{digits_of}
 use Rattle.std.specs.Ordering.{nat_cmp}
 use Rattle.std.specs.List.{list_any}
-use Rattle.std.specs.BTreeSet.{BTreeSet, contains}
+use Rattle.std.specs.BTreeSet.{BTreeSet, contains_by}
+use denote.Ref.{Bor}
 use Rattle.history_text.specs.declared.events.Header.{Header}
 use Rattle.history_text.specs.Within.{IsSeated}
 use Rattle.betting_replay.specs.Seats.{by_seat}
 use Rattle.hand_audit.specs.declared.first_pass.Pass.{Pass}
 use Rattle.hand_audit.specs.Lines.{SoFar, part_of, plays, with_line, with_seat, seat_at, is_again}
 
--- the set has these numbers
-abbrev pub HasNumbers : BTreeSet ℕ → List ℕ → Type 0
-HasNumbers set before = (n : ℕ) → contains nat_cmp set n ≡ list_any (λ s. s == n) before
+-- a number digit by digit, with no zero before it: 0 has no digit
+abbrev pub digits_text : ℕ → List ℕ
+digits_text n = map (λ digit. 48 + digit) (digits_of 10 n)
+
+-- the set has the digits of these numbers
+abbrev pub HasNumbers : BTreeSet (Bor (List ℕ)) → List ℕ → Type 0
+HasNumbers set before = (n : ℕ) → contains_by (λ k. slice_cmp nat_cmp (digits_text n) k.now) set ≡ list_any (λ s. s == n) before
 
 -- it stands for the lines so far, after seat lines of these numbers
 pub record Passes (pass : Pass) (so_far : SoFar) (before : List ℕ) : Type 0 where

@@ -1,6 +1,7 @@
 //! The first pass over the lines of a hand: who plays.
 
-ghost use Rattle.std.specs.Prelude.{◌≡◌, ℕ, ◌+◌, ◌≤◌, ◌<◌, ◌++◌, ◌∷◌, [], List, All, IfOk, IfSome, false, slice_index_or, OnOk, option_map, codes, drop, length};
+ghost use Rattle.std.specs.Prelude.{◌≡◌, ℕ, ◌+◌, ◌≤◌, ◌<◌, ◌++◌, ◌∷◌, [], List, All, IfOk, IfSome, false, slice_index_or, Option, OnOk, option_map, codes, drop, length};
+ghost use Rattle.line_text.specs.Amounts.{digit_count, number_of};
 ghost use Rattle.line_text.specs.Lines.{lines};
 ghost use Rattle.pot_layers.specs.Pots.{seats_below};
 ghost use Rattle.history_text.specs.declared.events.Event.{Event};
@@ -9,24 +10,24 @@ ghost use Rattle.history_text.specs.Within.{IsSeated};
 ghost use Rattle.betting_replay.specs.Limits.{Fits};
 ghost use Rattle.betting_replay.specs.Seats.{by_seat};
 ghost use Rattle.hand_audit.specs.Lines.{SoFar, nothing, front_number, seat_number, seat_at, is_again, with_seat, player_of, plays, players_of};
-ghost use Rattle.hand_audit.specs.Passing.{HasNumbers, Passes, Took};
+ghost use Rattle.hand_audit.specs.Passing.{HasNumbers, Passes, Took, digits_text};
 
 use crate::hand::{part_after, read, seat_name};
 use card_sets::Memory;
 use history_text::{Event, Header, Names, Part, seat_line};
-use line_text::{digit_count, next_line, number_of};
+use line_text::{digit_count, next_line};
 use std::alloc::{AllocError, Global};
 use std::collections::BTreeSet;
 
 /// What the pass keeps of the lines so far.
 #[derive(Drop)]
-pub(crate) struct Pass {
+pub(crate) struct Pass<'a> {
     pub(crate) names: Names,
     pub(crate) part: Part,
     /// By seat: who plays.
     pub(crate) made: [bool; 11],
-    /// The numbers of the seat lines that stood.
-    pub(crate) seats: BTreeSet<u64>,
+    /// The numbers of the seat lines that stood, digit by digit: they may be of any length.
+    pub(crate) seats: BTreeSet<&'a [u8]>,
 }
 
 /// What stands behind the word that begins a seat line.
@@ -37,25 +38,38 @@ fn behind_seat(line: &[u8]) -> Option<&[u8]>
     line.strip_prefix(b"Seat ")
 }
 
-/// The number that the digits at the front say, or the greatest of `u64` where it is greater.
-fn front_number(text: &[u8]) -> u64
-    ensures { result ≡ front_number text.now }
+/// Digits without the zeros before their number; none where they say 0.
+fn without_zeros(digits: &[u8]) -> &[u8]
+    requires { digit_count digits.now ≡ length digits.now }
+    ensures { result.now ≡ digits_text (number_of digits.now) }
 {
-    number_of(&text[..digit_count(text)])
+    for (first, digit) in digits.iter().enumerate() {
+        if *digit != b'0' {
+            return &digits[first..];
+        }
+    }
+    &[]
+}
+
+/// The number that the digits at the front say, digit by digit.
+fn front_number(text: &[u8]) -> &[u8]
+    ensures { result.now ≡ digits_text (front_number text.now) }
+{
+    without_zeros(&text[..digit_count(text)])
 }
 
 /// The number of a seat line, in form or not, a seat or not.
 #[tactic(auto, unfolding(crate::specs::Lines::seat_number))]
-fn seat_number(line: &[u8]) -> Option<u64>
-    ensures { result ≡ seat_number line.now }
+fn seat_number(line: &[u8]) -> Option<&[u8]>
+    ensures { option_map (λ digits. digits.now) result ≡ option_map digits_text (seat_number line.now) }
 {
     seat_line(line)?;
     Some(front_number(behind_seat(line)?))
 }
 
 /// The number of a seat line of the Preamble.
-fn seat_at(part: Part, line: &[u8]) -> Option<u64>
-    ensures { result ≡ seat_at part line.now }
+fn seat_at(part: Part, line: &[u8]) -> Option<&[u8]>
+    ensures { option_map (λ digits. digits.now) result ≡ option_map digits_text (seat_at part line.now) }
 {
     match part {
         Part::Preamble => seat_number(line),
@@ -64,18 +78,20 @@ fn seat_at(part: Part, line: &[u8]) -> Option<u64>
 }
 
 /// Whether a seat line of this number stood.
-fn is_again(seats: &BTreeSet<u64>, seat: Option<u64>) -> bool
-    ensures { (before : List ℕ) → HasNumbers seats.now before → result ≡ is_again before seat }
+fn is_again(seats: &BTreeSet<&[u8]>, seat: Option<&[u8]>) -> bool
+    ensures { (before : List ℕ) (number : Option ℕ) → option_map (λ digits. digits.now) seat.entry ≡ option_map digits_text number
+        → HasNumbers seats.now before → result ≡ is_again before number }
 {
     match seat {
-        Some(seat) => seats.contains(&seat),
+        Some(seat) => seats.contains(seat),
         None => false,
     }
 }
 
 /// A seat line of this number stands.
-fn note_seat(seats: &mut BTreeSet<u64>, seat: Option<u64>) -> Result<(), AllocError>
-    ensures { OnOk result ((before : List ℕ) → HasNumbers seats.old before → HasNumbers seats.new (with_seat before seat)) }
+fn note_seat<'a>(seats: &mut BTreeSet<&'a [u8]>, seat: Option<&'a [u8]>) -> Result<(), AllocError>
+    ensures { OnOk result ((before : List ℕ) (number : Option ℕ) → option_map (λ digits. digits.now) seat.entry ≡ option_map digits_text number
+        → HasNumbers seats.old before → HasNumbers seats.new (with_seat before number)) }
 {
     if let Some(seat) = seat {
         seats.insert(seat)?;
@@ -122,9 +138,9 @@ fn set_of(made: &[bool; 11]) -> u16
     seats
 }
 
-impl Pass {
+impl<'a> Pass<'a> {
     /// Of no line.
-    fn new(alloc: Global) -> Pass
+    fn new(alloc: Global) -> Pass<'a>
         ensures { Passes result nothing [] }
     {
         Pass {
@@ -137,7 +153,7 @@ impl Pass {
 
     /// Goes on by a line, and says whether it is a second seat line of its number. A line that can't be read
     /// adds nothing.
-    fn take(&mut self, header: &Header, line: &[u8]) -> Result<bool, Memory>
+    fn take(&mut self, header: &Header, line: &'a [u8]) -> Result<bool, Memory>
         requires { All IsSeated self.old.names }
         ensures took { IfOk result (λ ends. (so_far : SoFar) (seats : List ℕ) → Passes self.old so_far seats
             → Took self.new header.now so_far seats line.now ends) }

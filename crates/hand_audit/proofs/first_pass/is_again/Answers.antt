@@ -1,6 +1,6 @@
-use Rattle.std.proofs.Common.{◌∙◌, ap, sym}
-use Rattle.hand_audit.specs.Lines.{is_again}
+use Rattle.std.proofs.Common.{◌∙◌, ap, sym, option_map}
+use Rattle.hand_audit.proofs.FirstPass.{again_of}
 use Rattle.hand_audit.proofs.first_pass.is_again.Goals as goal
 
 pub returns-in-Some : goal.returns-in-Some
-returns-in-Some c before has = c.contains.ensures ∙ has c.in-Some.seat ∙ ap (is_again before) (sym c.in-Some.is)
+returns-in-Some c before number same has = c.contains.ensures ∙ again_of c.args.seats.now before c.in-Some.seat.now number (sym (ap (option_map (λ d. d.now)) c.in-Some.is) ∙ same) has

@@ -1,0 +1,5 @@
+use Rattle.hand_audit.proofs.SeatDigits.{Zeros}
+use Rattle.hand_audit.proofs.first_pass.without_zeros.Given as goal
+
+abbrev pub invariant-loop-first : goal.invariant-loop-first
+invariant-loop-first l = record { left : Zeros l.digits l.first }
