@@ -2,7 +2,7 @@
 //!
 //! A `Job` is a table whose runouts are few enough. To count it is to settle each of its runouts once, and to add them up in
 //! one `Tally`. The runouts stand in blocks of `BLOCK`, in the order of their listing, and `count_block` counts one of them,
-//! so that a job can be counted in parts. `count_plain` goes through all runouts in one walk. Nothing here takes memory.
+//! so that a job can be counted in parts. `count_job` counts them all. Nothing here takes memory.
 #![tactic(auto)]
 
 mod blocks;
@@ -11,10 +11,12 @@ mod jobs;
 mod laws;
 mod limits;
 #[cfg(test)]
+mod plain;
+#[cfg(test)]
 mod tests;
 
 pub use blocks::{Scratch, count_block};
-pub use counting::{count_job, count_plain};
+pub use counting::count_job;
 pub use jobs::{Job, JobFault};
 pub use laws::{law_block_sums_add, law_blocks_add_up, law_blocks_are_all};
 pub use limits::{BLOCK, RUNOUT_MAX};

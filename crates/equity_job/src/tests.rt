@@ -5,10 +5,14 @@
 
 ghost use Rattle.std.specs.Prelude.{◌≡◌, ◌<◌, [], ◌∷◌};
 
-use crate::{Job, JobFault, count_job};
+use crate::plain::count_plain;
+use crate::{Job, JobFault, Scratch, count_job};
 use card_sets::{Card, CardSet, Game, Known, Side};
 use showdown_tally::{Cell, Table, Tally};
+use std::marker::Brand;
+use std::sync::ledger::{Blank, Ledger};
 use std::test::Fail;
+use step_count::Steps;
 
 /// The card of a number.
 fn card(number: u8) -> Card
@@ -58,6 +62,19 @@ fn five(a: u8, b: u8, c: u8, d: u8, e: u8) -> CardSet
     ensures { result ≡ a ∷ b ∷ c ∷ d ∷ e ∷ [] }
 {
     four(a, b, c, d).with(card(e))
+}
+
+/// A set of six cards.
+fn six(a: u8, b: u8, c: u8, d: u8, e: u8, f: u8) -> CardSet
+    requires first { a < b }
+    requires second { b < c }
+    requires third { c < d }
+    requires fourth { d < e }
+    requires fifth { e < f }
+    requires deck { f < 52 }
+    ensures { result ≡ a ∷ b ∷ c ∷ d ∷ e ∷ f ∷ [] }
+{
+    five(a, b, c, d, e).with(card(f))
 }
 
 /// Up to three hands.
@@ -241,7 +258,7 @@ fn aces_hold_on_42_of_44_rivers(rt: HostRuntime) -> Result<(), Fail> {
     let table = turn_spot();
     let job = Job::make(&table).ok().ok_or("no job")?;
     assert_eq!(rt; job.runouts(), 44);
-    let tally = count_job(&job);
+    let tally = count_job(&job, &mut Scratch::new());
     assert_eq!(rt; tally.runouts(), 44);
     assert_eq!(rt;
         tally.cell(0, 0, Side::High),
@@ -270,7 +287,7 @@ fn turn_and_river_are_counted_over_990_runouts(rt: HostRuntime) -> Result<(), Fa
     let table = flop_spot();
     let job = Job::make(&table).ok().ok_or("no job")?;
     assert_eq!(rt; job.runouts(), 990);
-    let tally = count_job(&job);
+    let tally = count_job(&job, &mut Scratch::new());
     assert_eq!(rt; tally.runouts(), 990);
     assert_eq!(rt;
         tally.cell(0, 0, Side::High),
@@ -299,7 +316,7 @@ fn a_full_board_is_one_runout(rt: HostRuntime) -> Result<(), Fail> {
     let table = river_spot();
     let job = Job::make(&table).ok().ok_or("no job")?;
     assert_eq!(rt; job.runouts(), 1);
-    let tally = count_job(&job);
+    let tally = count_job(&job, &mut Scratch::new());
     assert_eq!(rt; tally.runouts(), 1);
     assert_eq!(rt; tally.units(0, 0), 5040);
     assert_eq!(rt; tally.units(0, 1), 0);
@@ -354,7 +371,7 @@ fn cell(win: u64, tie: u64, lose: u64) -> Cell {
 #[test]
 fn a_pot_of_omaha_is_divided(rt: HostRuntime) -> Result<(), Fail> {
     let job = Job::make(&omaha_spot()).ok().ok_or("no job")?;
-    let tally = count_job(&job);
+    let tally = count_job(&job, &mut Scratch::new());
     assert_eq!(rt; tally.runouts(), 40);
     assert_eq!(rt; cells(&tally, Side::High), [cell(32, 0, 8), cell(8, 0, 32)]);
     assert_eq!(rt; cells(&tally, Side::Low), [cell(40, 0, 0), cell(0, 0, 40)]);
@@ -366,7 +383,7 @@ fn a_pot_of_omaha_is_divided(rt: HostRuntime) -> Result<(), Fail> {
 #[test]
 fn a_low_that_nobody_has_goes_to_the_high(rt: HostRuntime) -> Result<(), Fail> {
     let job = Job::make(&quartered_spot()).ok().ok_or("no job")?;
-    let tally = count_job(&job);
+    let tally = count_job(&job, &mut Scratch::new());
     assert_eq!(rt; tally.runouts(), 40);
     assert_eq!(rt; cells(&tally, Side::High), [cell(31, 0, 9), cell(9, 0, 31)]);
     assert_eq!(rt;
@@ -381,11 +398,139 @@ fn a_low_that_nobody_has_goes_to_the_high(rt: HostRuntime) -> Result<(), Fail> {
 #[test]
 fn a_six_makes_a_straight_in_deuce_to_seven(rt: HostRuntime) -> Result<(), Fail> {
     let job = Job::make(&one_card_draw()).ok().ok_or("no job")?;
-    let tally = count_job(&job);
+    let tally = count_job(&job, &mut Scratch::new());
     assert_eq!(rt; tally.runouts(), 43);
     assert_eq!(rt; cells(&tally, Side::Low), [cell(40, 3, 0), cell(0, 3, 40)]);
     assert_eq!(rt; cells(&tally, Side::High), [cell(0, 0, 0), cell(0, 0, 0)]);
     assert_eq!(rt; tally.units(0, 0), 40 * 5040 + 3 * 2520);
     assert_eq!(rt; tally.units(0, 1), 3 * 2520);
     Ok(())
+}
+
+/// Ac Ad 7h 9s Tc Kd against 2c 3d 4h 8s Jc Qd.
+fn two_sixes() -> [CardSet; 10]
+    ensures { result ≡ (22 ∷ 31 ∷ 32 ∷ 45 ∷ 48 ∷ 49 ∷ []) ∷ (0 ∷ 5 ∷ 10 ∷ 27 ∷ 36 ∷ 41 ∷ []) ∷ [] ∷ [] ∷ [] ∷ [] ∷ [] ∷ [] ∷ [] ∷ [] ∷ [] }
+{
+    let first = six(22, 31, 32, 45, 48, 49);
+    hands(first, six(0, 5, 10, 27, 36, 41), CardSet::empty())
+}
+
+/// The same hands in seven card stud, with a card to come for each.
+fn stud_spot() -> Table {
+    let none = CardSet::empty();
+    let known = Known {
+        game: Game::Stud,
+        count: 2,
+        hands: two_sixes(),
+        board: none,
+        dead: none,
+    };
+    Table {
+        known,
+        pots: 1,
+        eligible: [3, 0, 0, 0, 0, 0, 0, 0, 0, 0],
+    }
+}
+
+/// The same in Razz.
+fn razz_spot() -> Table {
+    let none = CardSet::empty();
+    let known = Known {
+        game: Game::Razz,
+        count: 2,
+        hands: two_sixes(),
+        board: none,
+        dead: none,
+    };
+    Table {
+        known,
+        pots: 1,
+        eligible: [3, 0, 0, 0, 0, 0, 0, 0, 0, 0],
+    }
+}
+
+/// 7c 5d 4h 3s 2c, who stands pat, against 7d 5h, who draws three.
+fn three_card_draw() -> Table {
+    let none = CardSet::empty();
+    let known = Known {
+        game: Game::Lowball27,
+        count: 2,
+        hands: hands(five(0, 7, 10, 13, 20), two(14, 21), none),
+        board: none,
+        dead: none,
+    };
+    Table {
+        known,
+        pots: 1,
+        eligible: [3, 0, 0, 0, 0, 0, 0, 0, 0, 0],
+    }
+}
+
+/// The tally of one walk, with a counter of its own.
+fn in_one_walk<L: Ledger>(job: &Job, blank: Blank) -> Tally
+    requires name { blank.name ≡ L.name }
+    requires parts { blank.parts ≡ L.parts }
+    requires some { 0 < blank.parts }
+{
+    let mut steps = Steps::<L>::new(blank);
+    count_plain(job, &mut steps)
+}
+
+/// Whether two tallies have the same of a pot.
+fn is_same_pot(a: &Tally, b: &Tally, pot: u8) -> bool
+    requires { pot < 10 }
+{
+    for hand in 0..10 {
+        let highs = (a.cell(pot, hand, Side::High), b.cell(pot, hand, Side::High));
+        let lows = (a.cell(pot, hand, Side::Low), b.cell(pot, hand, Side::Low));
+        if highs.0 != highs.1 || lows.0 != lows.1 || a.units(pot, hand) != b.units(pot, hand) {
+            return false;
+        }
+    }
+    true
+}
+
+/// Whether two tallies are the same.
+fn is_same(a: &Tally, b: &Tally) -> bool {
+    for pot in 0..10 {
+        if !is_same_pot(a, b, pot) {
+            return false;
+        }
+    }
+    a.runouts() == b.runouts()
+}
+
+/// How many runouts a job has; none where its blocks count otherwise than one walk.
+fn counted_alike(job: &Job, scratch: &mut Scratch) -> Option<u64> {
+    let blocks = count_job(job, scratch);
+    let walk = in_one_walk::<Brand>(job, Blank::new(1));
+    if is_same(&blocks, &walk) {
+        Some(walk.runouts())
+    } else {
+        None
+    }
+}
+
+/// The same of the job of a table.
+fn alike_on(table: &Table, scratch: &mut Scratch) -> Option<u64> {
+    match Job::make(table) {
+        Ok(job) => counted_alike(&job, scratch),
+        Err(_) => None,
+    }
+}
+
+#[test]
+fn blocks_count_what_one_walk_counts(rt: HostRuntime) {
+    let mut scratch = Scratch::new();
+    assert_eq!(rt; alike_on(&turn_spot(), &mut scratch), Some(44));
+    assert_eq!(rt; alike_on(&omaha_spot(), &mut scratch), Some(40));
+    assert_eq!(rt; alike_on(&stud_spot(), &mut scratch), Some(1560));
+    assert_eq!(rt; alike_on(&flop_spot(), &mut scratch), Some(990));
+    assert_eq!(rt; alike_on(&razz_spot(), &mut scratch), Some(1560));
+    assert_eq!(rt;
+        alike_on(&three_card_draw(), &mut scratch),
+        Some(14_190),
+        "three whole blocks and 1902 runouts"
+    );
+    assert_eq!(rt; alike_on(&turn_spot(), &mut scratch), Some(44));
 }

@@ -10,6 +10,7 @@ use crate::cursor::Cursor;
 use crate::equities::equity_of_hand;
 use crate::reading::INPUT_MAX;
 use card_sets::Memory;
+use equity_job::Scratch;
 use hand_audit::{HandAudit, audit_hand};
 use history_text::{hand_number, is_header};
 use line_text::next_line;
@@ -78,6 +79,7 @@ fn write_lines(
     asked: bool,
     bytes: &[u8],
     first: u32,
+    scratch: &mut Scratch,
     block: &mut Vec<u8>,
 ) -> Result<bool, Memory>
     requires header { IsTrue (begins_hand (lines bytes.now)) }
@@ -86,7 +88,7 @@ fn write_lines(
     ensures rejected { IfOk result (λ rejected. rejected ≡ is_rejected_hand (record { first = first; lines = lines bytes.now })) }
 {
     let audit = audit_hand(alloc, bytes, first)?;
-    let equity = equity_of_hand(asked, &audit);
+    let equity = equity_of_hand(asked, &audit, scratch);
     write_hand(block, number_text(bytes), &audit, &equity, form)?;
     Ok(is_rejection(&audit))
 }
@@ -99,6 +101,7 @@ pub(crate) fn next_hand(
     asked: bool,
     bytes: &[u8],
     cursor: &mut Cursor,
+    scratch: &mut Scratch,
     block: &mut Vec<u8>,
 ) -> Result<Option<bool>, Memory>
     requires small { length bytes.now ≤ INPUT_MAX }
@@ -121,6 +124,7 @@ pub(crate) fn next_hand(
         asked,
         &bytes[before.end..behind.end],
         first,
+        scratch,
         block,
     )?;
     Ok(Some(rejected))

@@ -12,6 +12,7 @@ use crate::reading::INPUT_MAX;
 use crate::spots::next_spot;
 use byte_ends::{Failed, Sink, write_all};
 use card_sets::Memory;
+use equity_job::Scratch;
 use report_table::Form;
 use std::alloc::Global;
 
@@ -54,6 +55,7 @@ fn next_block(
     mode: Mode,
     bytes: &[u8],
     cursor: &mut Cursor,
+    scratch: &mut Scratch,
     block: &mut Vec<u8>,
 ) -> Result<Option<bool>, Memory>
     requires small { length bytes.now ≤ INPUT_MAX }
@@ -62,9 +64,9 @@ fn next_block(
     ensures { IfOk result (λ next. StepsTo form mode bytes.now block.new.items cursor.old cursor.new next) }
 {
     match mode {
-        Mode::Spots => next_spot(form, bytes, cursor, block),
-        Mode::Check => next_hand(alloc, form, false, bytes, cursor, block),
-        Mode::Audit => next_hand(alloc, form, true, bytes, cursor, block),
+        Mode::Spots => next_spot(form, bytes, cursor, scratch, block),
+        Mode::Check => next_hand(alloc, form, false, bytes, cursor, scratch, block),
+        Mode::Audit => next_hand(alloc, form, true, bytes, cursor, scratch, block),
     }
 }
 
@@ -75,6 +77,7 @@ pub(crate) fn write_report<K: Sink>(
     form: Form,
     mode: Mode,
     bytes: &[u8],
+    scratch: &mut Scratch,
     sink: &mut K,
 ) -> Result<u64, WriteFault>
     requires { length bytes.now ≤ INPUT_MAX }
@@ -90,7 +93,7 @@ pub(crate) fn write_report<K: Sink>(
     let mut rejects = 0;
     'each: loop {
         block.clear();
-        let Some(rejected) = next_block(alloc, form, mode, bytes, &mut cursor, &mut block)? else {
+        let Some(rejected) = next_block(alloc, form, mode, bytes, &mut cursor, scratch, &mut block)? else {
             return Ok(rejects);
         };
         rejects += u64::from(rejected);

@@ -9,6 +9,7 @@ use crate::reading::{Ending, INPUT_MAX, read_all};
 use crate::report::{WriteFault, write_report};
 use crate::words::{WordFault, read_words};
 use byte_ends::{Sink, Source, write_all};
+use equity_job::Scratch;
 use line_text::law_closed_lines;
 use std::alloc::Global;
 
@@ -39,11 +40,13 @@ pub fn run_alone<S: Source, K: Sink>(
         return 6;
     };
     law_closed_lines();
+    let mut scratch = Scratch::new();
     match write_report(
         alloc,
         asked.form,
         asked.mode,
         input.reported(asked.mode),
+        &mut scratch,
         sink,
     ) {
         Ok(rejected) => status_of(input.ending, rejected),

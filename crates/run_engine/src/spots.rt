@@ -13,18 +13,19 @@ use crate::cursor::Cursor;
 use crate::equities::equity_of_table;
 use crate::reading::INPUT_MAX;
 use card_sets::{Known, Memory};
+use equity_job::Scratch;
 use line_text::next_line;
 use report_table::{Equity, Form, table_alone, write_spot};
 use spot_text::{SpotFault, has_word, read_spot};
 
 /// The equity of a spot; none is asked for where it is rejected.
-fn equity_of_spot(known: &Result<Known, SpotFault>) -> Equity
+fn equity_of_spot(known: &Result<Known, SpotFault>, scratch: &mut Scratch) -> Equity
     ensures { IfOk known.now (λ k. IsEquityOf (alone (state_of k)) result) }
 {
     let Ok(known) = known else {
         return Equity::NotAsked;
     };
-    equity_of_table(&table_alone(*known))
+    equity_of_table(&table_alone(*known), scratch)
 }
 
 /// Appends the block of a spot line, and answers whether the spot is rejected.
@@ -34,12 +35,13 @@ fn write_line(
     place: u64,
     number: u32,
     line: &[u8],
+    scratch: &mut Scratch,
 ) -> Result<bool, Memory>
     ensures block { OnOk result (block.new.items ≡ block.old.items ++ spot_block form place number (spot_of line.now)) }
     ensures rejected { IfOk result (λ rejected. rejected ≡ is_err (spot_of line.now)) }
 {
     let known = read_spot(line);
-    let equity = equity_of_spot(&known);
+    let equity = equity_of_spot(&known, scratch);
     write_spot(block, place, number, &known, &equity, form)?;
     Ok(known.is_err())
 }
@@ -50,6 +52,7 @@ pub(crate) fn next_spot(
     form: Form,
     bytes: &[u8],
     cursor: &mut Cursor,
+    scratch: &mut Scratch,
     block: &mut Vec<u8>,
 ) -> Result<Option<bool>, Memory>
     requires small { length bytes.now ≤ INPUT_MAX }
@@ -68,7 +71,7 @@ pub(crate) fn next_spot(
         cursor.line += 1;
         if has_word(text) {
             cursor.place += 1;
-            let rejected = write_line(block, form, place, number, text)?;
+            let rejected = write_line(block, form, place, number, text, scratch)?;
             return Ok(Some(rejected));
         }
     }

@@ -13,3 +13,7 @@ pub mod Shares
 pub mod BothSides
 pub mod KeptOrder
 pub mod OnlySuits
+pub mod SetMasks
+pub mod Classes
+pub mod SetFacts
+pub mod ByOutcome

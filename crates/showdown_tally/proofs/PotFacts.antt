@@ -82,7 +82,7 @@ pub pot_winners : (side : Side) (deal : Showdown) (pot : ℕ) (runout : List (Li
 unfolding winners
 pot_winners side deal pot runout values mask n hands k = ap (winners_of side (value_after side deal.state runout)) hands ∙ side_winners-tops side (value_after side deal.state runout) values mask n k
 
-count_one : {X : Type 0} → (p : X → Bool) (x : X) → count_by p (x ∷ []) ≡ cond (p x) 1 0
+pub count_one : {X : Type 0} → (p : X → Bool) (x : X) → count_by p (x ∷ []) ≡ cond (p x) 1 0
 count_one p x = elim (p x) as (λ b. 0 + cond b 1 0 ≡ cond b 1 0) [ true ↦ refl | false ↦ refl ]
 
 -- how a runout ends, by whether a hand is eligible and whether it is among so many winners

@@ -68,7 +68,7 @@ some_pass p m (x ∷ xs) among pass = elim (cases_eq x m) [
 ]
 
 -- a hand is among those that pass where it is one of them and passes
-among_passed : (p : ℕ → Bool) (h : ℕ) (xs : List ℕ) → is_among h (filter p xs) ≡ (p h && is_among h xs)
+pub among_passed : (p : ℕ → Bool) (h : ℕ) (xs : List ℕ) → is_among h (filter p xs) ≡ (p h && is_among h xs)
 among_passed p h [] = elim (p h) as (λ b. false ≡ (b && false)) [ true ↦ refl | false ↦ refl ]
 among_passed p h (x ∷ xs) =
     let ih : is_among h (filter p xs) ≡ (p h && is_among h xs) = among_passed p h xs in

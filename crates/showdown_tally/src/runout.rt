@@ -91,7 +91,7 @@ fn side_values(side: Side, game: Game, hands: &[CardSet], board: CardSet) -> [Op
 
 /// There are ten places for hands, and ten for pots.
 #[inline]
-fn ten_places(table: &Table)
+pub(crate) fn ten_places(table: &Table)
     ensures hands { length table.now.known.hands ≡ 10 }
     ensures pots { length table.now.eligible ≡ 10 }
 {
@@ -127,6 +127,6 @@ pub fn settle_runout<L: Ledger>(
         let eligible = table.eligible[pot as usize];
         settle_pot(game, &highs, &lows, eligible, known.count, pot, tally);
     }
-    tally.end_runout();
+    tally.end_runouts(1);
     steps.tick();
 }

@@ -6,7 +6,7 @@ ghost use Rattle.showdown_tally.specs.Deals.{deal_of};
 
 use crate::{Equity, Form, write_hand};
 use card_sets::{Game, Known};
-use equity_job::{Job, count_job};
+use equity_job::{Job, Scratch, count_job};
 use hand_audit::{AllIn, HandAudit, Payments, PotLine, PotLines, Settlement};
 use history_text::{Names, Street};
 use showdown_tally::{Table, Tally};
@@ -33,7 +33,7 @@ fn equity_of(table: &Table) -> Equity
     ensures { IsOf (deal_of table.now) result }
 {
     match Job::make(table) {
-        Ok(job) => Equity::Counted(count_job(&job)),
+        Ok(job) => Equity::Counted(count_job(&job, &mut Scratch::new())),
         Err(fault) => Equity::Refused(fault),
     }
 }

@@ -1,0 +1,84 @@
+-- What a set of hands that wins is to a hand.
+use Rattle.std.proofs.Common.{◌≡◌, ℕ, zero, suc, ◌+◌, ◌/◌, ◌<◌, ◌≤◌, ◌==◌, true, false, cond, refl, ◌∙◌, inl, inr, arith, List, [], ◌∷◌, length, length-append}
+use Rattle.std.specs.Prelude.{nat_lt, slice_index_or}
+use Rattle.std.proofs.lemmas.Bool.{cases_eq, cases_lt}
+use Rattle.card_sets.specs.declared.games.Side.{Side}
+use Rattle.showdown_tally.specs.Cells.{cell_of, cell_plus}
+use Rattle.showdown_tally.specs.SetShares.{set_cell, set_units, share_cells, share_units, pots_shares, pots_share_units}
+use Rattle.showdown_tally.specs.Showdown.{is_among}
+use Rattle.showdown_tally.specs.Tables.{hands_below}
+use Rattle.showdown_tally.specs.declared.cells.Outcome.TheVariants.{Win, Tie, Lose}
+use Rattle.showdown_tally.proofs.PotFacts.{among_hands}
+use Rattle.showdown_tally.proofs.Tops.{plus_none, none_plus}
+use Rattle.showdown_tally.proofs.Winners.{is_set}
+
+pub among_set : (set count hand : ℕ) → hand < count → is_among hand (hands_below set count) ≡ is_set set hand
+among_set set count hand l = among_hands set count hand ∙ (let t : nat_lt hand count ≡ true = grind arith in rw t refl)
+
+pub set_loses : (set count hand : ℕ) → hand < count → is_set set hand ≡ false → cell_of Lose ≡ set_cell count hand set
+set_loses set count hand l f = let out : is_among hand (hands_below set count) ≡ false = among_set set count hand l ∙ f in rw out refl
+
+pub set_wins : (set count hand : ℕ) → hand < count → is_set set hand ≡ true → length (hands_below set count) ≡ 1 → cell_of Win ≡ set_cell count hand set
+set_wins set count hand l t one = let among : is_among hand (hands_below set count) ≡ true = among_set set count hand l ∙ t in rw (among, one) refl
+
+pub set_ties : (set count hand : ℕ) → hand < count → is_set set hand ≡ true → (length (hands_below set count) ≡ 1 → ⊥) → cell_of Tie ≡ set_cell count hand set
+set_ties set count hand l t more =
+    let among : is_among hand (hands_below set count) ≡ true = among_set set count hand l ∙ t in
+    let f : (length (hands_below set count) == 1) ≡ false = grind arith in
+    rw (among, f) refl
+
+pub set_gives : (set count hand : ℕ) → hand < count → is_set set hand ≡ true → 5040 / length (hands_below set count) ≡ set_units count hand set
+set_gives set count hand l t = let among : is_among hand (hands_below set count) ≡ true = among_set set count hand l ∙ t in rw among refl
+
+pub set_gives_none : (set count hand : ℕ) → hand < count → is_set set hand ≡ false → 0 ≡ set_units count hand set
+set_gives_none set count hand l f = let out : is_among hand (hands_below set count) ≡ false = among_set set count hand l ∙ f in rw out refl
+
+-- one pot more
+pub shares_step : (masks : List ℕ) (rows : List (List ℕ)) (side : Side) (count n p h : ℕ) (s : Side)
+    → cell_plus (pots_shares masks rows side count n p h s) (share_cells n side (slice_index_or masks n 0) (slice_index_or rows n []) count count p h s) ≡ pots_shares masks rows side count (n + 1) p h s
+shares_step masks rows side count n p h s = elim (cases_lt p n) [
+  | inl l ↦
+      let t : nat_lt p n ≡ true = grind arith in
+      let t' : nat_lt p (n + 1) ≡ true = grind arith in
+      let f : (p == n) ≡ false = grind arith in
+      rw (t, t', f) (plus_none _)
+  | inr ge ↦ elim (cases_eq p n) [
+    | inl e ↦
+        let f : nat_lt n n ≡ false = grind arith in
+        let t' : nat_lt n (n + 1) ≡ true = grind arith in
+        rw e (rw (f, t') (none_plus _))
+    | inr ne ↦
+        let f : nat_lt p n ≡ false = grind arith in
+        let f' : nat_lt p (n + 1) ≡ false = grind arith in
+        let g : (p == n) ≡ false = grind arith in
+        rw (f, f', g) refl
+  ]
+]
+
+pub share_units_step : (masks : List ℕ) (rows : List (List ℕ)) (count n p h : ℕ)
+    → pots_share_units masks rows count n p h + share_units n (slice_index_or masks n 0) (slice_index_or rows n []) count count p h ≡ pots_share_units masks rows count (n + 1) p h
+share_units_step masks rows count n p h = elim (cases_lt p n) [
+  | inl l ↦
+      let t : nat_lt p n ≡ true = grind arith in
+      let t' : nat_lt p (n + 1) ≡ true = grind arith in
+      let f : (p == n) ≡ false = grind arith in
+      rw (t, t', f) (omega arith)
+  | inr ge ↦ elim (cases_eq p n) [
+    | inl e ↦
+        let f : nat_lt n n ≡ false = grind arith in
+        let t' : nat_lt n (n + 1) ≡ true = grind arith in
+        rw e (rw (f, t') (omega arith))
+    | inr ne ↦
+        let f : nat_lt p n ≡ false = grind arith in
+        let f' : nat_lt p (n + 1) ≡ false = grind arith in
+        let g : (p == n) ≡ false = grind arith in
+        rw (f, f', g) refl
+  ]
+]
+
+-- below n there are at most n hands
+pub length_few : (set n : ℕ) → length (hands_below set n) ≤ n
+length_few set zero = omega arith
+length_few set (suc n) =
+    let ih : length (hands_below set n) ≤ n = length_few set n in
+    rw (length-append (hands_below set n) (cond (is_set set n) (n ∷ []) [])) (elim (is_set set n) as (λ b. length (hands_below set n) + length (cond b (n ∷ []) []) ≤ suc n) [ true ↦ omega arith | false ↦ omega arith ])

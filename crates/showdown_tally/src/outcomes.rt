@@ -1,0 +1,53 @@
+//! Who wins a pot, as one number: that with the bits of the winners.
+
+ghost use Rattle.std.specs.Prelude.{◌≡◌, ℕ, ◌<◌, ◌≤◌, ◌==◌, ◌&&◌, List};
+ghost use Rattle.std.specs.Int.{bit_at};
+ghost use Rattle.card_sets.specs.State.{state_of};
+ghost use Rattle.showdown_tally.specs.Deals.{deal_of};
+ghost use Rattle.showdown_tally.specs.Outcomes.{mask_of, outcome, AreNumbersAfter};
+ghost use Rattle.showdown_tally.specs.Settling.{is_top, tops_of};
+
+use crate::laws::law_values_keep_order;
+use crate::runout::ten_places;
+use crate::settle::{is_eligible, is_top, top_value};
+use crate::table::Table;
+
+/// Whether a hand is eligible and has the greatest value.
+#[inline]
+fn wins(value: Option<u32>, top: Option<u32>, hands: u16, hand: u8) -> bool
+    requires { hand < 10 }
+    ensures { result ≡ ((bit_at hands hand == 1) && is_top value top) }
+{
+    is_eligible(hands, hand) && is_top(value, top)
+}
+
+/// The hands that have the greatest value, as the number with their bits.
+#[inline]
+fn winner_set(values: &[Option<u32>; 10], hands: u16, count: u8) -> u16
+    requires { count ≤ 10 }
+    ensures value { result ≡ mask_of (tops_of values.now hands count) }
+    ensures small { result < 1024 }
+{
+    let top = top_value(values, hands, count);
+    let mut set = 0u16;
+    for hand in 0..count {
+        if wins(values[hand as usize], top, hands, hand) {
+            set += 1 << hand;
+        }
+    }
+    set
+}
+
+/// Who wins a pot after each runout that gives the hands these values on the only side of the game:
+/// bit i is set where hand i does. Of Omaha Hi/Lo, which has two sides, it is the high.
+#[inline]
+pub fn pot_outcome(table: &Table, values: &[Option<u32>; 10], pot: u8) -> u16
+    requires { pot < table.now.pots }
+    ensures value { (runout : List (List ℕ)) → AreNumbersAfter (state_of table.now.known) runout values.now
+        → result ≡ outcome (deal_of table.now) pot runout }
+    ensures small { result < 1024 }
+{
+    law_values_keep_order();
+    ten_places(table);
+    winner_set(values, table.eligible[pot as usize], table.known.count)
+}
