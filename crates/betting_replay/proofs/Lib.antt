@@ -8,10 +8,13 @@ pub mod Passed
 pub mod Afford
 pub mod Placed
 pub mod SamePoint
+pub mod Pointed
 pub mod Stands
 pub mod Belong
 pub mod KnownCards
 pub mod DeadCards
+pub mod StreetCards
+pub mod HeldCards
 pub mod Ended
 pub mod WholeBoards
 pub mod BoardSizes

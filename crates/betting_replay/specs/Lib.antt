@@ -17,4 +17,5 @@ pub mod Faults
 pub mod Accepted
 pub mod CardLaws
 pub mod PointLaws
+pub mod KnownLaws
 pub mod Counting

@@ -1,6 +1,6 @@
 //! The moment from which a hand is played out with no more acts.
 
-ghost use Rattle.std.specs.Prelude.{◌≡◌, ℕ, ◌<◌};
+ghost use Rattle.std.specs.Prelude.{◌≡◌, ℕ, ◌<◌, ◌&&◌, not, is_none};
 ghost use Rattle.betting_replay.specs.Table.{own_at};
 ghost use Rattle.betting_replay.specs.AllIn.{funded_count, is_point, point_on, point_now, point_street, point_contenders, had_folded, cards_of_seats, dead_at};
 ghost use Rattle.betting_replay.specs.Counting.{pointed};
@@ -59,12 +59,21 @@ impl Replay {
         }
     }
 
-    /// The first point is kept.
+    /// Whether no moment so far was one, and a street is still to come.
+    fn awaits_point(&self) -> bool
+        ensures { result ≡ (is_none self.now.point && not self.now.last_begun) }
+    {
+        self.point.is_none() && !self.last_begun
+    }
+
+    /// The first point is kept. The seats are looked at only where one may still be found.
     #[tactic(auto, unfolding(crate::specs::Counting::pointed))]
     pub(crate) fn keep_point(&mut self)
         ensures { self.new ≡ pointed self.old }
     {
-        self.point = self.point.or(self.point_now());
+        if self.awaits_point() {
+            self.point = self.point_now();
+        }
     }
 
     /// The street of the all-in point: the first moment behind the first street's marker with two

@@ -1,6 +1,7 @@
 //! What a replay keeps, in plain words. Each law is a call that does nothing.
 
 ghost use Rattle.betting_replay.specs.Accepted.{KeepsChips, ShowsSeats, ShowsDead, TakesTurns};
+ghost use Rattle.betting_replay.specs.KnownLaws.{KnowsAllDealt, HoldsKept};
 ghost use Rattle.betting_replay.specs.PointLaws.{PointsHaveContenders};
 ghost use Rattle.betting_replay.specs.CardLaws.{PlacesAreApart, CardsBelongAfter, WholeBoards};
 
@@ -52,4 +53,19 @@ pub fn law_whole_boards()
 /// any more events was one there.
 pub fn law_a_point_has_contenders()
     ensures { PointsHaveContenders }
+{}
+
+/// A player's cards that are known on a street of stud or razz are all that he was dealt by it: three on
+/// the first street, one more on each of fourth to sixth, and seven on the river.
+pub fn law_stud_cards_are_all_that_were_dealt()
+    ensures { KnowsAllDealt }
+{}
+
+/// After any accepted events what a player of single draw kept, where that and his final cards are
+/// known, is a part of his final cards, under one of three conditions. He showed no whole hand behind his
+/// last discard; or of the cards that belong to him five at the most weren't thrown away; or what he kept
+/// isn't told by five dealt cards and the discards, since he stands pat or discards five. Without one of
+/// them a hand that he shows may have nothing to do with what he was dealt.
+pub fn law_kept_cards_are_held()
+    ensures { HoldsKept }
 {}

@@ -1,11 +1,15 @@
 -- Blocks of a listing, and the sums of two parts of it.
-use Rattle.std.proofs.Common.{◌≡◌, ℕ, zero, suc, ◌+◌, ◌-◌, ◌*◌, ◌≤◌, List, [], ◌∷◌, ◌++◌, length, length-append, take, drop, refl, sym, ap, ◌∙◌, arith, cond}
+use Rattle.std.proofs.Common.{◌≡◌, ℕ, zero, suc, ◌+◌, ◌-◌, ◌*◌, ◌≤◌, List, [], ◌∷◌, ◌++◌, length, length-append, take, drop, refl, sym, ap, ◌∙◌, arith, cond, inl, inr, length-drop}
+use Rattle.std.specs.Prelude.{min}
+use Rattle.std.specs.List.{slice_range}
+use Rattle.std.proofs.lemmas.Bool.{cases_lt}
+use Rattle.std.proofs.lemmas.List.{length-take}
 use Rattle.std.proofs.lemmas.List.Sums.{sum_by-append}
 use Rattle.card_sets.specs.declared.games.Side.{Side}
 use Rattle.showdown_tally.specs.Cells.{Sums, IsSum, cell_plus}
 use Rattle.showdown_tally.specs.Showdown.{Showdown, wins, ties, loses, units}
 use Rattle.showdown_tally.specs.Tallies.{Counts, cell_over}
-use Rattle.equity_job.specs.Blocks.{blocks_below}
+use Rattle.equity_job.specs.Blocks.{block_of, blocks_below}
 use Rattle.equity_job.specs.declared.limits.TheConstants.{BLOCK}
 
 pub take-more : {X : Type 0} (a b : ℕ) (xs : List X) → take (a + b) xs ≡ take a xs ++ take b (drop a xs)
@@ -32,6 +36,21 @@ below-take all (suc blocks) =
 
 pub blocks-all : (all : List (List (List ℕ))) (blocks : ℕ) → length all ≤ blocks * BLOCK → blocks_below all blocks ≡ all
 blocks-all all blocks h = below-take all blocks ∙ take-whole (blocks * BLOCK) all h
+
+-- a block ends with the listing where that ends first
+pub block_to : {X : Type 0} (all : List X) (block end : ℕ) → end ≡ min (block * BLOCK + BLOCK) (length all) → slice_range all (block * BLOCK) end ≡ block_of all block
+block_to all block end e = elim (cases_lt (length all) (block * 4096 + 4096)) [
+  | inl short ↦
+      let last : end ≡ length all = omega arith in
+      let few : length (drop (block * 4096) all) ≤ end - block * 4096 = omega (arith, length-drop (block * 4096) all) in
+      let less : length (drop (block * 4096) all) ≤ block * 4096 + 4096 - block * 4096 = omega (arith, length-drop (block * 4096) all) in
+      take-whole (end - block * 4096) (drop (block * 4096) all) few ∙ sym (take-whole (block * 4096 + 4096 - block * 4096) (drop (block * 4096) all) less)
+  | inr whole ↦ let same : end ≡ block * 4096 + 4096 = omega arith in ap (λ n. take (n - block * 4096) (drop (block * 4096) all)) same
+]
+
+-- and has as many members as there are up to its end
+pub length-block_to : {X : Type 0} (all : List X) (block end : ℕ) → end ≡ min (block * BLOCK + BLOCK) (length all) → length (block_of all block) ≡ end - block * BLOCK
+length-block_to all block end e = omega (arith, length-take (block * 4096 + 4096 - block * 4096) (drop (block * 4096) all), length-drop (block * 4096) all)
 
 pub Counts-join : (deal : Showdown) (some more : List (List (List ℕ))) (old other new : Sums) → Counts deal some old → Counts deal more other → IsSum old other new → Counts deal (some ++ more) new
 Counts-join deal some more old other new a b sum = record {

@@ -16,10 +16,14 @@ mod histories;
 #[cfg(test)]
 mod mixed;
 #[cfg(test)]
+mod other_games;
+#[cfg(test)]
 mod refusals;
 #[cfg(test)]
 mod runs;
 #[cfg(test)]
 mod spots;
+#[cfg(test)]
+mod sums;
 #[cfg(test)]
 mod words;

@@ -24,10 +24,12 @@ use Rattle.hand_audit.specs.declared.audit.AllIn.TheVariants.{Known, Unknown}
 use Rattle.hand_audit.specs.Chips.{KeepsChips}
 use Rattle.hand_audit.specs.Departs.{departs, departs_behind, departs_from}
 use Rattle.hand_audit.specs.Lines.{nothing, players_of}
+use Rattle.hand_audit.specs.MarkLaws.{MarksAreCards}
 use Rattle.hand_audit.specs.PotNames.{fits}
 use Rattle.hand_audit.specs.Settle.{Showing, beyond, beyond_if, beyond_in, beyond_of, beyond_from, settled, settled_of, pay_of, parts_of, part_of_seat, sides_of_seat, distance}
 use Rattle.hand_audit.specs.Showings.{rake, showing_of}
 use Rattle.hand_audit.specs.Splits.{IsSplitRightly, IsWonBySomebody}
+use Rattle.hand_audit.specs.TablePots.{HasPotsOf}
 use Rattle.hand_audit.specs.Verdict.{audit_of, audit_behind, judged, settlement_of, events_of}
 use Rattle.hand_audit.proofs.AllPlay.{others_idle}
 use Rattle.hand_audit.proofs.Chips.{kept, kept_within, sound_all, start, has_total}
@@ -35,9 +37,15 @@ use Rattle.pot_layers.specs.Eligible.{ExcludesFolded}
 use Rattle.hand_audit.proofs.Decided.{decided}
 use Rattle.hand_audit.proofs.Ranked.{KeepsOrder}
 use Rattle.hand_audit.proofs.WonPots.{won_pots}
+use Rattle.hand_audit.proofs.MarkCards.{marks_are_cards}
+use Rattle.hand_audit.proofs.Tables.{paid_shown}
+use Rattle.hand_choice.specs.AllowedFives.{AllowsFives}
+use Rattle.pot_layers.specs.declared.paid.Paid.{Paid}
+use Rattle.hand_audit.specs.Winning.{AreDecided}
 use Rattle.hand_audit.proofs.KnownCards.{known_cards}
 use Rattle.hand_audit.proofs.UnknownCards.{unknown_cards}
 use Rattle.hand_audit.proofs.Sums.{Idle}
+use Rattle.hand_audit.proofs.TablePots.{table_pots}
 
 -- what an accepted hand's verdict says
 record IsAccepted (g : Header) (lines : List (List ℕ)) (number : ℕ) (settlement : Settlement) (all_in : AllIn) (players : ℕ) : Type 0 where
@@ -146,6 +154,13 @@ accepted_unknown apart belong boards shows shows_dead number line lines g read s
     let end = sound_all g players number lines nothing (start g players) a.none in
     unknown_cards apart belong boards shows shows_dead g players (events_of g lines) end.0.accepted end.0.markers a.found
 
+pub accepted_pots : (number : ℕ) (line : List ℕ) (lines : List (List ℕ)) (g : Header) → header_of line ≡ Ok g
+    → (settlement : Settlement) (street : Street) (seats : List ℕ) (table : Table) (names : List (ℕ × List ℕ)) (players : ℕ)
+    → audit_of number (line ∷ lines) ≡ Some (Accepted settlement (Known street seats table) names players) → HasPotsOf settlement seats table
+accepted_pots number line lines g read settlement street seats table names players is =
+    let a = accepted_is number line lines g settlement (Known street seats table) names players read is in
+    subst (λ (x : Settlement). HasPotsOf x seats table) a.made (table_pots g players (events_of g lines) street seats table a.found)
+
 pub accepted_won : KeepsOrder → PlacesAreApart → CardsBelongAfter → WholeBoards → ShowsSeats → ExcludesFolded → (number : ℕ) (line : List ℕ) (lines : List (List ℕ)) (g : Header) → header_of line ≡ Ok g
     → (settlement : Settlement) (all_in : AllIn) (names : List (ℕ × List ℕ)) (players : ℕ)
     → audit_of number (line ∷ lines) ≡ Some (Accepted settlement all_in names players) → IsWonBySomebody (showing_of g players (events_of g lines))
@@ -154,3 +169,13 @@ accepted_won law apart belong boards shows folded number line lines g read settl
     let end = sound_all g players number lines nothing (start g players) a.none in
     let h = events_of g lines in
     won_pots law shows g players h (decided apart belong boards shows folded g players h end.0.accepted end.0.markers (end.0.part (has_total g players h end.1)))
+
+pub accepted_marks : AllowsFives → PlacesAreApart → CardsBelongAfter → WholeBoards → ShowsSeats → ExcludesFolded → (number : ℕ) (line : List ℕ) (lines : List (List ℕ)) (g : Header) → header_of line ≡ Ok g
+    → (settlement : Settlement) (all_in : AllIn) (names : List (ℕ × List ℕ)) (players : ℕ)
+    → audit_of number (line ∷ lines) ≡ Some (Accepted settlement all_in names players) → MarksAreCards (showing_of g players (events_of g lines))
+accepted_marks fives apart belong boards shows folded number line lines g read settlement all_in names players is =
+    let a = accepted_is number line lines g settlement all_in names players read is in
+    let end = sound_all g players number lines nothing (start g players) a.none in
+    let h = events_of g lines in
+    let all = decided apart belong boards shows folded g players h end.0.accepted end.0.markers (end.0.part (has_total g players h end.1)) in
+    marks_are_cards fives (showing_of g players h) (subst (λ (paid : List Paid). AreDecided (showing_of g players h) (pots paid)) (sym (paid_shown g players h)) all)

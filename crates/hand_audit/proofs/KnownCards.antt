@@ -33,11 +33,11 @@ use Rattle.hand_audit.proofs.Order.{range_from}
 use Rattle.hand_audit.proofs.Tens.{bare}
 
 -- what a known all-in is made of
-record IsMade (point : AtPoint) (all : List ℕ) (street : Street) (seats : List ℕ) (table : Table) : Type 0 where
-  known : list_all (λ p. is_some (slice_index_or point.cards p None)) (seats_in point.contenders) ≡ true
-  street_is : point.street ≡ street
-  seats_are : seats ≡ ten 0 (seats_in point.contenders)
-  bare_is : bare table ≡ bare_of point all
+pub record IsMade (point : AtPoint) (all : List ℕ) (street : Street) (seats : List ℕ) (table : Table) : Type 0 where
+  pub known : list_all (λ p. is_some (slice_index_or point.cards p None)) (seats_in point.contenders) ≡ true
+  pub street_is : point.street ≡ street
+  pub seats_are : seats ≡ ten 0 (seats_in point.contenders)
+  pub bare_is : bare table ≡ bare_of point all
 
 known_parts : (a b : Street) (x y : List ℕ) (t u : Table) → Known a x t ≡ Known b y u → (a ≡ b) × (x ≡ y) × (t ≡ u)
 known_parts a b x y t u e = (cc, cc, cc)
@@ -72,18 +72,18 @@ street_there : (game : Game) (t : Replayed) (found street : Street) → (known_t
 unfolding known_there
 street_there game t found street is = is
 
-made_at : (game : Game) (t : Replayed) (o : Option Street) (street : Street) (seats : List ℕ) (table : Table) → all_in_on game t o ≡ Known street seats table → IsMade (known_there game t street) (eligible_in (pots (paid_in t))) street seats table
+pub made_at : (game : Game) (t : Replayed) (o : Option Street) (street : Street) (seats : List ℕ) (table : Table) → all_in_on game t o ≡ Known street seats table → IsMade (known_there game t street) (eligible_in (pots (paid_in t))) street seats table
 made_at game t None street seats table is = cc
 made_at game t (Some found) street seats table is =
     let m = made_of (known_there game t found) (eligible_in (pots (paid_in t))) street seats table is in
     subst (λ (st : Street). IsMade (known_there game t st) (eligible_in (pots (paid_in t))) street seats table) (street_there game t found street m.street_is) m
 
 -- the places of ten
-in_ten : {A : Type 0} → (none : A) (xs : List A) (i : ℕ) (d : A) → i < length xs → slice_index_or (ten none xs) i d ≡ slice_index_or xs i d
+pub in_ten : {A : Type 0} → (none : A) (xs : List A) (i : ℕ) (d : A) → i < length xs → slice_index_or (ten none xs) i d ≡ slice_index_or xs i d
 unfolding ten
 in_ten none xs i d l = get_or_append_left xs (replicate (10 - length xs) none) d i l
 
-in_map : {A : Type 0} → (f : ℕ → A) (xs : List ℕ) (i : ℕ) (d : A) → i < length xs → slice_index_or (map f xs) i d ≡ f (slice_index_or xs i 0)
+pub in_map : {A : Type 0} → (f : ℕ → A) (xs : List ℕ) (i : ℕ) (d : A) → i < length xs → slice_index_or (map f xs) i d ≡ f (slice_index_or xs i 0)
 in_map f [] i d l = absurd (omega arith)
 in_map f (x ∷ xs) zero d l = refl
 in_map f (x ∷ xs) (suc i) d l = in_map f xs i d (omega (arith, l))

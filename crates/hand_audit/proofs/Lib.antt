@@ -33,5 +33,7 @@ pub mod KnownCards
 pub mod FewPots
 pub mod Tabled
 pub mod UnknownCards
+pub mod TablePots
+pub mod MarkCards
 pub mod WonPots
 pub mod SeatDigits

@@ -71,7 +71,7 @@ unbeaten_by side five (other ∷ fives) set size are =
 meets : (top n : ℕ) → n ≤ top → nat_le top n ≡ (n == top)
 meets top n l = grind arith
 
-best_below : (side : Side) (all fives : List (List ℕ)) → AreFives all → AreFives fives → top_number side fives ≤ top_number side all
+pub best_below : (side : Side) (all fives : List (List ℕ)) → AreFives all → AreFives fives → top_number side fives ≤ top_number side all
     → filter (λ five. list_all (λ other. not (beats side (worth_of_five side other) (worth_of_five side five))) all) fives ≡ filter (λ five. number_of_five side five == top_number side all) fives
 best_below side all [] a f l = refl
 best_below side all (five ∷ fives) a f l =

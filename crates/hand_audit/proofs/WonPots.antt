@@ -42,7 +42,7 @@ ranks_of law s full set =
     ranked law (first_side s.game) s.game s.board s.hands (values_of s) set (λ p l. full_test s.game s.board (hand_of s p) (full p l)) (λ p l. set_test s.game s.board (hand_of s p) (full p l))
     (λ p l. at_by_seat (λ q. option_map (number_on (first_side s.game) s.game) (value_on (first_side s.game) s.game s.board (hand_of s q))) p None l)
 
-decided_at : (s : Showing) (xs : List Pot) (i : ℕ) (pot : Pot) → AreDecided s xs → slice_get xs i ≡ Some pot → IsDecided s pot.eligible
+pub decided_at : (s : Showing) (xs : List Pot) (i : ℕ) (pot : Pot) → AreDecided s xs → slice_get xs i ≡ Some pot → IsDecided s pot.eligible
 decided_at s [] i pot all is = cc
 decided_at s (first ∷ xs) zero pot all is = let same : first ≡ pot = cc in subst (λ (p : Pot). IsDecided s p.eligible) same all.0
 decided_at s (first ∷ xs) (suc i) pot all is = decided_at s xs i pot all.1 is

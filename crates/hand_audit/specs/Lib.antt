@@ -19,3 +19,5 @@ pub mod Splits
 pub mod Before
 pub mod Passing
 pub mod CardsKnown
+pub mod TablePots
+pub mod MarkLaws

@@ -13,6 +13,8 @@ ghost use Rattle.hand_audit.specs.Verdict.{audit_of, events_of};
 ghost use Rattle.hand_audit.specs.declared.audit.AllIn.{AllIn};
 ghost use Rattle.hand_audit.specs.declared.audit.HandAudit.TheVariants.{Accepted, Rejected};
 ghost use Rattle.hand_audit.specs.CardsKnown.{KnowsCards, all_known_at};
+ghost use Rattle.hand_audit.specs.MarkLaws.{MarksAreCards};
+ghost use Rattle.hand_audit.specs.TablePots.{HasPotsOf};
 ghost use Rattle.betting_replay.specs.Tables.{point};
 ghost use Rattle.hand_audit.specs.declared.settlement.Settlement.{Settlement};
 ghost use Rattle.history_text.specs.declared.events.Street.{Street};
@@ -23,6 +25,7 @@ use betting_replay::{
     law_a_table_shows_dead_cards, law_a_table_shows_each_seat, law_cards_belong,
     law_places_are_apart, law_whole_boards,
 };
+use hand_choice::law_fives_have_five_cards;
 use pot_layers::law_a_folded_player_is_eligible_nowhere;
 use showdown_tally::law_values_keep_order;
 
@@ -98,4 +101,32 @@ pub fn law_unknown_all_ins_have_unknown_cards()
     law_whole_boards();
     law_a_table_shows_each_seat();
     law_a_table_shows_dead_cards();
+}
+
+/// A law on the pots of all-ins. Of a hand that is accepted and has an all-in whose cards are known: the
+/// table has the pots of the hand, ten at the most, and in each pot a hand of the table is eligible
+/// exactly where its seat is.
+pub fn law_a_table_has_the_pots_of_the_hand()
+    ensures { (number : ℕ) (line : List ℕ) (lines : List (List ℕ)) (header : Header) → header_of line ≡ Ok header
+        → (settlement : Settlement) (street : Street) (seats : List ℕ) (table : Table) (names : List (ℕ × List ℕ)) (players : ℕ)
+        → audit_of number (line ∷ lines) ≡ Some (Accepted settlement (AllIn.Known street seats table) names players)
+        → HasPotsOf settlement seats table }
+{}
+
+/// A law on marks. Of a hand of stud or razz that is accepted: in each pot of two players or more the
+/// mark of a player whose final cards are known is one of these seven, which is in a five of his of best
+/// value, and no card of any such five counts higher. In razz the ace counts lowest. The final cards of
+/// whoever wins are known.
+pub fn law_a_mark_is_a_card_of_its_player()
+    ensures { (number : ℕ) (line : List ℕ) (lines : List (List ℕ)) (header : Header) → header_of line ≡ Ok header
+        → (settlement : Settlement) (all_in : AllIn) (names : List (ℕ × List ℕ)) (players : ℕ)
+        → audit_of number (line ∷ lines) ≡ Some (Accepted settlement all_in names players)
+        → MarksAreCards (showing_of header players (events_of header lines)) }
+{
+    law_fives_have_five_cards();
+    law_places_are_apart();
+    law_cards_belong();
+    law_whole_boards();
+    law_a_table_shows_each_seat();
+    law_a_folded_player_is_eligible_nowhere();
 }

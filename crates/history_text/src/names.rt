@@ -1,6 +1,6 @@
 //! The names of a hand.
 
-ghost use Rattle.std.specs.Prelude.{◌≡◌, ◌<◌, ◌≤◌, ◌+◌, [], ◌∷◌, ◌++◌, length, map, option_map, OnOk, OnErr};
+ghost use Rattle.std.specs.Prelude.{◌≡◌, ◌<◌, ◌≤◌, ◌+◌, [], ◌∷◌, ◌++◌, length, map, option_map, slice_get, OnOk, OnErr};
 ghost use Rattle.history_text.specs.Names.{Fit, fit, front_name, is_seated, is_taken, longer, name_of, seat_named};
 ghost use Rattle.history_text.specs.NameLaws.{AllAreLongest};
 ghost use Rattle.history_text.specs.Seated.{pair, seen};
@@ -62,6 +62,21 @@ impl Names {
         ensures { option_map (λ name. name.now) result ≡ name_of seat self.now }
     {
         name_of(&self.seats, seat)
+    }
+
+    /// How many names there are.
+    pub fn count(&self) -> usize
+        ensures { result ≡ length self.now }
+    {
+        self.seats.len()
+    }
+
+    /// The seat and the name at a place, byte for byte; places count from 0.
+    pub fn at(&self, place: usize) -> Option<(u8, &[u8])>
+        ensures { option_map (λ who. (who.0, who.1.now)) result ≡ slice_get self.now place }
+    {
+        let who = self.seats.get(place)?;
+        Some((who.seat, who.name.as_slice()))
     }
 
     /// The longest of the names that begin a text with a mark behind them.

@@ -3,3 +3,4 @@ pub mod Parts
 pub mod Whole
 pub mod Eligible
 pub mod Listed
+pub mod Halves

@@ -2,3 +2,4 @@ pub mod Pots
 pub mod Uncalled
 pub mod Split
 pub mod Eligible
+pub mod Halves

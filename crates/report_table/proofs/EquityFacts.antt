@@ -77,7 +77,8 @@ pot_same form deal mask a b names seats k hands same p =
     hands_same one other mask 10 (λ hand below. pot_hand_same form deal.state.game a b k (player_name names seats hand) hand same p below) in
     rw hands (ap (λ text. cond (nat_lt 1 (length (hands_of mask))) text []) lines)
 
-given_same : (pots : List PotLine) (a b : Figures) (hand n : ℕ) → Agree a b → hand < 10 → n ≤ 10 → given_to pots a hand n ≡ given_to pots b hand n
+-- and give a hand as much
+pub given_same : (pots : List PotLine) (a b : Figures) (hand n : ℕ) → Agree a b → hand < 10 → n ≤ 10 → given_to pots a hand n ≡ given_to pots b hand n
 given_same pots a b hand n same h few =
     sums_same (λ k. gross_of pots k * a.units k hand) (λ k. gross_of pots k * b.units k hand) n
     (λ k below. ap (λ units. gross_of pots k * units) (same.units k hand (omega arith) h))
@@ -118,7 +119,7 @@ ways_none (n ∷ counts) left short =
     ]
 
 -- where fewer cards may come than are lacking there is no runout
-no_runout_left : (state : State) → IsDeckShort state → length (runouts_after state) ≡ 0
+pub no_runout_left : (state : State) → IsDeckShort state → length (runouts_after state) ≡ 0
 no_runout_left state short =
     length_runouts (counts_of (slots state)) (unseen state) (IsRising-cards_where _) ∙ ways_none (counts_of (slots state)) (length (unseen state)) short
 

@@ -3,3 +3,10 @@ pub mod LineFacts
 pub mod AloneFacts
 pub mod SpotFacts
 pub mod EquityFacts
+pub mod SumFacts
+pub mod PlayerFacts
+pub mod NameFacts
+pub mod LineupFacts
+pub mod MadeFacts
+pub mod RunFacts
+pub mod TotalLaws

@@ -88,14 +88,19 @@ gross_of pots k = option_map_or (λ pot. pot.gross) (slice_get pots k) 0
 abbrev pub given_to : List PotLine → Figures → ℕ → ℕ → ℕ
 given_to pots figures hand n = sum_by (λ k. gross_of pots k * figures.units k hand) (every_pot n)
 
--- what a hand may expect of all pots, rounded once behind their sum, as `expect 100.83 carl`
-unfoldable pub expect_line : Bool → ℕ → List ℕ → ℕ → Line
-expect_line hundredths all name given = named (codes "expect" ∷ money hundredths (round given (5040 * all) 0) ∷ []) name
+-- what a hand may expect of all pots in units of money, rounded once behind their sum: given is what all runouts give it, in
+-- 1/5040 of a unit
+abbrev pub expected_units : ℕ → ℕ → ℕ
+expected_units all given = round given (5040 * all) 0
+
+-- that as a line, as `expect 100.83 carl`
+unfoldable pub expect_line : Bool → List ℕ → ℕ → Line
+expect_line hundredths name units = named (codes "expect" ∷ money hundredths units ∷ []) name
 
 -- what a hand of the table may expect
 abbrev pub hand_expect : Form → Settlement → Seated → List ℕ → Showdown → Figures → ℕ → List ℕ
 hand_expect form s names seats deal figures hand =
-    line_in form (expect_line s.hundredths figures.all (player_name names seats hand) (given_to s.pots figures hand (length deal.pots)))
+    line_in form (expect_line s.hundredths (player_name names seats hand) (expected_units figures.all (given_to s.pots figures hand (length deal.pots))))
 
 -- the first line of an all-in that is counted, as `all-in turn runouts 42`
 unfoldable pub all_in_line : Game → Street → ℕ → Line

@@ -6,8 +6,12 @@ pub use Rattle.equity_job.specs.Jobs
 pub use Rattle.history_text.specs.Names
 pub mod Words
 pub mod Lines
+pub mod Made
+pub mod MadeSeen
 pub mod Spots
 pub mod Equities
 pub mod Causes
 pub mod Hands
 pub mod HandEquities
+pub mod Totals
+pub mod TotalsSeen

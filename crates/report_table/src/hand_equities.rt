@@ -9,7 +9,7 @@ ghost use Rattle.std.specs.Prelude.{◌≡◌, ℕ, ◌*◌, ◌<◌, ◌≤◌,
 ghost use Rattle.std.specs.Int.{bit_at};
 ghost use Rattle.std.specs.List.{flat_map};
 ghost use Rattle.report_table.specs.Equities.{IsEquityOf, IsFull};
-ghost use Rattle.report_table.specs.HandEquities.{all_in_line, counted_all_in, every_pot, expect_line, given_to, gross_of, hand_expect, known_all_in, player_name, pot_equity, pot_ev_line, pot_hand_lines, pot_name, pot_side_line, above_line, short_line, tally_figures};
+ghost use Rattle.report_table.specs.HandEquities.{all_in_line, counted_all_in, every_pot, expect_line, expected_units, given_to, gross_of, hand_expect, known_all_in, player_name, pot_equity, pot_ev_line, pot_hand_lines, pot_name, pot_side_line, above_line, short_line, tally_figures};
 ghost use Rattle.report_table.specs.Lines.{line_in};
 ghost use Rattle.report_table.specs.Spots.{every_hand};
 ghost use Rattle.report_table.specs.Words.{street_word};
@@ -152,7 +152,7 @@ fn is_contested(eligible: u16) -> bool
 }
 
 /// How many pots there are.
-fn pot_count(table: &Table) -> u8
+pub(crate) fn pot_count(table: &Table) -> u8
     ensures value { result ≡ length (deal_of table.now).pots }
     ensures few { result ≤ 10 }
 {
@@ -227,23 +227,31 @@ fn given_to(pots: &[PotLine], tally: &Tally, hand: u8, count: u8) -> u128
     given
 }
 
-/// What a hand may expect of all pots, from what all runouts give it in 1/5040 of a unit.
+/// What a hand of the table may expect of all pots, in units, rounded once.
+pub(crate) fn expected_by(pots: &[PotLine], table: &Table, tally: &Tally, hand: u8) -> u128
+    requires some { 0 < tally.now.runouts }
+    requires hand { hand < 10 }
+    requires small { (k : ℕ) → k < 10 → units_at tally.now k hand ≤ 2 ^ 37 }
+    ensures value { result ≡ expected_units tally.now.runouts (given_to pots.now (tally_figures tally.now) hand (length (deal_of table.now).pots)) }
+    ensures bound { result ≤ 2 ^ 95 }
+{
+    let given = given_to(pots, tally, hand, pot_count(table));
+    rounded(given, 5040 * u128::from(tally.runouts()), 0).whole
+}
+
+/// What a hand of the table may expect, as a line.
 #[tactic(auto, unfolding(crate::specs::HandEquities::expect_line))]
 fn write_expect_line(
     out: &mut Vec<u8>,
     form: Form,
     hundredths: bool,
-    all: u64,
     name: &[u8],
-    given: u128,
+    units: u128,
 ) -> Result<(), AllocError>
-    requires some { 0 < all }
-    requires small { given ≤ 10 ^ 32 }
-    ensures { OnOk result (out.new.items ≡ out.old.items ++ line_in form (expect_line hundredths all name.now given)) }
+    ensures { OnOk result (out.new.items ≡ out.old.items ++ line_in form (expect_line hundredths name.now units)) }
 {
     let mut words = Words::none(*out.allocator());
     push_text(&mut words, "expect")?;
-    let units = rounded(given, 5040 * u128::from(all), 0).whole;
     push_money(&mut words, hundredths, units)?;
     write_named(out, form, words, name)
 }
@@ -264,10 +272,9 @@ fn write_expect(
     ensures { OnOk result (out.new.items ≡ out.old.items
         ++ hand_expect form settlement.now seating.now.names.now seating.now.seats.now (deal_of table.now) (tally_figures tally.now) hand) }
 {
-    let given = given_to(settlement.pots.items(), tally, hand, pot_count(table));
+    let units = expected_by(settlement.pots.items(), table, tally, hand);
     let name = player_name(seating, hand);
-    let all = tally.runouts();
-    write_expect_line(out, form, settlement.hundredths, all, name, given)
+    write_expect_line(out, form, settlement.hundredths, name, units)
 }
 
 /// The first line of an all-in that is counted.

@@ -1,7 +1,7 @@
-//! The blocks of the report: what is printed of a spot and of a hand.
+//! The blocks of the report: what is printed of a spot and of a hand, and of all hands of a run together.
 //!
-//! `write_spot` and `write_hand` each append one block to the bytes that they are lent: all of it, or,
-//! for want of memory, nothing. The crate knows of no input and of no output.
+//! `write_spot`, `write_hand` and `Totals::write` each append one block to the bytes that they are lent:
+//! all of it, or, for want of memory, nothing. The crate knows of no input and of no output.
 #![tactic(auto)]
 
 mod alone;
@@ -12,14 +12,23 @@ mod hand_equities;
 mod hands;
 mod laws;
 mod lines;
+mod made_sums;
 mod numbers;
+mod player_sums;
+mod players;
 mod spot_blocks;
 mod spots;
+mod total_laws;
+mod total_lines;
+mod totals;
 mod words;
 
 pub use alone::table_alone;
 pub use equity::{Equity, Form};
 pub use hand_blocks::write_hand;
 pub use laws::law_money_is_written_whole;
+pub use made_sums::{AllInSums, MadeSums};
 pub use spot_blocks::write_spot;
+pub use total_laws::{law_hands_are_those_that_are_played, law_no_player_is_listed_twice};
+pub use totals::Totals;
 pub use words::street_word;

@@ -1,5 +1,5 @@
 -- The walk over the hands of some bytes.
-use Rattle.std.proofs.Common.{◌≡◌, ℕ, ◌+◌, ◌-◌, ◌<◌, ◌≤◌, Bool, true, false, cond, List, [], ◌∷◌, ◌++◌, length, take, drop, map, refl, sym, ap, ◌∙◌, arith, append-nil, length-append}
+use Rattle.std.proofs.Common.{◌≡◌, ℕ, ◌+◌, ◌-◌, ◌<◌, ◌≤◌, Bool, true, false, cond, List, [], ◌∷◌, ◌++◌, length, take, drop, map, refl, sym, ap, subst, ◌∙◌, arith, append-nil, length-append}
 use mathlib.Core.Bool.{true≢false}
 use Rattle.std.specs.Prelude.{IsTrue, count_by}
 use Rattle.std.specs.List.{slice_range}
@@ -17,7 +17,9 @@ use Rattle.report_table.specs.declared.equity.Form.{Form}
 use Rattle.run_engine.specs.declared.cursor.Cursor.{Cursor}
 use Rattle.run_engine.specs.declared.hands.Reach.{Reach}
 use Rattle.run_engine.specs.Histories.{HandLines, hands_from, up_to_header, hand_block, is_rejected_hand}
-use Rattle.run_engine.specs.Writing.{IsInside, GoesOn, IsAtEnd, Reaches, blocks_at, hand_mode, hands_at, rejects_at}
+use Rattle.run_engine.specs.Writing.{CutsHand, IsInside, GoesOn, IsAtEnd, Reaches, hands_at}
+use Rattle.run_engine.specs.declared.hands.HandPlace.{HandPlace}
+use Rattle.run_engine.specs.declared.listed.Listed.TheVariants.{Hands}
 use Rattle.run_engine.proofs.Lines.{IsWhole, whole_none, whole_append, front_whole, front_open, front_length, lines-first, lines-one, next_place}
 
 passed_step : (x : List ℕ) (xs ys : List (List ℕ)) (v : Bool) → (up_to_header xs ≡ xs → up_to_header (xs ++ ys) ≡ xs ++ up_to_header ys)
@@ -249,46 +251,55 @@ hand_numbers bytes c before behind next text inside h forward =
     let l = inside.lines in
     omega arith
 
--- what is reported from a cursor on, whether equities are asked for or not
-blocks_of_hands : (form : Form) (asked : Bool) (bytes : List ℕ) (c : Cursor) → blocks_at form (hand_mode asked) bytes c ≡ map (hand_block form asked) (hands_at bytes c)
-blocks_of_hands form true bytes c = refl
-blocks_of_hands form false bytes c = refl
-
-rejects_of_hands : (asked : Bool) (bytes : List ℕ) (c : Cursor) → rejects_at (hand_mode asked) bytes c ≡ count_by is_rejected_hand (hands_at bytes c)
-rejects_of_hands true bytes c = refl
-rejects_of_hands false bytes c = refl
-
--- the cursor goes on by the hand
-pub goes_on_by_hand : (form : Form) (asked : Bool) (bytes : List ℕ) (old new : Cursor) (before behind : Reach) (next : ℕ) (text block : List ℕ) (rejected : Bool) → IsInside old bytes
+-- the hand is cut off
+pub cut_here : (bytes : List ℕ) (old new : Cursor) (before behind : Reach) (next : ℕ) (text : List ℕ) (place : HandPlace) → IsInside old bytes → length bytes ≤ 67108864
     → IsHandAt bytes old before behind next text → next ≤ behind.end → before.end < next
     → new.at ≡ behind.end → new.line ≡ old.line + before.count + 1 + behind.count → new.place ≡ old.place + 1
-    → block ≡ hand_block form asked (the_hand bytes old before behind) → rejected ≡ is_rejected_hand (the_hand bytes old before behind)
-    → GoesOn form (hand_mode asked) bytes block rejected old new
-goes_on_by_hand form asked bytes old new before behind next text block rejected inside h onward forward at line place block_is rejected_is =
+    → place ≡ record { start = before.end; end = behind.end; line = old.line + before.count } → CutsHand bytes old new place
+cut_here bytes old new before behind next text place inside small h onward forward at line places is =
+    subst (λ (p : HandPlace). CutsHand bytes old new p) (sym is) (
     let hands = hands_here bytes old before behind next text h in
     let rest : hands_from (old.line + before.count + 1 + behind.count) (lines (drop behind.end bytes)) ≡ hands_at bytes new =
     ap (λ n. hands_from n (lines (drop behind.end bytes))) (sym line) ∙ ap (λ n. hands_from new.line (lines (drop n bytes))) (sym at) in
-    let all : hands_at bytes old ≡ the_hand bytes old before behind ∷ hands_at bytes new =
-    hands ∙ ap (λ hs. the_hand bytes old before behind ∷ hs) rest in
-    let later = hands_at bytes new in
     let a = h.lines_before in
     let b = h.lines_behind in
+    let numbers = hand_numbers bytes old before behind next text inside h forward in
     record {
-      block_is = blocks_of_hands form asked bytes old ∙ ap (map (hand_block form asked)) all ∙ ap (λ x. x ∷ map (hand_block form asked) later) (sym block_is)
-          ∙ ap (λ xs. block ∷ xs) (sym (blocks_of_hands form asked bytes new));
-      counted = rejects_of_hands asked bytes old ∙ ap (count_by is_rejected_hand) all ∙ sum_by-cons (λ x. cond (is_rejected_hand x) 1 0) (the_hand bytes old before behind) later
-          ∙ ap (λ v. cond v 1 0 + count_by is_rejected_hand later) (sym rejected_is) ∙ ap (λ n. cond rejected 1 0 + n) (sym (rejects_of_hands asked bytes new));
+      hands = hands ∙ ap (λ hs. the_hand bytes old before behind ∷ hs) rest;
+      header = begins_with_header bytes old before behind next text h;
+      numbers = omega (arith, numbers, small);
+      ordered = omega (arith, forward, onward);
+      within = b.within;
       inside = record {
         within = (let w = b.within in omega arith);
         lines = (let i = inside.lines in let f = a.few in let g = b.few in omega arith);
         places = (let i = inside.places in omega arith);
       };
       forward = (let o = a.onward in omega arith);
-    }
+    })
 
 -- no hand is left
-pub no_hand_left : (form : Form) (asked : Bool) (bytes : List ℕ) (c : Cursor) (before : Reach) → Reaches bytes c.at before → before.end ≡ length bytes → IsAtEnd form (hand_mode asked) bytes c
-no_hand_left form asked bytes c before r all =
+pub none_cut : (bytes : List ℕ) (c : Cursor) (before : Reach) → Reaches bytes c.at before → before.end ≡ length bytes → hands_at bytes c ≡ []
+none_cut bytes c before r all =
     let none : lines (drop before.end bytes) ≡ [] = ap lines (drop_all before.end bytes (omega arith)) in
-    let hands : hands_at bytes c ≡ [] = hands-reach c.line bytes c.at before r ∙ ap (hands_from (c.line + before.count)) none in
-    record { no_block = blocks_of_hands form asked bytes c ∙ ap (map (hand_block form asked)) hands; none_rejected = rejects_of_hands asked bytes c ∙ ap (count_by is_rejected_hand) hands }
+    hands-reach c.line bytes c.at before r ∙ ap (hands_from (c.line + before.count)) none
+
+-- the cursor goes on by the hand that is cut off
+pub goes_on_by_hand : (form : Form) (asked : Bool) (bytes : List ℕ) (old new : Cursor) (place : HandPlace) (block : List ℕ) (rejected : Bool) → CutsHand bytes old new place
+    → block ≡ hand_block form asked (hand_with place.line (lines (slice_range bytes place.start place.end)))
+    → rejected ≡ is_rejected_hand (hand_with place.line (lines (slice_range bytes place.start place.end)))
+    → GoesOn form (Hands asked) bytes block rejected old new
+goes_on_by_hand form asked bytes old new place block rejected cut block_is rejected_is =
+    let hand = hand_with place.line (lines (slice_range bytes place.start place.end)) in
+    let later = hands_at bytes new in
+    record {
+      block_is = ap (map (hand_block form asked)) cut.hands ∙ ap (λ x. x ∷ map (hand_block form asked) later) (sym block_is);
+      counted = ap (count_by is_rejected_hand) cut.hands ∙ sum_by-cons (λ x. cond (is_rejected_hand x) 1 0) hand later
+          ∙ ap (λ v. cond v 1 0 + count_by is_rejected_hand later) (sym rejected_is);
+      inside = cut.inside;
+      forward = cut.forward;
+    }
+
+-- no hand is left to report
+pub no_hand_left : (form : Form) (asked : Bool) (bytes : List ℕ) (c : Cursor) → hands_at bytes c ≡ [] → IsAtEnd form (Hands asked) bytes c
+no_hand_left form asked bytes c none = record { no_block = ap (map (hand_block form asked)) none; none_rejected = ap (count_by is_rejected_hand) none }

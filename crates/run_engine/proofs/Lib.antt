@@ -15,3 +15,4 @@ mod WordKinds
 mod WordWalks
 mod LineFaults
 mod LineWords
+pub mod Before

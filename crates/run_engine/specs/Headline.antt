@@ -1,9 +1,9 @@
 -- What a run of the program does: its status, and what it reads and writes.
-use Rattle.std.specs.Prelude.{◌≡◌, ℕ, ◌<◌, ◌≤◌, ◌==◌, Bool, true, if◌then◌else◌, List, length, take, Option, IfSome, IfNone, IsSome, IsNone, IsSomeAnd, ◌⊎◌}
+use Rattle.std.specs.Prelude.{◌≡◌, ℕ, ◌<◌, ◌≤◌, ◌==◌, Bool, true, false, if◌then◌else◌, List, length, take, Option, IfSome, IfNone, IsNone, IsSomeAnd, ◌⊎◌}
 use Rattle.std.specs.List.{concat}
 use Rattle.byte_ends.specs.Ends.{Rises, WritesAll, WritesFront}
 use Rattle.run_engine.specs.Closed.{closed}
-use Rattle.run_engine.specs.Command.{usage_line}
+use Rattle.run_engine.specs.Command.{makes, reads, reads_input, usage_line}
 use Rattle.run_engine.specs.declared.command.Command.{Command}
 use Rattle.run_engine.specs.Reading.{Counted, ReadWhole, ReadTooMuch}
 use Rattle.run_engine.specs.declared.reading.Ending.{Ending}
@@ -22,34 +22,39 @@ pub record IsFaultless (old new : Ends) : Type 0 where
   pub read : ¬ Rises old.read_faults new.read_faults
   pub write : ¬ Rises old.write_faults new.write_faults
 
--- all was read and written: the report of what was read stands behind what was taken before
+-- all was read, unless hands are made, and written: the report of what was read stands behind what was taken before
 pub record IsFinished (limit : ℕ) (command : Command) (status : ℕ) (old new : Ends) : Type 0 where
   pub bytes : List ℕ
-  pub read : ReadWhole limit old.left new.left bytes
-  pub written : WritesAll old.taken new.taken (report command.form command.mode bytes)
-  pub status_is : status ≡ (if rejects command.mode bytes == 0 then 0 else 1)
+  pub read : reads_input command.mode ≡ true → ReadWhole limit old.left new.left bytes
+  pub written : WritesAll old.taken new.taken (report command bytes)
+  pub status_is : status ≡ (if rejects command bytes == 0 then 0 else 1)
   pub no_read_fault : new.read_faults ≡ old.read_faults
   pub no_write_fault : new.write_faults ≡ old.write_faults
 
 -- a read failed: the report of the closed part of what was taken is written
 pub record IsReadFault (limit : ℕ) (command : Command) (old new : Ends) : Type 0 where
+  pub reads : reads_input command.mode ≡ true
   pub rises : Rises old.read_faults new.read_faults
   pub bytes : List ℕ
   pub counted : Counted limit old.left new.left bytes
-  pub written : WritesAll old.taken new.taken (report command.form command.mode (closed command.mode bytes))
+  pub written : WritesAll old.taken new.taken (report command (closed command.mode bytes))
 
--- a write failed: a front of the report of what was taken is written
+-- a write failed: a front of the report is written, that of all that was taken where the source was read to its end, and else
+-- that of its closed part
 pub record IsWriteFault (limit : ℕ) (command : Command) (old new : Ends) : Type 0 where
   pub rises : Rises old.write_faults new.write_faults
   pub bytes : List ℕ
   pub counted : Counted limit old.left new.left bytes
-  pub written : WritesFront old.taken new.taken (report command.form command.mode bytes)
+  pub whole : Bool
+  pub to_the_end : whole ≡ true → reads_input command.mode ≡ true → ReadWhole limit old.left new.left bytes
+  pub written : WritesFront old.taken new.taken (report command (if whole then bytes else closed command.mode bytes))
 
 -- there was more than the limit: the report of the closed part of the bytes within the limit is written
 pub record IsTooLong (limit : ℕ) (command : Command) (old new : Ends) : Type 0 where
+  pub reads : reads_input command.mode ≡ true
   pub bytes : List ℕ
   pub read : ReadTooMuch limit old.left new.left bytes
-  pub written : WritesAll old.taken new.taken (report command.form command.mode (closed command.mode bytes))
+  pub written : WritesAll old.taken new.taken (report command (closed command.mode bytes))
 
 -- memory ran out: the first blocks of the report are written, each whole. The report is that of all that was taken where
 -- the source was read to its end, and else of its closed part
@@ -57,9 +62,9 @@ pub record IsMemoryShort (limit : ℕ) (command : Command) (old new : Ends) : Ty
   pub bytes : List ℕ
   pub counted : Counted limit old.left new.left bytes
   pub whole : Bool
-  pub to_the_end : whole ≡ true → ReadWhole limit old.left new.left bytes
+  pub to_the_end : whole ≡ true → reads_input command.mode ≡ true → ReadWhole limit old.left new.left bytes
   pub count : ℕ
-  pub written : WritesAll old.taken new.taken (concat (take count (blocks command.form command.mode (if whole then bytes else closed command.mode bytes))))
+  pub written : WritesAll old.taken new.taken (concat (take count (blocks command (if whole then bytes else closed command.mode bytes))))
 
 -- a run whose words ask for a mode, or for none, that ends with a status, between these ends
 pub record IsRun (limit : ℕ) (asked : Option Command) (status : ℕ) (old new : Ends) : Type 0 where
@@ -69,8 +74,8 @@ pub record IsRun (limit : ℕ) (asked : Option Command) (status : ℕ) (old new 
   pub finished : (status ≡ 0) ⊎ (status ≡ 1) → IsSomeAnd asked (λ command. IsFinished limit command status old new)
   -- 2: the words are in no form, and the usage line is written
   pub usage : status ≡ 2 → IsNone asked × WritesAll old.taken new.taken usage_line
-  -- with words in no form nothing is read
-  pub unread : IsNone asked → (new.left ≡ old.left) × (new.read_faults ≡ old.read_faults)
+  -- with words in no form, and where hands are made, nothing is read
+  pub unread : reads asked ≡ false → (new.left ≡ old.left) × (new.read_faults ≡ old.read_faults)
   -- 3: only where a read failed
   pub read_fault : status ≡ 3 → IsSomeAnd asked (λ command. IsReadFault limit command old new)
   -- 4: only where a write failed
@@ -81,10 +86,12 @@ pub record IsRun (limit : ℕ) (asked : Option Command) (status : ℕ) (old new 
   -- 6: memory ran out
   pub memory : status ≡ 6 → IfSome asked (λ command. IsMemoryShort limit command old new)
   pub usage_memory : status ≡ 6 → IfNone asked (new.taken ≡ old.taken)
-  -- words in form, no fault and an input within the limit end in 0 or 1, or for want of memory in 6
-  pub complete : IsSome asked → IsFaultless old new → IfSome old.left (λ bytes. length bytes ≤ limit → (status ≡ 0) ⊎ (status ≡ 1) ⊎ (status ≡ 6))
-  -- words in form, no fault and an input above the limit end in 5, or for want of memory in 6
-  pub complete_long : IsSome asked → IsFaultless old new → IfSome old.left (λ bytes. limit < length bytes → (status ≡ 5) ⊎ (status ≡ 6))
+  -- words that ask for a report of the input, no fault and an input within the limit end in 0 or 1, or for want of memory in 6
+  pub complete : reads asked ≡ true → IsFaultless old new → IfSome old.left (λ bytes. length bytes ≤ limit → (status ≡ 0) ⊎ (status ≡ 1) ⊎ (status ≡ 6))
+  -- such words, no fault and an input above the limit end in 5, or for want of memory in 6
+  pub complete_long : reads asked ≡ true → IsFaultless old new → IfSome old.left (λ bytes. limit < length bytes → (status ≡ 5) ⊎ (status ≡ 6))
+  -- words that ask for hands that are made, and no failed write end in 0 or 1, or for want of memory in 6
+  pub complete_made : makes asked ≡ true → ¬ Rises old.write_faults new.write_faults → (status ≡ 0) ⊎ (status ≡ 1) ⊎ (status ≡ 6)
   -- words in no form and no failed write end in 2, or for want of memory in 6
   pub complete_usage : IsNone asked → ¬ Rises old.write_faults new.write_faults → (status ≡ 2) ⊎ (status ≡ 6)
 

@@ -7,6 +7,9 @@ pub use Rattle.spot_text.specs.Spot
 pub use Rattle.report_table.specs.Spots
 pub use Rattle.report_table.specs.Hands
 pub use Rattle.report_table.specs.HandEquities
+pub use Rattle.report_table.specs.Totals
+pub use Rattle.report_table.specs.Made
+pub use Rattle.made_hands.specs.Made as MadeText
 pub use Rattle.line_text.specs.Amounts
 pub mod Command
 pub mod CommandLine

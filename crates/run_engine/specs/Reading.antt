@@ -33,6 +33,6 @@ EndsSo limit old new faults faults' bytes TooLong = ReadTooMuch limit old new by
 
 -- what a report is made of: all bytes where the reading came to the end of the input, and else the closed part
 abbrev pub reported : Mode → Ending → List ℕ → List ℕ
-reported mode Whole bytes = bytes
-reported mode Failed bytes = closed mode bytes
-reported mode TooLong bytes = closed mode bytes
+reported _ Whole bytes = bytes
+reported asked Failed bytes = closed asked bytes
+reported asked TooLong bytes = closed asked bytes

@@ -1,13 +1,18 @@
--- The report of some bytes in a form and a mode: a block for each spot or hand.
-use Rattle.std.specs.Prelude.{ℕ, ◌+◌, Bool, true, false, ◌&&◌, not, if◌then◌else◌, List, [], ◌∷◌, map, count_by}
-use Rattle.std.specs.List.{concat}
+-- The report of a command on some bytes: a block for each spot or hand, or one block for all of them.
+use Rattle.std.specs.Prelude.{ℕ, ◌+◌, ◌-◌, Bool, true, false, ◌&&◌, not, if◌then◌else◌, List, [], ◌∷◌, map, count_by}
+use Rattle.std.specs.List.{concat, filter_map}
 use Rattle.std.specs.Result.{is_err}
+use Rattle.hand_audit.specs.declared.audit.HandAudit.{HandAudit}
 use Rattle.line_text.specs.Lines.{lines}
+use Rattle.made_hands.specs.Made.{made_text}
+use Rattle.report_table.specs.Made.{made_block}
 use Rattle.report_table.specs.Spots.{spot_block}
+use Rattle.report_table.specs.Totals.{is_accepted, totals_block}
 use Rattle.report_table.specs.declared.equity.Form.{Form}
-use Rattle.run_engine.specs.Histories.{hands_from, hand_block, is_rejected_hand}
+use Rattle.run_engine.specs.Histories.{hands_from, hand_block, is_rejected_hand, verdict_of}
+use Rattle.run_engine.specs.declared.command.Command.{Command}
 use Rattle.run_engine.specs.declared.command.Mode.{Mode}
-use Rattle.run_engine.specs.declared.command.Mode.TheVariants.{Spots, Check, Audit}
+use Rattle.run_engine.specs.declared.command.Mode.TheVariants.{Spots, Check, Audit, Totals, Made}
 use Rattle.spot_text.specs.Spot.{spot_of}
 use Rattle.spot_text.specs.Words.{is_blank}
 
@@ -31,18 +36,33 @@ hand_blocks form asked bytes = map (hand_block form asked) (hands_from 1 (lines 
 abbrev pub rejected_hands : List ℕ → ℕ
 rejected_hands bytes = count_by is_rejected_hand (hands_from 1 (lines bytes))
 
--- the blocks of all lines; places and numbers of lines begin at 1. An audit is a check with the equity of each all-in
-abbrev pub blocks : Form → Mode → List ℕ → List (List ℕ)
-blocks form Spots bytes = spots_from form 1 1 (lines bytes)
-blocks form Check bytes = hand_blocks form false bytes
-blocks form Audit bytes = hand_blocks form true bytes
+-- the verdicts on the hands of all lines
+abbrev pub verdicts : List ℕ → List HandAudit
+verdicts bytes = filter_map verdict_of (hands_from 1 (lines bytes))
+
+-- the blocks of a command in a mode: one for each spot or hand of the bytes, where an audit is a check with the equity of each
+-- all-in; or one for the totals over all hands of the bytes, or over all hands that are made
+abbrev pub blocks_in : Mode → Command → List ℕ → List (List ℕ)
+blocks_in Spots asked bytes = spots_from asked.form 1 1 (lines bytes)
+blocks_in Check asked bytes = hand_blocks asked.form false bytes
+blocks_in Audit asked bytes = hand_blocks asked.form true bytes
+blocks_in Totals asked bytes = totals_block asked.form (verdicts bytes) ∷ []
+blocks_in Made asked bytes = made_block asked.form asked.hands (verdicts (made_text asked.seed asked.hands)) ∷ []
+
+abbrev pub blocks : Command → List ℕ → List (List ℕ)
+blocks asked bytes = blocks_in asked.mode asked bytes
 
 -- the report of the bytes
-unfoldable pub report : Form → Mode → List ℕ → List ℕ
-report form mode bytes = concat (blocks form mode bytes)
+unfoldable pub report : Command → List ℕ → List ℕ
+report asked bytes = concat (blocks asked bytes)
 
--- how many spots or hands are rejected
-unfoldable pub rejects : Mode → List ℕ → ℕ
-rejects Spots bytes = count_by is_rejected_spot (lines bytes)
-rejects Check bytes = rejected_hands bytes
-rejects Audit bytes = rejected_hands bytes
+-- how many spots or hands are rejected; of hands that are made, those that aren't accepted
+abbrev pub rejects_in : Mode → Command → List ℕ → ℕ
+rejects_in Spots asked bytes = count_by is_rejected_spot (lines bytes)
+rejects_in Check asked bytes = rejected_hands bytes
+rejects_in Audit asked bytes = rejected_hands bytes
+rejects_in Totals asked bytes = count_by (λ hand. not (is_accepted hand)) (verdicts bytes)
+rejects_in Made asked bytes = asked.hands - count_by is_accepted (verdicts (made_text asked.seed asked.hands))
+
+unfoldable pub rejects : Command → List ℕ → ℕ
+rejects asked bytes = rejects_in asked.mode asked bytes

@@ -16,7 +16,8 @@ pub(crate) fn closed_part(mode: Mode, bytes: &[u8]) -> &[u8]
 {
     match mode {
         Mode::Spots => closed_lines(bytes),
-        Mode::Check | Mode::Audit => closed_hands(bytes),
+        Mode::Check | Mode::Audit | Mode::Totals => closed_hands(bytes),
+        Mode::Made => &[],
     }
 }
 

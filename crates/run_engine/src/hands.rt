@@ -4,7 +4,8 @@ ghost use Rattle.std.specs.Prelude.{◌≡◌, ◌<◌, ◌≤◌, ◌+◌, ◌^
 ghost use Rattle.hand_audit.specs.Departs.{begins_hand};
 ghost use Rattle.line_text.specs.Lines.{lines};
 ghost use Rattle.run_engine.specs.Histories.{HandLines, hand_block, is_rejected_hand, is_rejection, number_text};
-ghost use Rattle.run_engine.specs.Writing.{IsInside, Reaches, StepsTo, hand_mode};
+ghost use Rattle.run_engine.specs.Writing.{Cuts, IsInside, Reaches, StepsTo};
+ghost use Rattle.run_engine.specs.declared.listed.Listed.TheVariants.{Hands};
 
 use crate::cursor::Cursor;
 use crate::equities::equity_of_hand;
@@ -93,8 +94,39 @@ fn write_lines(
     Ok(is_rejection(&audit))
 }
 
+/// A hand of the input: the places at which its lines begin and end, and the number of its header line.
+#[derive(Clone, Copy, Debug)]
+pub(crate) struct HandPlace {
+    pub(crate) start: usize,
+    pub(crate) end: usize,
+    pub(crate) line: u32,
+}
+
+/// The next hand, behind whose lines the cursor goes on; none where no hand is left. Each line is looked at
+/// a few times at the most.
+pub(crate) fn cut_hand(bytes: &[u8], cursor: &mut Cursor) -> Option<HandPlace>
+    requires small { length bytes.now ≤ INPUT_MAX }
+    requires inside { IsInside cursor.old bytes.now }
+    ensures { Cuts bytes.now cursor.old cursor.new result }
+{
+    let before = up_to_header(bytes, cursor.at);
+    let Some(head) = next_line(bytes, before.end) else {
+        return None;
+    };
+    let behind = up_to_header(bytes, head.next);
+    let line = cursor.line + before.count;
+    cursor.at = behind.end;
+    cursor.line = line + 1 + behind.count;
+    cursor.place += 1;
+    Some(HandPlace {
+        start: before.end,
+        end: behind.end,
+        line,
+    })
+}
+
 /// Makes the block of the next hand, goes on behind its lines, and answers whether the hand is rejected;
-/// none where no hand is left. Equities are counted where they are asked for. Each line is looked at a few times at the most.
+/// none where no hand is left. Equities are counted where they are asked for.
 pub(crate) fn next_hand(
     alloc: Global,
     form: Form,
@@ -107,25 +139,12 @@ pub(crate) fn next_hand(
     requires small { length bytes.now ≤ INPUT_MAX }
     requires inside { IsInside cursor.old bytes.now }
     requires empty { block.old.items ≡ [] }
-    ensures { IfOk result (λ next. StepsTo form (hand_mode asked) bytes.now block.new.items cursor.old cursor.new next) }
+    ensures { IfOk result (λ next. StepsTo form (Hands asked) bytes.now block.new.items cursor.old cursor.new next) }
 {
-    let before = up_to_header(bytes, cursor.at);
-    let Some(head) = next_line(bytes, before.end) else {
+    let Some(place) = cut_hand(bytes, cursor) else {
         return Ok(None);
     };
-    let behind = up_to_header(bytes, head.next);
-    let first = cursor.line + before.count;
-    cursor.at = behind.end;
-    cursor.line = first + 1 + behind.count;
-    cursor.place += 1;
-    let rejected = write_lines(
-        alloc,
-        form,
-        asked,
-        &bytes[before.end..behind.end],
-        first,
-        scratch,
-        block,
-    )?;
+    let hand = &bytes[place.start..place.end];
+    let rejected = write_lines(alloc, form, asked, hand, place.line, scratch, block)?;
     Ok(Some(rejected))
 }

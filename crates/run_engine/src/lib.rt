@@ -7,10 +7,13 @@ mod command;
 mod cursor;
 mod equities;
 mod hands;
+mod listed;
+mod made;
 mod reading;
 mod report;
 mod run;
 mod spots;
+mod totals;
 mod words;
 
 pub use closing::law_closed_blocks_stay;

@@ -1,15 +1,19 @@
 //! The report of some bytes.
 
 ghost use Rattle.std.specs.Prelude.{◌≡◌, ◌<◌, ◌≤◌, [], IfOk, OnOk, IsErrOf, length};
+ghost use Rattle.std.specs.List.{concat};
 ghost use Rattle.byte_ends.specs.Ends.{Rises, WritesAll, WritesFront};
 ghost use Rattle.run_engine.specs.Report.{blocks, report, rejects};
-ghost use Rattle.run_engine.specs.Writing.{IsInside, StepsTo, WritesBlocks};
+ghost use Rattle.run_engine.specs.Writing.{IsInside, StepsTo, WritesBlocks, all_blocks, all_rejects};
 
-use crate::command::Mode;
+use crate::command::{Command, Mode};
 use crate::cursor::Cursor;
 use crate::hands::next_hand;
+use crate::listed::Listed;
+use crate::made::write_made;
 use crate::reading::INPUT_MAX;
 use crate::spots::next_spot;
+use crate::totals::write_totals;
 use byte_ends::{Failed, Sink, write_all};
 use card_sets::Memory;
 use equity_job::Scratch;
@@ -52,7 +56,7 @@ impl From<Memory> for WriteFault {
 fn next_block(
     alloc: Global,
     form: Form,
-    mode: Mode,
+    listed: Listed,
     bytes: &[u8],
     cursor: &mut Cursor,
     scratch: &mut Scratch,
@@ -61,42 +65,93 @@ fn next_block(
     requires small { length bytes.now ≤ INPUT_MAX }
     requires inside { IsInside cursor.old bytes.now }
     requires empty { block.old.items ≡ [] }
-    ensures { IfOk result (λ next. StepsTo form mode bytes.now block.new.items cursor.old cursor.new next) }
+    ensures { IfOk result (λ next. StepsTo form listed bytes.now block.new.items cursor.old cursor.new next) }
 {
-    match mode {
-        Mode::Spots => next_spot(form, bytes, cursor, scratch, block),
-        Mode::Check => next_hand(alloc, form, false, bytes, cursor, scratch, block),
-        Mode::Audit => next_hand(alloc, form, true, bytes, cursor, scratch, block),
+    match listed {
+        Listed::Spots => next_spot(form, bytes, cursor, scratch, block),
+        Listed::Hands { asked } => next_hand(alloc, form, asked, bytes, cursor, scratch, block),
     }
 }
 
-/// Writes the report of the bytes, a block at a time, each made whole before any of it is written.
+/// Writes the blocks of the bytes, one after the other, each made whole before any of it is written.
 /// Answers how many spots or hands are rejected.
-pub(crate) fn write_report<K: Sink>(
+fn write_blocks<K: Sink>(
     alloc: Global,
     form: Form,
-    mode: Mode,
+    listed: Listed,
     bytes: &[u8],
     scratch: &mut Scratch,
     sink: &mut K,
 ) -> Result<u64, WriteFault>
     requires { length bytes.now ≤ INPUT_MAX }
-    ensures rejected { IfOk result (λ n. n ≡ rejects mode bytes.now) }
-    ensures written { OnOk result (WritesAll (K.taken sink.old) (K.taken sink.new) (report form mode bytes.now)) }
+    ensures rejected { IfOk result (λ n. n ≡ all_rejects listed bytes.now) }
+    ensures written { OnOk result (WritesAll (K.taken sink.old) (K.taken sink.new) (concat (all_blocks form listed bytes.now))) }
     ensures fine { OnOk result (K.faults sink.new ≡ K.faults sink.old) }
     ensures fault { IsErrOf result WriteFault.Failed → Rises (K.faults sink.old) (K.faults sink.new) }
-    ensures front { IsErrOf result WriteFault.Failed → WritesFront (K.taken sink.old) (K.taken sink.new) (report form mode bytes.now) }
-    ensures memory { IsErrOf result WriteFault.Memory → WritesBlocks (K.taken sink.old) (K.taken sink.new) (blocks form mode bytes.now) }
+    ensures front { IsErrOf result WriteFault.Failed → WritesFront (K.taken sink.old) (K.taken sink.new) (concat (all_blocks form listed bytes.now)) }
+    ensures memory { IsErrOf result WriteFault.Memory → WritesBlocks (K.taken sink.old) (K.taken sink.new) (all_blocks form listed bytes.now) }
 {
     let mut block = Vec::new(alloc);
     let mut cursor = Cursor::start();
     let mut rejects = 0;
     'each: loop {
         block.clear();
-        let Some(rejected) = next_block(alloc, form, mode, bytes, &mut cursor, scratch, &mut block)? else {
+        let Some(rejected) = next_block(
+            alloc,
+            form,
+            listed,
+            bytes,
+            &mut cursor,
+            scratch,
+            &mut block,
+        )?
+        else {
             return Ok(rejects);
         };
         rejects += u64::from(rejected);
         write_all(sink, &block)?;
+    }
+}
+
+/// Writes the report of a command on the bytes, which a command for made hands doesn't look at. Answers how
+/// many spots or hands are rejected.
+#[tactic(auto, unfolding(crate::specs::Report::report, crate::specs::Report::rejects))]
+pub(crate) fn write_report<K: Sink>(
+    alloc: Global,
+    asked: Command,
+    bytes: &[u8],
+    scratch: &mut Scratch,
+    sink: &mut K,
+) -> Result<u64, WriteFault>
+    requires small { length bytes.now ≤ INPUT_MAX }
+    requires few { asked.hands ≤ 10000 }
+    ensures rejected { IfOk result (λ n. n ≡ rejects asked bytes.now) }
+    ensures written { OnOk result (WritesAll (K.taken sink.old) (K.taken sink.new) (report asked bytes.now)) }
+    ensures fine { OnOk result (K.faults sink.new ≡ K.faults sink.old) }
+    ensures fault { IsErrOf result WriteFault.Failed → Rises (K.faults sink.old) (K.faults sink.new) }
+    ensures front { IsErrOf result WriteFault.Failed → WritesFront (K.taken sink.old) (K.taken sink.new) (report asked bytes.now) }
+    ensures memory { IsErrOf result WriteFault.Memory → WritesBlocks (K.taken sink.old) (K.taken sink.new) (blocks asked bytes.now) }
+{
+    let form = asked.form;
+    match asked.mode {
+        Mode::Spots => write_blocks(alloc, form, Listed::Spots, bytes, scratch, sink),
+        Mode::Check => write_blocks(
+            alloc,
+            form,
+            Listed::Hands { asked: false },
+            bytes,
+            scratch,
+            sink,
+        ),
+        Mode::Audit => write_blocks(
+            alloc,
+            form,
+            Listed::Hands { asked: true },
+            bytes,
+            scratch,
+            sink,
+        ),
+        Mode::Totals => write_totals(alloc, asked, bytes, scratch, sink),
+        Mode::Made => write_made(alloc, asked, scratch, sink),
     }
 }

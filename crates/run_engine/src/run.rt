@@ -1,10 +1,11 @@
 //! The top call.
 
-ghost use Rattle.std.specs.Prelude.{◌≡◌, ◌⊎◌, map, string_bytes};
+ghost use Rattle.std.specs.Prelude.{◌≡◌, ◌≤◌, ◌⊎◌, ℕ, List, Option, Some, false, true, map, string_bytes};
 ghost use Rattle.byte_ends.specs.Ends.{Rises, WritesAll, WritesFront};
-ghost use Rattle.run_engine.specs.Command.{command, usage_line};
+ghost use Rattle.run_engine.specs.Command.{command, reads_input, usage_line};
 ghost use Rattle.run_engine.specs.Headline.{IsRun, written_status};
 
+use crate::command::Command;
 use crate::reading::{Ending, INPUT_MAX, read_all};
 use crate::report::{WriteFault, write_report};
 use crate::words::{WordFault, read_words};
@@ -17,10 +18,10 @@ use std::alloc::Global;
 const USAGE_LINE: &[u8; 76] =
     b"usage: equity MODE [--workers N] [--format text|csv] [--seed S] [--hands H]\n";
 
-/// Runs the command that the words name: reads the source, and writes the report to the sink. Answers
-/// the status: 0 where all was read and written, 1 where beside that a spot or a hand was rejected, 2 where
-/// the words are in no form, 3 where a read failed, 4 where a write failed, 5 where the source gave more
-/// than `INPUT_MAX` bytes, 6 for want of memory. It always returns.
+/// Runs the command that the words name: reads the source, unless hands are made, and writes the report to
+/// the sink. Answers the status: 0 where all was read and written, 1 where beside that a spot or a hand was
+/// rejected, 2 where the words are in no form, 3 where a read failed, 4 where a write failed, 5 where the
+/// source gave more than `INPUT_MAX` bytes, 6 for want of memory. It always returns.
 pub fn run_alone<S: Source, K: Sink>(
     alloc: Global,
     words: &[String],
@@ -36,20 +37,49 @@ pub fn run_alone<S: Source, K: Sink>(
         Err(WordFault::Usage) => return write_usage(sink),
         Err(WordFault::Memory) => return 6,
     };
+    let mut scratch = Scratch::new();
+    if asked.mode.reads_input() {
+        run_reading(alloc, asked, &mut scratch, source, sink)
+    } else {
+        run_made(alloc, asked, &mut scratch, sink)
+    }
+}
+
+/// Runs a command that reads its input.
+fn run_reading<S: Source, K: Sink>(
+    alloc: Global,
+    asked: Command,
+    scratch: &mut Scratch,
+    source: &mut S,
+    sink: &mut K,
+) -> u8
+    requires reads { reads_input asked.mode ≡ true }
+    requires few { asked.hands ≤ 10000 }
+    ensures { IsRun INPUT_MAX (Some asked) result
+        (record { left = S.left source.old; read_faults = S.faults source.old; taken = K.taken sink.old; write_faults = K.faults sink.old })
+        (record { left = S.left source.new; read_faults = S.faults source.new; taken = K.taken sink.new; write_faults = K.faults sink.new }) }
+{
     let Ok(input) = read_all(alloc, source) else {
         return 6;
     };
     law_closed_lines();
-    let mut scratch = Scratch::new();
-    match write_report(
-        alloc,
-        asked.form,
-        asked.mode,
-        input.reported(asked.mode),
-        &mut scratch,
-        sink,
-    ) {
+    match write_report(alloc, asked, input.reported(asked.mode), scratch, sink) {
         Ok(rejected) => status_of(input.ending, rejected),
+        Err(WriteFault::Failed) => 4,
+        Err(WriteFault::Memory) => 6,
+    }
+}
+
+/// Runs a command that reads no input.
+fn run_made<K: Sink>(alloc: Global, asked: Command, scratch: &mut Scratch, sink: &mut K) -> u8
+    requires makes { reads_input asked.mode ≡ false }
+    requires few { asked.hands ≤ 10000 }
+    ensures { (left : Option (List ℕ)) (faults : ℕ) → IsRun INPUT_MAX (Some asked) result
+        (record { left = left; read_faults = faults; taken = K.taken sink.old; write_faults = K.faults sink.old })
+        (record { left = left; read_faults = faults; taken = K.taken sink.new; write_faults = K.faults sink.new }) }
+{
+    match write_report(alloc, asked, &[], scratch, sink) {
+        Ok(rejected) => status_of(Ending::Whole, rejected),
         Err(WriteFault::Failed) => 4,
         Err(WriteFault::Memory) => 6,
     }

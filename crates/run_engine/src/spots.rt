@@ -6,7 +6,7 @@ ghost use Rattle.card_sets.specs.State.{state_of};
 ghost use Rattle.report_table.specs.Equities.{IsEquityOf};
 ghost use Rattle.report_table.specs.Spots.{alone, spot_block};
 ghost use Rattle.run_engine.specs.Writing.{IsInside, StepsTo};
-ghost use Rattle.run_engine.specs.declared.command.Mode.TheVariants.{Spots};
+ghost use Rattle.run_engine.specs.declared.listed.Listed.TheVariants.{Spots};
 ghost use Rattle.spot_text.specs.Spot.{spot_of};
 
 use crate::cursor::Cursor;

@@ -15,7 +15,7 @@ mod successor;
 #[cfg(test)]
 mod tests;
 
-pub use counting::{Above, count_runouts};
+pub use counting::{Above, choices as count_choices, count_runouts};
 pub use lacking::shape;
 pub use laws::{law_no_runout_twice, law_runouts_are_counted, law_runouts_fill_the_slots};
 pub use places::runout_at;

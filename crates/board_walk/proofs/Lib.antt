@@ -1,0 +1,13 @@
+pub mod RankCounts
+pub mod RankValues
+pub mod Plain
+pub mod Facts
+pub mod FirstRanks
+pub mod SameCards
+pub mod RowSets
+pub mod Ranges
+pub mod Listing
+pub mod PlainWith
+pub mod Members
+pub mod WithCard
+pub mod Whole

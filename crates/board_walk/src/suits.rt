@@ -1,0 +1,133 @@
+//! Where somebody may have a flush.
+
+ghost use Rattle.std.specs.Prelude.{◌≡◌, ℕ, ◌+◌, ◌<◌, ◌≤◌, [], false, length, slice_index, slice_index_or, IsTrue};
+ghost use Rattle.card_sets.specs.State.{state_of};
+ghost use Rattle.rank_high.specs.Parts.{count_of_suit};
+ghost use Rattle.board_walk.specs.Suits.{AreMost, IsShort, AreFlagged, AreFlagsFor};
+ghost use Rattle.board_walk.specs.Values.{one_of};
+
+use card_sets::{CardSet, Known};
+
+/// How many of some cards are of each suit.
+#[inline]
+fn suit_counts(cards: CardSet) -> [u32; 4]
+    ensures value { (s : ℕ) → s < 4 → slice_index result s ≡ count_of_suit cards s }
+    ensures bound { (s : ℕ) → slice_index result s ≤ 52 }
+{
+    [
+        cards.of_suit(0).count(),
+        cards.of_suit(1).count(),
+        cards.of_suit(2).count(),
+        cards.of_suit(3).count(),
+    ]
+}
+
+/// The sums of two counts of the suits.
+#[inline]
+fn sums(a: [u32; 4], b: [u32; 4]) -> [u32; 4]
+    requires a { (s : ℕ) → slice_index a s ≤ 104 }
+    requires b { (s : ℕ) → slice_index b s ≤ 52 }
+    ensures value { (s : ℕ) → s < 4 → slice_index result s ≡ slice_index a s + slice_index b s }
+    ensures bound { (s : ℕ) → slice_index result s ≤ 156 }
+    ensures small { ((s : ℕ) → slice_index a s ≤ 52) → (s : ℕ) → slice_index result s ≤ 104 }
+{
+    [a[0] + b[0], a[1] + b[1], a[2] + b[2], a[3] + b[3]]
+}
+
+/// The greater of two counts of each suit.
+#[inline]
+fn greater(a: [u32; 4], b: [u32; 4]) -> [u32; 4]
+    ensures left { (s : ℕ) → s < 4 → slice_index a s ≤ slice_index result s }
+    ensures right { (s : ℕ) → s < 4 → slice_index b s ≤ slice_index result s }
+    ensures bound { (most : ℕ) → ((s : ℕ) → slice_index a s ≤ most) → ((s : ℕ) → slice_index b s ≤ most) → (s : ℕ) → slice_index result s ≤ most }
+{
+    [
+        a[0].max(b[0]),
+        a[1].max(b[1]),
+        a[2].max(b[2]),
+        a[3].max(b[3]),
+    ]
+}
+
+/// The most cards of each suit that a hand has with the known board.
+pub(crate) fn most_of(known: &Known) -> [u32; 4]
+    ensures most { AreMost (state_of known.now) result }
+    ensures bound { (s : ℕ) → slice_index result s ≤ 104 }
+{
+    let board = suit_counts(known.board);
+    let mut most = [0; 4];
+    let hands = &known.hands[..known.count as usize];
+    for own in hands {
+        let counts = suit_counts(*own);
+        let together = sums(counts, board);
+        let greatest = greater(most, together);
+        most = greatest;
+    }
+    most
+}
+
+/// One where the suits are the same, and else none.
+#[inline]
+fn one_of(suit: u8, other: u8) -> u32
+    ensures { result ≡ one_of suit other }
+{
+    if suit == other { 1 } else { 0 }
+}
+
+/// Whether so many cards of a suit and two more cards are five of it.
+#[inline]
+fn is_five(count: u32, suit: u8, a: u8, b: u8) -> bool
+    requires { count ≤ 156 }
+    ensures { result ≡ false → count + one_of a suit + one_of b suit ≤ 4 }
+{
+    count + one_of(a, suit) + one_of(b, suit) > 4
+}
+
+/// Whether so many cards of each suit and one of each of two suits more are five of a suit.
+#[inline]
+fn may_flush(counts: [u32; 4], a: u8, b: u8) -> bool
+    requires { (s : ℕ) → slice_index counts s ≤ 156 }
+    ensures { result ≡ false → IsShort counts a b }
+{
+    is_five(counts[0], 0, a, b)
+        || is_five(counts[1], 1, a, b)
+        || is_five(counts[2], 2, a, b)
+        || is_five(counts[3], 3, a, b)
+}
+
+/// Flags the pairs of suits with which so many cards of each suit may be five of one.
+#[inline]
+fn flags(counts: [u32; 4]) -> [bool; 16]
+    requires { (s : ℕ) → slice_index counts s ≤ 156 }
+    ensures flags { AreFlagged counts result }
+    ensures length { length result ≡ 16 }
+{
+    let mut flags = [true; 16];
+    for place in 0..16u8 {
+        flags[usize::from(place)] = may_flush(counts, place / 4, place % 4);
+    }
+    flags
+}
+
+/// Whether there are so few cards of each suit that two more never are five of one.
+#[inline]
+fn are_few(counts: [u32; 4]) -> bool
+    ensures { IsTrue result → (s : ℕ) → s < 4 → slice_index counts s ≤ 2 }
+{
+    counts[0] <= 2 && counts[1] <= 2 && counts[2] <= 2 && counts[3] <= 2
+}
+
+/// Flags the pairs of suits of the last two cards with which somebody may have a flush, behind first cards of the board.
+#[inline]
+pub(crate) fn flags_for(most: [u32; 4], taken: CardSet) -> [bool; 16]
+    requires { (s : ℕ) → slice_index most s ≤ 104 }
+    ensures flags { AreFlagsFor most taken result }
+    ensures length { length result ≡ 16 }
+{
+    let counts = suit_counts(taken);
+    let together = sums(most, counts);
+    if are_few(together) {
+        return [false; 16];
+    }
+    flags(together)
+}

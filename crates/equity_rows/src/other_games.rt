@@ -1,0 +1,250 @@
+//! A hand of Razz and a hand of Single Draw, with lines of them that are others. The verdicts are worked out by
+//! hand: the board of neither hand can change who wins.
+
+use crate::histories::{SIDE_POTS, with_line};
+use crate::runs::{AMPLE, run};
+use std::alloc::Global;
+use std::process::Abort;
+use std::test::Fail;
+
+const RAZZ: &str =
+    "PokerStars Hand #90: Tournament #9, Freeroll  Razz Limit - Level I (10/20) - 2023/01/15 22:00:00 ET
+Table '9 1' 8-max
+Seat 1: x (31 in chips)
+Seat 2: y (500 in chips)
+x: posts the ante 1
+y: posts the ante 1
+*** 3rd STREET ***
+Dealt to x [As 2d 3h]
+Dealt to y [Kc]
+y: brings in for 3
+x: raises 7 to 10
+y: calls 7
+*** 4th STREET ***
+Dealt to x [As 2d 3h] [4c]
+Dealt to y [Kc] [Kd]
+x: checks
+y: checks
+*** 5th STREET ***
+Dealt to x [As 2d 3h 4c] [5s]
+Dealt to y [Kc Kd] [Qc]
+x: bets 20 and is all-in
+y: calls 20
+*** 6th STREET ***
+Dealt to x [As 2d 3h 4c 5s] [6d]
+Dealt to y [Kc Kd Qc] [Qd]
+*** RIVER ***
+Dealt to x [As 2d 3h 4c 5s 6d] [Th]
+*** SHOW DOWN ***
+x: shows [As 2d 3h 4c 5s 6d Th] (Lo: 5,4,3,2,A)
+y: mucks hand
+x collected 62 from pot
+*** SUMMARY ***
+Total pot 62 | Rake 0
+Seat 1: x showed [As 2d 3h 4c 5s 6d Th] and won (62) with Lo: 5,4,3,2,A
+Seat 2: y mucked [8c 8d Kc Kd Qc Qd 9h]
+";
+
+/// x has five, four, three, two and ace already, the best hand there is.
+const RAZZ_REPORT: &str = "hand 90 accepted razz rake 0\n\
+pot 0 gross 62 rake 0 checked\n\
+paid 62 x\n\
+all-in 5th runouts 671580\n\
+pot 0 low win 671580 100.00 tie 0 0.00 lose 0 0.00 x\n\
+pot 0 ev 1.000 x\n\
+pot 0 low win 0 0.00 tie 0 0.00 lose 671580 100.00 y\n\
+pot 0 ev 0.000 y\n\
+expect 62 x\n\
+expect 0 y\n";
+
+const DRAW: &str =
+    "PokerStars Hand #91: Tournament #9, Freeroll  Single Draw 2-7 Lowball No Limit - Level I (10/20)
+Table '9 2' 7-max Seat #1 is the button
+Seat 1: x (100 in chips)
+Seat 2: y (100 in chips)
+x: posts small blind 10
+y: posts big blind 20
+*** DEALING HANDS ***
+Dealt to x [7c 5d 4h 3s 2c]
+x: raises 80 to 100 and is all-in
+y: calls 80 and is all-in
+x: stands pat on [7c 5d 4h 3s 2c]
+y: stands pat
+*** SHOW DOWN ***
+x: shows [7c 5d 4h 3s 2c]
+y: shows [8d 6h 5s 4c 2d]
+x collected 200 from pot
+*** SUMMARY ***
+Total pot 200 | Rake 0
+";
+
+/// Both stand pat, so there is one runout.
+const DRAW_REPORT: &str = "hand 91 accepted lowball27 rake 0\n\
+pot 0 gross 200 rake 0 checked\n\
+paid 200 x\n\
+all-in predraw runouts 1\n\
+pot 0 low win 1 100.00 tie 0 0.00 lose 0 0.00 x\n\
+pot 0 ev 1.000 x\n\
+pot 0 low win 0 0.00 tie 0 0.00 lose 1 100.00 y\n\
+pot 0 ev 0.000 y\n\
+expect 200 x\n\
+expect 0 y\n";
+
+/// The audit of the input has this report, and the run ends with this status.
+fn audits(
+    rt: &impl Abort,
+    alloc: Global,
+    input: &[u8],
+    status: u8,
+    report: &str,
+) -> Result<(), Fail> {
+    let ran = run(alloc, &["audit"], input, AMPLE)?;
+    assert_eq!(rt; ran.written.as_slice(), report.as_bytes(), "{report}");
+    assert_eq!(rt; ran.status, status, "{report}");
+    Ok(())
+}
+
+/// An all-in on the fifth street, the face-down cards of one player known from what the summary gives.
+#[test]
+fn an_all_in_of_razz(rt: HostRuntime) -> Result<(), Fail> {
+    audits(&rt, rt.alloc(), RAZZ.as_bytes(), 0, RAZZ_REPORT)
+}
+
+/// The line that begins the draw may stand or be missing, and a discard that nobody saw leaves the all-in
+/// unknown.
+#[test]
+fn an_all_in_before_the_draw(rt: HostRuntime) -> Result<(), Fail> {
+    let alloc = rt.alloc();
+    audits(&rt, alloc, DRAW.as_bytes(), 0, DRAW_REPORT)?;
+    let call = "y: calls 80 and is all-in\n*** DRAW ***\n";
+    let input = with_line(alloc, DRAW, 10, call)?;
+    audits(&rt, alloc, &input, 0, DRAW_REPORT)?;
+    let input = with_line(alloc, DRAW, 12, "y: discards 1 card\n")?;
+    let unknown = "hand 91 accepted lowball27 rake 0\n\
+pot 0 gross 200 rake 0 checked\n\
+paid 200 x\n\
+all-in unknown\n";
+    audits(&rt, alloc, &input, 0, unknown)
+}
+
+/// Lines that these games alone refuse, or that all games but these do.
+#[test]
+fn refusals_of_stud_and_draw(rt: HostRuntime) -> Result<(), Fail> {
+    let alloc = rt.alloc();
+    for (hand, number, line, report) in [
+        (
+            RAZZ,
+            8,
+            "Dealt to x [As 2d]\n",
+            "hand 90 rejected line 8 BadCards\n",
+        ),
+        (
+            RAZZ,
+            14,
+            "Dealt to x [As 2d 3h] [4c 5c]\n",
+            "hand 90 rejected line 14 BadCards\n",
+        ),
+        (
+            RAZZ,
+            17,
+            "y: discards 1 card\n",
+            "hand 90 rejected line 17 BadAction\n",
+        ),
+        (
+            RAZZ,
+            18,
+            "*** 6th STREET ***\n",
+            "hand 90 rejected line 18 StreetOrder\n",
+        ),
+        (
+            RAZZ,
+            23,
+            "*** FLOP *** [2c 7d 9h]\n",
+            "hand 90 rejected line 23 BadMarker\n",
+        ),
+        (
+            RAZZ,
+            28,
+            "Dealt to x [As 2d 3h 4c 5s 6d Th] [9s]\n",
+            "hand 90 rejected line 28 TooManyCards seat 1\n",
+        ),
+        (
+            DRAW,
+            8,
+            "Dealt to x [7c 5d 4h 3s]\n",
+            "hand 91 rejected line 8 BadCards\n",
+        ),
+        (
+            DRAW,
+            9,
+            "x: brings in for 3\n",
+            "hand 91 rejected line 9 BadAction\n",
+        ),
+        (
+            DRAW,
+            10,
+            "",
+            "hand 91 rejected line 10 StreetEarly seat 2\n",
+        ),
+        (
+            DRAW,
+            11,
+            "x: discards 2 cards [7c]\n",
+            "hand 91 rejected line 11 BadCards\n",
+        ),
+        (
+            DRAW,
+            12,
+            "*** DRAW ***\n",
+            "hand 91 rejected line 12 StreetOrder\n",
+        ),
+        (
+            DRAW,
+            14,
+            "x: discards 1 card\n",
+            "hand 91 rejected line 14 StreetOrder\n",
+        ),
+        (
+            SIDE_POTS,
+            6,
+            "b: brings in for 50\n",
+            "hand 88 rejected line 6 BadAction\n",
+        ),
+        (
+            SIDE_POTS,
+            14,
+            "c: stands pat\n",
+            "hand 88 rejected line 14 BadAction\n",
+        ),
+    ] {
+        let input = with_line(alloc, hand, number, line)?;
+        audits(&rt, alloc, &input, 1, report)?;
+    }
+    Ok(())
+}
+
+/// Seat numbers of any length are told apart: a second line of one number ends the search for players, and
+/// so a is none, whose post stands behind it.
+#[test]
+fn seat_numbers_may_be_long(rt: HostRuntime) -> Result<(), Fail> {
+    let alloc = rt.alloc();
+    for (second, report) in [
+        ("18446744073709551617", "hand 5 rejected line 4 BadHeader\n"),
+        ("18446744073709551616", "hand 5 rejected line 3 NotInHand\n"),
+        (
+            "0018446744073709551616",
+            "hand 5 rejected line 3 NotInHand\n",
+        ),
+    ] {
+        let input = format!(in alloc;
+            "PokerStars Hand #5: Hold'em No Limit ($1/$2 USD)\n\
+Seat 1: a ($50 in chips)\n\
+a collected $5 from pot\n\
+Seat 18446744073709551616: b ($50 in chips)\n\
+Seat {second}: c ($50 in chips)\n\
+a: posts small blind $1\n"
+        )?;
+        audits(&rt, alloc, input.as_bytes(), 1, report)?;
+    }
+    Ok(())
+}

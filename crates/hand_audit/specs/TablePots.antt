@@ -1,0 +1,15 @@
+-- The pots of an all-in's table.
+use Rattle.std.specs.Prelude.{◌≡◌, ◌≤◌, ◌<◌, ◌==◌, ℕ, List, length, slice_get, slice_index_or, Some}
+use Rattle.std.specs.Int.{bit_at}
+use Rattle.betting_replay.specs.Seats.{has_seat}
+use Rattle.showdown_tally.specs.Deals.{deal_of}
+use Rattle.showdown_tally.specs.declared.table.Table.{Table}
+use Rattle.hand_audit.specs.declared.settlement.PotLine.{PotLine}
+use Rattle.hand_audit.specs.declared.settlement.Settlement.{Settlement}
+
+-- the table has the pots of a hand, ten at the most, and in each of them exactly those of its hands are eligible whose seats are
+pub record HasPotsOf (settlement : Settlement) (seats : List ℕ) (table : Table) : Type 0 where
+  pub many : length (deal_of table).pots ≡ length settlement.pots
+  pub few : length settlement.pots ≤ 10
+  pub eligible : (number : ℕ) (pot : PotLine) → slice_get settlement.pots number ≡ Some pot
+      → (i : ℕ) → i < table.known.count → (bit_at (slice_index_or table.eligible number 0) i == 1) ≡ has_seat pot.eligible (slice_index_or seats i 0)

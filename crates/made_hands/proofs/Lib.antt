@@ -1,0 +1,5 @@
+pub mod Sets
+pub mod Drawn
+pub mod Text
+pub mod Numbered
+pub mod Short

@@ -1,0 +1,4 @@
+pub mod Generator
+pub mod Deals
+pub mod Lines
+pub mod Made

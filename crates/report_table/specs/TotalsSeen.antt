@@ -1,0 +1,77 @@
+-- How clauses see the totals that the code keeps, how a hand changes them, and what keeps their sums small.
+use Rattle.std.specs.Prelude.{ℕ, ◌+◌, ◌*◌, ◌^◌, ◌≤◌, ◌==◌, Bool, false, if◌then◌else◌, List, [], ◌∷◌, ◌++◌, map, take, Option, None, Some, is_none, option_and_then, slice_get}
+use Rattle.std.specs.Int.{bit_at}
+use Rattle.std.specs.List.{AllByRecursion, list_any}
+use Rattle.std.specs.Option.{option_map_or}
+use Rattle.std.specs.Str.{bytes_eq}
+use Rattle.history_text.specs.Names.{seat_named}
+use Rattle.report_table.specs.Hands.{Seated}
+use Rattle.report_table.specs.Totals.{Player, no_sums, playing, same_player}
+use Rattle.report_table.specs.declared.player_sums.PlayerSums.{PlayerSums}
+use Rattle.report_table.specs.declared.players.PlayerKey.{PlayerKey}
+
+-- a name with its unit
+abbrev pub player_of : PlayerKey → Player
+player_of key = record { hundredths = key.hundredths; name = key.name.items }
+
+-- the players with their sums
+abbrev pub seen_entries : List (PlayerKey × PlayerSums) → List (Player × PlayerSums)
+seen_entries entries = map (λ entry. (player_of entry.0, entry.1)) entries
+
+-- a player of a hand in a unit
+abbrev pub named_player : Bool → List ℕ → Player
+named_player hundredths name = record { hundredths = hundredths; name = name }
+
+-- sums of two parts of the hands
+abbrev pub plus : PlayerSums → PlayerSums → PlayerSums
+plus a b = record {
+  hands = a.hands + b.hands;
+  all_ins = a.all_ins + b.all_ins;
+  collected = a.collected + b.collected;
+  expected = a.expected + b.expected;
+}
+
+-- the seat line at a place, where the seat plays
+abbrev pub player_at : Seated → ℕ → ℕ → Option (ℕ × List ℕ)
+player_at names players place = option_and_then (λ who. if bit_at players who.0 == 1 then Some who else None) (slice_get names place)
+
+-- whether a seat line is there and has the name
+abbrev pub has_name : List ℕ → Option (ℕ × List ℕ) → Bool
+has_name text found = option_map_or (λ who. bytes_eq who.1 text) found false
+
+-- the seat line at a place, where the seat plays and no seat that plays has the name before
+abbrev pub first_at : Seated → ℕ → ℕ → Option (ℕ × List ℕ)
+first_at names players place =
+    option_and_then (λ who. if is_none (seat_named who.1 (playing (take place names) players)) then Some who else None)
+    (player_at names players place)
+
+-- the sums, with those of a player at the end where he has none yet
+abbrev pub with_player : List (Player × PlayerSums) → Player → List (Player × PlayerSums)
+with_player entries player =
+    if list_any (λ entry. same_player player entry.0) entries then entries else entries ++ (player, no_sums) ∷ []
+
+-- the same for some players, one after the other
+abbrev pub with_players : List (Player × PlayerSums) → List Player → List (Player × PlayerSums)
+with_players entries [] = entries
+with_players entries (player ∷ later) = with_players (with_player entries player) later
+
+-- the sums, with more for a player where he has some
+abbrev pub with_more : List (Player × PlayerSums) → Player → PlayerSums → List (Player × PlayerSums)
+with_more [] player more = []
+with_more (entry ∷ entries) player more =
+    if same_player player entry.0 then (entry.0, plus entry.1 more) ∷ entries else entry ∷ with_more entries player more
+
+-- the sums, with what each player is given
+abbrev pub with_given : (Player → PlayerSums) → List (Player × PlayerSums) → List (Player × PlayerSums)
+with_given given entries = map (λ entry. (entry.0, plus entry.1 (given entry.0))) entries
+
+-- sums that so many hands may give a player: one hand gives at most 2 ^ 95 units
+pub record AreOfHands (count : ℕ) (sums : PlayerSums) : Type 0 where
+  pub hands : sums.hands ≤ count
+  pub all_ins : sums.all_ins ≤ count
+  pub collected : sums.collected ≤ count * 2 ^ 95
+  pub expected : sums.expected ≤ count * 2 ^ 95
+
+-- the sums of each player are of so many hands
+abbrev pub AllAreOfHands : ℕ → List (Player × PlayerSums) → Type 0
+AllAreOfHands count entries = AllByRecursion (λ entry. AreOfHands count entry.1) entries

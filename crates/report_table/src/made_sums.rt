@@ -1,0 +1,233 @@
+//! What the hands of a run with two seats come to.
+
+ghost use Rattle.std.specs.Prelude.{◌≡◌, ℕ, ◌<◌, ◌≤◌, ◌*◌, ◌^◌, List, [], ◌∷◌, ◌++◌, true, false, decimal, OnOk, OnErr};
+ghost use Rattle.hand_audit.specs.declared.audit.HandAudit.{HandAudit};
+ghost use Rattle.report_table.specs.Equities.{IsEquityOf, IsFull, IsOfAllIn, IsOfHand, is_asked};
+ghost use Rattle.report_table.specs.HandEquities.{full_figures, tally_figures};
+ghost use Rattle.report_table.specs.Lines.{line_in};
+ghost use Rattle.report_table.specs.Made.{all_in_sums, hand_units, known_all_in, made_columns, made_line, made_sums, made_title, seat_units};
+ghost use Rattle.report_table.specs.MadeSeen.{AreSmall};
+ghost use Rattle.report_table.specs.Words.{money};
+ghost use Rattle.showdown_tally.specs.Deals.{deal_of};
+
+use crate::equity::{Equity, Form};
+use crate::hand_equities::pot_count;
+use crate::lines::{Words, write_plain};
+use crate::numbers::{push_money, push_number};
+use crate::player_sums::hand_at;
+use crate::words::push_text;
+use card_sets::Memory;
+use hand_audit::{AllIn, HandAudit};
+use showdown_tally::{Table, Tally};
+use std::alloc::AllocError;
+use std::marker::Model;
+
+/// How many runouts the counted all-in of a hand has, and what they give seats 1 and 2, in 1/5040 of a pot.
+#[derive(Clone, Copy, Debug)]
+pub struct AllInSums {
+    pub runouts: u128,
+    pub first: u128,
+    pub second: u128,
+}
+
+/// Those of a hand without a counted all-in.
+const NO_ALL_IN: AllInSums = AllInSums {
+    runouts: 0,
+    first: 0,
+    second: 0,
+};
+
+/// The units of a hand in the pots below a number.
+fn hand_units(tally: &Tally, count: u8, hand: u8) -> u128
+    requires hand { hand < 10 }
+    requires few { count ≤ 10 }
+    ensures value { result ≡ hand_units (tally_figures tally.now) count hand }
+    ensures bound { result ≤ 10 * 2 ^ 64 }
+{
+    let mut units = 0;
+    for k in 0..count {
+        units += u128::from(tally.units(k, hand));
+    }
+    units
+}
+
+/// The units of the hand of a seat in all pots; none where it isn't a contender's.
+fn seat_units(seats: &[u8; 10], table: &Table, tally: &Tally, seat: u8) -> u128
+    requires { IsFull (deal_of table.now) tally.now }
+    ensures value { result ≡ seat_units (full_figures (deal_of table.now)) (deal_of table.now) seats.now seat }
+    ensures bound { result ≤ 10 * 2 ^ 64 }
+{
+    match hand_at(seats, table, seat) {
+        Some(hand) => hand_units(tally, pot_count(table), hand),
+        None => 0,
+    }
+}
+
+/// A hand with a tally of all runouts of its all-in; with none, fewer cards may come than are lacking.
+fn full_all_in(seats: &[u8; 10], table: &Table, tally: &Tally) -> AllInSums
+    requires { IsFull (deal_of table.now) tally.now }
+    ensures value { result ≡ known_all_in seats.now (deal_of table.now) }
+    ensures small { AreSmall 1 result }
+{
+    if tally.runouts() == 0 {
+        return NO_ALL_IN;
+    }
+    AllInSums {
+        runouts: u128::from(tally.runouts()),
+        first: seat_units(seats, table, tally, 1),
+        second: seat_units(seats, table, tally, 2),
+    }
+}
+
+/// A hand with a known all-in, which is counted or refused.
+fn known_all_in(seats: &[u8; 10], table: &Table, equity: &Equity) -> AllInSums
+    requires { IsEquityOf (deal_of table.now) equity.now }
+    ensures value { result ≡ known_all_in seats.now (deal_of table.now) }
+    ensures small { AreSmall 1 result }
+{
+    match equity {
+        Equity::Counted(tally) => full_all_in(seats, table, tally),
+        Equity::Refused(_) => NO_ALL_IN,
+        Equity::NotAsked => unreachable!(),
+    }
+}
+
+/// What a hand in which no line departs gives, with the equity of its all-in.
+fn all_in_sums(all_in: &AllIn, equity: &Equity) -> AllInSums
+    requires asked { is_asked equity.now ≡ true }
+    requires equity { IsOfAllIn all_in.now equity.now }
+    ensures value { result ≡ all_in_sums all_in.now }
+    ensures small { AreSmall 1 result }
+{
+    match all_in {
+        AllIn::None | AllIn::Unknown => NO_ALL_IN,
+        AllIn::Known { seats, table, .. } => known_all_in(seats, table, equity),
+    }
+}
+
+/// What the hands of a run with two seats come to: how many there are, how many of them are accepted, how
+/// many runouts their counted all-ins have, and what these give seats 1 and 2, in 1/5040 of a pot. Clauses
+/// see them as a plain record.
+#[derive(Drop)]
+pub struct MadeSums {
+    hands: u64,
+    accepted: u64,
+    all_ins: AllInSums,
+}
+
+impl Model for MadeSums {
+    ghost use Rattle.std.specs.Prelude.{◌≤◌, ◌^◌};
+    ghost use Rattle.report_table.specs.Made.{MadeTotals};
+    ghost use Rattle.report_table.specs.MadeSeen.{AreSmall};
+
+    ghost Value = { MadeTotals };
+
+    ghost view = { λ s. record {
+      hands = s.hands;
+      accepted = s.accepted;
+      all_ins = s.all_ins;
+    } };
+
+    ghost invariant = { λ s. (s.hands ≤ 2 ^ 32) × (s.accepted ≤ s.hands) × AreSmall s.hands s.all_ins };
+}
+
+impl MadeSums {
+    /// Those of no hand.
+    pub fn new() -> MadeSums
+        ensures { result ≡ made_sums [] }
+    {
+        MadeSums {
+            hands: 0,
+            accepted: 0,
+            all_ins: NO_ALL_IN,
+        }
+    }
+
+    /// Adds a hand, by its verdict and the equity of its all-in.
+    pub fn add(&mut self, audit: &HandAudit, equity: &Equity)
+        requires asked { is_asked equity.now ≡ true }
+        requires equity { IsOfHand audit.now equity.now }
+        requires few { self.old.hands < 2 ^ 32 }
+        ensures { (hands : List HandAudit) → self.old ≡ made_sums hands → self.new ≡ made_sums (hands ++ audit.now ∷ []) }
+    {
+        self.hands += 1;
+        if let HandAudit::Accepted { all_in, .. } = audit {
+            let more = all_in_sums(all_in, equity);
+            self.accepted += 1;
+            self.all_ins.runouts += more.runouts;
+            self.all_ins.first += more.first;
+            self.all_ins.second += more.second;
+        }
+    }
+
+    /// How many of the hands are accepted.
+    pub fn accepted(&self) -> u64
+        ensures { result ≡ self.now.accepted }
+    {
+        self.accepted
+    }
+
+    /// Appends the line of so many hands that were made. Want of memory leaves `out` as it was.
+    pub fn write(&self, out: &mut Vec<u8>, hands: u64, form: Form) -> Result<(), Memory>
+        ensures block { OnOk result (out.new.items ≡ out.old.items ++ line_in form (made_line hands self.now.accepted self.now.all_ins)) }
+        ensures memory { OnErr result (out.new.items ≡ out.old.items) }
+    {
+        let mut line = Vec::new(*out.allocator());
+        write_made_line(&mut line, form, hands, self.accepted, &self.all_ins)?;
+        out.extend_from_slice(&line)?;
+        Ok(())
+    }
+}
+
+/// A name of a sum, and the sum.
+fn push_named(words: &mut Words, name: &str, number: u128) -> Result<(), AllocError>
+    ensures { OnOk result (words.new ≡ words.old ++ name.now ∷ money false number ∷ []) }
+{
+    push_text(words, name)?;
+    push_money(words, false, number)
+}
+
+/// A name of a number, and the number.
+fn push_count(words: &mut Words, name: &str, number: u64) -> Result<(), AllocError>
+    ensures { OnOk result (words.new ≡ words.old ++ name.now ∷ decimal number ∷ []) }
+{
+    push_text(words, name)?;
+    push_number(words, number)
+}
+
+/// The first words of the line of so many hands that were made.
+#[tactic(auto, unfolding(crate::specs::Made::made_title))]
+fn push_made_title(words: &mut Words, hands: u64, accepted: u64) -> Result<(), AllocError>
+    ensures { OnOk result (words.new ≡ words.old ++ made_title hands accepted) }
+{
+    push_text(words, "made")?;
+    push_count(words, "hands", hands)?;
+    push_count(words, "accepted", accepted)
+}
+
+/// What stands behind them.
+#[tactic(auto, unfolding(crate::specs::Made::made_columns))]
+fn push_made_columns(words: &mut Words, sums: &AllInSums) -> Result<(), AllocError>
+    ensures { OnOk result (words.new ≡ words.old ++ made_columns sums.now) }
+{
+    push_named(words, "runouts", sums.runouts)?;
+    push_named(words, "first", sums.first)?;
+    push_named(words, "second", sums.second)
+}
+
+/// The line of so many hands that were made.
+#[tactic(auto, unfolding(crate::specs::Made::made_line))]
+fn write_made_line(
+    out: &mut Vec<u8>,
+    form: Form,
+    hands: u64,
+    accepted: u64,
+    sums: &AllInSums,
+) -> Result<(), AllocError>
+    ensures { OnOk result (out.new.items ≡ out.old.items ++ line_in form (made_line hands accepted sums.now)) }
+{
+    let mut words = Words::none(*out.allocator());
+    push_made_title(&mut words, hands, accepted)?;
+    push_made_columns(&mut words, sums)?;
+    write_plain(out, form, words)
+}

@@ -1,0 +1,199 @@
+//! What a hand gives one of its players.
+
+ghost use Rattle.std.specs.Prelude.{◌≡◌, ◌+◌, ◌<◌, ◌≤◌, ◌^◌, ◌==◌, IfSome, find, length, position, true};
+ghost use Rattle.std.specs.Option.{option_copied};
+ghost use Rattle.report_table.specs.Equities.{IsEquityOf, IsFull, IsOfAllIn, is_asked};
+ghost use Rattle.report_table.specs.Totals.{collected_by, got_by, hand_alone, hand_all_in, hand_at, known_sums, paid_from, seat_sums};
+ghost use Rattle.report_table.specs.TotalsSeen.{AreOfHands, plus};
+ghost use Rattle.showdown_tally.specs.Deals.{deal_of};
+
+use crate::alone::hand_count;
+use crate::equity::Equity;
+use crate::hand_equities::{expected_by, pot_count};
+use hand_audit::{AllIn, Payment, PotLine, Settlement};
+use showdown_tally::{Table, Tally};
+
+/// What hands of one unit of money come to for a player.
+#[derive(Clone, Copy, Debug)]
+pub struct PlayerSums {
+    /// How many hands he plays.
+    pub hands: u64,
+    /// How many of them have a counted all-in in which he is a contender.
+    pub all_ins: u64,
+    /// What he collected in those, in units.
+    pub collected: u128,
+    /// What he could expect in those, rounded once a hand.
+    pub expected: u128,
+}
+
+impl PlayerSums {
+    /// Those of no hand.
+    pub(crate) const NONE: PlayerSums = PlayerSums {
+        hands: 0,
+        all_ins: 0,
+        collected: 0,
+        expected: 0,
+    };
+
+    /// Those of a hand that he plays, without a counted all-in of his.
+    const HAND_ALONE: PlayerSums = PlayerSums {
+        hands: 1,
+        all_ins: 0,
+        collected: 0,
+        expected: 0,
+    };
+
+    /// The sums with those of one hand more.
+    pub(crate) fn plus(&self, more: &PlayerSums) -> PlayerSums
+        requires sums { AreOfHands (2 ^ 32 + 1) self.now }
+        requires more { AreOfHands 1 more.now }
+        ensures { result ≡ plus self.now more.now }
+    {
+        PlayerSums {
+            hands: self.hands + more.hands,
+            all_ins: self.all_ins + more.all_ins,
+            collected: self.collected + more.collected,
+            expected: self.expected + more.expected,
+        }
+    }
+}
+
+/// The first payment of a seat.
+fn payment_of(payments: &[Payment], seat: u8) -> Option<&Payment>
+    ensures { option_copied result ≡ find (λ pay. pay.seat == seat) payments.now }
+{
+    payments.iter().find(|pay| pay.seat == seat)
+}
+
+/// What a seat got, by payments of which it has at most one.
+fn got_by(payments: &[Payment], seat: u8) -> u64
+    ensures { result ≡ got_by payments.now seat }
+{
+    match payment_of(payments, seat) {
+        Some(pay) => pay.got,
+        None => 0,
+    }
+}
+
+/// What a seat got out of a pot; nothing where the pot isn't there.
+fn got_from(pots: &[PotLine], k: u8, seat: u8) -> u64
+    ensures { result ≡ got_by (paid_from pots.now k) seat }
+{
+    match pots.get(usize::from(k)) {
+        Some(pot) => got_by(pot.paid.items(), seat),
+        None => 0,
+    }
+}
+
+/// What a seat collected of a hand with so many pots.
+fn collected_by(settlement: &Settlement, count: u8, seat: u8) -> u128
+    requires { count ≤ 10 }
+    ensures value { result ≡ collected_by settlement.now count seat }
+    ensures bound { result ≤ 2 ^ 95 }
+{
+    let mut collected = 0;
+    for k in 0..count {
+        collected += u128::from(got_from(settlement.pots.items(), k, seat));
+    }
+    collected + u128::from(got_by(settlement.paid.items(), seat))
+}
+
+/// The first place of a seat.
+fn place_of(seats: &[u8], seat: u8) -> Option<usize>
+    ensures value { result ≡ position (λ other. other == seat) seats.now }
+    ensures within { IfSome result (λ place. place < length seats.now) }
+{
+    seats.iter().position(|other| *other == seat)
+}
+
+/// Which hand of the table a seat has, where it is a contender.
+pub(crate) fn hand_at(seats: &[u8; 10], table: &Table, seat: u8) -> Option<u8>
+    ensures value { result ≡ hand_at seats.now (deal_of table.now) seat }
+    ensures within { IfSome result (λ hand. hand < 10) }
+{
+    let seats = &seats[..usize::from(hand_count(&table.known))];
+    match place_of(seats, seat) {
+        Some(hand) => Some(hand as u8),
+        None => None,
+    }
+}
+
+/// A hand with a counted all-in in which the player has a hand of the table.
+fn hand_all_in(
+    settlement: &Settlement,
+    table: &Table,
+    tally: &Tally,
+    seat: u8,
+    hand: u8,
+) -> PlayerSums
+    requires some { 0 < tally.now.runouts }
+    requires hand { hand < 10 }
+    requires full { IsFull (deal_of table.now) tally.now }
+    ensures value { result ≡ hand_all_in settlement.now (deal_of table.now) seat hand }
+    ensures small { AreOfHands 1 result }
+{
+    PlayerSums {
+        hands: 1,
+        all_ins: 1,
+        collected: collected_by(settlement, pot_count(table), seat),
+        expected: expected_by(settlement.pots.items(), table, tally, hand),
+    }
+}
+
+/// A hand with a tally of all runouts of its all-in; with none, fewer cards may come than are lacking.
+fn full_sums(
+    settlement: &Settlement,
+    seats: &[u8; 10],
+    table: &Table,
+    tally: &Tally,
+    seat: u8,
+) -> PlayerSums
+    requires { IsFull (deal_of table.now) tally.now }
+    ensures value { result ≡ known_sums settlement.now seats.now (deal_of table.now) seat }
+    ensures small { AreOfHands 1 result }
+{
+    if tally.runouts() == 0 {
+        return PlayerSums::HAND_ALONE;
+    }
+    match hand_at(seats, table, seat) {
+        Some(hand) => hand_all_in(settlement, table, tally, seat, hand),
+        None => PlayerSums::HAND_ALONE,
+    }
+}
+
+/// A hand with a known all-in, which is counted or refused.
+fn known_sums(
+    settlement: &Settlement,
+    seats: &[u8; 10],
+    table: &Table,
+    equity: &Equity,
+    seat: u8,
+) -> PlayerSums
+    requires { IsEquityOf (deal_of table.now) equity.now }
+    ensures value { result ≡ known_sums settlement.now seats.now (deal_of table.now) seat }
+    ensures small { AreOfHands 1 result }
+{
+    match equity {
+        Equity::Counted(tally) => full_sums(settlement, seats, table, tally, seat),
+        Equity::Refused(_) => PlayerSums::HAND_ALONE,
+        Equity::NotAsked => unreachable!(),
+    }
+}
+
+/// What a hand in which no line departs gives a seat that plays, with the equity of its all-in.
+pub(crate) fn seat_sums(
+    settlement: &Settlement,
+    all_in: &AllIn,
+    equity: &Equity,
+    seat: u8,
+) -> PlayerSums
+    requires asked { is_asked equity.now ≡ true }
+    requires equity { IsOfAllIn all_in.now equity.now }
+    ensures value { result ≡ seat_sums settlement.now all_in.now seat }
+    ensures small { AreOfHands 1 result }
+{
+    match all_in {
+        AllIn::None | AllIn::Unknown => PlayerSums::HAND_ALONE,
+        AllIn::Known { seats, table, .. } => known_sums(settlement, seats, table, equity, seat),
+    }
+}

@@ -1,0 +1,205 @@
+//! The sums of the players, by their names and the unit of their hands.
+
+ghost use Rattle.std.specs.Prelude.{◌≡◌, ℕ, ◌+◌, ◌^◌, ◌≤◌, ◌==◌, [], ◌∷◌, ◌++◌, true, false, length, map, take, is_some, option_map, IfOk, OnOk, OnErr};
+ghost use Rattle.std.specs.Int.{bit_at};
+ghost use Rattle.std.specs.List.{IsDistinct, list_any};
+ghost use Rattle.std.specs.Map.{keys_of};
+ghost use Rattle.history_text.specs.Names.{seat_named};
+ghost use Rattle.report_table.specs.Equities.{IsOfAllIn, is_asked};
+ghost use Rattle.report_table.specs.Totals.{no_sums, playing, same_player, seated_sums};
+ghost use Rattle.report_table.specs.TotalsSeen.{AllAreOfHands, AreOfHands, first_at, has_name, named_player, player_at, player_of, seen_entries, with_given, with_more, with_player, with_players};
+
+use crate::equity::Equity;
+use crate::player_sums::{PlayerSums, seat_sums};
+use card_sets::Memory;
+use hand_audit::{AllIn, Settlement};
+use history_text::Names;
+use indexmap::IndexMap;
+use std::alloc::{AllocError, Global};
+
+/// A name, and the unit of the hands that it is summed over: hundredths, or else chips.
+#[derive(Debug, PartialEq, Eq, Hash, Drop)]
+pub(crate) struct PlayerKey {
+    pub(crate) hundredths: bool,
+    pub(crate) name: Vec<u8>,
+}
+
+/// The sums of each player, in the order in which the players were added.
+pub(crate) type Players = IndexMap<PlayerKey, PlayerSums>;
+
+/// The key of a name in a unit.
+fn key_of(alloc: Global, hundredths: bool, name: &[u8]) -> Result<PlayerKey, AllocError>
+    ensures { IfOk result (λ key. player_of key ≡ named_player hundredths name.now) }
+{
+    let name = name.to_vec(alloc)?;
+    Ok(PlayerKey { hundredths, name })
+}
+
+/// Who plays in a hand, and the unit of its money.
+#[derive(Clone, Copy)]
+pub(crate) struct Lineup<'a> {
+    pub(crate) hundredths: bool,
+    pub(crate) names: &'a Names,
+    pub(crate) players: u16,
+}
+
+/// Whether a seat plays.
+fn plays(players: u16, seat: u8) -> bool
+    ensures { result ≡ (bit_at players seat == 1) }
+{
+    seat < 16 && (players >> seat) & 1 == 1
+}
+
+impl<'a> Lineup<'a> {
+    /// The keys of the names of all seat lines, in their order.
+    pub(crate) fn keys(&self, alloc: Global) -> Result<Vec<PlayerKey>, AllocError>
+        ensures { IfOk result (λ keys. map player_of keys.items ≡ map (λ who. named_player self.now.hundredths who.1) self.now.names.now) }
+    {
+        let mut keys = Vec::new(alloc);
+        for place in 0..self.names.count() {
+            if let Some((_, name)) = self.names.at(place) {
+                keys.push(key_of(alloc, self.hundredths, name)?)?;
+            }
+        }
+        Ok(keys)
+    }
+
+    /// The seat and the name of the seat line at a place, where the seat plays.
+    fn player_at(&self, place: usize) -> Option<(u8, &'a [u8])>
+        ensures { option_map (λ who. (who.0, who.1.now)) result ≡ player_at self.now.names.now self.now.players place }
+    {
+        match self.names.at(place) {
+            Some((seat, name)) if plays(self.players, seat) => Some((seat, name)),
+            _ => None,
+        }
+    }
+
+    /// Whether the seat line at a place has the name and a seat that plays.
+    fn has_name_at(&self, place: usize, name: &[u8]) -> bool
+        ensures { result ≡ has_name name.now (player_at self.now.names.now self.now.players place) }
+    {
+        match self.player_at(place) {
+            Some((_, other)) => other == name,
+            None => false,
+        }
+    }
+
+    /// Whether a seat line before a place has the name and a seat that plays.
+    fn has_before(&self, place: usize, name: &[u8]) -> bool
+        requires { place ≤ length self.now.names.now }
+        ensures { result ≡ is_some (seat_named name.now (playing (take place self.now.names.now) self.now.players)) }
+    {
+        for earlier in 0..place {
+            if self.has_name_at(earlier, name) {
+                return true;
+            }
+        }
+        false
+    }
+
+    /// The same as `player_at`, where no seat that plays has the name before.
+    fn first_at(&self, place: usize) -> Option<(u8, &'a [u8])>
+        requires { place ≤ length self.now.names.now }
+        ensures { option_map (λ who. (who.0, who.1.now)) result ≡ first_at self.now.names.now self.now.players place }
+    {
+        match self.player_at(place) {
+            Some((seat, name)) if !self.has_before(place, name) => Some((seat, name)),
+            _ => None,
+        }
+    }
+}
+
+/// Puts a player who has no sums yet at the end, with those of no hand.
+fn push_player(players: &mut Players, key: PlayerKey) -> Result<(), AllocError>
+    requires { list_any (λ entry. same_player (player_of key) entry.0) (seen_entries players.old.entries) ≡ false }
+    ensures added { OnOk result (seen_entries players.new.entries ≡ seen_entries players.old.entries ++ (player_of key, no_sums) ∷ []) }
+    ensures kept { take (length players.old.entries) players.new.entries ≡ players.old.entries }
+{
+    players.insert(key, PlayerSums::NONE)?;
+    Ok(())
+}
+
+/// Gives a player sums of no hand, at the end, where he has none yet.
+fn add_player(players: &mut Players, hundredths: bool, name: &[u8]) -> Result<(), AllocError>
+    ensures added { OnOk result (seen_entries players.new.entries
+        ≡ with_player (seen_entries players.old.entries) (named_player hundredths name.now)) }
+    ensures kept { take (length players.old.entries) players.new.entries ≡ players.old.entries }
+{
+    let key = key_of(*players.allocator(), hundredths, name)?;
+    if players.contains_key(&key) {
+        return Ok(());
+    }
+    push_player(players, key)
+}
+
+/// Gives each player of a hand sums of no hand, where he has none yet. For want of memory some first of
+/// them have got theirs.
+fn add_each_player(players: &mut Players, lineup: &Lineup) -> Result<(), AllocError>
+    ensures added { OnOk result (seen_entries players.new.entries ≡ with_players (seen_entries players.old.entries)
+        (map (λ who. named_player lineup.now.hundredths who.1) (playing lineup.now.names.now lineup.now.players))) }
+    ensures kept { take (length players.old.entries) players.new.entries ≡ players.old.entries }
+{
+    for place in 0..lineup.names.count() {
+        if let Some((_, name)) = lineup.player_at(place) {
+            add_player(players, lineup.hundredths, name)?;
+        }
+    }
+    Ok(())
+}
+
+/// The same, and want of memory changes nothing.
+pub(crate) fn add_players(players: &mut Players, lineup: &Lineup) -> Result<(), Memory>
+    ensures added { OnOk result (seen_entries players.new.entries ≡ with_players (seen_entries players.old.entries)
+        (map (λ who. named_player lineup.now.hundredths who.1) (playing lineup.now.names.now lineup.now.players))) }
+    ensures memory { OnErr result (players.new.entries ≡ players.old.entries) }
+{
+    let before = players.len();
+    match add_each_player(players, lineup) {
+        Ok(()) => Ok(()),
+        Err(error) => {
+            players.truncate(before);
+            Err(Memory::from(error))
+        }
+    }
+}
+
+/// Adds to the sums of a player, where he has some.
+fn add_to(players: &mut Players, key: &PlayerKey, more: &PlayerSums)
+    requires sums { AllAreOfHands (2 ^ 32 + 1) (seen_entries players.old.entries) }
+    requires more { AreOfHands 1 more.now }
+    ensures added { seen_entries players.new.entries
+        ≡ with_more (seen_entries players.old.entries) (player_of key.now) more.now }
+    ensures distinct { IsDistinct same_player (keys_of (seen_entries players.old.entries)) }
+{
+    if let Some(sums) = players.get_mut(key) {
+        *sums = sums.plus(more);
+    }
+}
+
+/// Adds what a hand in which no line departs gives each of its players, with the equity of its all-in.
+/// Takes the keys of the names of its seat lines.
+pub(crate) fn add_sums(
+    players: &mut Players,
+    keys: &[PlayerKey],
+    lineup: &Lineup,
+    settlement: &Settlement,
+    all_in: &AllIn,
+    equity: &Equity,
+)
+    requires asked { is_asked equity.now ≡ true }
+    requires equity { IsOfAllIn all_in.now equity.now }
+    requires unit { lineup.now.hundredths ≡ settlement.now.hundredths }
+    requires keys { map player_of keys.now ≡ map (λ who. named_player lineup.now.hundredths who.1) lineup.now.names.now }
+    requires sums { AllAreOfHands (2 ^ 32) (seen_entries players.old.entries) }
+    ensures added { seen_entries players.new.entries
+        ≡ with_given (seated_sums settlement.now all_in.now (playing lineup.now.names.now lineup.now.players)) (seen_entries players.old.entries) }
+    ensures small { (count : ℕ) → AllAreOfHands count (seen_entries players.old.entries)
+        → AllAreOfHands (count + 1) (seen_entries players.new.entries) }
+{
+    for place in 0..lineup.names.count() {
+        if let Some((seat, _)) = lineup.first_at(place) {
+            let more = seat_sums(settlement, all_in, equity, seat);
+            add_to(players, &keys[place], &more);
+        }
+    }
+}

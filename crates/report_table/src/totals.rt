@@ -1,0 +1,125 @@
+//! What all hands of a run come to.
+
+#[cfg(test)]
+mod tests;
+
+ghost use Rattle.std.specs.Prelude.{◌≡◌, ℕ, ◌<◌, ◌^◌, List, [], ◌∷◌, ◌++◌, true, OnOk, OnErr};
+ghost use Rattle.hand_audit.specs.declared.audit.HandAudit.{HandAudit};
+ghost use Rattle.report_table.specs.Equities.{IsOfHand, is_asked};
+ghost use Rattle.report_table.specs.Totals.{run_block, totals_of};
+
+use crate::equity::{Equity, Form};
+use crate::players::{Lineup, Players, add_players, add_sums};
+use crate::total_lines::{write_player_lines, write_totals_line};
+use card_sets::Memory;
+use hand_audit::HandAudit;
+use std::alloc::Global;
+use std::marker::Model;
+
+/// What all hands of a run come to: how many there are, and the sums of each name in each unit, in the
+/// order of their first seat lines. Clauses see them as plain records.
+#[derive(Drop)]
+pub struct Totals {
+    accepted: u64,
+    rejected: u64,
+    players: Players,
+}
+
+impl Model for Totals {
+    ghost use Rattle.std.specs.Prelude.{◌+◌, ◌≤◌, ◌^◌};
+    ghost use Rattle.report_table.specs.Totals.{RunTotals};
+
+    ghost Value = { RunTotals };
+
+    ghost use Rattle.report_table.specs.TotalsSeen.{AllAreOfHands, seen_entries};
+
+    ghost view = { λ t. record {
+      hands = t.accepted + t.rejected;
+      accepted = t.accepted;
+      rejected = t.rejected;
+      players = seen_entries t.players.entries;
+    } };
+
+    ghost invariant = { λ t. (t.accepted + t.rejected ≤ 2 ^ 32) × AllAreOfHands t.accepted (seen_entries t.players.entries) };
+}
+
+impl Totals {
+    /// Those of no hand.
+    pub fn new(alloc: Global) -> Totals
+        ensures { result ≡ totals_of [] }
+    {
+        Totals {
+            accepted: 0,
+            rejected: 0,
+            players: Players::new(alloc),
+        }
+    }
+
+    /// How many hands were added.
+    pub fn hands(&self) -> u64
+        ensures { result ≡ self.now.hands }
+    {
+        self.accepted + self.rejected
+    }
+
+    /// How many of the hands are rejected.
+    pub fn rejected(&self) -> u64
+        ensures { result ≡ self.now.rejected }
+    {
+        self.rejected
+    }
+
+    /// Adds a hand, by its verdict and the equity of its all-in. Want of memory leaves the totals as they
+    /// were.
+    pub fn add(&mut self, audit: &HandAudit, equity: &Equity) -> Result<(), Memory>
+        requires asked { is_asked equity.now ≡ true }
+        requires equity { IsOfHand audit.now equity.now }
+        requires few { self.old.hands < 2 ^ 32 }
+        ensures added { (hands : List HandAudit) → self.old ≡ totals_of hands
+            → OnOk result (self.new ≡ totals_of (hands ++ audit.now ∷ [])) }
+        ensures memory { OnErr result (self.new ≡ self.old) }
+    {
+        let HandAudit::Accepted {
+            settlement,
+            all_in,
+            names,
+            players,
+        } = audit
+        else {
+            self.rejected += 1;
+            return Ok(());
+        };
+        let lineup = Lineup {
+            hundredths: settlement.hundredths,
+            names,
+            players: *players,
+        };
+        // Before anything is changed: want of memory for the keys then leaves the totals as they were.
+        let keys = lineup.keys(*self.players.allocator())?;
+        add_players(&mut self.players, &lineup)?;
+        add_sums(
+            &mut self.players,
+            &keys,
+            &lineup,
+            settlement,
+            all_in,
+            equity,
+        );
+        self.accepted += 1;
+        Ok(())
+    }
+
+    /// Appends the totals: a line of all hands, and a line for each name in each unit. Want of memory
+    /// leaves `out` as it was.
+    #[tactic(auto, unfolding(crate::specs::Totals::run_block))]
+    pub fn write(&self, out: &mut Vec<u8>, form: Form) -> Result<(), Memory>
+        ensures block { OnOk result (out.new.items ≡ out.old.items ++ run_block form self.now) }
+        ensures memory { OnErr result (out.new.items ≡ out.old.items) }
+    {
+        let mut block = Vec::new(*out.allocator());
+        write_totals_line(&mut block, form, self.accepted, self.rejected)?;
+        write_player_lines(&mut block, form, &self.players)?;
+        out.extend_from_slice(&block)?;
+        Ok(())
+    }
+}
