@@ -5,6 +5,7 @@ use Rattle.std.specs.Option.{option_map}
 use Rattle.std.proofs.lemmas.List.Sums.{sum_by-append}
 use Rattle.card_sets.specs.Cards.{cards_where, cards_below, has_card, union, IsCardSet}
 use Rattle.card_sets.specs.Bits.{cards_where_same, IsCardSet-cards_where}
+use Rattle.card_sets.specs.Rising.{IsRising-cards_where}
 use Rattle.card_sets.specs.State.{State}
 use Rattle.card_sets.specs.Games.{own_size, board_size, all_fit}
 use Rattle.card_sets.specs.Disjoint.{all_apart}
@@ -13,7 +14,7 @@ use Rattle.card_sets.specs.declared.games.Game.TheVariants.{Holdem}
 use Rattle.rank_high.specs.High.{value_of, best_high}
 use Rattle.rank_high.proofs.Sets.{Apart, Apart-sym, Apart-apart, Apart-union, length-union}
 use Rattle.runout_ranges.specs.Runouts.{HasMember}
-use Rattle.runout_ranges.specs.Slots.{unseen, dealt}
+use Rattle.runout_ranges.specs.Slots.{counts_of, slots, unseen, dealt}
 use Rattle.runout_ranges.specs.Ways.{Within}
 use Rattle.runout_ranges.specs.declared.shapes.Receiver.TheVariants.{Board, Hand}
 use Rattle.showdown_tally.specs.Laws.{IsFull}
@@ -21,7 +22,8 @@ use Rattle.showdown_tally.specs.Numbers.{side_number}
 use Rattle.showdown_tally.specs.Outcomes.{only_side}
 use Rattle.showdown_tally.specs.Showdown.{best, own_after, board_after, value_after}
 use Rattle.showdown_tally.specs.Tallies.{runouts_after}
-use Rattle.showdown_tally.proofs.Full.{hand_of, hand_IsFull, Sound, unseen_free, any-index}
+use Rattle.showdown_tally.proofs.Dealt.{Deals, runout_deals}
+use Rattle.showdown_tally.proofs.Full.{full_board, hand_of, hand_IsFull, Sound, unseen_free, any-index}
 use Rattle.board_walk.specs.Boards.{IsBoardAlone, AreFirst}
 use Rattle.board_walk.specs.Rows.{seven_after}
 
@@ -130,3 +132,19 @@ hand_seven game count hands board dead set own full_board h disjoint fits e memb
       size = ap length seven ∙ length-seven game (own_after st (set ∷ []) h) (board_after st (set ∷ [])) e full;
       number = ap (λ cards. Some (value_of (best_high cards))) seven ∙ sym (holdem_number game (own_after st (set ∷ []) h) (board_after st (set ∷ [])) e);
     }
+
+-- a hand and a board that are full after a runout are two cards and five
+pub full_parts : (st : State) (set own board : List ℕ) (h : ℕ) → IsBoardAlone st → IsCardSet own → own ≡ hand_of st h → board ≡ union st.board set → IsFull st.game (own_after st (set ∷ []) h) (board_after st (set ∷ [])) → IsFull st.game own board
+full_parts st set own board h alone is o b full =
+    let is' : IsCardSet (hand_of st h) = (let P : List ℕ → Type 0 = λ l. IsCardSet l in subst P o is) in
+    let e : own_after st (set ∷ []) h ≡ own = own_alone st set h alone is' ∙ sym o in
+    let f : board_after st (set ∷ []) ≡ board = board_alone st set alone ∙ sym b in
+    let P : List ℕ → Type 0 = λ l. IsFull st.game l (board_after st (set ∷ [])) in
+    let Q : List ℕ → Type 0 = λ l. IsFull st.game own l in
+    subst Q f (subst P e full)
+
+-- the board has five cards then
+pub five_on_board : (st : State) (set : List ℕ) → Sound st → IsBoardAlone st → st.game ≡ Holdem → IsCardSet st.board → HasMember (runouts_after st) (set ∷ []) → length (union st.board set) ≡ 5
+five_on_board st set sound alone game board member =
+    let deals : Deals (unseen st) (counts_of (slots st)) (set ∷ []) = runout_deals (unseen st) (counts_of (slots st)) (set ∷ []) (IsRising-cards_where _) member in
+    ap length (sym (board_alone st set alone)) ∙ full_board st (set ∷ []) sound deals board ∙ ap board_size game

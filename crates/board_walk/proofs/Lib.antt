@@ -11,3 +11,7 @@ pub mod PlainWith
 pub mod Members
 pub mod WithCard
 pub mod Whole
+pub mod FillRow
+pub mod TwoHands
+pub mod Masks
+pub mod OneSuit

@@ -30,7 +30,7 @@ set_of_member st set alone member =
     let one : Deals (unseen st) (board_lacks (slots st) ∷ []) (set ∷ []) = subst P (ap counts_of alone) deals in
     one.0
 
-full_after : (st : State) (runout : List (List ℕ)) (h : ℕ) → Sound st → HasMember (runouts_after st) runout → h < length st.hands → IsCardSet (hand_of st h) → IsCardSet st.board → IsFull st.game (own_after st runout h) (board_after st runout)
+pub full_after : (st : State) (runout : List (List ℕ)) (h : ℕ) → Sound st → HasMember (runouts_after st) runout → h < length st.hands → IsCardSet (hand_of st h) → IsCardSet st.board → IsFull st.game (own_after st runout h) (board_after st runout)
 full_after st runout h sound member l hand board =
     let deals : Deals (unseen st) (counts_of (slots st)) runout = runout_deals (unseen st) (counts_of (slots st)) runout (IsRising-cards_where _) member in
     record {
@@ -104,3 +104,7 @@ value_there st taken ranks values least low high h place sound alone member hand
     let one : one_of (place / 13) k ≡ one_of (rank_of low) k = ap (λ n. one_of n k) q in
     let two : one_of (place % 13) k ≡ one_of (rank_of high) k = ap (λ n. one_of n k) r in
     omega (arith, seven, same, one, two))
+
+-- the row's least rank is no higher than that of the lower card
+pub least_there : (st : State) (taken : List ℕ) (least low high : ℕ) → IsBoardAlone st → HasMember (runouts_after st) ((taken ++ low ∷ high ∷ []) ∷ []) → ((card : ℕ) (more : List ℕ) → IsRising (taken ++ card ∷ more) → least ≤ rank_of card) → least ≤ rank_of low
+least_there st taken least low high alone member below = below low (high ∷ []) (set_of_member st (taken ++ low ∷ high ∷ []) alone member).1

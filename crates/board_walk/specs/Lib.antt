@@ -1,5 +1,6 @@
 pub use Rattle.card_sets.specs.Cards
 pub use Rattle.card_sets.specs.Choose
+pub use Rattle.card_sets.specs.Disjoint
 pub use Rattle.card_sets.specs.Games
 pub use Rattle.card_sets.specs.State
 pub use Rattle.rank_high.specs.High
@@ -9,6 +10,7 @@ pub use Rattle.runout_ranges.specs.Slots
 pub use Rattle.runout_ranges.specs.Shapes
 pub use Rattle.runout_ranges.specs.Ways
 pub use Rattle.showdown_tally.specs.Deals
+pub use Rattle.showdown_tally.specs.Flushes
 pub use Rattle.showdown_tally.specs.Showdown
 pub use Rattle.showdown_tally.specs.Settling
 pub use Rattle.showdown_tally.specs.Tallies
@@ -21,3 +23,5 @@ pub mod Kept
 pub mod KeptRows
 pub mod Pairs
 pub mod Suits
+pub mod Two
+pub mod Masks

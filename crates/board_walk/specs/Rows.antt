@@ -1,10 +1,11 @@
 -- Who wins a pot, by the ranks of the last two cards of the board.
-use Rattle.std.specs.Prelude.{◌≡◌, ℕ, ◌+◌, ◌/◌, ◌%◌, ◌<◌, ◌≤◌, ◌==◌, List, [], length, slice_index, slice_index_or, count_by}
+use Rattle.std.specs.Prelude.{◌≡◌, ℕ, ◌+◌, ◌/◌, ◌%◌, ◌<◌, ◌≤◌, ◌==◌, List, [], length, slice_index, slice_index_or, count_by, Option, Some}
 use Rattle.card_sets.specs.Cards.{union, IsCardSet}
 use Rattle.card_sets.specs.State.{State}
 use Rattle.rank_high.specs.High.{count_of_rank, value_of, best_high}
 use Rattle.rank_high.specs.Parts.{best_plain}
 use Rattle.showdown_tally.specs.Laws.{IsFull}
+use Rattle.showdown_tally.specs.Settling.{number_of}
 use Rattle.showdown_tally.specs.Showdown.{Showdown, own_after, board_after}
 use Rattle.showdown_tally.specs.Outcomes.{outcome}
 use Rattle.board_walk.specs.Values.{one_of}
@@ -37,6 +38,12 @@ IsRow deal pot ranks least outcomes = (place : ℕ) (runout : List (List ℕ)) �
 abbrev pub AreValuesOf : State → ℕ → List ℕ → ℕ → List ℕ → Type 0
 AreValuesOf state h ranks least values = (place : ℕ) (full : List ℕ) → place < 169 → least ≤ place / 13 → place / 13 ≤ place % 13 → h < length state.hands → IsCardSet full
     → ((r : ℕ) → r < 13 → count_of_rank full r ≡ known_of_rank state ranks h r + one_of (place / 13) r + one_of (place % 13) r) → slice_index values place ≡ value_of (best_plain full)
+
+-- what each hand is worth by ranks alone with first cards and one card of each of two ranks more, whichever cards they are
+abbrev pub ArePlainValues : State → List ℕ → ℕ → ℕ → List (Option ℕ) → Type 0
+ArePlainValues state taken low high values = (h : ℕ) (full : List ℕ) → h < length state.hands → IsCardSet full
+    → ((r : ℕ) → r < 13 → count_of_rank full r ≡ count_of_rank (slice_index_or state.hands h []) r + count_of_rank state.board r + count_of_rank taken r + one_of low r + one_of high r)
+    → number_of values h ≡ Some (value_of (best_plain full))
 
 -- a row, with the values of the first two hands
 abbrev pub IsFullRow : Showdown → ℕ → List ℕ → ℕ → List ℕ → List ℕ → List ℕ → Type 0

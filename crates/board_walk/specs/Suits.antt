@@ -22,3 +22,7 @@ IsShortWith most taken a b = (s : ℕ) → s < 4 → slice_index most s + count_
 
 abbrev pub AreFlagsFor : List ℕ → List ℕ → List Bool → Type 0
 AreFlagsFor most taken flags = (a b : ℕ) → a < 4 → b < 4 → slice_get flags (4 * a + b) ≡ Some false → IsShortWith most taken a b
+
+-- no two cards make anybody five of a suit with first cards of the board
+abbrev pub AreAllShort : List ℕ → List ℕ → Type 0
+AreAllShort most taken = (a b : ℕ) → a < 4 → b < 4 → IsShortWith most taken a b

@@ -9,6 +9,7 @@ ghost use Rattle.showdown_tally.specs.Outcomes.{AreOutcomes};
 ghost use Rattle.showdown_tally.specs.Tallies.{runouts_after};
 ghost use Rattle.board_walk.specs.Boards.{board_lacks, is_walked};
 
+use crate::flushes::Flushes;
 use crate::pairs::Pairs;
 use crate::range::count_range;
 use crate::rows::Rows;
@@ -24,7 +25,7 @@ use step_count::Steps;
 pub const POTS: usize = 4;
 
 /// How many cards the board lacks, where nobody else lacks any: 0 elsewhere.
-fn board_lacks(shape: &Shape) -> u32
+pub fn board_lacks(shape: &Shape) -> u32
     ensures { result ≡ board_lacks (slots_of shape.now) }
 {
     match &shape.slots[..shape.used as usize] {
@@ -45,6 +46,7 @@ pub fn is_walked(table: &Table, shape: &Shape) -> bool
 
 /// Counts how many of a range of runouts each set of hands wins a pot with. It takes a step a runout.
 fn count_pot<L: Ledger>(
+    flushes: &Flushes,
     table: &Table,
     shape: &Shape,
     pot: u8,
@@ -76,6 +78,7 @@ fn count_pot<L: Ledger>(
     let none = CardSet::empty();
     shape.unseen.rising();
     count_range(
+        flushes,
         &spot,
         pairs,
         rows,
@@ -91,6 +94,7 @@ fn count_pot<L: Ledger>(
 
 /// The same with a counter of its own, which begins at 0.
 fn count_pot_on<L: Ledger>(
+    flushes: &Flushes,
     table: &Table,
     shape: &Shape,
     pot: u8,
@@ -115,11 +119,14 @@ fn count_pot_on<L: Ledger>(
     ensures counts { AreOutcomes (deal_of table.now) pot (slice_range (runouts_after (state_of table.now.known)) lo hi) counts.new }
 {
     let mut steps = Steps::<L>::new(blank);
-    count_pot(table, shape, pot, pairs, rows, counts, lo, hi, &mut steps);
+    count_pot(
+        flushes, table, shape, pot, pairs, rows, counts, lo, hi, &mut steps,
+    );
 }
 
 /// Counts how many of a range of runouts each set of hands wins each pot with. It takes a step a runout.
 pub(crate) fn count_pots<L: Ledger>(
+    flushes: &Flushes,
     table: &Table,
     shape: &Shape,
     pairs: &Pairs,
@@ -142,6 +149,7 @@ pub(crate) fn count_pots<L: Ledger>(
     ensures steps { steps.new ≡ steps.old + (hi - lo) }
 {
     count_pot(
+        flushes,
         table,
         shape,
         0,
@@ -155,6 +163,7 @@ pub(crate) fn count_pots<L: Ledger>(
     for pot in 1..table.pots {
         let place = usize::from(pot);
         count_pot_on::<Brand>(
+            flushes,
             table,
             shape,
             pot,

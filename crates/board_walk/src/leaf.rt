@@ -2,7 +2,7 @@
 
 ghost use Rattle.std.specs.Prelude.{◌≡◌, ℕ, ◌+◌, ◌-◌, ◌<◌, ◌≤◌, ◌^◌, ◌==◌, ◌++◌, [], ◌∷◌, List, length, slice_index};
 ghost use Rattle.std.specs.List.{count_by, slice_range};
-ghost use Rattle.card_sets.specs.Cards.{rank_of};
+ghost use Rattle.card_sets.specs.Cards.{suit_of};
 ghost use Rattle.card_sets.specs.Choose.{choose};
 ghost use Rattle.card_sets.specs.State.{state_of};
 ghost use Rattle.runout_ranges.specs.Runouts.{HasMember};
@@ -12,9 +12,10 @@ ghost use Rattle.showdown_tally.specs.Tallies.{runouts_after};
 ghost use Rattle.board_walk.specs.Boards.{AreFirst};
 ghost use Rattle.board_walk.specs.Kept.{deal_from};
 ghost use Rattle.board_walk.specs.Pairs.{cards_of_pair, IsEndOf};
-ghost use Rattle.board_walk.specs.Rows.{AreRanksOf, IsFullRow};
-ghost use Rattle.board_walk.specs.Suits.{AreFlagsFor};
+ghost use Rattle.board_walk.specs.KeptRows.{IsRowFor};
+ghost use Rattle.board_walk.specs.Suits.{AreAllShort, AreFlagsFor, IsShortWith};
 
+use crate::flushes::Flushes;
 use crate::hands::set_outcome;
 use crate::pair::Pair;
 use crate::pairs::Pairs;
@@ -27,66 +28,98 @@ use rank_high::law_ranks_or_a_suit;
 use std::sync::ledger::Ledger;
 use step_count::Steps;
 
-/// First cards of a board, with what is known of all that get two cards more.
-#[derive(Clone, Copy, Debug)]
-struct Front {
-    /// The cards.
-    taken: CardSet,
-    /// Who wins by the ranks of the last two where nobody has a flush.
-    row: Row,
-    /// Whether somebody may have a flush, at 4 times the suit of one of the last two and that of the other.
-    flags: [bool; 16],
+/// Who wins with a pair as the last two cards, where nobody has a flush with it.
+#[inline]
+fn plain_pair_outcome(spot: &Spot, taken: CardSet, row: &Row, pair: &Pair) -> u16
+    requires row { IsRowFor (deal_of spot.now.table) spot.now.pot taken row.now }
+    requires short { IsShortWith spot.now.most taken (suit_of pair.now.low) (suit_of pair.now.high) }
+    requires member { HasMember (runouts_after (state_of spot.now.table.known)) ((taken ++ cards_of_pair pair.now) ∷ []) }
+    ensures value { result ≡ outcome (deal_of spot.now.table) spot.now.pot ((taken ++ cards_of_pair pair.now) ∷ []) }
+    ensures small { result < 1024 }
+{
+    law_ranks_or_a_suit();
+    row.outcomes[usize::from(pair.ranks)]
 }
 
 /// Who wins with a pair as the last two cards.
 #[inline]
-fn pair_outcome(spot: &Spot, front: &Front, pair: &Pair) -> u16
-    requires row { IsFullRow (deal_of spot.now.table) spot.now.pot front.now.row.ranks front.now.row.least front.now.row.outcomes front.now.row.first front.now.row.second }
-    requires ranks { AreRanksOf front.now.row.ranks front.now.taken }
-    requires flags { AreFlagsFor spot.now.most front.now.taken front.now.flags }
-    requires places { length front.now.flags ≡ 16 }
-    requires least { front.now.row.least ≤ rank_of pair.now.low }
-    requires member { HasMember (runouts_after (state_of spot.now.table.known)) ((front.now.taken ++ cards_of_pair pair.now) ∷ []) }
-    ensures value { result ≡ outcome (deal_of spot.now.table) spot.now.pot ((front.now.taken ++ cards_of_pair pair.now) ∷ []) }
+fn pair_outcome(
+    flushes: &Flushes,
+    spot: &Spot,
+    taken: CardSet,
+    row: &Row,
+    flags: &[bool; 16],
+    pair: &Pair,
+) -> u16
+    requires row { IsRowFor (deal_of spot.now.table) spot.now.pot taken row.now }
+    requires flags { AreFlagsFor spot.now.most taken flags.now }
+    requires places { length flags.now ≡ 16 }
+    requires member { HasMember (runouts_after (state_of spot.now.table.known)) ((taken ++ cards_of_pair pair.now) ∷ []) }
+    ensures value { result ≡ outcome (deal_of spot.now.table) spot.now.pot ((taken ++ cards_of_pair pair.now) ∷ []) }
     ensures small { result < 1024 }
 {
-    law_ranks_or_a_suit();
-    front.taken.rising();
-    let place = usize::from(pair.ranks);
-    if front.flags[usize::from(pair.suits)] {
-        let set = front.taken.with(pair.low).with(pair.high);
-        let first = front.row.first[place];
-        let second = front.row.second[place];
-        return set_outcome(&spot.table, spot.pot, set, first, second);
+    taken.rising();
+    if flags[usize::from(pair.suits)] {
+        let place = usize::from(pair.ranks);
+        let set = taken.with(pair.low).with(pair.high);
+        return set_outcome(flushes, spot, set, row.first[place], row.second[place]);
     }
-    front.row.outcomes[place]
+    plain_pair_outcome(spot, taken, row, pair)
+}
+
+/// Counts who wins with each of some pairs as the last two cards, where nobody has a flush with any. It takes a step a pair.
+#[inline(never)]
+fn count_plain_pairs<L: Ledger>(
+    spot: &Spot,
+    taken: CardSet,
+    row: &Row,
+    pairs: &[Pair],
+    counts: &mut [u32],
+    steps: &mut Steps<L>,
+)
+    requires row { IsRowFor (deal_of spot.now.table) spot.now.pot taken row.now }
+    requires short { AreAllShort spot.now.most taken }
+    requires pairs { (pair : Pair) → HasMember pairs.now pair → HasMember (runouts_after (state_of spot.now.table.known)) ((taken ++ cards_of_pair pair) ∷ []) }
+    requires counts { length counts.old ≡ 1024 }
+    requires fits { (set : ℕ) → set < 1024 → slice_index counts.old set + length pairs.now < 2 ^ 32 }
+    ensures counts { (set : ℕ) → set < 1024
+        → slice_index counts.new set ≡ slice_index counts.old set
+        + count_by (λ pair. outcome (deal_of spot.now.table) spot.now.pot ((taken ++ cards_of_pair pair) ∷ []) == set) pairs.now }
+    ensures steps { steps.new ≡ steps.old + length pairs.now }
+{
+    for pair in pairs {
+        steps.tick();
+        let set = plain_pair_outcome(spot, taken, row, pair);
+        counts[usize::from(set)] += 1;
+    }
 }
 
 /// Counts who wins with each of some pairs as the last two cards. It takes a step a pair.
 #[inline(never)]
 fn count_pairs<L: Ledger>(
+    flushes: &Flushes,
     spot: &Spot,
-    front: &Front,
+    taken: CardSet,
+    row: &Row,
+    flags: &[bool; 16],
     pairs: &[Pair],
     counts: &mut [u32],
     steps: &mut Steps<L>,
 )
-    requires row { IsFullRow (deal_of spot.now.table) spot.now.pot front.now.row.ranks front.now.row.least front.now.row.outcomes front.now.row.first front.now.row.second }
-    requires ranks { AreRanksOf front.now.row.ranks front.now.taken }
-    requires flags { AreFlagsFor spot.now.most front.now.taken front.now.flags }
-    requires places { length front.now.flags ≡ 16 }
-    requires pairs { (pair : Pair) → HasMember pairs.now pair
-        → (front.now.row.least ≤ rank_of pair.low) × HasMember (runouts_after (state_of spot.now.table.known)) ((front.now.taken ++ cards_of_pair pair) ∷ []) }
+    requires row { IsRowFor (deal_of spot.now.table) spot.now.pot taken row.now }
+    requires flags { AreFlagsFor spot.now.most taken flags.now }
+    requires places { length flags.now ≡ 16 }
+    requires pairs { (pair : Pair) → HasMember pairs.now pair → HasMember (runouts_after (state_of spot.now.table.known)) ((taken ++ cards_of_pair pair) ∷ []) }
     requires counts { length counts.old ≡ 1024 }
     requires fits { (set : ℕ) → set < 1024 → slice_index counts.old set + length pairs.now < 2 ^ 32 }
     ensures counts { (set : ℕ) → set < 1024
         → slice_index counts.new set ≡ slice_index counts.old set
-        + count_by (λ pair. outcome (deal_of spot.now.table) spot.now.pot ((front.now.taken ++ cards_of_pair pair) ∷ []) == set) pairs.now }
+        + count_by (λ pair. outcome (deal_of spot.now.table) spot.now.pot ((taken ++ cards_of_pair pair) ∷ []) == set) pairs.now }
     ensures steps { steps.new ≡ steps.old + length pairs.now }
 {
     for pair in pairs {
         steps.tick();
-        let set = pair_outcome(spot, front, pair);
+        let set = pair_outcome(flushes, spot, taken, row, flags, pair);
         counts[usize::from(set)] += 1;
     }
 }
@@ -94,6 +127,7 @@ fn count_pairs<L: Ledger>(
 /// Counts who wins with first cards of the board and two of the rest, from one place of the listing of these two to another. It takes
 /// a step a runout.
 pub(crate) fn count_leaf<L: Ledger>(
+    flushes: &Flushes,
     spot: &Spot,
     pairs: &Pairs,
     rows: &mut Rows,
@@ -121,9 +155,11 @@ pub(crate) fn count_leaf<L: Ledger>(
     ensures deal { rows.new.deal ≡ rows.old.deal }
     ensures pot { rows.new.pot ≡ rows.old.pot }
 {
-    let row = rows.row_for(&spot.table, taken);
-    let flags = flags_for(spot.most, taken);
-    let front = Front { taken, row, flags };
+    let place = rows.ready(&spot.table, taken);
+    let row = rows.row(place);
     let stretch = pairs.stretch(rest, lo, hi);
-    count_pairs(spot, &front, stretch, counts, steps);
+    match flags_for(spot.most, taken) {
+        Some(flags) => count_pairs(flushes, spot, taken, row, &flags, stretch, counts, steps),
+        None => count_plain_pairs(spot, taken, row, stretch, counts, steps),
+    }
 }

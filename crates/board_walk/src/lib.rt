@@ -1,8 +1,10 @@
 //! How many boards of hold'em each set of hands wins each pot with, the last two cards of a board at once.
 #![tactic(auto)]
 
+mod board;
 mod count;
 mod deal;
+mod flushes;
 mod free;
 mod hands;
 mod leaf;
@@ -19,5 +21,12 @@ mod tests;
 mod values;
 mod walk;
 
-pub use count::{POTS, is_walked};
+pub use count::{POTS, board_lacks, is_walked};
+pub use free::free_card;
+pub use pair::Pair;
+pub use pairs::Pairs;
+pub use range::count_with;
+pub use row::{PAIRS, last_rank, ranks_of};
+pub use same::{same_cards, same_hands};
+pub use suits::{flags_for, greater, suit_counts};
 pub use walk::{Walk, count_boards};

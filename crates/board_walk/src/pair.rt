@@ -7,25 +7,25 @@ use card_sets::Card;
 
 /// Two cards.
 #[derive(Clone, Copy, Debug)]
-pub(crate) struct Pair {
+pub struct Pair {
     /// The first one.
-    pub(crate) low: Card,
+    pub low: Card,
     /// The second one.
-    pub(crate) high: Card,
+    pub high: Card,
     /// 13 times the rank of the first one, and that of the second one.
-    pub(crate) ranks: u8,
+    pub ranks: u8,
     /// 4 times the suit of the first one, and that of the second one.
-    pub(crate) suits: u8,
+    pub suits: u8,
     /// So the ranks are.
-    pub(crate) ghost by_rank: { ranks ≡ 13 * rank_of low + rank_of high },
+    pub ghost by_rank: { ranks ≡ 13 * rank_of low + rank_of high },
     /// So the suits are.
-    pub(crate) ghost by_suit: { suits ≡ 4 * suit_of low + suit_of high },
+    pub ghost by_suit: { suits ≡ 4 * suit_of low + suit_of high },
 }
 
 impl Pair {
     /// The pair of two cards.
     #[inline]
-    pub(crate) fn of(low: Card, high: Card) -> Pair
+    pub fn of(low: Card, high: Card) -> Pair
         ensures low { result.low ≡ low }
         ensures high { result.high ≡ high }
     {

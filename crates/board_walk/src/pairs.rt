@@ -14,19 +14,19 @@ use runout_ranges::count_choices;
 /// How many pairs of 52 cards there are.
 const PAIRS_MAX: usize = 1326;
 
-/// All pairs of some cards.
+/// All pairs of some cards, in the order of the listing of choices: room for those of a deck.
 #[derive(Clone, Copy, Debug)]
-pub(crate) struct Pairs {
+pub struct Pairs {
     /// The cards.
-    pub(crate) cards: CardSet,
+    pub cards: CardSet,
     /// How many pairs there are.
     used: usize,
     /// The pairs, and others behind them.
     pairs: [Pair; PAIRS_MAX],
     /// There are places for all.
-    pub(crate) ghost few: { used ≤ 1326 },
+    pub ghost few: { used ≤ 1326 },
     /// They are all choices of two of the cards.
-    pub(crate) ghost listed: { map cards_of_pair (take used pairs) ≡ choose 2 cards },
+    pub ghost listed: { map cards_of_pair (take used pairs) ≡ choose 2 cards },
 }
 
 /// Puts the pairs of a card with each of some others behind the first `used` ones, and gives how many there are then.
@@ -90,7 +90,7 @@ fn last_pairs(listed: &[Pair], count: u32, lo: u64, hi: u64) -> &[Pair]
 
 impl Pairs {
     /// The pairs of no cards.
-    pub(crate) fn none() -> Pairs {
+    pub fn none() -> Pairs {
         Pairs {
             cards: CardSet::empty(),
             used: 0,
@@ -108,7 +108,7 @@ impl Pairs {
     }
 
     /// Makes them the pairs of some cards.
-    pub(crate) fn serve(&mut self, cards: CardSet)
+    pub fn serve(&mut self, cards: CardSet)
         ensures { self.new.cards ≡ cards }
     {
         if !same_cards(self.cards, cards) {
@@ -118,7 +118,7 @@ impl Pairs {
 
     /// The pairs of the last cards of all, by their places in the listing of these pairs.
     #[inline]
-    pub(crate) fn stretch(&self, rest: CardSet, lo: u64, hi: u64) -> &[Pair]
+    pub fn stretch(&self, rest: CardSet, lo: u64, hi: u64) -> &[Pair]
         requires end { IsEndOf rest self.now.cards }
         requires order { lo < hi }
         requires inside { hi ≤ length (choose 2 rest) }

@@ -13,6 +13,7 @@ ghost use Rattle.showdown_tally.specs.Tallies.{runouts_after};
 ghost use Rattle.board_walk.specs.Kept.{deal_from};
 ghost use Rattle.board_walk.specs.Pairs.{IsEndOf};
 
+use crate::flushes::Flushes;
 use crate::leaf::count_leaf;
 use crate::pairs::Pairs;
 use crate::rows::Rows;
@@ -24,7 +25,7 @@ use step_count::Steps;
 
 /// How many choices of so many cards have the first of them, where so many others are left. With a number for k no division is left.
 #[inline]
-fn count_with(others: u32, left: u32) -> u64
+pub fn count_with(others: u32, left: u32) -> u64
     requires deck { others ≤ 52 }
     requires some { 1 ≤ left }
     requires within { left - 1 ≤ others }
@@ -41,6 +42,7 @@ fn count_with(others: u32, left: u32) -> u64
 /// Counts who wins with first cards of the board and so many of the rest, which lie above them, from one place of the listing of these
 /// to another. It takes a step a runout.
 pub(crate) fn count_range<L: Ledger>(
+    flushes: &Flushes,
     spot: &Spot,
     pairs: &Pairs,
     rows: &mut Rows,
@@ -73,7 +75,9 @@ pub(crate) fn count_range<L: Ledger>(
     ensures pot { rows.new.pot ≡ rows.old.pot }
 {
     if left == 2 {
-        count_leaf(spot, pairs, rows, counts, taken, rest, lo, hi, steps);
+        count_leaf(
+            flushes, spot, pairs, rows, counts, taken, rest, lo, hi, steps,
+        );
         return;
     }
     let Some(card) = rest.first() else {
@@ -84,6 +88,7 @@ pub(crate) fn count_range<L: Ledger>(
     let with_card = count_with(others.count(), left);
     if hi <= with_card {
         count_range(
+            flushes,
             spot,
             pairs,
             rows,
@@ -100,6 +105,7 @@ pub(crate) fn count_range<L: Ledger>(
     if with_card <= lo {
         let start = lo - with_card;
         count_range(
+            flushes,
             spot,
             pairs,
             rows,
@@ -114,6 +120,7 @@ pub(crate) fn count_range<L: Ledger>(
         return;
     }
     count_range(
+        flushes,
         spot,
         pairs,
         rows,
@@ -126,6 +133,7 @@ pub(crate) fn count_range<L: Ledger>(
         steps,
     );
     count_range(
+        flushes,
         spot,
         pairs,
         rows,

@@ -1,19 +1,18 @@
 //! Who wins a pot, for each pair of ranks of the last two cards of the board.
 
-ghost use Rattle.std.specs.Prelude.{◌≡◌, ℕ, ◌<◌, ◌≤◌, ◌∷◌, ◌++◌, List, length, slice_index, MatchOption};
+ghost use Rattle.std.specs.Prelude.{◌≡◌, ℕ, ◌<◌, ◌≤◌, ◌∷◌, ◌++◌, List, length, slice_index, MatchOption, IsTrue};
 ghost use Rattle.card_sets.specs.Cards.{IsRising, rank_of};
 ghost use Rattle.card_sets.specs.State.{state_of};
 ghost use Rattle.showdown_tally.specs.Deals.{deal_of};
 ghost use Rattle.board_walk.specs.Boards.{AreFirst};
-ghost use Rattle.board_walk.specs.Rows.{AreRanksOf, AreValuesOf, IsFullRow, IsRow};
+ghost use Rattle.board_walk.specs.Rows.{AreRanksOf, IsFullRow};
 
-use crate::hands::plain_outcome;
-use crate::values::value_with;
-use card_sets::{Card, CardSet, Game, Known};
+use crate::hands::{number_at, plain_outcome, plain_values};
+use card_sets::{Card, CardSet, Game};
 use showdown_tally::Table;
 
 /// How many places there are for pairs of ranks: 13 times the lower rank and then the higher.
-pub(crate) const PAIRS: usize = 169;
+pub const PAIRS: usize = 169;
 
 /// Who wins a pot with first cards of some ranks where nobody has a flush, for each pair of ranks of the last two cards.
 #[derive(Clone, Copy, Debug)]
@@ -32,6 +31,25 @@ pub(crate) struct Row {
     pub(crate) ghost few: { (place : ℕ) → slice_index outcomes place < 1024 },
 }
 
+/// Whether first cards have the same ranks.
+#[inline]
+fn same_ranks(a: &[u8; 3], b: &[u8; 3]) -> bool
+    ensures { IsTrue result → a.now ≡ b.now }
+{
+    a == b
+}
+
+impl Row {
+    /// Whether it is for first cards of these ranks, the last of which is the least of the cards behind them.
+    #[inline]
+    pub(crate) fn is_for(&self, ranks: &[u8; 3], least: u8) -> bool
+        ensures ranks { IsTrue result → self.now.ranks ≡ ranks.now }
+        ensures least { IsTrue result → self.now.least ≡ least }
+    {
+        same_ranks(&self.ranks, ranks) && self.least == least
+    }
+}
+
 /// The rank of a card that there may be, or else 13.
 #[inline]
 fn rank_or_none(card: Option<Card>) -> u8
@@ -46,7 +64,7 @@ fn rank_or_none(card: Option<Card>) -> u8
 
 /// The ranks of up to three cards, rising, and 13 behind them.
 #[inline]
-pub(crate) fn ranks_of(cards: CardSet) -> [u8; 3]
+pub fn ranks_of(cards: CardSet) -> [u8; 3]
     requires { length cards ≤ 3 }
     ensures ranks { AreRanksOf result cards }
     ensures bounds { (place : ℕ) → slice_index result place < 14 }
@@ -60,7 +78,7 @@ pub(crate) fn ranks_of(cards: CardSet) -> [u8; 3]
 
 /// The rank of the last of some cards, 0 of none. No card behind them has a lower one.
 #[inline]
-pub(crate) fn last_rank(cards: CardSet) -> u8
+pub fn last_rank(cards: CardSet) -> u8
     ensures { (card : ℕ) (more : List ℕ) → IsRising (cards ++ card ∷ more) → result ≤ rank_of card }
 {
     match cards.last() {
@@ -69,46 +87,45 @@ pub(crate) fn last_rank(cards: CardSet) -> u8
     }
 }
 
-/// Fills in who wins the pot with first cards, for the pairs of ranks from one on.
-fn fill_outcomes(outcomes: &mut [u16], table: &Table, pot: u8, taken: CardSet, least: u8)
-    requires places { length outcomes.old ≡ 169 }
+/// Whether a pair of ranks may come: the lower one first, from the least on.
+#[inline]
+fn is_used(least: u8, low: u8, high: u8) -> bool
+    ensures { least ≤ low → low ≤ high → IsTrue result }
+{
+    least <= low && low <= high
+}
+
+/// Fills in who wins the pot with first cards, and what the first two hands are worth, for the pairs of ranks from one on.
+fn fill_row(
+    outcomes: &mut [u16],
+    first: &mut [u32],
+    second: &mut [u32],
+    table: &Table,
+    pot: u8,
+    taken: CardSet,
+    least: u8,
+)
+    requires outcomes { length outcomes.old ≡ 169 }
+    requires firsts { length first.old ≡ 169 }
+    requires seconds { length second.old ≡ 169 }
     requires few { (place : ℕ) → slice_index outcomes.old place < 1024 }
     requires dealt { table.now.known.game ≡ Game.Holdem }
     requires first { AreFirst (state_of table.now.known) taken }
     requires inside { pot < table.now.pots }
-    ensures row { (ranks : List ℕ) → AreRanksOf ranks taken → IsRow (deal_of table.now) pot ranks least outcomes.new }
+    ensures row { (ranks : List ℕ) → AreRanksOf ranks taken → IsFullRow (deal_of table.now) pot ranks least outcomes.new first.new second.new }
     ensures few { (place : ℕ) → slice_index outcomes.new place < 1024 }
+    ensures same { length outcomes.new ≡ 169 }
+    ensures firsts { length first.new ≡ 169 }
+    ensures seconds { length second.new ≡ 169 }
 {
-    for (place, outcome) in outcomes.iter_mut().enumerate() {
+    for place in 0..PAIRS {
         let low = (place / 13) as u8;
         let high = (place % 13) as u8;
-        if least <= low && low <= high {
-            *outcome = plain_outcome(table, pot, taken, low, high);
-        }
-    }
-}
-
-/// Fills in what a hand, if there is it, is worth by ranks alone with first cards, for the pairs of ranks from one on.
-fn fill_values(values: &mut [u32], known: &Known, hand: u8, taken: CardSet, least: u8)
-    requires places { length values.old ≡ 169 }
-    requires first { AreFirst (state_of known.now) taken }
-    ensures { (ranks : List ℕ) → AreRanksOf ranks taken → AreValuesOf (state_of known.now) hand ranks least values.new }
-{
-    let hands = &known.hands[..known.count as usize];
-    let hand = usize::from(hand);
-    if hand >= hands.len() {
-        return;
-    }
-    known.board.rising();
-    taken.rising();
-    let own = hands[hand];
-    own.rising();
-    let cards = own.union(known.board.union(taken));
-    for (place, value) in values.iter_mut().enumerate() {
-        let low = (place / 13) as u8;
-        let high = (place % 13) as u8;
-        if least <= low && low <= high {
-            *value = value_with(cards, low, high);
+        if is_used(least, low, high) {
+            let values = plain_values(&table.known, taken, low, high);
+            outcomes[place] = plain_outcome(table, pot, &values);
+            first[place] = number_at(&values, 0);
+            second[place] = number_at(&values, 1);
         }
     }
 }
@@ -124,11 +141,17 @@ pub(crate) fn new_row(table: &Table, pot: u8, taken: CardSet, ranks: [u8; 3], le
     ensures least { result.least ≡ least }
 {
     let mut outcomes = [0; PAIRS];
-    fill_outcomes(&mut outcomes, table, pot, taken, least);
     let mut first = [0; PAIRS];
-    fill_values(&mut first, &table.known, 0, taken, least);
     let mut second = [0; PAIRS];
-    fill_values(&mut second, &table.known, 1, taken, least);
+    fill_row(
+        &mut outcomes,
+        &mut first,
+        &mut second,
+        table,
+        pot,
+        taken,
+        least,
+    );
     Row {
         ranks,
         least,

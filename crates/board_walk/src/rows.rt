@@ -1,13 +1,13 @@
 //! Rows that are kept from one count to the next.
 
-ghost use Rattle.std.specs.Prelude.{◌≡◌, ℕ, ◌<◌, ◌≤◌, ◌∷◌, ◌++◌, List, length, IsTrue};
+ghost use Rattle.std.specs.Prelude.{◌≡◌, ℕ, ◌<◌, ◌≤◌, ◌∷◌, ◌++◌, List, length, slice_get, Some, true, IsTrue};
 ghost use Rattle.card_sets.specs.Cards.{IsRising, rank_of};
 ghost use Rattle.card_sets.specs.State.{state_of};
 ghost use Rattle.showdown_tally.specs.Deals.{deal_of};
 ghost use Rattle.board_walk.specs.Boards.{AreFirst};
 ghost use Rattle.board_walk.specs.Kept.{deal_from};
-ghost use Rattle.board_walk.specs.KeptRows.{AreRows};
-ghost use Rattle.board_walk.specs.Rows.{AreRanksOf, IsFullRow};
+ghost use Rattle.board_walk.specs.KeptRows.{AreRows, IsRowFor};
+ghost use Rattle.board_walk.specs.Rows.{AreRanksOf};
 
 use crate::deal::Deal;
 use crate::row::{PAIRS, Row, last_rank, new_row, ranks_of};
@@ -32,12 +32,16 @@ pub(crate) struct Rows {
     pub(crate) ghost right: { AreRows (deal_from deal) pot live rows },
 }
 
-/// Whether first cards have the same ranks.
+/// The place of the rows for first cards with a second and a third rank. Those that come soon behind one another have places of
+/// their own.
 #[inline]
-fn same_ranks(a: &[u8; 3], b: &[u8; 3]) -> bool
-    ensures { IsTrue result → a.now ≡ b.now }
+fn place_of(second: u8, third: u8) -> usize
+    requires second { second < 14 }
+    requires third { third < 14 }
+    ensures { result < 64 }
 {
-    a == b
+    let second = usize::from(second);
+    (second * (25 - second) / 2 + usize::from(third)) % ROWS
 }
 
 impl Rows {
@@ -82,29 +86,66 @@ impl Rows {
         self.pot = pot;
     }
 
-    /// The row for first cards of the board, which is filled where it isn't kept.
-    pub(crate) fn row_for(&mut self, table: &Table, taken: CardSet) -> Row
+    /// Whether the row in a place is in use, and is one for first cards of these ranks.
+    #[inline]
+    fn has(&self, place: usize, ranks: &[u8; 3], least: u8) -> bool
+        requires { place < 64 }
+        ensures live { IsTrue result → slice_get self.now.live place ≡ Some true }
+        ensures ranks { (row : Row) → IsTrue result → slice_get self.now.rows place ≡ Some row → row.ranks ≡ ranks.now }
+        ensures least { (row : Row) → IsTrue result → slice_get self.now.rows place ≡ Some row → row.least ≡ least }
+    {
+        self.live[place] && self.rows[place].is_for(ranks, least)
+    }
+
+    /// Makes the row for first cards of the board stand in its place, where it isn't kept, and gives the place.
+    pub(crate) fn ready(&mut self, table: &Table, taken: CardSet) -> usize
         requires dealt { table.now.known.game ≡ Game.Holdem }
         requires deal { deal_from self.old.deal ≡ deal_of table.now }
         requires inside { self.old.pot < table.now.pots }
         requires first { AreFirst (state_of table.now.known) taken }
-        ensures row { IsFullRow (deal_of table.now) self.old.pot result.ranks result.least result.outcomes result.first result.second }
-        ensures ranks { AreRanksOf result.ranks taken }
-        ensures least { (card : ℕ) (more : List ℕ) → IsRising (taken ++ card ∷ more) → result.least ≤ rank_of card }
+        ensures place { result < 64 }
+        ensures row { (row : Row) → slice_get self.new.rows result ≡ Some row → IsRowFor (deal_of table.now) self.old.pot taken row }
         ensures deal { self.new.deal ≡ self.old.deal }
         ensures pot { self.new.pot ≡ self.old.pot }
     {
         self.places();
         let ranks = ranks_of(taken);
         let least = last_rank(taken);
-        let place = (14 * usize::from(ranks[1]) + usize::from(ranks[2])) % ROWS;
-        let kept = self.rows[place];
-        if self.live[place] && same_ranks(&kept.ranks, &ranks) && kept.least == least {
-            return kept;
+        let place = place_of(ranks[1], ranks[2]);
+        if self.has(place, &ranks, least) {
+            return place;
         }
+        self.put(place, table, taken, ranks, least);
+        place
+    }
+
+    /// Puts the row for first cards of the board, whose ranks are given, into a place. Rows are large, and the callers that find one
+    /// needn't have room for them.
+    #[inline(never)]
+    fn put(&mut self, place: usize, table: &Table, taken: CardSet, ranks: [u8; 3], least: u8)
+        requires place { place < 64 }
+        requires dealt { table.now.known.game ≡ Game.Holdem }
+        requires deal { deal_from self.old.deal ≡ deal_of table.now }
+        requires inside { self.old.pot < table.now.pots }
+        requires first { AreFirst (state_of table.now.known) taken }
+        requires ranks { AreRanksOf ranks taken }
+        requires least { (card : ℕ) (more : List ℕ) → IsRising (taken ++ card ∷ more) → least ≤ rank_of card }
+        ensures row { (row : Row) → slice_get self.new.rows place ≡ Some row → IsRowFor (deal_of table.now) self.old.pot taken row }
+        ensures deal { self.new.deal ≡ self.old.deal }
+        ensures pot { self.new.pot ≡ self.old.pot }
+    {
+        self.places();
         let row = new_row(table, self.pot, taken, ranks, least);
         self.rows[place] = row;
         self.live[place] = true;
-        row
+    }
+
+    /// The row in a place.
+    #[inline]
+    pub(crate) fn row(&self, place: usize) -> &Row
+        requires { place < 64 }
+        ensures { slice_get self.now.rows place ≡ Some result.now }
+    {
+        &self.rows[place]
     }
 }

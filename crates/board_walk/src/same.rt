@@ -6,7 +6,7 @@ use card_sets::CardSet;
 
 /// Whether two sets have the same cards.
 #[inline]
-pub(crate) fn same_cards(a: CardSet, b: CardSet) -> bool
+pub fn same_cards(a: CardSet, b: CardSet) -> bool
     ensures { IsTrue result → a ≡ b }
 {
     a.rising();
@@ -15,7 +15,7 @@ pub(crate) fn same_cards(a: CardSet, b: CardSet) -> bool
 }
 
 /// Whether two lists have the same sets in the same order.
-pub(crate) fn same_hands(a: &[CardSet], b: &[CardSet]) -> bool
+pub fn same_hands(a: &[CardSet], b: &[CardSet]) -> bool
     ensures { IsTrue result → a.now ≡ b.now }
 {
     let [first, others @ ..] = a else {

@@ -1,16 +1,16 @@
 //! Where somebody may have a flush.
 
-ghost use Rattle.std.specs.Prelude.{◌≡◌, ℕ, ◌+◌, ◌<◌, ◌≤◌, [], false, length, slice_index, slice_index_or, IsTrue};
+ghost use Rattle.std.specs.Prelude.{◌≡◌, ℕ, ◌+◌, ◌<◌, ◌≤◌, [], false, length, slice_index, slice_index_or, IsTrue, MatchOption};
 ghost use Rattle.card_sets.specs.State.{state_of};
 ghost use Rattle.rank_high.specs.Parts.{count_of_suit};
-ghost use Rattle.board_walk.specs.Suits.{AreMost, IsShort, AreFlagged, AreFlagsFor};
+ghost use Rattle.board_walk.specs.Suits.{AreMost, IsShort, AreFlagged, AreFlagsFor, AreAllShort};
 ghost use Rattle.board_walk.specs.Values.{one_of};
 
 use card_sets::{CardSet, Known};
 
 /// How many of some cards are of each suit.
 #[inline]
-fn suit_counts(cards: CardSet) -> [u32; 4]
+pub fn suit_counts(cards: CardSet) -> [u32; 4]
     ensures value { (s : ℕ) → s < 4 → slice_index result s ≡ count_of_suit cards s }
     ensures bound { (s : ℕ) → slice_index result s ≤ 52 }
 {
@@ -36,7 +36,7 @@ fn sums(a: [u32; 4], b: [u32; 4]) -> [u32; 4]
 
 /// The greater of two counts of each suit.
 #[inline]
-fn greater(a: [u32; 4], b: [u32; 4]) -> [u32; 4]
+pub fn greater(a: [u32; 4], b: [u32; 4]) -> [u32; 4]
     ensures left { (s : ℕ) → s < 4 → slice_index a s ≤ slice_index result s }
     ensures right { (s : ℕ) → s < 4 → slice_index b s ≤ slice_index result s }
     ensures bound { (most : ℕ) → ((s : ℕ) → slice_index a s ≤ most) → ((s : ℕ) → slice_index b s ≤ most) → (s : ℕ) → slice_index result s ≤ most }
@@ -117,17 +117,18 @@ fn are_few(counts: [u32; 4]) -> bool
     counts[0] <= 2 && counts[1] <= 2 && counts[2] <= 2 && counts[3] <= 2
 }
 
-/// Flags the pairs of suits of the last two cards with which somebody may have a flush, behind first cards of the board.
+/// Flags the pairs of suits of the last two cards with which somebody may have a flush, behind first cards of the board, at 4 times
+/// one suit and the other: those with which a number for the suit and its first and last cards are more than four together. None
+/// where there are no such pairs.
 #[inline]
-pub(crate) fn flags_for(most: [u32; 4], taken: CardSet) -> [bool; 16]
+pub fn flags_for(most: [u32; 4], taken: CardSet) -> Option<[bool; 16]>
     requires { (s : ℕ) → slice_index most s ≤ 104 }
-    ensures flags { AreFlagsFor most taken result }
-    ensures length { length result ≡ 16 }
+    ensures { MatchOption result (AreAllShort most taken) (λ flags. AreFlagsFor most taken flags × (length flags ≡ 16)) }
 {
     let counts = suit_counts(taken);
     let together = sums(most, counts);
     if are_few(together) {
-        return [false; 16];
+        return None;
     }
-    flags(together)
+    Some(flags(together))
 }

@@ -11,6 +11,7 @@ ghost use Rattle.board_walk.specs.Boards.{is_walked};
 
 use crate::POTS;
 use crate::count::count_pots;
+use crate::flushes::Flushes;
 use crate::pairs::Pairs;
 use crate::rows::Rows;
 use runout_ranges::Shape;
@@ -18,12 +19,13 @@ use showdown_tally::Table;
 use std::sync::ledger::Ledger;
 use step_count::Steps;
 
-/// The room that boards are counted in, about 460 kB. It is made once and lent to each count, and keeps what the next count of the
+/// The room that boards are counted in, about 490 kB. It is made once and lent to each count, and keeps what the next count of the
 /// same table can use; what it held before makes no other difference.
 #[derive(Debug, Drop)]
 pub struct Walk {
     /// For each pot how many of the runouts that were counted last each set of hands wins it with, by the number with their bits.
     pub counts: [[u32; 1024]; POTS],
+    flushes: Flushes,
     pairs: Pairs,
     rows: [Rows; POTS],
 }
@@ -33,6 +35,7 @@ impl Walk {
     pub fn new() -> Walk {
         Walk {
             counts: [[0; 1024]; POTS],
+            flushes: Flushes::new(),
             pairs: Pairs::none(),
             rows: [Rows::none(); POTS],
         }
@@ -59,8 +62,9 @@ pub fn count_boards<L: Ledger>(
     ensures steps { steps.new ≡ steps.old + (hi - lo) }
 {
     walk.pairs.serve(shape.unseen);
+    let flushes = &walk.flushes;
     let pairs = &walk.pairs;
     let rows = &mut walk.rows;
     let counts = &mut walk.counts;
-    count_pots(table, shape, pairs, rows, counts, lo, hi, steps);
+    count_pots(flushes, table, shape, pairs, rows, counts, lo, hi, steps);
 }

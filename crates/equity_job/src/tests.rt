@@ -1,7 +1,7 @@
 //! Counted spots, and the limit from both sides.
 //!
-//! The expected counts of the flop and the river are those of a listing of all runouts by a few lines of Python that compare
-//! fives by their groups and ranks. The numbers of runouts are worked out by hand, slot after slot.
+//! The expected counts of the flop, the river and the two draws are those of a listing of all runouts by a few lines of
+//! Python that compare fives by their groups and ranks. The numbers of runouts are worked out by hand, slot after slot.
 
 ghost use Rattle.std.specs.Prelude.{◌≡◌, ◌<◌, [], ◌∷◌};
 
@@ -466,6 +466,22 @@ fn three_card_draw() -> Table {
     }
 }
 
+/// 4h 5d 7c against 4c 5h 7d, who draw two each, and six dead cards.
+fn two_draws() -> Table {
+    let known = Known {
+        game: Game::Lowball27,
+        count: 2,
+        hands: hands(three(10, 13, 20), three(8, 14, 21), CardSet::empty()),
+        board: CardSet::empty(),
+        dead: six(0, 17, 30, 35, 44, 51),
+    };
+    Table {
+        known,
+        pots: 2,
+        eligible: [3, 2, 0, 0, 0, 0, 0, 0, 0, 0],
+    }
+}
+
 /// The tally of one walk, with a counter of its own.
 fn in_one_walk<L: Ledger>(job: &Job, blank: Blank) -> Tally
     requires name { blank.name ≡ L.name }
@@ -533,4 +549,19 @@ fn blocks_count_what_one_walk_counts(rt: HostRuntime) {
         "three whole blocks and 1902 runouts"
     );
     assert_eq!(rt; alike_on(&turn_spot(), &mut scratch), Some(44));
+}
+
+#[test]
+fn two_draws_of_the_same_ranks_tie_on_3672_of_548340(rt: HostRuntime) -> Result<(), Fail> {
+    let job = Job::make(&two_draws()).ok().ok_or("no job")?;
+    let tally = count_job(&job, &mut Scratch::new());
+    assert_eq!(rt; tally.runouts(), 548_340, "780 * 703, of 40 cards");
+    assert_eq!(rt; tally.cell(0, 0, Side::Low), cell(272_334, 3672, 272_334));
+    assert_eq!(rt; tally.cell(0, 1, Side::Low), cell(272_334, 3672, 272_334));
+    assert_eq!(rt;
+        tally.cell(1, 1, Side::Low),
+        cell(548_340, 0, 0),
+        "who is alone in a pot wins it"
+    );
+    Ok(())
 }

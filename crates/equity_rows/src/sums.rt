@@ -29,6 +29,25 @@ total,chips,hands,1,allins,1,collected,3500,expected,2214,,,a\n\
 total,chips,hands,1,allins,1,collected,0,expected,36,,,b\n\
 total,chips,hands,1,allins,1,collected,0,expected,1250,,,c\n";
 
+/// A hand in which a name has a comma and quotes, and its totals as records.
+const QUOTED: &str = "\
+PokerStars Hand #4: Hold'em No Limit ($0.50/$1.00 USD)\n\
+Table 'T' 2-max Seat #1 is the button\n\
+Seat 1: say \"gl\", ok ($50 in chips)\n\
+Seat 2: x ($50 in chips)\n\
+say \"gl\", ok: posts small blind $0.50\n\
+x: posts big blind $1\n\
+*** HOLE CARDS ***\n\
+say \"gl\", ok: folds\n\
+Uncalled bet ($0.50) returned to x\n\
+x collected $1 from pot\n\
+*** SUMMARY ***\n\
+Total pot $1 | Rake $0\n";
+
+const QUOTED_RECORDS: &str = "totals,hands,1,accepted,1,rejected,0,,,,,,\n\
+total,hundredths,hands,1,allins,0,collected,0.00,expected,0.00,,,\"say \"\"gl\"\", ok\"\n\
+total,hundredths,hands,1,allins,0,collected,0.00,expected,0.00,,,x\n";
+
 /// Of three made hands with seed 1, and of forty with seed 9.
 const THREE: &str = "made hands 3 accepted 3 runouts 2970 first 4309200 second 10659600\n";
 
@@ -52,6 +71,8 @@ fn totals_of_hands_in_two_units(rt: HostRuntime) -> Result<(), Fail> {
     )?;
     assert_eq!(rt; records.written.as_slice(), RECORDS.as_bytes());
     assert_eq!(rt; records.status, 0);
+    let quoted = run(alloc, &["totals", "--format=csv"], QUOTED.as_bytes(), AMPLE)?;
+    assert_eq!(rt; quoted.written.as_slice(), QUOTED_RECORDS.as_bytes());
     let none = run(alloc, &["totals"], b"", AMPLE)?;
     assert_eq!(rt;
         none.written.as_slice(),

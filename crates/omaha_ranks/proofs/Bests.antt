@@ -1,16 +1,16 @@
 -- The numbers of the best of the fives of two own cards and three of the board, and of some of their cards.
-use Rattle.std.proofs.Common.{◌≡◌, ℕ, ◌<◌, ◌≤◌, ◌==◌, List, [], ◌∷◌, ◌++◌, refl, ap, ◌∙◌, arith, Bool, true, false, cond, length, map, inl, inr}
+use Rattle.std.proofs.Common.{◌≡◌, ℕ, ◌<◌, ◌≤◌, ◌==◌, List, [], ◌∷◌, ◌++◌, refl, sym, ap, ◌∙◌, arith, Bool, true, false, cond, length, map, max, inl, inr}
 use Rattle.std.specs.Prelude.{filter}
 use Rattle.std.specs.List.{flat_map}
 use Rattle.std.proofs.lemmas.List.Sums.{length-filter, count_by-le-length}
 use Rattle.card_sets.specs.Cards.{suit_of, union}
 use Rattle.card_sets.specs.Choose.{choose}
 use Rattle.card_sets.specs.declared.games.Game.TheVariants.{Omaha8}
-use Rattle.rank_high.specs.High.{value_of}
+use Rattle.rank_high.specs.High.{best_high, value_of}
 use Rattle.rank_high.specs.Parts.{of_suit}
-use Rattle.rank_high.proofs.Best.{greatest, choose-short, value_of-none}
+use Rattle.rank_high.proofs.Best.{greatest, best_high-five, choose-all, choose-short, value_of-none}
 use Rattle.rank_high.proofs.Parts.{number, plain_number}
-use Rattle.rank_high.proofs.Sets.{Apart-apart, apart-Apart}
+use Rattle.rank_high.proofs.Sets.{Apart-apart, apart-Apart, length-union}
 use Rattle.rank_high.proofs.SetParts.{set-part, Apart-parts}
 use Rattle.rank_high.proofs.Sublists.{IsPart}
 use Rattle.hand_choice.specs.AllowedFives.{AreFives}
@@ -69,3 +69,15 @@ few_board own board few = rw (none_with (choose 2 own) board (choose-short 3 boa
 
 pub no-five : (own board : List ℕ) → length board < 3 → fives own board ≡ []
 no-five own board few = none_with (choose 2 own) board (choose-short 3 board few)
+
+-- two own cards and three of the board are one five
+pub only-five : (own board : List ℕ) → ArePlaced own board → length own ≡ 2 → length board ≡ 3 → value_of (best_high (union own board)) ≡ value_of (omaha_high own board)
+only-five own board placed two three =
+    let size : length (union own board) ≡ 5 = length-union own board placed.own_cards placed.board_cards (Apart-apart own board placed.apart) ∙ omega (arith, two, three) in
+    let twos : choose 2 own ≡ own ∷ [] = ap (λ k. choose k own) (sym two) ∙ choose-all own in
+    let threes : choose 3 board ≡ board ∷ [] = ap (λ k. choose k board) (sym three) ∙ choose-all board in
+    let only : fives own board ≡ union own board ∷ [] = ap (λ ts. flat_map (λ t. map (λ u. union t u) (choose 3 board)) ts) twos ∙ ap (λ us. map (λ u. union own u) us ++ []) threes in
+    ap value_of (best_high-five (union own board) size) ∙ sym (high-number own board placed ∙ ap (λ ls. greatest (map number ls)) only ∙ alone (number (union own board)))
+  where
+    alone : (n : ℕ) → max n 0 ≡ n
+    alone n = omega arith

@@ -4,3 +4,4 @@ pub mod Bests
 pub mod TwoParts
 pub mod LowCards
 pub mod Worths
+pub mod LowRanks

@@ -73,7 +73,7 @@ pub record HasTwin (part others : List ℕ) : Type 0 where
   pub size : length twin ≡ length part
   pub ranks : (rank : ℕ) → count_of_rank twin rank ≡ count_of_rank part rank
 
-twin_of : (part cards others : List ℕ) → IsPart part cards → map rank_of cards ≡ map rank_of others → HasTwin part others
+pub twin_of : (part cards others : List ℕ) → IsPart part cards → map rank_of cards ≡ map rank_of others → HasTwin part others
 twin_of part cards others p e =
     let P : List ℕ → Type 0 = λ l. IsPart (map rank_of part) l in
     let image : IsPart (map rank_of part) (map rank_of others) = subst P e (image_of_part rank_of part cards p) in

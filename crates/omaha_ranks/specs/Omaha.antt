@@ -61,6 +61,11 @@ abbrev pub RanksDecide : Type 0
 RanksDecide = (own board other_own other_board : List ℕ) → ArePlaced own board → ArePlaced other_own other_board → SameRanks own other_own → SameRanks board other_board
     → value_of (omaha_plain own board) ≡ value_of (omaha_plain other_own other_board)
 
+-- and have the same low
+abbrev pub LowRanksDecide : Type 0
+LowRanksDecide = (own board other_own other_board : List ℕ) → ArePlaced own board → ArePlaced other_own other_board → SameRanks own other_own → SameRanks board other_board
+    → eight_number (fives own board) ≡ eight_number (fives other_own other_board)
+
 -- only cards from ace to eight make a low
 abbrev pub OnlyLowCards : Type 0
 OnlyLowCards = (own board : List ℕ) → ArePlaced own board → eight_number (fives own board) ≡ eight_number (fives (filter is_low own) (filter is_low board))

@@ -1,6 +1,6 @@
 //! What a high and a low depend on.
 
-ghost use Rattle.omaha_ranks.specs.Omaha.{IsByRanksOrSuit, RanksDecide, OnlyLowCards};
+ghost use Rattle.omaha_ranks.specs.Omaha.{IsByRanksOrSuit, RanksDecide, LowRanksDecide, OnlyLowCards};
 
 /// The best high of two own cards and three of the board is the best by ranks alone, or the best of
 /// one suit.
@@ -11,6 +11,11 @@ pub fn law_ranks_or_a_suit()
 /// Own cards and boards with the same ranks are worth the same by their ranks alone.
 pub fn law_ranks_decide()
     ensures { RanksDecide }
+{}
+
+/// Own cards and boards with the same ranks have the same low.
+pub fn law_ranks_decide_lows()
+    ensures { LowRanksDecide }
 {}
 
 /// Only the cards from ace to eight make a low of eight or better.

@@ -2,18 +2,20 @@
 
 ghost use Rattle.std.specs.Prelude.{◌≡◌, ◌<◌, ◌≤◌, filter, length, IsTrue};
 ghost use Rattle.card_sets.specs.Disjoint.{apart};
-ghost use Rattle.omaha_ranks.specs.Omaha.{high_number, eight_number, fives, omaha_suited, is_low};
+ghost use Rattle.rank_high.specs.High.{value_of};
+ghost use Rattle.omaha_ranks.specs.Omaha.{high_number, eight_number, fives, omaha_plain, omaha_suited, is_low};
 
 use crate::best_choice::best_own;
 use crate::best_five::best_high;
 use crate::laws::{law_only_low_cards, law_ranks_or_a_suit};
 use card_sets::{Card, CardSet, Side};
 use hand_choice::two_and_three;
+use rank_high::high_of_set;
 
-/// The number of the best high of one suit. 0 where there are fewer than two own cards of it or
+/// The number of the best high of one suit, from 0 to 3, of own cards and a board. 0 where there are fewer than two own cards of it or
 /// fewer than three of the board.
 #[inline]
-fn suited(own: CardSet, board: CardSet, suit: u8) -> u32
+pub fn omaha_suited_value(own: CardSet, board: CardSet, suit: u8) -> u32
     requires suit { suit < 4 }
     requires own { length own ≤ 4 }
     requires board { length board ≤ 5 }
@@ -30,7 +32,23 @@ fn suited(own: CardSet, board: CardSet, suit: u8) -> u32
     if board.count() < 3 {
         return 0;
     }
+    if own.count() == 2 && board.count() == 3 {
+        return high_of_set(own.union(board)).number();
+    }
     best_high(two_and_three(own, board))
+}
+
+/// The number of the best high of four own cards and five of the board by their ranks alone, as if
+/// there were no flushes.
+pub fn omaha_plain_value(own: CardSet, board: CardSet) -> u32
+    requires own { length own ≡ 4 }
+    requires board { length board ≡ 5 }
+    requires apart { IsTrue (apart own board) }
+    ensures { result ≡ value_of (omaha_plain own board) }
+{
+    own.rising();
+    board.rising();
+    best_own(Side::High, CardSet::empty(), own, 2, board, 0)
 }
 
 /// The number of the best high of four own cards and five of the board.
@@ -43,9 +61,9 @@ pub fn omaha_high(own: CardSet, board: CardSet) -> u32
     own.rising();
     board.rising();
     law_ranks_or_a_suit();
-    let flush = suited(own, board, 0)
-        .max(suited(own, board, 1))
-        .max(suited(own, board, 2).max(suited(own, board, 3)));
+    let flush = omaha_suited_value(own, board, 0)
+        .max(omaha_suited_value(own, board, 1))
+        .max(omaha_suited_value(own, board, 2).max(omaha_suited_value(own, board, 3)));
     best_own(Side::High, CardSet::empty(), own, 2, board, flush)
 }
 

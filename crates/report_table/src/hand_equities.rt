@@ -2,9 +2,6 @@
 //! the table may expect. Each `push` adds words to a line, and each `write` appends to `out`; where memory
 //! is refused, it may have appended a part.
 
-#[cfg(test)]
-mod tests;
-
 ghost use Rattle.std.specs.Prelude.{◌≡◌, ℕ, ◌*◌, ◌<◌, ◌≤◌, ◌==◌, ◌^◌, [], ◌∷◌, ◌++◌, nat_lt, OnOk, length, unwrap_or};
 ghost use Rattle.std.specs.Int.{bit_at};
 ghost use Rattle.std.specs.List.{flat_map};

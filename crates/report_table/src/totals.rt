@@ -1,8 +1,5 @@
 //! What all hands of a run come to.
 
-#[cfg(test)]
-mod tests;
-
 ghost use Rattle.std.specs.Prelude.{◌≡◌, ℕ, ◌<◌, ◌^◌, List, [], ◌∷◌, ◌++◌, true, OnOk, OnErr};
 ghost use Rattle.hand_audit.specs.declared.audit.HandAudit.{HandAudit};
 ghost use Rattle.report_table.specs.Equities.{IsOfHand, is_asked};

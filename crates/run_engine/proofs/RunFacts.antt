@@ -122,22 +122,14 @@ run_written limit command TooLong rejected bytes old new some counted ends count
 pub run_unwritten : (limit : ℕ) (command : Command) (ending : Ending) (bytes : List ℕ) (old new : Ends) → reads_input command.mode ≡ true → Counted limit old.left new.left bytes
     → EndsSo limit old.left new.left old.read_faults new.read_faults bytes ending
     → Rises old.write_faults new.write_faults → WritesFront old.taken new.taken (report command (reported command.mode ending bytes)) → IsRun limit (Some command) 4 old new
-run_unwritten limit command Whole bytes old new some counted ends rises front =
-    run_write_fault limit command old new (λ none. reading command some none) (record { rises = rises; bytes = bytes; counted = counted; whole = true; to_the_end = λ _ _. ends.0; written = front })
-run_unwritten limit command Failed bytes old new some counted ends rises front =
-    run_write_fault limit command old new (λ none. reading command some none) (record { rises = rises; bytes = bytes; counted = counted; whole = false; to_the_end = λ e _. absurd (true≢false (sym e)); written = front })
-run_unwritten limit command TooLong bytes old new some counted ends rises front =
-    run_write_fault limit command old new (λ none. reading command some none) (record { rises = rises; bytes = bytes; counted = counted; whole = false; to_the_end = λ e _. absurd (true≢false (sym e)); written = front })
+run_unwritten limit command ending bytes old new some counted ends rises front =
+    run_write_fault limit command old new (λ none. reading command some none) (record { rises = rises; bytes = bytes; counted = counted; ending = ending; ended = λ _. ends; written = front })
 
 -- memory ran out while the report was written
 pub run_cut : (limit : ℕ) (command : Command) (ending : Ending) (bytes : List ℕ) (old new : Ends) → reads_input command.mode ≡ true → Counted limit old.left new.left bytes
     → EndsSo limit old.left new.left old.read_faults new.read_faults bytes ending → WritesBlocks old.taken new.taken (blocks command (reported command.mode ending bytes)) → IsRun limit (Some command) 6 old new
-run_cut limit command Whole bytes old new some counted ends written =
-    run_memory limit command old new (λ none. reading command some none) (record { bytes = bytes; counted = counted; whole = true; to_the_end = λ _ _. ends.0; count = written.0; written = written.1 })
-run_cut limit command Failed bytes old new some counted ends written =
-    run_memory limit command old new (λ none. reading command some none) (record { bytes = bytes; counted = counted; whole = false; to_the_end = λ e _. absurd (true≢false (sym e)); count = written.0; written = written.1 })
-run_cut limit command TooLong bytes old new some counted ends written =
-    run_memory limit command old new (λ none. reading command some none) (record { bytes = bytes; counted = counted; whole = false; to_the_end = λ e _. absurd (true≢false (sym e)); count = written.0; written = written.1 })
+run_cut limit command ending bytes old new some counted ends written =
+    run_memory limit command old new (λ none. reading command some none) (record { bytes = bytes; counted = counted; ending = ending; count = written.0; ended = λ _ _. ends; written = written.1 })
 
 -- memory ran out while the input was read, or before: nothing is written
 run_unread_by : (limit : ℕ) (command : Command) (taken : List ℕ) (old new : Ends) → (reads_input command.mode ≡ false → (new.left ≡ old.left) × (new.read_faults ≡ old.read_faults)) → Takes old.left new.left taken → new.taken ≡ old.taken → IsRun limit (Some command) 6 old new
@@ -145,9 +137,9 @@ run_unread_by limit command taken old new unread takes same =
     run_memory limit command old new unread (record {
       bytes = take limit taken;
       counted = (taken, takes, refl);
-      whole = false;
-      to_the_end = λ e _. absurd (true≢false (sym e));
+      ending = Whole;
       count = 0;
+      ended = λ _ some. absurd (omega (arith, some));
       written = (let w = writes_none old.taken in rw same w);
     })
 
@@ -185,10 +177,10 @@ pub made_unwritten : (limit : ℕ) (command : Command) (left : Option (List ℕ)
     → Rises bad bad' → WritesFront taken taken' (report command [])
     → IsRun limit (Some command) 4 (record { left = left; read_faults = faults; taken = taken; write_faults = bad }) (record { left = left; read_faults = faults; taken = taken'; write_faults = bad' })
 made_unwritten limit command left faults taken taken' bad bad' none rises front =
-    run_write_fault limit command _ _ (λ _. (refl, refl)) (record { rises = rises; bytes = []; counted = counts_none limit left; whole = true; to_the_end = λ _ some. reading command some none; written = front })
+    run_write_fault limit command _ _ (λ _. (refl, refl)) (record { rises = rises; bytes = []; counted = counts_none limit left; ending = Whole; ended = λ some. reading command some none; written = front })
 
 pub made_cut : (limit : ℕ) (command : Command) (left : Option (List ℕ)) (faults : ℕ) (taken taken' : Option (List ℕ)) (bad bad' : ℕ) → reads_input command.mode ≡ false
     → WritesBlocks taken taken' (blocks command [])
     → IsRun limit (Some command) 6 (record { left = left; read_faults = faults; taken = taken; write_faults = bad }) (record { left = left; read_faults = faults; taken = taken'; write_faults = bad' })
 made_cut limit command left faults taken taken' bad bad' none written =
-    run_memory limit command _ _ (λ _. (refl, refl)) (record { bytes = []; counted = counts_none limit left; whole = true; to_the_end = λ _ some. reading command some none; count = written.0; written = written.1 })
+    run_memory limit command _ _ (λ _. (refl, refl)) (record { bytes = []; counted = counts_none limit left; ending = Whole; count = written.0; ended = λ some _. reading command some none; written = written.1 })

@@ -5,7 +5,7 @@ use Rattle.byte_ends.specs.Ends.{Rises, WritesAll, WritesFront}
 use Rattle.run_engine.specs.Closed.{closed}
 use Rattle.run_engine.specs.Command.{makes, reads, reads_input, usage_line}
 use Rattle.run_engine.specs.declared.command.Command.{Command}
-use Rattle.run_engine.specs.Reading.{Counted, ReadWhole, ReadTooMuch}
+use Rattle.run_engine.specs.Reading.{Counted, EndsSo, ReadWhole, ReadTooMuch, reported}
 use Rattle.run_engine.specs.declared.reading.Ending.{Ending}
 use Rattle.run_engine.specs.declared.reading.Ending.TheVariants.{Whole, Failed, TooLong}
 use Rattle.run_engine.specs.Report.{blocks, report, rejects}
@@ -39,15 +39,15 @@ pub record IsReadFault (limit : ℕ) (command : Command) (old new : Ends) : Type
   pub counted : Counted limit old.left new.left bytes
   pub written : WritesAll old.taken new.taken (report command (closed command.mode bytes))
 
--- a write failed: a front of the report is written, that of all that was taken where the source was read to its end, and else
--- that of its closed part
+-- a write failed: a front of the report is written, that of all that was taken where the source was read to its end, and that
+-- of its closed part where a read failed or there was more than the limit. Which of the three it was, the ends tell
 pub record IsWriteFault (limit : ℕ) (command : Command) (old new : Ends) : Type 0 where
   pub rises : Rises old.write_faults new.write_faults
   pub bytes : List ℕ
   pub counted : Counted limit old.left new.left bytes
-  pub whole : Bool
-  pub to_the_end : whole ≡ true → reads_input command.mode ≡ true → ReadWhole limit old.left new.left bytes
-  pub written : WritesFront old.taken new.taken (report command (if whole then bytes else closed command.mode bytes))
+  pub ending : Ending
+  pub ended : reads_input command.mode ≡ true → EndsSo limit old.left new.left old.read_faults new.read_faults bytes ending
+  pub written : WritesFront old.taken new.taken (report command (reported command.mode ending bytes))
 
 -- there was more than the limit: the report of the closed part of the bytes within the limit is written
 pub record IsTooLong (limit : ℕ) (command : Command) (old new : Ends) : Type 0 where
@@ -56,15 +56,16 @@ pub record IsTooLong (limit : ℕ) (command : Command) (old new : Ends) : Type 0
   pub read : ReadTooMuch limit old.left new.left bytes
   pub written : WritesAll old.taken new.taken (report command (closed command.mode bytes))
 
--- memory ran out: the first blocks of the report are written, each whole. The report is that of all that was taken where
--- the source was read to its end, and else of its closed part
+-- memory ran out: the first blocks of the report are written, each whole. Where there is one, the reading had ended: the report
+-- is that of all that was taken where the source was read to its end, and that of its closed part where a read failed or there
+-- was more than the limit
 pub record IsMemoryShort (limit : ℕ) (command : Command) (old new : Ends) : Type 0 where
   pub bytes : List ℕ
   pub counted : Counted limit old.left new.left bytes
-  pub whole : Bool
-  pub to_the_end : whole ≡ true → reads_input command.mode ≡ true → ReadWhole limit old.left new.left bytes
+  pub ending : Ending
   pub count : ℕ
-  pub written : WritesAll old.taken new.taken (concat (take count (blocks command (if whole then bytes else closed command.mode bytes))))
+  pub ended : reads_input command.mode ≡ true → 0 < count → EndsSo limit old.left new.left old.read_faults new.read_faults bytes ending
+  pub written : WritesAll old.taken new.taken (concat (take count (blocks command (reported command.mode ending bytes))))
 
 -- a run whose words ask for a mode, or for none, that ends with a status, between these ends
 pub record IsRun (limit : ℕ) (asked : Option Command) (status : ℕ) (old new : Ends) : Type 0 where

@@ -32,11 +32,11 @@ pub record IsCounted (deal : Showdown) (all : List (List (List ℕ))) (pot mask 
   pub counts : AreOutcomes deal pot all row
 
 -- the set that wins has the winners
-set_again : (deal : Showdown) (pot mask count : ℕ) (side : Side) (runout : List (List ℕ)) → eligible_in deal pot ≡ hands_below mask count → hands_below (mask_of (winners deal pot side runout)) count ≡ winners deal pot side runout
+pub set_again : (deal : Showdown) (pot mask count : ℕ) (side : Side) (runout : List (List ℕ)) → eligible_in deal pot ≡ hands_below mask count → hands_below (mask_of (winners deal pot side runout)) count ≡ winners deal pot side runout
 unfolding winners
 set_again deal pot mask count side runout hands = rw hands (mask_hands (λ i. is_some (value_after side deal.state runout i) && list_all (λ j. not (is_beaten_by side (value_after side deal.state runout i) (value_after side deal.state runout j))) (hands_below mask count)) mask count)
 
-set_below : (deal : Showdown) (pot mask count : ℕ) (side : Side) (runout : List (List ℕ)) → eligible_in deal pot ≡ hands_below mask count → mask_of (winners deal pot side runout) < 2 ^ count
+pub set_below : (deal : Showdown) (pot mask count : ℕ) (side : Side) (runout : List (List ℕ)) → eligible_in deal pot ≡ hands_below mask count → mask_of (winners deal pot side runout) < 2 ^ count
 unfolding winners
 set_below deal pot mask count side runout hands = rw hands (mask_below (λ i. is_some (value_after side deal.state runout i) && list_all (λ j. not (is_beaten_by side (value_after side deal.state runout i) (value_after side deal.state runout j))) (hands_below mask count)) mask count)
 
@@ -112,7 +112,7 @@ plays_here : (deal : Showdown) (all : List (List (List ℕ))) (pot mask count : 
     → plays deal pot h s ≡ (is_side s (only_side deal.state.game) && (nat_lt h count && is_set mask h))
 plays_here deal all pot mask count row is h s = rw (one_alone s deal.state.game is.one_side, is.hands, among_hands mask count h) refl
 
-both_true : (a b : Bool) → (a && b) ≡ true → (a ≡ true) × (b ≡ true)
+pub both_true : (a b : Bool) → (a && b) ≡ true → (a ≡ true) × (b ≡ true)
 both_true true true e = (refl, refl)
 both_true true false e = absurd (true≢false (sym e))
 both_true false b e = absurd (true≢false (sym e))
@@ -135,7 +135,7 @@ pot_shares deal all pot mask count row is h s =
     one false e = sym ((cells-EndsOneWay deal all pot h s).not_playing (plays_here deal all pot mask count row is h s ∙ e))
 
 -- and their units
-nothing : (all : List (List (List ℕ))) (each : List (List ℕ) → ℕ) → ((runout : List (List ℕ)) → each runout ≡ 0) → sum_by each all ≡ 0
+pub nothing : (all : List (List (List ℕ))) (each : List (List ℕ) → ℕ) → ((runout : List (List ℕ)) → each runout ≡ 0) → sum_by each all ≡ 0
 nothing all each none = by_same each (λ runout. 0) all none ∙ zeros all
   where
     zeros : (all : List (List (List ℕ))) → ◌≡◌ {A = ℕ} (sum_by (λ (runout : List (List ℕ)). 0) all) 0

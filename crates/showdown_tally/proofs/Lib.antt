@@ -17,3 +17,5 @@ pub mod SetMasks
 pub mod Classes
 pub mod SetFacts
 pub mod ByOutcome
+pub mod PairFacts
+pub mod ByPairs

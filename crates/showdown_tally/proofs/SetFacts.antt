@@ -3,10 +3,11 @@ use Rattle.std.proofs.Common.{◌≡◌, ℕ, zero, suc, ◌+◌, ◌/◌, ◌<�
 use Rattle.std.specs.Prelude.{nat_lt, slice_index_or}
 use Rattle.std.proofs.lemmas.Bool.{cases_eq, cases_lt}
 use Rattle.card_sets.specs.declared.games.Side.{Side}
-use Rattle.showdown_tally.specs.Cells.{cell_of, cell_plus}
-use Rattle.showdown_tally.specs.SetShares.{set_cell, set_units, share_cells, share_units, pots_shares, pots_share_units}
-use Rattle.showdown_tally.specs.Showdown.{is_among}
+use Rattle.showdown_tally.specs.Cells.{cell_of, cell_plus, no_runout}
+use Rattle.showdown_tally.specs.SetShares.{set_cell, share_cells, share_units, pots_shares, pots_share_units}
+use Rattle.showdown_tally.specs.Showdown.{is_among, part_of}
 use Rattle.showdown_tally.specs.Tables.{hands_below}
+use Rattle.showdown_tally.specs.declared.cells.Cell.{Cell}
 use Rattle.showdown_tally.specs.declared.cells.Outcome.TheVariants.{Win, Tie, Lose}
 use Rattle.showdown_tally.proofs.PotFacts.{among_hands}
 use Rattle.showdown_tally.proofs.Tops.{plus_none, none_plus}
@@ -27,21 +28,21 @@ set_ties set count hand l t more =
     let f : (length (hands_below set count) == 1) ≡ false = grind arith in
     rw (among, f) refl
 
-pub set_gives : (set count hand : ℕ) → hand < count → is_set set hand ≡ true → 5040 / length (hands_below set count) ≡ set_units count hand set
-set_gives set count hand l t = let among : is_among hand (hands_below set count) ≡ true = among_set set count hand l ∙ t in rw among refl
+pub set_gives : (whole set count hand : ℕ) → hand < count → is_set set hand ≡ true → whole / length (hands_below set count) ≡ part_of whole (hands_below set count) hand
+set_gives whole set count hand l t = let among : is_among hand (hands_below set count) ≡ true = among_set set count hand l ∙ t in rw among refl
 
-pub set_gives_none : (set count hand : ℕ) → hand < count → is_set set hand ≡ false → 0 ≡ set_units count hand set
-set_gives_none set count hand l f = let out : is_among hand (hands_below set count) ≡ false = among_set set count hand l ∙ f in rw out refl
+pub set_gives_none : (whole set count hand : ℕ) → hand < count → is_set set hand ≡ false → 0 ≡ part_of whole (hands_below set count) hand
+set_gives_none whole set count hand l f = let out : is_among hand (hands_below set count) ≡ false = among_set set count hand l ∙ f in rw out refl
 
--- one pot more
-pub shares_step : (masks : List ℕ) (rows : List (List ℕ)) (side : Side) (count n p h : ℕ) (s : Side)
-    → cell_plus (pots_shares masks rows side count n p h s) (share_cells n side (slice_index_or masks n 0) (slice_index_or rows n []) count count p h s) ≡ pots_shares masks rows side count (n + 1) p h s
-shares_step masks rows side count n p h s = elim (cases_lt p n) [
+-- one pot more, where each pot has cells of its own and none elsewhere
+pub one_pot_more : (own : ℕ → ℕ → ℕ → Side → Cell) (n p h : ℕ) (s : Side) → ((p == n) ≡ false → own n p h s ≡ no_runout)
+    → cell_plus (cond (nat_lt p n) (own p p h s) no_runout) (own n p h s) ≡ cond (nat_lt p (n + 1)) (own p p h s) no_runout
+one_pot_more own n p h s elsewhere = elim (cases_lt p n) [
   | inl l ↦
       let t : nat_lt p n ≡ true = grind arith in
       let t' : nat_lt p (n + 1) ≡ true = grind arith in
       let f : (p == n) ≡ false = grind arith in
-      rw (t, t', f) (plus_none _)
+      rw (t, t', elsewhere f) (plus_none _)
   | inr ge ↦ elim (cases_eq p n) [
     | inl e ↦
         let f : nat_lt n n ≡ false = grind arith in
@@ -51,18 +52,18 @@ shares_step masks rows side count n p h s = elim (cases_lt p n) [
         let f : nat_lt p n ≡ false = grind arith in
         let f' : nat_lt p (n + 1) ≡ false = grind arith in
         let g : (p == n) ≡ false = grind arith in
-        rw (f, f', g) refl
+        rw (f, f', elsewhere g) refl
   ]
 ]
 
-pub share_units_step : (masks : List ℕ) (rows : List (List ℕ)) (count n p h : ℕ)
-    → pots_share_units masks rows count n p h + share_units n (slice_index_or masks n 0) (slice_index_or rows n []) count count p h ≡ pots_share_units masks rows count (n + 1) p h
-share_units_step masks rows count n p h = elim (cases_lt p n) [
+-- and units
+pub one_pot_more_units : (own : ℕ → ℕ → ℕ → ℕ) (n p h : ℕ) → ((p == n) ≡ false → own n p h ≡ 0) → cond (nat_lt p n) (own p p h) 0 + own n p h ≡ cond (nat_lt p (n + 1)) (own p p h) 0
+one_pot_more_units own n p h elsewhere = elim (cases_lt p n) [
   | inl l ↦
       let t : nat_lt p n ≡ true = grind arith in
       let t' : nat_lt p (n + 1) ≡ true = grind arith in
       let f : (p == n) ≡ false = grind arith in
-      rw (t, t', f) (omega arith)
+      rw (t, t', elsewhere f) (omega arith)
   | inr ge ↦ elim (cases_eq p n) [
     | inl e ↦
         let f : nat_lt n n ≡ false = grind arith in
@@ -72,9 +73,18 @@ share_units_step masks rows count n p h = elim (cases_lt p n) [
         let f : nat_lt p n ≡ false = grind arith in
         let f' : nat_lt p (n + 1) ≡ false = grind arith in
         let g : (p == n) ≡ false = grind arith in
-        rw (f, f', g) refl
+        rw (f, f', elsewhere g) refl
   ]
 ]
+
+-- the pots below n by the sets that win them, and one more
+pub shares_step : (masks : List ℕ) (rows : List (List ℕ)) (side : Side) (count n p h : ℕ) (s : Side)
+    → cell_plus (pots_shares masks rows side count n p h s) (share_cells n side (slice_index_or masks n 0) (slice_index_or rows n []) count count p h s) ≡ pots_shares masks rows side count (n + 1) p h s
+shares_step masks rows side count n p h s = one_pot_more (λ pot. share_cells pot side (slice_index_or masks pot 0) (slice_index_or rows pot []) count count) n p h s (λ e. rw e refl)
+
+pub share_units_step : (masks : List ℕ) (rows : List (List ℕ)) (count n p h : ℕ)
+    → pots_share_units masks rows count n p h + share_units n (slice_index_or masks n 0) (slice_index_or rows n []) count count p h ≡ pots_share_units masks rows count (n + 1) p h
+share_units_step masks rows count n p h = one_pot_more_units (λ pot. share_units pot (slice_index_or masks pot 0) (slice_index_or rows pot []) count count) n p h (λ e. rw e refl)
 
 -- below n there are at most n hands
 pub length_few : (set n : ℕ) → length (hands_below set n) ≤ n

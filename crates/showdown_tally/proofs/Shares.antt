@@ -172,7 +172,7 @@ counted_once deal (r ∷ rs) pot hand side play =
     let c = sum_by-cons (λ r. cond (loses deal pot hand side r) 1 0) r rs in
     omega arith
 
-none_counted : {X : Type 0} (p : X → Bool) (xs : List X) → ((x : X) → p x ≡ false) → count_by p xs ≡ 0
+pub none_counted : {X : Type 0} (p : X → Bool) (xs : List X) → ((x : X) → p x ≡ false) → count_by p xs ≡ 0
 none_counted p [] none = refl
 none_counted p (x ∷ xs) none =
     let ih : count_by p xs ≡ 0 = none_counted p xs none in

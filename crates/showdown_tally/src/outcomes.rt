@@ -1,16 +1,19 @@
 //! Who wins a pot, as one number: that with the bits of the winners.
 
-ghost use Rattle.std.specs.Prelude.{◌≡◌, ℕ, ◌<◌, ◌≤◌, ◌==◌, ◌&&◌, List};
+ghost use Rattle.std.specs.Prelude.{◌≡◌, ℕ, ◌<◌, ◌≤◌, ◌^◌, ◌==◌, ◌&&◌, List};
 ghost use Rattle.std.specs.Int.{bit_at};
 ghost use Rattle.card_sets.specs.State.{state_of};
+ghost use Rattle.card_sets.specs.declared.games.Side.{Side};
 ghost use Rattle.showdown_tally.specs.Deals.{deal_of};
-ghost use Rattle.showdown_tally.specs.Outcomes.{mask_of, outcome, AreNumbersAfter};
+ghost use Rattle.showdown_tally.specs.Outcomes.{mask_of, only_side, outcome, AreNumbersAfter};
 ghost use Rattle.showdown_tally.specs.Settling.{is_top, tops_of};
+ghost use Rattle.showdown_tally.specs.Sides.{side_outcome, AreSideNumbersAfter};
 
 use crate::laws::law_values_keep_order;
 use crate::runout::ten_places;
 use crate::settle::{is_eligible, is_top, top_value};
 use crate::table::Table;
+use card_sets::{Game, Side};
 
 /// Whether a hand is eligible and has the greatest value.
 #[inline]
@@ -26,7 +29,7 @@ fn wins(value: Option<u32>, top: Option<u32>, hands: u16, hand: u8) -> bool
 fn winner_set(values: &[Option<u32>; 10], hands: u16, count: u8) -> u16
     requires { count ≤ 10 }
     ensures value { result ≡ mask_of (tops_of values.now hands count) }
-    ensures small { result < 1024 }
+    ensures small { result < 2 ^ count }
 {
     let top = top_value(values, hands, count);
     let mut set = 0u16;
@@ -38,6 +41,32 @@ fn winner_set(values: &[Option<u32>; 10], hands: u16, count: u8) -> u16
     set
 }
 
+/// Who wins a side of a pot after each runout that gives the hands these values on it: bit i is set
+/// where hand i does.
+#[inline]
+pub fn side_outcome(table: &Table, side: Side, values: &[Option<u32>; 10], pot: u8) -> u16
+    requires { pot < table.now.pots }
+    ensures value { (runout : List (List ℕ)) → AreSideNumbersAfter side (state_of table.now.known) runout values.now
+        → result ≡ side_outcome side (deal_of table.now) pot runout }
+    ensures small { result < 1024 }
+    ensures few { table.now.known.count ≤ 5 → result < 32 }
+{
+    law_values_keep_order();
+    ten_places(table);
+    winner_set(values, table.eligible[pot as usize], table.known.count)
+}
+
+/// The only side of a game with one; of Omaha Hi/Lo, which has two, the high.
+#[inline]
+pub(crate) fn only_side(game: Game) -> Side
+    ensures { result ≡ only_side game }
+{
+    match game {
+        Game::Holdem | Game::Omaha8 | Game::Stud => Side::High,
+        Game::Razz | Game::Lowball27 => Side::Low,
+    }
+}
+
 /// Who wins a pot after each runout that gives the hands these values on the only side of the game:
 /// bit i is set where hand i does. Of Omaha Hi/Lo, which has two sides, it is the high.
 #[inline]
@@ -47,7 +76,5 @@ pub fn pot_outcome(table: &Table, values: &[Option<u32>; 10], pot: u8) -> u16
         → result ≡ outcome (deal_of table.now) pot runout }
     ensures small { result < 1024 }
 {
-    law_values_keep_order();
-    ten_places(table);
-    winner_set(values, table.eligible[pot as usize], table.known.count)
+    side_outcome(table, only_side(table.known.game), values, pot)
 }

@@ -5,16 +5,19 @@ ghost use Rattle.card_sets.specs.declared.games.Side.{Side};
 ghost use Rattle.showdown_tally.specs.Cells.{Grows, CellFits, cell_at, cell_of, cell_plus, no_runout, units_at};
 ghost use Rattle.showdown_tally.specs.Deals.{deal_of};
 ghost use Rattle.showdown_tally.specs.Outcomes.{only_side, AreOutcomes};
-ghost use Rattle.showdown_tally.specs.SetShares.{cell_times, cell_of_sets, set_cell, set_units, share_cells, share_units, units_of_sets};
-ghost use Rattle.showdown_tally.specs.Showdown.{has_two_sides};
+ghost use Rattle.showdown_tally.specs.SetShares.{cell_times, cell_of_sets, set_cell, share_cells, share_units, units_of_sets};
+ghost use Rattle.showdown_tally.specs.Settling.{whole_of};
+ghost use Rattle.showdown_tally.specs.Showdown.{has_two_sides, part_of};
+ghost use Rattle.showdown_tally.specs.Tables.{hands_below};
 ghost use Rattle.showdown_tally.specs.Tallies.{Counts};
 
 use crate::cells::{Cell, Outcome};
+use crate::outcomes::only_side;
 use crate::runout::ten_places;
 use crate::settle::{is_eligible, part};
 use crate::table::Table;
 use crate::tally::Tally;
-use card_sets::{Game, Side};
+use card_sets::Side;
 
 /// What a hand has of a pot over some runouts: how they end for it, and its units.
 #[derive(Clone, Copy)]
@@ -23,19 +26,9 @@ struct Share {
     units: u64,
 }
 
-/// The only side of a game with one.
-fn only_side(game: Game) -> Side
-    ensures { result ≡ only_side game }
-{
-    match game {
-        Game::Holdem | Game::Omaha8 | Game::Stud => Side::High,
-        Game::Razz | Game::Lowball27 => Side::Low,
-    }
-}
-
 /// How a runout that a set of the first `count` hands wins ends for a hand.
 #[inline]
-fn ending(set: u16, count: u8, hand: u8) -> Outcome
+pub(crate) fn ending(set: u16, count: u8, hand: u8) -> Outcome
     requires few { count ≤ 10 }
     requires set { set < 2 ^ count }
     requires hand { hand < count }
@@ -50,17 +43,17 @@ fn ending(set: u16, count: u8, hand: u8) -> Outcome
     }
 }
 
-/// The units of a hand of a pot that a set of the first `count` hands wins.
+/// The units of a hand of a pot, or of half of it, that a set of the first `count` hands wins.
 #[inline]
-fn units_in(set: u16, count: u8, hand: u8) -> u64
+pub(crate) fn units_in(halved: bool, set: u16, count: u8, hand: u8) -> u64
     requires few { count ≤ 10 }
     requires set { set < 2 ^ count }
     requires hand { hand < count }
-    ensures value { result ≡ set_units count hand set }
+    ensures value { result ≡ part_of (whole_of halved) (hands_below set count) hand }
     ensures bound { result ≤ 5040 }
 {
     if is_eligible(set, hand) {
-        part(false, set.count_ones() as u8)
+        part(halved, set.count_ones() as u8)
     } else {
         0
     }
@@ -68,7 +61,7 @@ fn units_in(set: u16, count: u8, hand: u8) -> u64
 
 /// So many runouts more that end so.
 #[inline]
-fn add_times(cell: &mut Cell, outcome: Outcome, times: u64)
+pub(crate) fn add_times(cell: &mut Cell, outcome: Outcome, times: u64)
     requires { CellFits (cell_plus cell.old (cell_times times (cell_of outcome))) }
     ensures { cell.new ≡ cell_plus cell.old (cell_times times (cell_of outcome)) }
 {
@@ -99,7 +92,7 @@ fn share_of(counts: &[u32; 1024], count: u8, hand: u8) -> Share
         let times = u64::from(counts[set as usize]);
         if times > 0 {
             add_times(&mut share.cell, ending(set, count, hand), times);
-            share.units += units_in(set, count, hand) * times;
+            share.units += units_in(false, set, count, hand) * times;
         }
     }
     share

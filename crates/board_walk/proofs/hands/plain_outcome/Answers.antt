@@ -9,11 +9,11 @@ use Rattle.board_walk.proofs.Facts.{holdem_number, union-set}
 use Rattle.board_walk.proofs.hands.plain_outcome.Goals as goal
 
 pub returns-clause-value : goal.returns-clause-value
-returns-clause-value c = λ ranks runout are with.
+returns-clause-value c = λ taken ranks low high runout plain are with.
     let st : State = state_of c.args.table.now.known in
     c.pot_outcome.ensures.value runout (record {
       numbers = λ h l.
-          let plain = c.plain_values-values.ensures h (seven_after st runout h) l (union-set _ _) (λ r b. with.counts h r l b ∙ ap (λ n. count_of_rank (slice_index_or st.hands h []) r + count_of_rank st.board r + n + one_of c.args.low r + one_of c.args.high r) (are r b)) in
-          plain ∙ ap (λ n. Some n) (sym (with.plain h l)) ∙ sym (holdem_number st.game (own_after st runout h) (board_after st runout) c.requires.dealt);
+          let value = plain h (seven_after st runout h) l (union-set _ _) (λ r b. with.counts h r l b ∙ ap (λ n. count_of_rank (slice_index_or st.hands h []) r + count_of_rank st.board r + n + one_of low r + one_of high r) (are r b)) in
+          value ∙ ap (λ n. Some n) (sym (with.plain h l)) ∙ sym (holdem_number st.game (own_after st runout h) (board_after st runout) c.requires.dealt);
       full = with.full;
     })

@@ -1,5 +1,6 @@
 use Rattle.std.proofs.Common.{◌≡◌, ◌/◌, sym, ap, ◌∙◌, arith, length}
 use Rattle.std.specs.Prelude.{count_ones}
+use Rattle.showdown_tally.specs.Settling.{whole_of}
 use Rattle.showdown_tally.specs.Tables.{hands_below}
 use Rattle.showdown_tally.proofs.SetFacts.{among_set, set_gives, set_gives_none, length_few}
 use Rattle.showdown_tally.proofs.SetMasks.{ones_length}
@@ -18,7 +19,7 @@ part-requires-clause-few c =
 
 pub returns-then-is_eligible-clause-value : goal.returns-then-is_eligible-clause-value
 returns-then-is_eligible-clause-value c =
-    c.part.ensures ∙ ap (λ n. 5040 / n) (ones_length c.args.set c.args.count c.requires.set c.requires.few) ∙ set_gives c.args.set c.args.count c.args.hand c.requires.hand (sym c.is_eligible.ensures ∙ c.if-is_eligible.true)
+    c.part.ensures ∙ ap (λ n. whole_of c.args.halved / n) (ones_length c.args.set c.args.count c.requires.set c.requires.few) ∙ set_gives (whole_of c.args.halved) c.args.set c.args.count c.args.hand c.requires.hand (sym c.is_eligible.ensures ∙ c.if-is_eligible.true)
 
 pub returns-else-is_eligible-clause-value : goal.returns-else-is_eligible-clause-value
-returns-else-is_eligible-clause-value c = set_gives_none c.args.set c.args.count c.args.hand c.requires.hand (sym c.is_eligible.ensures ∙ c.if-is_eligible.false)
+returns-else-is_eligible-clause-value c = set_gives_none (whole_of c.args.halved) c.args.set c.args.count c.args.hand c.requires.hand (sym c.is_eligible.ensures ∙ c.if-is_eligible.false)

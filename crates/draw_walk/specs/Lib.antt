@@ -1,0 +1,16 @@
+pub use Rattle.card_sets.specs.Cards
+pub use Rattle.card_sets.specs.Choose
+pub use Rattle.card_sets.specs.Games
+pub use Rattle.card_sets.specs.State
+pub use Rattle.runout_ranges.specs.Runouts
+pub use Rattle.runout_ranges.specs.Slots
+pub use Rattle.runout_ranges.specs.Shapes
+pub use Rattle.showdown_tally.specs.Deals
+pub use Rattle.showdown_tally.specs.Showdown
+pub use Rattle.showdown_tally.specs.Numbers
+pub use Rattle.showdown_tally.specs.Tallies
+pub use Rattle.showdown_tally.specs.Outcomes
+pub mod Draws
+pub mod Worth
+pub mod Orders
+pub mod Sets

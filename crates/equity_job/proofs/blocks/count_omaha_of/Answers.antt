@@ -1,0 +1,13 @@
+use Rattle.std.proofs.Common.{List, ℕ, [], subst}
+use Rattle.std.specs.Prelude.{slice_index_or}
+use Rattle.card_sets.specs.State.{state_of}
+use Rattle.showdown_tally.specs.Deals.{deal_of}
+use Rattle.showdown_tally.specs.Sides.{AreBothOutcomes}
+use Rattle.showdown_tally.specs.Tallies.{runouts_after}
+use Rattle.equity_job.specs.Blocks.{block_of}
+use Rattle.equity_job.proofs.blocks.count_omaha_of.Goals as goal
+
+pub returns-clause-counts : goal.returns-clause-counts
+returns-clause-counts g c =
+    c.tally_of_sides.ensures (block_of (runouts_after (state_of c.args.job.now.table.known)) c.args.block) c.span_of-span.ensures.size
+    (λ pot l. subst (λ (runouts : List (List (List ℕ))). AreBothOutcomes (deal_of c.args.job.now.table) pot runouts (slice_index_or c.count_omaha.new.walk.counts pot [])) c.span_of-span.ensures.block (c.count_omaha.ensures.counts pot l))

@@ -1,0 +1,37 @@
+-- The best of some hands by numbers.
+use Rattle.std.specs.Prelude.{◌≡◌, ℕ, ◌<◌, ◌==◌, List, [], ◌∷◌, filter, max, slice_index_or}
+use Rattle.card_sets.specs.State.{State}
+use Rattle.omaha_ranks.specs.Omaha.{omaha_high, omaha_plain, omaha_suited}
+use Rattle.rank_high.specs.High.{value_of}
+use Rattle.showdown_tally.specs.Outcomes.{mask_of}
+use Rattle.showdown_tally.specs.Showdown.{Showdown, own_after, board_after, eligible_in}
+
+-- the greatest number of some hands, 0 for none
+abbrev pub best_value : (ℕ → ℕ) → List ℕ → ℕ
+best_value value [] = 0
+best_value value (h ∷ hands) = max (value h) (best_value value hands)
+
+-- the hands with the greatest number, as the number with their bits
+abbrev pub best_set : (ℕ → ℕ) → List ℕ → ℕ
+best_set value hands = mask_of (filter (λ h. value h == best_value value hands) hands)
+
+-- the hands are among the first so many
+abbrev pub AreBelow : ℕ → List ℕ → Type 0
+AreBelow n [] = Unit {0}
+AreBelow n (h ∷ hands) = (h < n) × AreBelow n hands
+
+-- what a hand is worth as a high after a runout, by ranks alone and with flushes
+abbrev pub plain_of : State → List (List ℕ) → ℕ → ℕ
+plain_of state runout h = value_of (omaha_plain (own_after state runout h) (board_after state runout))
+
+abbrev pub high_of : State → List (List ℕ) → ℕ → ℕ
+high_of state runout h = value_of (omaha_high (own_after state runout h) (board_after state runout))
+
+-- and with cards of one suit on the board, as a flush
+abbrev pub flush_of : State → List ℕ → ℕ → ℕ → ℕ
+flush_of state cards suit h = omaha_suited (slice_index_or state.hands h []) cards suit
+
+-- the best flush of the hands of a pot, and where there is one, whose it is
+pub record IsBestFlush (deal : Showdown) (pot : ℕ) (cards : List ℕ) (suit top set : ℕ) : Type 0 where
+  pub greatest : top ≡ best_value (flush_of deal.state cards suit) (eligible_in deal pot)
+  pub winners : 0 < top → set ≡ best_set (flush_of deal.state cards suit) (eligible_in deal pot)

@@ -1,0 +1,104 @@
+//! The best of some hands by numbers.
+
+ghost use Rattle.std.specs.Prelude.{◌≡◌, ℕ, ◌<◌, ◌≤◌, ◌==◌, if◌then◌else◌, length, slice_index};
+ghost use Rattle.std.specs.Int.{bit_at};
+ghost use Rattle.card_sets.specs.State.{state_of};
+ghost use Rattle.showdown_tally.specs.Deals.{deal_of};
+ghost use Rattle.showdown_tally.specs.Showdown.{eligible_in};
+ghost use Rattle.showdown_tally.specs.Tables.{hands_below};
+ghost use Rattle.omaha_walk.specs.Bests.{AreBelow, best_set, best_value};
+
+use card_sets::CardSet;
+use showdown_tally::Table;
+
+/// The greatest number of some hands, and those that have it, as the number with their bits.
+#[derive(Clone, Copy, Debug)]
+pub(crate) struct Best {
+    /// The number, 0 for no hands.
+    pub(crate) top: u32,
+    /// The hands.
+    pub(crate) set: u16,
+}
+
+/// Whether the bit of a hand is set.
+#[inline]
+fn is_one(hands: u16, hand: u8) -> bool
+    requires { hand < 5 }
+    ensures { result ≡ (bit_at hands hand == 1) }
+{
+    (hands >> hand) & 1 == 1
+}
+
+/// The number of a hand whose bit is set, and else 0.
+#[inline]
+fn value_at(values: &[u32; 5], hands: u16, hand: u8) -> u32
+    requires { hand < 5 }
+    ensures { result ≡ (if bit_at hands hand == 1 then slice_index values.now hand else 0) }
+{
+    if is_one(hands, hand) {
+        values[usize::from(hand)]
+    } else {
+        0
+    }
+}
+
+/// The greatest number of the first `count` hands whose bit is set.
+#[inline]
+fn top_of(values: &[u32; 5], hands: u16, count: u8) -> u32
+    requires { count ≤ 5 }
+    ensures { result ≡ best_value (slice_index values.now) (hands_below hands count) }
+{
+    let mut top: u32 = 0;
+    for hand in 0..count {
+        top = top.max(value_at(values, hands, hand));
+    }
+    top
+}
+
+/// The best of the first `count` hands whose bit is set.
+pub(crate) fn best_of(values: &[u32; 5], hands: u16, count: u8) -> Best
+    requires { count ≤ 5 }
+    ensures top { result.top ≡ best_value (slice_index values.now) (hands_below hands count) }
+    ensures set { result.set ≡ best_set (slice_index values.now) (hands_below hands count) }
+    ensures small { result.set < 32 }
+{
+    let top = top_of(values, hands, count);
+    let mut set: u16 = 0;
+    for hand in 0..count {
+        if is_one(hands, hand) && values[usize::from(hand)] == top {
+            set += 1 << hand;
+        }
+    }
+    Best { top, set }
+}
+
+/// There are ten places for hands and for pots.
+#[inline]
+fn ten_places(table: &Table)
+    ensures hands { length table.now.known.hands ≡ 10 }
+    ensures pots { length table.now.eligible ≡ 10 }
+{
+    let _hands: &[CardSet] = &table.known.hands;
+    let _pots: &[u16] = &table.eligible;
+}
+
+/// The eligible hands of a pot are among the hands.
+#[inline]
+pub(crate) fn are_hands(table: &Table, pot: u8)
+    requires { pot < table.now.pots }
+    ensures { AreBelow (length (state_of table.now.known).hands) (eligible_in (deal_of table.now) pot) }
+{
+    ten_places(table);
+}
+
+/// The best of the hands that are eligible in a pot, by numbers of the hands.
+pub(crate) fn pot_best(table: &Table, pot: u8, values: &[u32; 5]) -> Best
+    requires inside { pot < table.now.pots }
+    requires few { table.now.known.count ≤ 5 }
+    ensures best { (value : ℕ → ℕ) → ((h : ℕ) → h < length (state_of table.now.known).hands → slice_index values.now h ≡ value h)
+        → (result.top ≡ best_value value (eligible_in (deal_of table.now) pot)) × (result.set ≡ best_set value (eligible_in (deal_of table.now) pot)) }
+    ensures small { result.set < 32 }
+{
+    ten_places(table);
+    best_of(values, table.eligible[pot as usize], table.known.count)
+}
