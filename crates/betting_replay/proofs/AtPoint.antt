@@ -1,55 +1,48 @@
 -- Whoever is in the hand was in it at the all-in point.
-use Rattle.std.proofs.Common.{◌≡◌, ℕ, zero, suc, ◌<◌, ◌≤◌, ◌^◌, List, [], ◌∷◌, refl, sym, ap, ◌∙◌, Bool, true, false, not, ◌&&◌, ◌==◌, inl, inr, arith}
+use Rattle.std.proofs.Common.{◌≡◌, ℕ, ◌<◌, ◌≤◌, ◌^◌, List, [], ◌∷◌, refl, sym, ap, ◌∙◌, Bool, true, false, not, ◌&&◌, ◌==◌, inl, inr, arith}
 use Rattle.std.specs.Prelude.{Option, Some, None, if◌then◌else◌, nat_le}
-use Rattle.std.specs.Int.{bit_at}
 use Rattle.std.proofs.lemmas.Bool.{cases_lt}
 use Rattle.std.proofs.lemmas.Bool.Decides.{nat_tests}
-use Rattle.std.proofs.lemmas.Nat.Bits.{bit_at_above}
 use mathlib.Core.Bool.{true≢false}
 use Rattle.history_text.specs.declared.events.Header.{Header}
 use Rattle.history_text.specs.declared.events.Event.{Event}
-use Rattle.history_text.specs.declared.events.Street.{Street as StreetName}
+use Rattle.card_sets.specs.declared.streets.Street.{Street as StreetName}
 use Rattle.betting_replay.specs.declared.points.Point.{Point}
 use Rattle.betting_replay.specs.Accounts.{contenders}
 use Rattle.betting_replay.specs.AllIn.{is_point, point_on, point_now}
 use Rattle.betting_replay.specs.Events.{seat_of, folds}
 use Rattle.betting_replay.specs.PointLaws.{HasContenders}
-use Rattle.betting_replay.specs.Seats.{has_seat, count_below, count_seats, or_else}
+use Rattle.card_sets.specs.PlayerSets.{has_player}
+use Rattle.card_sets.specs.PlayerSetLaws.{players_where-small, has_player-where, has_player-above}
+use Rattle.betting_replay.specs.Seats.{count_seats, or_else}
 use Rattle.betting_replay.specs.Sums.{street, folded}
 use Rattle.betting_replay.specs.Tables.{Table, table_with, point}
 use Rattle.betting_replay.specs.Turns.{is_contender, contender_count}
 use Rattle.betting_replay.proofs.Members.{both}
 use Rattle.betting_replay.proofs.Ended.{contender_is, still_in}
-use Rattle.betting_replay.proofs.SeatBits.{small_below, bits_below}
-
-same_count : (f g : ℕ → Bool) (n : ℕ) → ((p : ℕ) → p < n → f p ≡ g p) → count_below f n ≡ count_below g n
-same_count f g zero h = refl
-same_count f g (suc n) h =
-    let rest : count_below f n ≡ count_below g n = same_count f g n (λ p l. h p (omega arith)) in
-    let here : f n ≡ g n = h n (omega arith) in
-    rw (rest, here) refl
+use Rattle.betting_replay.proofs.Counted.{same_count}
 
 -- the set of the contenders at a table
-contender_bit : (t : Table) (p : ℕ) → p < 11 → has_seat (contenders t) p ≡ is_contender t p
+contender_bit : (t : Table) (p : ℕ) → p < 11 → has_player (contenders t) p ≡ is_contender t p
 unfolding contenders
-contender_bit t p small = bits_below (is_contender t) 11 p small
+contender_bit t p small = has_player-where (is_contender t) 11 p small
 
 contenders_small : (t : Table) → contenders t < 2 ^ 11
 unfolding contenders
-contenders_small t = small_below (is_contender t) 11
+contenders_small t = players_where-small (is_contender t) 11
 
-only_small : (t : Table) (p : ℕ) → has_seat (contenders t) p ≡ true → p < 11
+only_small : (t : Table) (p : ℕ) → has_player (contenders t) p ≡ true → p < 11
 only_small t p has = elim (cases_lt p 11) [
   | inl l ↦ l
-  | inr ge ↦ (let none : bit_at (contenders t) p ≡ 0 = bit_at_above (contenders t) 11 p (contenders_small t) ge in let no_bit : has_seat (contenders t) p ≡ false = rw none refl in absurd (true≢false (sym has ∙ no_bit)))
+  | inr ge ↦ absurd (true≢false (sym has ∙ has_player-above (contenders t) 11 p (contenders_small t) ge))
 ]
 
-count_is : (t : Table) → count_seats (has_seat (contenders t)) ≡ contender_count t
+count_is : (t : Table) → count_seats (has_player (contenders t)) ≡ contender_count t
 unfolding contender_count
-count_is t = same_count (has_seat (contenders t)) (is_contender t) 11 (λ p l. contender_bit t p l)
+count_is t = same_count (has_player (contenders t)) (is_contender t) 11 (λ p l. contender_bit t p l)
 
-is_player : (g : Header) (players : ℕ) (h : List Event) (x : Option Point) (p : ℕ) → p < 11 → is_contender (table_with g players h x) p ≡ true → has_seat players p ≡ true
-is_player g players h x p small is = (both (has_seat players p) (not (folded h p)) (sym (contender_is g players h x p small) ∙ is)).0
+is_player : (g : Header) (players : ℕ) (h : List Event) (x : Option Point) (p : ℕ) → p < 11 → is_contender (table_with g players h x) p ≡ true → has_player players p ≡ true
+is_player g players h x p small is = (both (has_player players p) (not (folded h p)) (sym (contender_is g players h x p small) ∙ is)).0
 
 -- a moment that is a point
 from_street : (o : Option StreetName) (seats : ℕ) (found : Point) → point_on o seats ≡ Some found → found.contenders ≡ seats
@@ -76,7 +69,7 @@ two_there t p = at_least (contender_count t) (two_of t p)
 
 -- who is one now was one a moment before
 was_one : (g : Header) (players : ℕ) (e : Event) (h : List Event) (x y : Option Point) (p : ℕ) → p < 11 → is_contender (table_with g players (e ∷ h) x) p ≡ true → is_contender (table_with g players h y) p ≡ true
-was_one g players e h x y p small is = contender_is g players h y p small ∙ still_in (has_seat players p) ((seat_of e == p) && folds e) (folded h p) (sym (contender_is g players (e ∷ h) x p small) ∙ is)
+was_one g players e h x y p small is = contender_is g players h y p small ∙ still_in (has_player players p) ((seat_of e == p) && folds e) (folded h p) (sym (contender_is g players (e ∷ h) x p small) ∙ is)
 
 same_one : (g : Header) (players : ℕ) (h : List Event) (x y : Option Point) (p : ℕ) → p < 11 → is_contender (table_with g players h x) p ≡ true → is_contender (table_with g players h y) p ≡ true
 same_one g players h x y p small is = contender_is g players h y p small ∙ sym (contender_is g players h x p small) ∙ is
@@ -85,11 +78,11 @@ found_now : (g : Header) (players : ℕ) (h : List Event) (found : Point) → po
 found_now g players h found is =
     let w = at_now g players h None found is in
     let t : Table = table_with g players h None in
-    let bits : (p : ℕ) → has_seat found.contenders p ≡ has_seat (contenders t) p = (λ p. ap (λ n. has_seat n p) w.1) in
+    let bits : (p : ℕ) → has_player found.contenders p ≡ has_player (contenders t) p = (λ p. ap (λ n. has_player n p) w.1) in
     record {
-      two = (let many : count_seats (has_seat found.contenders) ≡ contender_count t = ap (λ n. count_seats (has_seat n)) w.1 ∙ count_is t in let two : 2 ≤ contender_count t = two_there t w.0 in omega (arith, many, two));
+      two = (let many : count_seats (has_player found.contenders) ≡ contender_count t = ap (λ n. count_seats (has_player n)) w.1 ∙ count_is t in let two : 2 ≤ contender_count t = two_there t w.0 in omega (arith, many, two));
       small = (let low : contenders t < 2 ^ 11 = contenders_small t in omega (arith, w.1, low));
-      seated = λ p has. (let there : has_seat (contenders t) p ≡ true = sym (bits p) ∙ has in let l : p < 11 = only_small t p there in is_player g players h None p l (sym (contender_bit t p l) ∙ there));
+      seated = λ p has. (let there : has_player (contenders t) p ≡ true = sym (bits p) ∙ has in let l : p < 11 = only_small t p there in is_player g players h None p l (sym (contender_bit t p l) ∙ there));
       later = λ p small now. bits p ∙ contender_bit t p small ∙ same_one g players h (point g players h) None p small now;
     }
 

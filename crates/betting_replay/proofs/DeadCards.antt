@@ -6,28 +6,32 @@ use Rattle.card_sets.specs.Cards.{has_card, with_card, union, minus, IsCardSet}
 use Rattle.card_sets.specs.Bits.{IsCardSet-cards_where}
 use Rattle.card_sets.specs.Disjoint.{apart}
 use Rattle.card_sets.specs.declared.games.Game.{Game}
-use Rattle.card_sets.specs.declared.games.Game.TheVariants.{Holdem, Omaha8, Stud, Razz, Lowball27}
+use Rattle.card_sets.specs.declared.games.Family.{Family}
+use Rattle.card_sets.specs.declared.games.Family.TheVariants as family
 use Rattle.history_text.specs.declared.events.Header.{Header}
 use Rattle.history_text.specs.declared.events.Event.{Event}
 use Rattle.history_text.specs.declared.events.Event.TheVariants.{Street, Discard, Pat}
-use Rattle.history_text.specs.declared.events.Street.{Street as StreetName}
-use Rattle.history_text.specs.declared.events.Street.TheVariants.{First, Flop, Turn, Fourth, Fifth, Sixth, Draw}
+use Rattle.card_sets.specs.declared.streets.Street.{Street as StreetName}
+use Rattle.card_sets.specs.declared.streets.Street.TheVariants.{First, Draw}
 use Rattle.betting_replay.specs.declared.points.Point.{Point}
 use Rattle.betting_replay.specs.Accepted.{IsAccepted}
 use Rattle.betting_replay.specs.AllIn.{had_folded, cards_of_seats, dead_by}
 use Rattle.betting_replay.specs.Dealing.{gathered, given_by, draws_of}
-use Rattle.card_sets.specs.Games.{own_size}
+use Rattle.card_sets.specs.Games.{family_of, is_draw as family_is_draw, has_draw, own_size}
 use Rattle.betting_replay.specs.Events.{seat_of, cards_named, SeatFits}
 use Rattle.betting_replay.specs.Turns.{contender_count}
-use Rattle.betting_replay.specs.Faults.{street_order, marker_stands, draw_stands, is_draw}
+use Rattle.betting_replay.specs.Faults.{street_order, marker_stands, draw_stands}
 use Rattle.betting_replay.specs.Hands.{dealt, shown, shown_by, shown_after, whole, is_discard, if_many}
-use Rattle.betting_replay.specs.Known.{holding_of, final_drawn, draws_openly, kept, known_drawn, known_by}
+use Rattle.betting_replay.specs.Known.{holding_of, final_drawn, draws_openly, kept, known_drawn, known_in, known_by}
 use Rattle.betting_replay.specs.Places.{owned, named, thrown, thrown_by, is_board, is_free, first_twice}
-use Rattle.betting_replay.specs.Seats.{has_seat, or_else}
-use Rattle.betting_replay.specs.Streets.{begun_by_drawing, next_street, next_in_board, next_in_stud, same_street}
+use Rattle.card_sets.specs.PlayerSets.{has_player}
+use Rattle.betting_replay.specs.Seats.{or_else}
+use Rattle.card_sets.specs.Streets.{next_street}
+use Rattle.betting_replay.specs.Streets.{begun_by_drawing, same_street}
 use Rattle.betting_replay.specs.Sums.{street}
 use Rattle.betting_replay.specs.Tables.{table_of, point, dead}
 use Rattle.betting_replay.proofs.Afford.{not_not}
+use Rattle.betting_replay.proofs.Families.{never_next, none_begun}
 use Rattle.betting_replay.proofs.Passed.{passed, not_failed}
 use Rattle.betting_replay.proofs.Stands.{seat_below, cards_free}
 use Rattle.betting_replay.proofs.Members.{in_union, in_minus, no_cards, either, or_right, both, not_both, where_in}
@@ -114,42 +118,6 @@ shown_not_thrown g players (e ∷ h) p cards k ok is has gone =
         let yes : (seat_of e == p) ≡ true = grind arith in
         true≢false (sym yes ∙ here)
 
--- a game has a draw
-abbrev pub has_draw : Game → Bool
-has_draw Holdem = false
-has_draw Omaha8 = false
-has_draw Stud = false
-has_draw Razz = false
-has_draw Lowball27 = true
-
-pub none_begun : (game : Game) (o : Option StreetName) → has_draw game ≡ false → begun_by_drawing game o ≡ None
-none_begun Holdem o no_draw = refl
-none_begun Omaha8 o no_draw = refl
-none_begun Stud o no_draw = refl
-none_begun Razz o no_draw = refl
-none_begun Lowball27 o no_draw = cc
-
-not_in_board : (s : StreetName) → same_street Draw (next_in_board s) ≡ false
-not_in_board First = refl
-not_in_board Flop = refl
-not_in_board Turn = refl
-not_in_board _ = refl
-
-not_in_stud : (s : StreetName) → same_street Draw (next_in_stud s) ≡ false
-not_in_stud First = refl
-not_in_stud Fourth = refl
-not_in_stud Fifth = refl
-not_in_stud Sixth = refl
-not_in_stud _ = refl
-
-never_next : (game : Game) (o : Option StreetName) → has_draw game ≡ false → same_street Draw (next_street game o) ≡ false
-never_next game None no_draw = refl
-never_next Holdem (Some s) no_draw = not_in_board s
-never_next Omaha8 (Some s) no_draw = not_in_board s
-never_next Stud (Some s) no_draw = not_in_stud s
-never_next Razz (Some s) no_draw = not_in_stud s
-never_next Lowball27 (Some s) no_draw = cc
-
 -- the test of streets that an event passes
 pub order_of : (g : Header) (players : ℕ) (e : Event) (h : List Event) → IsAccepted g players (e ∷ h) → street_order (table_of g players h) e ≡ None
 order_of g players e h ok = (passed (table_of g players h) e ok.1).order
@@ -159,7 +127,7 @@ unfolding street_order
 marker_of g players s cards h ok = not_not _ (not_failed _ _ (order_of g players (Street s cards) h ok))
 
 -- a game with no draw never comes to one, and nothing is thrown away in it
-not_drawing : (g : Header) (players : ℕ) (h : List Event) → IsAccepted g players h → has_draw g.game ≡ false → is_draw (street g h) ≡ false
+not_drawing : (g : Header) (players : ℕ) (h : List Event) → IsAccepted g players h → has_draw g.game ≡ false → same_street Draw (street g h) ≡ false
 not_drawing g players [] ok no_draw = refl
 not_drawing g players (Street Draw cards ∷ h) ok no_draw =
     (let s = both (same_street Draw (next_street g.game (street g h))) (nat_le 2 (contender_count (table_of g players h))) (marker_of g players Draw cards h ok) in absurd (true≢false (sym s.0 ∙ never_next g.game (street g h) no_draw)))
@@ -172,7 +140,7 @@ not_now : (g : Header) (players : ℕ) (e : Event) (h : List Event) (k : ℕ) �
 unfolding street_order
 not_now g players (Discard seat count cards) h k ok no_draw now =
     let stands : draw_stands (table_of g players h) ≡ true = not_not _ (not_failed _ _ (order_of g players (Discard seat count cards) h ok)) in
-    let off : is_draw (street g h) ≡ false = not_drawing g players h ok.2 no_draw in
+    let off : same_street Draw (street g h) ≡ false = not_drawing g players h ok.2 no_draw in
     let none : begun_by_drawing g.game (street g h) ≡ None = none_begun g.game (street g h) no_draw in
     let never : draw_stands (table_of g players h) ≡ false = rw (off, none) refl in
     true≢false (sym stands ∙ never)
@@ -225,11 +193,15 @@ known_drawn_not_thrown g players h p _ cards k ok is has gone = drawn_not_thrown
 
 pub known_not_thrown : (g : Header) (players : ℕ) (h : List Event) (p : ℕ) (s : StreetName) (cards : List ℕ) (k : ℕ) (game : Game) → g.game ≡ game → IsAccepted g players h → known_by game (holding_of g h p) s ≡ Some cards
     → has_card cards k ≡ true → has_card (thrown h) k ≡ true → ⊥
-known_not_thrown g players h p s cards k Lowball27 game ok is has gone = known_drawn_not_thrown g players h p s cards k ok is has gone
-known_not_thrown g players h p s cards k Holdem game ok is has gone = nothing_thrown g players h k ok (ap has_draw game) gone
-known_not_thrown g players h p s cards k Omaha8 game ok is has gone = nothing_thrown g players h k ok (ap has_draw game) gone
-known_not_thrown g players h p s cards k Stud game ok is has gone = nothing_thrown g players h k ok (ap has_draw game) gone
-known_not_thrown g players h p s cards k Razz game ok is has gone = nothing_thrown g players h k ok (ap has_draw game) gone
+known_not_thrown g players h p s cards k game same ok is has gone = by (family_of game) refl is
+  where
+    never : (f : Family) → family_of game ≡ f → family_is_draw f ≡ false → ⊥
+    never f e off = nothing_thrown g players h k ok (ap has_draw same ∙ ap family_is_draw e ∙ off) gone
+
+    by : (f : Family) → family_of game ≡ f → known_in f (own_size game) (holding_of g h p) s ≡ Some cards → ⊥
+    by family.Board e is = never family.Board e refl
+    by family.Stud e is = never family.Stud e refl
+    by family.Draw e is = known_drawn_not_thrown g players h p s cards k ok is has gone
 
 -- a dead card was thrown away, or is of a player who had folded
 in_dead : (players : ℕ) (h : List Event) (o : Option Point) (k : ℕ) → has_card (dead_by players o (owned h) (thrown h)) k ≡ true
@@ -253,15 +225,15 @@ dead_not_board g players h k ok has own = elim (in_dead players h (point g playe
     no_seat : (q : ℕ) → nat_lt 0 q ≡ true → q ≡ 0 → ⊥
     no_seat q seat same = true≢false (sym seat ∙ ap (nat_lt 0) same)
 
-pub dead_not_known : (g : Header) (players : ℕ) (h : List Event) (found : Point) (p : ℕ) (s : StreetName) (cards : List ℕ) (k : ℕ) → IsAccepted g players h → point g players h ≡ Some found → has_seat found.contenders p ≡ true
+pub dead_not_known : (g : Header) (players : ℕ) (h : List Event) (found : Point) (p : ℕ) (s : StreetName) (cards : List ℕ) (k : ℕ) → IsAccepted g players h → point g players h ≡ Some found → has_player found.contenders p ≡ true
     → known_by g.game (holding_of g h p) s ≡ Some cards → ((j : ℕ) → has_card cards j ≡ true → has_card (owned h p) j ≡ true) → has_card (dead g players h) k ≡ true → has_card cards k ≡ true → ⊥
 dead_not_known g players h found p s cards k ok at is_in known own has mine = elim (in_dead players h (point g players h) k has) [
   | inl gone ↦ known_not_thrown g players h p s cards k g.game refl ok known mine gone
   | inr f ↦
-      (let out : not (has_seat f.0.contenders f.2.0) ≡ true = (both (nat_lt 0 f.2.0 && has_seat players f.2.0) (not (has_seat f.0.contenders f.2.0)) f.2.1).1 in
+      (let out : not (has_player f.0.contenders f.2.0) ≡ true = (both (nat_lt 0 f.2.0 && has_player players f.2.0) (not (has_player f.0.contenders f.2.0)) f.2.1).1 in
       let same : f.2.0 ≡ p = one_place h f.2.0 p k f.2.2 (own k mine) in
       let one : Some f.0 ≡ Some found = sym f.1 ∙ at in
       let pt : f.0 ≡ found = cc in
-      let here : has_seat f.0.contenders f.2.0 ≡ true = ap (λ (q : ℕ). has_seat f.0.contenders q) same ∙ ap (λ (x : Point). has_seat x.contenders p) pt ∙ is_in in
+      let here : has_player f.0.contenders f.2.0 ≡ true = ap (λ (q : ℕ). has_player f.0.contenders q) same ∙ ap (λ (x : Point). has_player x.contenders p) pt ∙ is_in in
       not_both _ out here)
 ]

@@ -4,18 +4,19 @@ use Rattle.std.specs.Prelude.{Option, Some, None, if◌then◌else◌, nat_lt}
 use Rattle.std.proofs.lemmas.Bool.Decides.{nat_tests}
 use mathlib.Core.Bool.{true≢false}
 use Rattle.card_sets.specs.declared.games.Game.{Game}
-use Rattle.card_sets.specs.declared.games.Game.TheVariants.{Holdem, Omaha8, Stud, Razz, Lowball27}
 use Rattle.history_text.specs.declared.events.Header.{Header}
 use Rattle.history_text.specs.declared.events.Event.{Event}
 use Rattle.history_text.specs.declared.events.Event.TheVariants.{Street, Discard, Pat}
-use Rattle.history_text.specs.declared.events.Street.{Street as StreetName}
-use Rattle.history_text.specs.declared.events.Street.TheVariants.{First, ShowDown, Summary}
+use Rattle.card_sets.specs.declared.streets.Street.{Street as StreetName}
+use Rattle.card_sets.specs.declared.streets.Street.TheVariants.{Draw, ShowDown, Summary}
 use Rattle.betting_replay.specs.declared.points.Point.{Point}
 use Rattle.betting_replay.specs.Accepted.{IsAccepted}
 use Rattle.betting_replay.specs.CardLaws.{is_end, is_end_of, ends, has_ended}
 use Rattle.betting_replay.specs.Events.{seat_of, folds}
-use Rattle.betting_replay.specs.Seats.{has_seat, count_below, or_else}
-use Rattle.betting_replay.specs.Streets.{begun_by_drawing}
+use Rattle.card_sets.specs.PlayerSets.{has_player}
+use Rattle.betting_replay.specs.Seats.{count_below, or_else}
+use Rattle.card_sets.specs.Streets.{next_street}
+use Rattle.betting_replay.specs.Streets.{same_street, begun_by_drawing}
 use Rattle.betting_replay.specs.Sums.{street, last_begun, folded}
 use Rattle.betting_replay.specs.Tables.{table_with, point, acts_of, no_acts}
 use Rattle.betting_replay.specs.Turns.{is_contender, contender_count}
@@ -38,7 +39,7 @@ fewer_pass p q (suc n) h =
     one false false h = omega arith
 
 -- an event makes nobody a contender
-pub contender_is : (g : Header) (players : ℕ) (h : List Event) (x : Option Point) (p : ℕ) → p < 11 → is_contender (table_with g players h x) p ≡ (has_seat players p && not (folded h p))
+pub contender_is : (g : Header) (players : ℕ) (h : List Event) (x : Option Point) (p : ℕ) → p < 11 → is_contender (table_with g players h x) p ≡ (has_player players p && not (folded h p))
 unfolding is_contender
 contender_is g players h x p small = rw (at_by_seat (acts_of g h) p no_acts small) refl
 
@@ -50,7 +51,7 @@ still_in false b f h = absurd (true≢false (sym h))
 pub fewer_left : (g : Header) (players : ℕ) (e : Event) (h : List Event) (x y : Option Point) → contender_count (table_with g players (e ∷ h) x) ≤ contender_count (table_with g players h y)
 unfolding contender_count
 fewer_left g players e h x y = fewer_pass (is_contender (table_with g players (e ∷ h) x)) (is_contender (table_with g players h y)) 11 (λ p small is.
-    contender_is g players h y p small ∙ still_in (has_seat players p) ((seat_of e == p) && folds e) (folded h p) (sym (contender_is g players (e ∷ h) x p small) ∙ is))
+    contender_is g players h y p small ∙ still_in (has_player players p) ((seat_of e == p) && folds e) (folded h p) (sym (contender_is g players (e ∷ h) x p small) ∙ is))
 
 -- an end stays one
 abbrev pub IsPlayed : Header → ℕ → List Event → Option Point → Type 0
@@ -83,13 +84,11 @@ played_at g players (e ∷ h) y ok over = elim (either (ends e) (has_ended h) ov
 
 -- the street of a showdown or of the summary comes with its marker
 no_end : (game : Game) (o : Option StreetName) → is_end_of (begun_by_drawing game o) ≡ false
-no_end Holdem o = refl
-no_end Omaha8 o = refl
-no_end Stud o = refl
-no_end Razz o = refl
-no_end Lowball27 None = refl
-no_end Lowball27 (Some First) = refl
-no_end Lowball27 (Some _) = refl
+no_end game o = by (same_street Draw (next_street game o))
+  where
+    by : (b : Bool) → is_end_of (if b then Some Draw else None) ≡ false
+    by true = refl
+    by false = refl
 
 from_before : (b o : Option StreetName) → is_end_of b ≡ false → is_end_of (or_else b o) ≡ true → is_end_of o ≡ true
 from_before None o off is = is

@@ -10,7 +10,7 @@ use Rattle.card_sets.specs.Games.{own_size}
 use Rattle.history_text.specs.declared.events.Header.{Header}
 use Rattle.history_text.specs.declared.events.Event.{Event}
 use Rattle.history_text.specs.declared.events.Event.TheVariants.{Deal}
-use Rattle.history_text.specs.declared.events.Street.TheVariants.{First}
+use Rattle.card_sets.specs.declared.streets.Street.TheVariants.{First}
 use Rattle.betting_replay.specs.Accepted.{IsAccepted}
 use Rattle.betting_replay.specs.CardLaws.{Among}
 use Rattle.betting_replay.specs.Dealing.{gathered, given_by, draws_of}

@@ -5,20 +5,22 @@ use Rattle.card_sets.specs.Cards.{has_card, union, minus}
 use Rattle.card_sets.specs.Bits.{IsCardSet-cards_where}
 use Rattle.card_sets.specs.Disjoint.{apart}
 use Rattle.card_sets.specs.declared.games.Game.{Game}
-use Rattle.card_sets.specs.declared.games.Game.TheVariants.{Holdem, Omaha8, Stud, Razz, Lowball27}
-use Rattle.card_sets.specs.Games.{own_size}
+use Rattle.card_sets.specs.declared.games.Family.{Family}
+use Rattle.card_sets.specs.declared.games.Family.TheVariants as family
+use Rattle.card_sets.specs.Games.{family_of, own_size}
 use Rattle.history_text.specs.declared.events.Header.{Header}
 use Rattle.history_text.specs.declared.events.Event.{Event}
-use Rattle.history_text.specs.declared.events.Street.{Street as StreetName}
-use Rattle.history_text.specs.declared.events.Street.TheVariants.{First, Fourth, Fifth, Sixth}
+use Rattle.card_sets.specs.declared.streets.Street.{Street as StreetName}
+use Rattle.card_sets.specs.declared.streets.Street.TheVariants.{First, Fourth, Fifth, Sixth}
 use Rattle.betting_replay.specs.Accepted.{IsAccepted}
 use Rattle.betting_replay.specs.CardLaws.{Among}
 use Rattle.betting_replay.specs.Dealing.{gathered, given_by, deals_of, draws_of}
 use Rattle.betting_replay.specs.Events.{seat_of}
 use Rattle.betting_replay.specs.Hands.{dealt, shown, shown_by, shown_after, whole, is_discard, if_many, row, row_by}
-use Rattle.betting_replay.specs.Known.{holding_of, final_drawn, final_by, first_outside, with_down, with_first, so_many, known_stud, draws_openly, kept, known_drawn, known_by}
+use Rattle.betting_replay.specs.Known.{holding_of, final_drawn, final_in, final_by, first_outside, with_down, with_first, so_many, known_stud, draws_openly, kept, known_drawn, known_in, known_by}
 use Rattle.betting_replay.specs.Places.{owned, thrown, is_at, place}
 use Rattle.betting_replay.specs.Seats.{or_else}
+use Rattle.betting_replay.proofs.Families.{seven_own, five_own}
 use Rattle.betting_replay.proofs.Members.{in_union, in_minus, no_cards, length-minus, either, or_left, or_right, both}
 use Rattle.betting_replay.proofs.Belong.{own_more, own_here, dealt_among, then_among, given_among, union_among, shown_named, no_card}
 
@@ -128,11 +130,12 @@ drawn_holds g players h p cards ok size is = one (draws_of h p).hidden (shown g 
 
 -- the final cards of each game
 pub final_holds : (g : Header) (players : ℕ) (h : List Event) (p : ℕ) (cards : List ℕ) (game : Game) → g.game ≡ game → IsAccepted g players h → final_by game (holding_of g h p) ≡ Some cards → Holds (own_size game) cards (owned h p)
-final_holds g players h p cards Holdem game ok is = or_holds g players h p 2 (dealt h p) cards (shown g h p) ok (ap own_size game) refl (dealt_among g players h p ok) is
-final_holds g players h p cards Omaha8 game ok is = or_holds g players h p 4 (dealt h p) cards (shown g h p) ok (ap own_size game) refl (dealt_among g players h p ok) is
-final_holds g players h p cards Stud game ok is = if_many_holds 7 (owned h p) (owned h p) cards (all_among h p) is
-final_holds g players h p cards Razz game ok is = if_many_holds 7 (owned h p) (owned h p) cards (all_among h p) is
-final_holds g players h p cards Lowball27 game ok is = drawn_holds g players h p cards ok (ap own_size game) is
+final_holds g players h p cards game same ok is = by (family_of game) refl is
+  where
+    by : (f : Family) → family_of game ≡ f → final_in f (own_size game) (holding_of g h p) ≡ Some cards → Holds (own_size game) cards (owned h p)
+    by family.Board e is = or_holds g players h p (own_size game) (dealt h p) cards (shown g h p) ok (ap own_size same) refl (dealt_among g players h p ok) is
+    by family.Stud e is = subst (λ (n : ℕ). Holds n cards (owned h p)) (sym (seven_own game e)) (if_many_holds 7 (owned h p) (owned h p) cards (all_among h p) is)
+    by family.Draw e is = subst (λ (n : ℕ). Holds n cards (owned h p)) (sym (five_own game e)) (drawn_holds g players h p cards ok (ap own_size same ∙ five_own game e) is)
 
 -- cards of a seat, at most so many
 pub record Fewer (n : ℕ) (cards own : List ℕ) : Type 0 where
@@ -170,8 +173,9 @@ drawn_known g players h p cards _ ok size is = fewer 5 5 cards (owned h p) (omeg
 
 -- the cards of a street of each game
 pub known_holds : (g : Header) (players : ℕ) (h : List Event) (p : ℕ) (cards : List ℕ) (s : StreetName) (game : Game) → g.game ≡ game → IsAccepted g players h → known_by game (holding_of g h p) s ≡ Some cards → Fewer (own_size game) cards (owned h p)
-known_holds g players h p cards s Holdem game ok is = fewer 2 2 cards (owned h p) (omega arith) (final_holds g players h p cards Holdem game ok is)
-known_holds g players h p cards s Omaha8 game ok is = fewer 4 4 cards (owned h p) (omega arith) (final_holds g players h p cards Omaha8 game ok is)
-known_holds g players h p cards s Stud game ok is = stud_known g players h p cards s ok is
-known_holds g players h p cards s Razz game ok is = stud_known g players h p cards s ok is
-known_holds g players h p cards s Lowball27 game ok is = drawn_known g players h p cards s ok (ap own_size game) is
+known_holds g players h p cards s game same ok is = by (family_of game) refl is
+  where
+    by : (f : Family) → family_of game ≡ f → known_in f (own_size game) (holding_of g h p) s ≡ Some cards → Fewer (own_size game) cards (owned h p)
+    by family.Board e is = fewer (own_size game) (own_size game) cards (owned h p) (omega arith) (or_holds g players h p (own_size game) (dealt h p) cards (shown g h p) ok (ap own_size same) refl (dealt_among g players h p ok) is)
+    by family.Stud e is = subst (λ (n : ℕ). Fewer n cards (owned h p)) (sym (seven_own game e)) (stud_known g players h p cards s ok is)
+    by family.Draw e is = subst (λ (n : ℕ). Fewer n cards (owned h p)) (sym (five_own game e)) (drawn_known g players h p cards s ok (ap own_size same ∙ five_own game e) is)

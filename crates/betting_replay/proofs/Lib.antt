@@ -4,7 +4,10 @@ pub mod Members
 pub mod Firsts
 pub mod Cleared
 pub mod BySeat
+pub mod Families
+pub mod Counted
 pub mod Passed
+pub mod Returned
 pub mod Afford
 pub mod Placed
 pub mod SamePoint
@@ -19,7 +22,6 @@ pub mod Ended
 pub mod WholeBoards
 pub mod BoardSizes
 pub mod Phases
-pub mod SeatBits
 pub mod AtPoint
 pub mod Kept
-pub mod Runs
+pub mod TurnOrder

@@ -1,31 +1,33 @@
 -- How far a board has come, after accepted events whose markers have their cards.
-use Rattle.std.proofs.Common.{◌≡◌, ℕ, ◌<◌, ◌≤◌, List, [], ◌∷◌, refl, sym, ap, ◌∙◌, Bool, true, false, not, ◌||◌, ◌&&◌, ◌⊎◌, inl, inr, arith, length}
-use Rattle.std.specs.Prelude.{Option, Some, None, if◌then◌else◌, nat_lt, nat_le}
+use Rattle.std.proofs.Common.{◌≡◌, ℕ, ◌+◌, ◌<◌, ◌≤◌, List, [], ◌∷◌, refl, sym, ap, ◌∙◌, Bool, true, false, not, ◌||◌, ◌&&◌, ◌⊎◌, inl, inr, arith, length}
+use Rattle.std.specs.Prelude.{slice_get, Option, Some, None, if◌then◌else◌, nat_lt, nat_le}
 use Rattle.std.proofs.lemmas.Bool.Decides.{nat_tests}
 use mathlib.Core.Bool.{true≢false}
 use Rattle.card_sets.specs.Cards.{union}
 use Rattle.card_sets.specs.declared.games.Game.{Game}
-use Rattle.card_sets.specs.declared.games.Game.TheVariants.{Holdem, Omaha8, Stud, Razz, Lowball27}
-use Rattle.card_sets.specs.Games.{board_size}
+use Rattle.card_sets.specs.declared.games.Family.TheVariants as family
+use Rattle.card_sets.specs.Games.{family_of, is_board as is_board_family, has_board, board_size_by, board_size}
 use Rattle.history_text.specs.declared.events.Header.{Header}
 use Rattle.history_text.specs.declared.events.Event.{Event}
 use Rattle.history_text.specs.declared.events.Event.TheVariants.{Street, Discard, Pat}
-use Rattle.history_text.specs.declared.events.Street.{Street as StreetName}
-use Rattle.history_text.specs.declared.events.Street.TheVariants.{First, Flop, Turn, Fourth, Fifth, Sixth, River, Draw, ShowDown, Summary}
+use Rattle.card_sets.specs.declared.streets.Street.{Street as StreetName}
+use Rattle.card_sets.specs.declared.streets.Street.TheVariants.{First, Flop, Turn, Fourth, Fifth, Sixth, River, Draw, ShowDown, Summary}
 use Rattle.betting_replay.specs.declared.points.Point.{Point}
 use Rattle.betting_replay.specs.Accepted.{IsAccepted}
 use Rattle.betting_replay.specs.AllIn.{is_point, point_on, point_now}
 use Rattle.betting_replay.specs.Accounts.{contenders}
 use Rattle.betting_replay.specs.Boards.{board_on, board_up_to}
-use Rattle.betting_replay.specs.CardLaws.{marker_size, street_size, HasCards, MarkersFit, is_end_of, board_on_street, board_then, HasBoard}
+use Rattle.betting_replay.specs.CardLaws.{HasCards, MarkersFit, is_end_of, sum_up_to, board_then, HasBoard}
 use Rattle.betting_replay.specs.Places.{is_board}
 use Rattle.betting_replay.specs.Seats.{or_else}
-use Rattle.betting_replay.specs.Streets.{begins, next_street, next_in_board, same_street, is_last}
+use Rattle.card_sets.specs.Streets.{is_street, streets_by, streets_of, street_after, next_street, is_last_of, is_last, cards_of_street, board_count}
+use Rattle.betting_replay.specs.Streets.{begins, same_street}
 use Rattle.betting_replay.specs.Sums.{street, last_begun}
 use Rattle.betting_replay.specs.Tables.{table_of, table_with, point}
 use Rattle.betting_replay.specs.Turns.{contender_count}
 use Rattle.betting_replay.proofs.Members.{both, no_more}
-use Rattle.betting_replay.proofs.DeadCards.{marker_of, none_begun, has_draw}
+use Rattle.betting_replay.proofs.DeadCards.{marker_of}
+use Rattle.betting_replay.proofs.Families.{board_family, no_draw, no_board, none_begun}
 use Rattle.betting_replay.proofs.Ended.{played_at, marked_end}
 use Rattle.betting_replay.proofs.BoardSizes.{Sizes, quiet_sizes, bare_sizes, flop_sizes, turn_sizes, river_sizes, nothing_owned}
 
@@ -86,55 +88,26 @@ record Reached (g : Header) (players : ℕ) (h : List Event) (n : Phase) : Type 
   sizes : Sizes h (one_size n) (two_size n) (all_size n)
   pointed : (found : Point) → point g players h ≡ Some found → has_come n found.street ≡ true
 
--- the games with a board
-abbrev has_board : Game → Bool
-has_board Holdem = true
-has_board Omaha8 = true
-has_board Stud = false
-has_board Razz = false
-has_board Lowball27 = false
-
-no_draw : (game : Game) → has_board game ≡ true → has_draw game ≡ false
-no_draw Holdem b = refl
-no_draw Omaha8 b = refl
-no_draw Stud b = refl
-no_draw Razz b = refl
-no_draw Lowball27 b = cc
-
+-- the street behind one on a board
 abbrev next_board : Option StreetName → Option StreetName
 next_board None = Some First
-next_board (Some s) = next_in_board s
+next_board (Some s) = street_after s (streets_by family.Board)
 
 next_is : (game : Game) (o : Option StreetName) → has_board game ≡ true → next_street game o ≡ next_board o
-next_is game None b = refl
-next_is Holdem (Some s) b = refl
-next_is Omaha8 (Some s) b = refl
-next_is Stud (Some s) b = cc
-next_is Razz (Some s) b = cc
-next_is Lowball27 (Some s) b = cc
+next_is game None b = ap (λ f. slice_get (streets_by f) 0) (board_family (family_of game) b)
+next_is game (Some s) b = ap (λ f. street_after s (streets_by f)) (board_family (family_of game) b)
 
-size_is : (game : Game) (s : StreetName) → has_board game ≡ true → street_size game s ≡ marker_size s
-size_is Holdem s b = refl
-size_is Omaha8 s b = refl
-size_is Stud s b = cc
-size_is Razz s b = cc
-size_is Lowball27 s b = cc
+size_is : (game : Game) (s : StreetName) → has_board game ≡ true → board_count game s ≡ cards_of_street s
+size_is game s b = ap (λ board. if board then cards_of_street s else 0) b
 
 -- only the river is the last street of a board
 abbrev ends_board : StreetName → Bool
-ends_board River = true
-ends_board _ = false
+ends_board s = is_last_of s (streets_by family.Board)
 
 last_is : (game : Game) (s : StreetName) → has_board game ≡ true → is_last game s ≡ ends_board s
-last_is Holdem River b = refl
-last_is Omaha8 River b = refl
-last_is Holdem _ b = refl
-last_is Omaha8 _ b = refl
-last_is Stud s b = cc
-last_is Razz s b = cc
-last_is Lowball27 s b = cc
+last_is game s b = ap (λ f. is_last_of s (streets_by f)) (board_family (family_of game) b)
 
-after_end : (s : StreetName) → is_end_of (Some s) ≡ true → next_in_board s ≡ None
+after_end : (s : StreetName) → is_end_of (Some s) ≡ true → next_board (Some s) ≡ None
 after_end ShowDown is = refl
 after_end Summary is = refl
 after_end _ is = cc
@@ -235,7 +208,7 @@ next_stands : (g : Header) (players : ℕ) (s : StreetName) (cards : List ℕ) (
     → (same_street s (next_street g.game (street g h)) && nat_le 2 (contender_count (table_of g players h))) ≡ true → same_street s (next_board (street_at n)) ≡ true
 next_stands g players s cards h n b x never stands = came s n g.game (street g h) b x.at (both _ _ stands).0 never
 
-many : (g : Header) (s : StreetName) (cards : List ℕ) (n : ℕ) → has_board g.game ≡ true → HasCards g.game s cards → marker_size s ≡ n → length cards ≡ n
+many : (g : Header) (s : StreetName) (cards : List ℕ) (n : ℕ) → has_board g.game ≡ true → HasCards g.game s cards → cards_of_street s ≡ n → length cards ≡ n
 many g s cards n b x size = x.many ∙ size_is g.game s b ∙ size
 
 first_step : (g : Header) (players : ℕ) (cards : List ℕ) (h : List Event) (n : Phase) → IsAccepted g players (Street First cards ∷ h) → has_board g.game ≡ true → HasCards g.game First cards → same_street First (next_board (street_at n)) ≡ true → Reached g players h n → (m : Phase) × Reached g players (Street First cards ∷ h) m
@@ -354,7 +327,11 @@ turn_come OnFlop is = cc
 no_come : (s : StreetName) → has_come Before s ≡ true → ⊥
 no_come s is = true≢false (sym is)
 
-come_size : (h : List Event) (n : Phase) (s : StreetName) → Sizes h (one_size n) (two_size n) (all_size n) → has_come n s ≡ true → length (board_up_to h s) ≡ board_on_street s
+-- how many cards a board has on a street
+abbrev size_on : StreetName → ℕ
+size_on s = sum_up_to cards_of_street s (streets_by family.Board)
+
+come_size : (h : List Event) (n : Phase) (s : StreetName) → Sizes h (one_size n) (two_size n) (all_size n) → has_come n s ≡ true → length (board_up_to h s) ≡ size_on s
 come_size h n First x is = refl
 come_size h n Flop x is = x.one ∙ flop_come n is
 come_size h n Turn x is = x.two ∙ turn_come n is
@@ -367,18 +344,10 @@ come_size h n ShowDown x is = absurd (by_phase (λ n. has_come n ShowDown) refl 
 come_size h n Summary x is = absurd (by_phase (λ n. has_come n Summary) refl refl refl refl refl n is)
 
 board_is : (game : Game) → has_board game ≡ true → board_size game ≡ 5
-board_is Holdem b = refl
-board_is Omaha8 b = refl
-board_is Stud b = cc
-board_is Razz b = cc
-board_is Lowball27 b = cc
+board_is game b = ap board_size_by (board_family (family_of game) b)
 
-then_is : (game : Game) (s : StreetName) → has_board game ≡ true → board_then game s ≡ board_on_street s
-then_is Holdem s b = refl
-then_is Omaha8 s b = refl
-then_is Stud s b = cc
-then_is Razz s b = cc
-then_is Lowball27 s b = cc
+then_is : (game : Game) (s : StreetName) → has_board game ≡ true → board_then game s ≡ size_on s
+then_is game s b = ap (λ f. sum_up_to (λ t. if is_board_family f then cards_of_street t else 0) s (streets_by f)) (board_family (family_of game) b)
 
 pub on_board : (g : Header) (players : ℕ) (h : List Event) → IsAccepted g players h → MarkersFit g.game h → has_board g.game ≡ true → HasBoard g players h
 on_board g players h ok fit b =
@@ -391,26 +360,19 @@ on_board g players h ok fit b =
     }
 
 -- in the other games no card comes to a board
-no_size : (game : Game) (s : StreetName) → has_board game ≡ false → street_size game s ≡ 0
-no_size Holdem s b = cc
-no_size Omaha8 s b = cc
-no_size Stud s b = refl
-no_size Razz s b = refl
-no_size Lowball27 s b = refl
+no_size : (game : Game) (s : StreetName) → has_board game ≡ false → board_count game s ≡ 0
+no_size game s b = ap (λ board. if board then cards_of_street s else 0) b
+
+none_up_to : (many : StreetName → ℕ) → ((t : StreetName) → many t ≡ 0) → (s : StreetName) (ls : List StreetName) → sum_up_to many s ls ≡ 0
+none_up_to many none s [] = refl
+none_up_to many none s (t ∷ ls) = by (is_street s t) (none_up_to many none s ls)
+  where
+    by : (b : Bool) → sum_up_to many s ls ≡ 0 → many t + (if b then 0 else sum_up_to many s ls) ≡ 0
+    by true rest = omega (arith, none t)
+    by false rest = omega (arith, none t, rest)
 
 none_then : (game : Game) (s : StreetName) → has_board game ≡ false → board_then game s ≡ 0
-none_then Holdem s b = cc
-none_then Omaha8 s b = cc
-none_then Stud s b = refl
-none_then Razz s b = refl
-none_then Lowball27 s b = refl
-
-no_board : (game : Game) → has_board game ≡ false → board_size game ≡ 0
-no_board Holdem b = cc
-no_board Omaha8 b = cc
-no_board Stud b = refl
-no_board Razz b = refl
-no_board Lowball27 b = refl
+none_then game s b = none_up_to (board_count game) (λ t. no_size game t b) s (streets_of game)
 
 bare_board : (g : Header) (players : ℕ) (h : List Event) → IsAccepted g players h → MarkersFit g.game h → has_board g.game ≡ false → Sizes h 0 0 0
 bare_board g players [] ok fit b = record { one = refl; two = ap length no_more; all = rw no_more (ap length no_more); own = ap length nothing_owned }
@@ -427,7 +389,7 @@ pub on_no_board : (g : Header) (players : ℕ) (h : List Event) → IsAccepted g
 on_no_board g players h ok fit b =
     let x : Sizes h 0 0 0 = bare_board g players h ok fit b in
     record {
-      last = λ over. x.own ∙ sym (no_board g.game b);
+      last = λ over. x.own ∙ sym (no_board (family_of g.game) b);
       few = λ s. (let none : length (board_up_to h s) ≡ 0 = bare_few h s x in omega (arith, none));
       at_point = λ found is. bare_few h found.street x ∙ sym (none_then g.game found.street b);
     }

@@ -5,7 +5,7 @@ use Rattle.card_sets.specs.Cards.{union}
 use Rattle.history_text.specs.declared.events.Header.{Header}
 use Rattle.history_text.specs.declared.events.Event.{Event}
 use Rattle.history_text.specs.declared.events.Event.TheVariants.{Seat, Button, Post, Deal, Act, Uncalled, Collect, Show, Muck, SeatCards, Discard, Pat}
-use Rattle.history_text.specs.declared.events.Street.{Street as StreetName}
+use Rattle.card_sets.specs.declared.streets.Street.{Street as StreetName}
 use Rattle.betting_replay.specs.declared.faults.BetFault.{BetFault}
 use Rattle.betting_replay.specs.declared.seats.Chips.{Chips}
 use Rattle.betting_replay.specs.declared.seats.Acts.{Acts}
@@ -19,7 +19,7 @@ use Rattle.betting_replay.specs.declared.seats.Draws.{Draws}
 use Rattle.betting_replay.specs.declared.points.Point.{Point}
 use Rattle.betting_replay.specs.Tables.{Table, StandsFor, table_of, table_with, point, chips_of, acts_of, no_chips, no_acts, no_deals, no_draws, chips_at, acts_at, own_at, dealt_at, shown_at, deals_at, row_at, draws_at}
 use Rattle.betting_replay.specs.Boards.{board_on, named_on}
-use Rattle.history_text.specs.declared.events.Street.TheVariants.{Flop, Turn, River}
+use Rattle.card_sets.specs.declared.streets.Street.TheVariants.{Flop, Turn, River}
 use Rattle.betting_replay.specs.Hands.{dealt as dealt_cards, shown as shown_cards, row as row_cards, dealt_by, shown_after, row_by}
 use Rattle.betting_replay.specs.Dealing.{deals_of, draws_of, deals_after, draws_after}
 use Rattle.betting_replay.specs.Counting.{chips_after, acts_after, cleared_chips, cleared_acts, cleared_if, on_street, begun_with, begun, counted, pointed, after}

@@ -5,8 +5,8 @@ use Rattle.card_sets.specs.Cards.{union}
 use Rattle.card_sets.specs.declared.games.Game.TheVariants.{Stud, Razz}
 use Rattle.history_text.specs.declared.events.Header.{Header}
 use Rattle.history_text.specs.declared.events.Event.{Event}
-use Rattle.history_text.specs.declared.events.Street.{Street as StreetName}
-use Rattle.history_text.specs.declared.events.Street.TheVariants.{First, Fourth, Fifth, Sixth}
+use Rattle.card_sets.specs.declared.streets.Street.{Street as StreetName}
+use Rattle.card_sets.specs.declared.streets.Street.TheVariants.{First, Fourth, Fifth, Sixth}
 use Rattle.betting_replay.specs.Known.{Holding, holding_of, cards_at, with_first, so_many, known_stud, known_by}
 use Rattle.betting_replay.specs.KnownLaws.{dealt_by_street}
 use Rattle.betting_replay.proofs.KnownCards.{if_many_is}

@@ -7,7 +7,7 @@ use Rattle.card_sets.specs.Bits.{IsCardSet-cards_where}
 use Rattle.history_text.specs.declared.events.Header.{Header}
 use Rattle.history_text.specs.declared.events.Event.{Event}
 use Rattle.history_text.specs.declared.events.Event.TheVariants.{Deal, Street, Act, Show, SeatCards, Discard}
-use Rattle.history_text.specs.declared.events.Street.{Street as StreetName}
+use Rattle.card_sets.specs.declared.streets.Street.{Street as StreetName}
 use Rattle.betting_replay.specs.Accepted.{IsAccepted}
 use Rattle.betting_replay.specs.Boards.{board_on, named_on}
 use Rattle.betting_replay.specs.CardLaws.{Among}

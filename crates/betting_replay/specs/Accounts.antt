@@ -1,8 +1,8 @@
 -- What each seat has put in and has left.
 use Rattle.std.specs.Prelude.{ℕ}
+use Rattle.card_sets.specs.PlayerSets.{players_where}
 use Rattle.pot_layers.specs.declared.paid.Paid.{Paid}
 use Rattle.betting_replay.specs.Table.{Table, chips_at}
-use Rattle.pot_layers.specs.Pots.{seats_below}
 use Rattle.betting_replay.specs.Turns.{is_contender}
 
 -- what a seat has put in over the hand, as the pots are made of
@@ -12,6 +12,6 @@ paid_by t p = record { seat = p; live = (chips_at t p).paid; dead = (chips_at t 
 abbrev pub stack_at : Table → ℕ → ℕ
 stack_at t p = (chips_at t p).stack
 
--- the contenders: bit s for seat s
+-- the set of the contenders
 unfoldable pub contenders : Table → ℕ
-contenders t = seats_below (is_contender t) 11
+contenders t = players_where (is_contender t) 11

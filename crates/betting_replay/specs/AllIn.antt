@@ -1,9 +1,10 @@
 -- The moment from which a hand is played out with no more acts, and the cards that are dead there. Source: the usual rules of poker.
 use Rattle.std.specs.Prelude.{ℕ, zero, suc, ◌&&◌, not, Bool, if◌then◌else◌, List, [], Option, Some, None, is_none, nat_lt, nat_le}
 use Rattle.card_sets.specs.Cards.{union}
-use Rattle.history_text.specs.declared.events.Street.{Street as StreetName}
+use Rattle.card_sets.specs.declared.streets.Street.{Street as StreetName}
 use Rattle.betting_replay.specs.declared.points.Point.{Point}
-use Rattle.betting_replay.specs.Seats.{has_seat, count_seats}
+use Rattle.card_sets.specs.PlayerSets.{has_player}
+use Rattle.betting_replay.specs.Seats.{count_seats}
 use Rattle.betting_replay.specs.Table.{Table, own_at}
 use Rattle.betting_replay.specs.Turns.{is_contender, contender_count, has_chips, next_to_act}
 use Rattle.betting_replay.specs.Accounts.{contenders}
@@ -36,7 +37,7 @@ point_contenders (Some point) = point.contenders
 
 -- a player who had folded at a point; number 0 is no seat
 abbrev pub had_folded : ℕ → Point → ℕ → Bool
-had_folded players point p = nat_lt 0 p && has_seat players p && not (has_seat point.contenders p)
+had_folded players point p = nat_lt 0 p && has_player players p && not (has_player point.contenders p)
 
 -- the cards of the seats below n that pass a test
 abbrev pub cards_of_seats : (ℕ → Bool) → (ℕ → List ℕ) → ℕ → List ℕ

@@ -3,8 +3,8 @@ use Rattle.std.specs.Prelude.{ℕ, if◌then◌else◌, List, [], ◌∷◌, Som
 use Rattle.card_sets.specs.Cards.{union}
 use Rattle.history_text.specs.declared.events.Event.{Event}
 use Rattle.history_text.specs.declared.events.Event.TheVariants.{Street}
-use Rattle.history_text.specs.declared.events.Street.{Street as StreetName}
-use Rattle.history_text.specs.declared.events.Street.TheVariants.{First, Flop, Turn, River}
+use Rattle.card_sets.specs.declared.streets.Street.{Street as StreetName}
+use Rattle.card_sets.specs.declared.streets.Street.TheVariants.{First, Flop, Turn, River}
 use Rattle.betting_replay.specs.Streets.{same_street}
 
 -- the cards that an event gives to the board on a street

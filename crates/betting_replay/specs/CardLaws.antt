@@ -1,21 +1,21 @@
 -- What accepted events make of the cards: each has one place, a player's known cards are his, and a board has its cards.
-use Rattle.std.specs.Prelude.{◌≡◌, ◌≤◌, ◌<◌, ℕ, ◌==◌, ◌||◌, Bool, true, false, List, [], ◌∷◌, length, Option, Some, None, nat_lt}
+use Rattle.std.specs.Prelude.{◌≡◌, ◌≤◌, ◌<◌, ℕ, ◌+◌, ◌==◌, ◌||◌, if◌then◌else◌, Bool, true, false, List, [], ◌∷◌, length, Option, Some, None, nat_lt}
 use Rattle.card_sets.specs.declared.games.Game.{Game}
-use Rattle.card_sets.specs.declared.games.Game.TheVariants.{Holdem, Omaha8, Stud, Razz, Lowball27}
 use Rattle.card_sets.specs.Cards.{has_card, IsCardSet}
 use Rattle.card_sets.specs.Disjoint.{apart}
 use Rattle.card_sets.specs.Games.{own_size, board_size}
+use Rattle.card_sets.specs.Streets.{is_street, streets_of, board_count}
 use Rattle.history_text.specs.declared.events.Header.{Header}
 use Rattle.history_text.specs.declared.events.Event.{Event}
 use Rattle.history_text.specs.declared.events.Event.TheVariants.{Street}
-use Rattle.history_text.specs.declared.events.Street.{Street as StreetName}
-use Rattle.history_text.specs.declared.events.Street.TheVariants.{Flop, Turn, River, ShowDown, Summary}
+use Rattle.card_sets.specs.declared.streets.Street.{Street as StreetName}
+use Rattle.card_sets.specs.declared.streets.Street.TheVariants.{ShowDown, Summary}
 use Rattle.betting_replay.specs.declared.points.Point.{Point}
 use Rattle.betting_replay.specs.Accepted.{IsAccepted}
 use Rattle.betting_replay.specs.Boards.{board_up_to}
 use Rattle.betting_replay.specs.Known.{final_cards, cards_at}
 use Rattle.betting_replay.specs.Places.{owned}
-use Rattle.betting_replay.specs.Seats.{has_seat}
+use Rattle.card_sets.specs.PlayerSets.{has_player}
 use Rattle.betting_replay.specs.Sums.{street, last_begun}
 use Rattle.betting_replay.specs.Tables.{table_of, point, dead}
 use Rattle.betting_replay.specs.Turns.{contender_count}
@@ -43,42 +43,24 @@ pub record CardsBelong (header : Header) (players : ℕ) (h : List Event) : Type
   pub dead_set : IsCardSet (dead header players h)
   pub dead_and_board : apart (dead header players h) (owned h 0) ≡ true
   pub dead_and_shown : (street : StreetName) → apart (dead header players h) (board_up_to h street) ≡ true
-  pub dead_and_known : (found : Point) → point header players h ≡ Some found → (p : ℕ) → has_seat found.contenders p ≡ true → (street : StreetName) (cards : List ℕ) → cards_at header h p street ≡ Some cards
+  pub dead_and_known : (found : Point) → point header players h ≡ Some found → (p : ℕ) → has_player found.contenders p ≡ true → (street : StreetName) (cards : List ℕ) → cards_at header h p street ≡ Some cards
       → apart (dead header players h) cards ≡ true
 
 abbrev pub CardsBelongAfter : Type 0
 CardsBelongAfter = (header : Header) (players : ℕ) (h : List Event) → IsAccepted header players h → CardsBelong header players h
 
--- how many cards come to the board with the marker of a street
-abbrev pub marker_size : StreetName → ℕ
-marker_size Flop = 3
-marker_size Turn = 1
-marker_size River = 1
-marker_size _ = 0
+-- the sum of what comes with each of some streets, up to one of them
+abbrev pub sum_up_to : (StreetName → ℕ) → StreetName → List StreetName → ℕ
+sum_up_to many street [] = 0
+sum_up_to many street (first ∷ others) = many first + (if is_street street first then 0 else sum_up_to many street others)
 
-abbrev pub street_size : Game → StreetName → ℕ
-street_size Holdem street = marker_size street
-street_size Omaha8 street = marker_size street
-street_size Stud street = 0
-street_size Razz street = 0
-street_size Lowball27 street = 0
-
--- how many it has on a street before the last
-abbrev pub board_on_street : StreetName → ℕ
-board_on_street Flop = 3
-board_on_street Turn = 4
-board_on_street _ = 0
-
+-- how many cards a board has on a street
 abbrev pub board_then : Game → StreetName → ℕ
-board_then Holdem street = board_on_street street
-board_then Omaha8 street = board_on_street street
-board_then Stud street = 0
-board_then Razz street = 0
-board_then Lowball27 street = 0
+board_then game street = sum_up_to (board_count game) street (streets_of game)
 
 -- a marker has as many cards as come with it
 pub record HasCards (game : Game) (street : StreetName) (cards : List ℕ) : Type 0 where
-  pub many : length cards ≡ street_size game street
+  pub many : length cards ≡ board_count game street
   pub deck : (card : ℕ) → has_card cards card ≡ true → card < 52
 
 abbrev pub MarkerFits : Game → Event → Type 0

@@ -2,15 +2,16 @@
 use Rattle.std.specs.Prelude.{ℕ, ◌+◌, ◌-◌, ◌||◌, Bool, true, false, if◌then◌else◌, map, Option, Some, None, slice_set}
 use Rattle.card_sets.specs.Cards.{union}
 use Rattle.history_text.specs.declared.events.Event.{Event}
-use Rattle.history_text.specs.declared.events.Street.{Street as StreetName}
+use Rattle.card_sets.specs.declared.streets.Street.{Street as StreetName}
 use Rattle.betting_replay.specs.declared.seats.Chips.{Chips}
 use Rattle.betting_replay.specs.declared.seats.Acts.{Acts}
 use Rattle.betting_replay.specs.Events.{seat_of, button_after, bought, returned, live_in, dead_in, ante_in, put_in, posts_small, brings_in, folds, is_act, is_seat_line, cards_named}
-use Rattle.betting_replay.specs.Streets.{begins, is_later, is_showdown, is_last, is_first}
+use Rattle.card_sets.specs.Streets.{is_last}
+use Rattle.betting_replay.specs.Streets.{begins, is_later, is_showdown, is_first}
 use Rattle.betting_replay.specs.Table.{Table, chips_at, acts_at, own_at, dealt_at, shown_at, deals_at, row_at, draws_at}
 use Rattle.betting_replay.specs.Places.{thrown_by}
 use Rattle.betting_replay.specs.Boards.{named_on}
-use Rattle.history_text.specs.declared.events.Street.TheVariants.{Flop, Turn, River}
+use Rattle.card_sets.specs.declared.streets.Street.TheVariants.{Flop, Turn, River}
 use Rattle.betting_replay.specs.Seats.{or_else}
 use Rattle.betting_replay.specs.Hands.{dealt_by, shown_after, row_by}
 use Rattle.betting_replay.specs.Dealing.{deals_after, draws_after}

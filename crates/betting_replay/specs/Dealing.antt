@@ -4,8 +4,8 @@ use Rattle.card_sets.specs.Cards.{union}
 use Rattle.history_text.specs.declared.events.Header.{Header}
 use Rattle.history_text.specs.declared.events.Event.{Event}
 use Rattle.history_text.specs.declared.events.Event.TheVariants.{Deal, Discard, Pat}
-use Rattle.history_text.specs.declared.events.Street.{Street as StreetName}
-use Rattle.history_text.specs.declared.events.Street.TheVariants.{First, Fourth, Fifth, Sixth}
+use Rattle.card_sets.specs.declared.streets.Street.{Street as StreetName}
+use Rattle.card_sets.specs.declared.streets.Street.TheVariants.{First, Fourth, Fifth, Sixth}
 use Rattle.betting_replay.specs.declared.seats.Deals.{Deals}
 use Rattle.betting_replay.specs.declared.seats.Draws.{Draws}
 use Rattle.betting_replay.specs.Events.{seat_of}

@@ -1,22 +1,24 @@
 -- Which events may follow: sixteen tests, made in this order. Each gives its fault where it fails.
-use Rattle.std.specs.Prelude.{ℕ, ◌==◌, ◌&&◌, ◌||◌, not, Bool, true, false, if◌then◌else◌, List, [], ◌∷◌, length, Option, Some, None, is_some, is_none, nat_lt, nat_le, Result, Ok, Err}
+use Rattle.std.specs.Prelude.{ℕ, ◌+◌, ◌==◌, ◌&&◌, ◌||◌, not, Bool, true, false, if◌then◌else◌, List, [], ◌∷◌, length, Option, Some, None, is_some, is_none, nat_lt, nat_le, Result, Ok, Err}
 use Rattle.card_sets.specs.declared.games.Game.{Game}
-use Rattle.card_sets.specs.declared.games.Game.TheVariants.{Holdem, Omaha8, Stud, Razz, Lowball27}
 use Rattle.card_sets.specs.Cards.{union}
+use Rattle.card_sets.specs.Games.{own_size, has_draw}
 use Rattle.history_text.specs.declared.events.Header.{Header}
 use Rattle.history_text.specs.declared.events.Event.{Event}
 use Rattle.history_text.specs.declared.events.Event.TheVariants.{Seat, Post, Street, Act, Uncalled, Collect, Discard, Pat}
 use Rattle.history_text.specs.declared.events.Act.{Act as Deed}
 use Rattle.history_text.specs.declared.events.Act.TheVariants.{Fold, Check, Call, Bet, Raise}
-use Rattle.history_text.specs.declared.events.Street.{Street as StreetName}
-use Rattle.history_text.specs.declared.events.Street.TheVariants.{Draw, ShowDown, Summary}
+use Rattle.card_sets.specs.declared.streets.Street.{Street as StreetName}
+use Rattle.card_sets.specs.declared.streets.Street.TheVariants.{Draw, ShowDown, Summary}
 use Rattle.betting_replay.specs.declared.faults.BetFault.{BetFault}
 use Rattle.betting_replay.specs.declared.faults.BetFault.TheVariants.{NotInHand, OutOfTurn, NothingOwed, CheckFacingBet, CallAmount, BetFacingBet, RaiseAmount, AboveStack, AllInWord, StreetEarly, StreetOrder, UncalledAmount, CardTwice, PostLate, SeatTwice, TooManyCards}
 use Rattle.betting_replay.specs.Events.{seat_of, act_chips, is_bring_in, cards_named}
-use Rattle.betting_replay.specs.Streets.{next_street, same_street, begun_by_drawing, is_first}
-use Rattle.betting_replay.specs.Seats.{has_seat, or_else}
+use Rattle.card_sets.specs.Streets.{next_street}
+use Rattle.betting_replay.specs.Streets.{same_street, begun_by_drawing, is_first}
+use Rattle.card_sets.specs.PlayerSets.{has_player}
 use Rattle.betting_replay.specs.Tables.{Table, chips_at, acts_at, own_at, table_of}
-use Rattle.betting_replay.specs.Turns.{live_at, greatest, contender_count, has_chips, may_act, owes_before, next_to_act, due, call_fits, raise_fits, return_fits, uncalled_due}
+use Rattle.betting_replay.specs.Turns.{live_at, greatest, contender_count, has_chips, may_act, owes_before, next_to_act, due, call_fits, raise_fits}
+use Rattle.betting_replay.specs.Returns.{return_fits, uncalled_due}
 use Rattle.betting_replay.specs.Places.{is_board, is_free, first_twice}
 
 -- the fault, where it stands
@@ -32,7 +34,7 @@ fault_with fault (Some n) = Some (fault n)
 unfoldable pub not_in_hand : Table → Event → Option BetFault
 not_in_hand t (Post seat kind units all_in) = fault_if ((acts_at t seat).folded || not (has_chips t seat)) NotInHand
 not_in_hand t (Act seat act all_in shown) = fault_if ((acts_at t seat).folded || not (has_chips t seat)) NotInHand
-not_in_hand t (Collect seat units pot) = fault_if ((acts_at t seat).folded || not (has_seat t.players seat)) NotInHand
+not_in_hand t (Collect seat units pot) = fault_if ((acts_at t seat).folded || not (has_player t.players seat)) NotInHand
 not_in_hand t _ = None
 
 -- 2: an act where one who owes stands between; the first such
@@ -97,12 +99,8 @@ marker_stands t ShowDown = not t.shown_down && may_end t
 marker_stands t Summary = may_end t
 marker_stands t street = same_street street (next_street t.header.game t.street) && nat_le 2 (contender_count t)
 
-abbrev pub is_draw : Option StreetName → Bool
-is_draw (Some Draw) = true
-is_draw _ = false
-
 abbrev pub draw_stands : Table → Bool
-draw_stands t = is_draw t.street || (is_some (begun_by_drawing t.header.game t.street) && nat_le 2 (contender_count t))
+draw_stands t = same_street Draw t.street || (is_some (begun_by_drawing t.header.game t.street) && nat_le 2 (contender_count t))
 
 unfoldable pub street_order : Table → Event → Option BetFault
 street_order t (Street street cards) = fault_if (not (marker_stands t street)) StreetOrder
@@ -130,13 +128,9 @@ unfoldable pub seat_twice : Table → Event → Option BetFault
 seat_twice t (Seat seat units first end) = fault_if (chips_at t seat).seated SeatTwice
 seat_twice t _ = None
 
--- 16: more cards than the game gives a seat
+-- 16: more cards than the game gives a seat: its own, and in a draw game as many drawn ones
 abbrev pub own_limit : Game → ℕ
-own_limit Holdem = 2
-own_limit Omaha8 = 4
-own_limit Stud = 7
-own_limit Razz = 7
-own_limit Lowball27 = 10
+own_limit game = if has_draw game then own_size game + own_size game else own_size game
 
 unfoldable pub too_many_cards : Table → Event → Option BetFault
 too_many_cards t e =
@@ -167,8 +161,3 @@ legal header players h e = fault_at (table_of header players h) e
 abbrev pub verdict : Option BetFault → Result (Unit {0}) BetFault
 verdict None = Ok tt
 verdict (Some fault) = Err fault
-
--- the first fault of some events, after others
-abbrev pub first_fault_in : Header → ℕ → List Event → List Event → Option BetFault
-first_fault_in header players h [] = None
-first_fault_in header players h (e ∷ es) = or_else (legal header players h e) (first_fault_in header players (e ∷ h) es)

@@ -1,13 +1,15 @@
 -- The cards of the players that are known: at the end of the hand, and at a street of it. Source: the usual rules of poker, and of what a history shows.
 use Rattle.std.specs.Prelude.{ℕ, zero, suc, ◌==◌, ◌&&◌, not, Bool, if◌then◌else◌, List, [], ◌∷◌, length, Option, Some, None}
 use Rattle.card_sets.specs.declared.games.Game.{Game}
-use Rattle.card_sets.specs.declared.games.Game.TheVariants.{Holdem, Omaha8, Stud, Razz, Lowball27}
+use Rattle.card_sets.specs.declared.games.Family.{Family}
+use Rattle.card_sets.specs.declared.games.Family.TheVariants as family
+use Rattle.card_sets.specs.Games.{family_of, own_size}
 use Rattle.card_sets.specs.Cards.{has_card, union, minus}
 use Rattle.card_sets.specs.Disjoint.{apart}
 use Rattle.history_text.specs.declared.events.Header.{Header}
 use Rattle.history_text.specs.declared.events.Event.{Event}
-use Rattle.history_text.specs.declared.events.Street.{Street as StreetName}
-use Rattle.history_text.specs.declared.events.Street.TheVariants.{First, Fourth, Fifth, Sixth}
+use Rattle.card_sets.specs.declared.streets.Street.{Street as StreetName}
+use Rattle.card_sets.specs.declared.streets.Street.TheVariants.{First, Fourth, Fifth, Sixth}
 use Rattle.betting_replay.specs.declared.seats.Deals.{Deals}
 use Rattle.betting_replay.specs.declared.seats.Draws.{Draws}
 use Rattle.betting_replay.specs.Seats.{or_else}
@@ -35,12 +37,13 @@ abbrev pub final_with : ℕ → Holding → Option (List ℕ)
 final_with n x = or_else x.shown (if_many n x.dealt)
 
 -- a player's final cards; in stud and razz all seven
+abbrev pub final_in : Family → ℕ → Holding → Option (List ℕ)
+final_in family.Board size x = final_with size x
+final_in family.Stud size x = if_many 7 x.own
+final_in family.Draw size x = final_drawn x
+
 abbrev pub final_by : Game → Holding → Option (List ℕ)
-final_by Holdem x = final_with 2 x
-final_by Omaha8 x = final_with 4 x
-final_by Stud x = if_many 7 x.own
-final_by Razz x = if_many 7 x.own
-final_by Lowball27 x = final_drawn x
+final_by game x = final_in (family_of game) (own_size game) x
 
 -- the first so many cards of a row that aren't among others
 abbrev pub first_outside : ℕ → List ℕ → List ℕ → List ℕ
@@ -85,12 +88,13 @@ known_drawn x First = kept x
 known_drawn x street = final_drawn x
 
 -- a player's cards on a street, by the whole text: with a board his final cards
+abbrev pub known_in : Family → ℕ → Holding → StreetName → Option (List ℕ)
+known_in family.Board size x street = final_with size x
+known_in family.Stud size x street = known_stud x street
+known_in family.Draw size x street = known_drawn x street
+
 abbrev pub known_by : Game → Holding → StreetName → Option (List ℕ)
-known_by Holdem x street = final_by Holdem x
-known_by Omaha8 x street = final_by Omaha8 x
-known_by Stud x street = known_stud x street
-known_by Razz x street = known_stud x street
-known_by Lowball27 x street = known_drawn x street
+known_by game x street = known_in (family_of game) (own_size game) x street
 
 -- what the events so far give of a seat's cards
 abbrev pub holding_of : Header → List Event → ℕ → Holding

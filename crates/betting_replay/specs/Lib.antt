@@ -11,6 +11,7 @@ pub mod Known
 pub mod Table
 pub mod Turns
 pub mod Accounts
+pub mod Returns
 pub mod AllIn
 pub mod Tables
 pub mod Faults
@@ -18,4 +19,5 @@ pub mod Accepted
 pub mod CardLaws
 pub mod PointLaws
 pub mod KnownLaws
+pub mod TurnLaws
 pub mod Counting

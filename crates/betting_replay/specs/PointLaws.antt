@@ -3,16 +3,17 @@ use Rattle.std.specs.Prelude.{◌≡◌, ◌≤◌, ◌<◌, ◌^◌, ℕ, true,
 use Rattle.history_text.specs.declared.events.Header.{Header}
 use Rattle.history_text.specs.declared.events.Event.{Event}
 use Rattle.betting_replay.specs.declared.points.Point.{Point}
-use Rattle.betting_replay.specs.Seats.{has_seat, count_seats}
+use Rattle.card_sets.specs.PlayerSets.{has_player}
+use Rattle.betting_replay.specs.Seats.{count_seats}
 use Rattle.betting_replay.specs.Tables.{table_of, point}
 use Rattle.betting_replay.specs.Turns.{is_contender}
 
 -- a point has two contenders or more, all of them players, and whoever is one later was one there
 pub record HasContenders (header : Header) (players : ℕ) (h : List Event) (found : Point) : Type 0 where
-  pub two : 2 ≤ count_seats (has_seat found.contenders)
+  pub two : 2 ≤ count_seats (has_player found.contenders)
   pub small : found.contenders < 2 ^ 11
-  pub seated : (p : ℕ) → has_seat found.contenders p ≡ true → has_seat players p ≡ true
-  pub later : (p : ℕ) → p < 11 → is_contender (table_of header players h) p ≡ true → has_seat found.contenders p ≡ true
+  pub seated : (p : ℕ) → has_player found.contenders p ≡ true → has_player players p ≡ true
+  pub later : (p : ℕ) → p < 11 → is_contender (table_of header players h) p ≡ true → has_player found.contenders p ≡ true
 
 abbrev pub PointsHaveContenders : Type 0
 PointsHaveContenders = (header : Header) (players : ℕ) (h : List Event) (found : Point) → point header players h ≡ Some found → HasContenders header players h found

@@ -3,10 +3,11 @@ use Rattle.std.specs.Prelude.{ℕ, ◌+◌, ◌-◌, ◌==◌, ◌&&◌, ◌||�
 use Rattle.card_sets.specs.declared.games.Game.{Game}
 use Rattle.history_text.specs.declared.events.Header.{Header}
 use Rattle.history_text.specs.declared.events.Event.{Event}
-use Rattle.history_text.specs.declared.events.Street.{Street as StreetName}
+use Rattle.card_sets.specs.declared.streets.Street.{Street as StreetName}
 use Rattle.betting_replay.specs.Events.{seat_of, button_after, bought, returned, live_in, dead_in, ante_in, put_in, posts_small, brings_in, folds, is_act, is_seat_line}
 use Rattle.betting_replay.specs.Seats.{or_else}
-use Rattle.betting_replay.specs.Streets.{begins, begins_later, is_showdown, is_last, is_first}
+use Rattle.card_sets.specs.Streets.{is_last}
+use Rattle.betting_replay.specs.Streets.{begins, begins_later, is_showdown, is_first}
 
 -- the street: that of the last marker, or the draw that a discard or a stand-pat began
 abbrev pub street : Header → List Event → Option StreetName

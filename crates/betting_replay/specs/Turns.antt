@@ -1,6 +1,7 @@
 -- Who owes an act, who may act, and whose turn it is.
-use Rattle.std.specs.Prelude.{ℕ, ◌-◌, ◌==◌, ◌&&◌, ◌||◌, not, Bool, if◌then◌else◌, Option, Some, None, nat_lt, nat_le}
-use Rattle.betting_replay.specs.Seats.{has_seat, greatest_of, count_seats, first_from, first_between, first_after}
+use Rattle.std.specs.Prelude.{ℕ, ◌-◌, ◌==◌, ◌&&◌, ◌||◌, not, Bool, Option, Some, None, nat_lt, nat_le}
+use Rattle.card_sets.specs.PlayerSets.{has_player}
+use Rattle.betting_replay.specs.Seats.{greatest_of, count_seats, first_between, first_after}
 use Rattle.betting_replay.specs.Streets.{is_first}
 use Rattle.betting_replay.specs.Table.{Table, chips_at, acts_at}
 
@@ -13,7 +14,7 @@ greatest t = greatest_of (live_at t)
 
 -- a player who hasn't folded
 unfoldable pub is_contender : Table → ℕ → Bool
-is_contender t p = has_seat t.players p && not (acts_at t p).folded
+is_contender t p = has_player t.players p && not (acts_at t p).folded
 
 unfoldable pub contender_count : Table → ℕ
 contender_count t = count_seats (is_contender t)
@@ -79,30 +80,3 @@ unfoldable pub raise_fits : Table → ℕ → ℕ → Bool
 raise_fits t by to =
     nat_lt (greatest t) to
     && ((by == to - greatest t) || (has_level t && nat_lt t.header.big to && (by == to - t.header.big)))
-
--- the second of the sums of all seats, beside that of p
-abbrev pub second_beside : (ℕ → ℕ) → ℕ → ℕ
-second_beside f p = greatest_of (λ q. if q == p then 0 else f q)
-
--- so many units of p are uncalled: p alone has a sum above all others, by so many
-abbrev pub is_uncalled : (ℕ → ℕ) → ℕ → ℕ → Bool
-is_uncalled f p units = nat_lt (second_beside f p) (f p) && (units == f p - second_beside f p)
-
--- what a seat has paid over the whole hand
-abbrev pub paid_at : Table → ℕ → ℕ
-paid_at t p = (chips_at t p).paid
-
-unfoldable pub return_fits : Table → ℕ → ℕ → Bool
-return_fits t p units = is_uncalled (paid_at t) p units || is_uncalled (live_at t) p units
-
--- the seat alone has paid more than every other
-unfoldable pub is_alone : Table → ℕ → Bool
-is_alone t p = nat_lt (second_beside (paid_at t) p) (paid_at t p)
-
--- what is uncalled over the whole hand, and 0 where no seat is alone above the others
-abbrev pub due_of : Table → Option ℕ → ℕ
-due_of t None = 0
-due_of t (Some p) = paid_at t p - second_beside (paid_at t) p
-
-abbrev pub uncalled_due : Table → ℕ
-uncalled_due t = due_of t (first_from (is_alone t) 1 10)

@@ -1,7 +1,7 @@
 //! What a replay tells of its hand.
 
 ghost use Rattle.std.specs.Prelude.{◌≡◌, ℕ, ◌+◌, ◌^◌, ◌<◌, ◌≤◌};
-ghost use Rattle.betting_replay.specs.Seats.{has_seat};
+ghost use Rattle.card_sets.specs.PlayerSets.{has_player};
 ghost use Rattle.betting_replay.specs.Accounts.{paid_by, stack_at, contenders};
 
 use crate::replay::Replay;
@@ -26,17 +26,10 @@ impl Replay {
     }
 
     /// The players who haven't folded: bit s for seat s.
-    #[tactic(auto, unfolding(crate::specs::Accounts::contenders))]
     pub fn contenders(&self) -> u16
         ensures { result ≡ contenders self.now }
     {
-        let mut seats = 0;
-        for seat in 0..11 {
-            if self.is_contender(seat) {
-                seats += 1 << seat;
-            }
-        }
-        seats
+        self.contender_set().bits()
     }
 
     /// The seat of the button, by the last line that named it; 0 where none did.
@@ -49,9 +42,9 @@ impl Replay {
     /// Whether the seat is a player's.
     pub fn is_player(&self, seat: u8) -> bool
         requires { seat < 11 }
-        ensures { result ≡ has_seat self.now.players seat }
+        ensures { result ≡ has_player self.now.players seat }
     {
-        (self.players >> seat) & 1 == 1
+        self.players.has(seat)
     }
 
     /// The street: that of the last marker, a showdown's and the summary's too, or the draw that a

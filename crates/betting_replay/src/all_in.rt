@@ -7,7 +7,7 @@ ghost use Rattle.betting_replay.specs.Counting.{pointed};
 
 use crate::points::Point;
 use crate::replay::Replay;
-use card_sets::CardSet;
+use card_sets::{CardSet, PlayerSet};
 use history_text::Street;
 
 /// A point on a street, with the contenders there.
@@ -22,17 +22,10 @@ fn point_on(street: Option<Street>, contenders: u16) -> Option<Point>
 
 impl Replay {
     /// How many contenders have chips left.
-    #[tactic(auto, unfolding(crate::specs::AllIn::funded_count))]
     fn funded_count(&self) -> u8
         ensures { result ≡ funded_count self.now }
     {
-        let mut count = 0;
-        for seat in 0..11 {
-            if self.is_contender(seat) && self.has_chips(seat) {
-                count += 1;
-            }
-        }
-        count
+        PlayerSet::passing(11, |seat| self.is_contender(seat) && self.has_chips(seat)).count()
     }
 
     /// Whether nobody can bet any more and cards are to come.
@@ -103,7 +96,7 @@ impl Replay {
         requires { seat < 11 }
         ensures { result ≡ had_folded self.now.players point seat }
     {
-        seat > 0 && self.is_player(seat) && (point.contenders >> seat) & 1 != 1
+        seat > 0 && self.is_player(seat) && !PlayerSet::of(point.contenders).has(seat)
     }
 
     /// The cards of all players who had folded at a point.

@@ -1,7 +1,6 @@
 //! What events deal to the players, and show of their hands.
 
 ghost use Rattle.std.specs.Prelude.{◌≡◌, ℕ, ◌<◌, length};
-ghost use Rattle.card_sets.specs.Games.{own_size};
 ghost use Rattle.betting_replay.specs.Hands.{dealt_by, shown_by, if_many, whole, is_discard, shown_after, row_by};
 ghost use Rattle.betting_replay.specs.Table.{own_at};
 
@@ -31,18 +30,6 @@ pub(crate) fn cards_shown(e: &Event) -> &[Card]
     }
 }
 
-/// How many cards a player has of his own.
-fn own_size(game: Game) -> u32
-    ensures { result ≡ own_size game }
-{
-    match game {
-        Game::Holdem => 2,
-        Game::Omaha8 => 4,
-        Game::Stud | Game::Razz => 7,
-        Game::Lowball27 => 5,
-    }
-}
-
 /// So many cards, or none where there are more or fewer.
 pub(crate) fn if_many(count: u32, cards: CardSet) -> Option<CardSet>
     ensures { result ≡ if_many count cards }
@@ -58,7 +45,7 @@ pub(crate) fn if_many(count: u32, cards: CardSet) -> Option<CardSet>
 fn whole(game: Game, cards: &[Card]) -> Option<CardSet>
     ensures { result ≡ whole game cards.now }
 {
-    if_many(own_size(game), with_cards(CardSet::empty(), cards))
+    if_many(game.own_size(), with_cards(CardSet::empty(), cards))
 }
 
 /// Whether an event is a discard.

@@ -2,26 +2,13 @@
 
 ghost use Rattle.std.specs.Prelude.{◌≡◌, ℕ, ◌<◌};
 ghost use Rattle.card_sets.specs.Cards.{union, minus};
-ghost use Rattle.card_sets.specs.Disjoint.{apart};
-ghost use Rattle.betting_replay.specs.Known.{final_drawn, final_with, final_by, first_outside, with_down, with_first, so_many, known_stud, draws_openly, kept, known_drawn, known_by};
+ghost use Rattle.betting_replay.specs.Known.{final_drawn, final_with, final_in, final_by, first_outside, with_down, with_first, so_many, known_stud, draws_openly, kept, known_drawn, known_in, known_by};
 ghost use Rattle.betting_replay.specs.Table.{holding_at, final_at, known_at};
 
 use crate::hands::if_many;
 use crate::replay::Replay;
-use card_sets::{Card, CardSet, Game};
+use card_sets::{Card, CardSet, Family};
 use history_text::Street;
-
-/// Whether no card is in both.
-fn are_apart(some: CardSet, others: CardSet) -> bool
-    ensures { result ≡ apart some others }
-{
-    for card in some.iter() {
-        if others.has(card) {
-            return false;
-        }
-    }
-    true
-}
 
 /// A set with the first two cards of a bracket that aren't among others.
 fn with_two(cards: CardSet, others: CardSet, row: &[Card]) -> CardSet
@@ -88,11 +75,11 @@ impl Replay {
         requires { seat < 11 }
         ensures { result ≡ final_at self.now seat }
     {
-        match self.header.game {
-            Game::Holdem => self.final_with(seat, 2),
-            Game::Omaha8 => self.final_with(seat, 4),
-            Game::Stud | Game::Razz => if_many(7, self.own[seat as usize]),
-            Game::Lowball27 => self.final_drawn(seat),
+        let game = self.header.game;
+        match game.family() {
+            Family::Board => self.final_with(seat, game.own_size()),
+            Family::Stud => if_many(7, self.own[seat as usize]),
+            Family::Draw => self.final_drawn(seat),
         }
     }
 
@@ -137,7 +124,7 @@ impl Replay {
         let given = self.deals[place].given;
         given.count() == 5
             && !self.draws[place].hidden
-            && are_apart(self.own[place].minus(given), self.thrown)
+            && self.own[place].minus(given).is_apart(self.thrown)
     }
 
     /// What a player keeps when he draws.
@@ -149,7 +136,7 @@ impl Replay {
         if self.draws_openly(seat) {
             return Some(self.deals[place].given.minus(self.thrown));
         }
-        if self.draws[place].pat && are_apart(self.own[place], self.thrown) {
+        if self.draws[place].pat && self.own[place].is_apart(self.thrown) {
             return self.final_drawn(seat);
         }
         if self.draws[place].five {
@@ -173,15 +160,16 @@ impl Replay {
     /// street. Before it, in stud and razz, what it was dealt on the streets up to this one, where that
     /// is as much as the street has dealt, with its two cards face down by a later bracket where they
     /// weren't dealt in the text; in a draw game what it keeps. None exactly where they are unknown.
-    #[tactic(auto, unfolding(crate::specs::Table::known_at, crate::specs::Table::final_at))]
+    #[tactic(auto, unfolding(crate::specs::Table::known_at))]
     pub fn cards_at(&self, seat: u8, street: Street) -> Option<CardSet>
         requires { seat < 11 }
         ensures { result ≡ known_at self.now seat street }
     {
-        match self.header.game {
-            Game::Holdem | Game::Omaha8 => self.final_cards(seat),
-            Game::Stud | Game::Razz => self.known_stud(seat, street),
-            Game::Lowball27 => self.known_drawn(seat, street),
+        let game = self.header.game;
+        match game.family() {
+            Family::Board => self.final_with(seat, game.own_size()),
+            Family::Stud => self.known_stud(seat, street),
+            Family::Draw => self.known_drawn(seat, street),
         }
     }
 }

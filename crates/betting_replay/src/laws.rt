@@ -3,6 +3,7 @@
 ghost use Rattle.betting_replay.specs.Accepted.{KeepsChips, ShowsSeats, ShowsDead, TakesTurns};
 ghost use Rattle.betting_replay.specs.KnownLaws.{KnowsAllDealt, HoldsKept};
 ghost use Rattle.betting_replay.specs.PointLaws.{PointsHaveContenders};
+ghost use Rattle.betting_replay.specs.TurnLaws.{PassesNobodyOver};
 ghost use Rattle.betting_replay.specs.CardLaws.{PlacesAreApart, CardsBelongAfter, WholeBoards};
 
 /// After any accepted events a seat's stack, what it has paid and its dead chips are together what its
@@ -15,6 +16,13 @@ pub fn law_chips_stay()
 /// marker may stand nobody owes one.
 pub fn law_turns_are_taken()
     ensures { TakesTurns }
+{}
+
+/// After accepted events, where an act stands, whoever sits strictly between the last actor of the street
+/// and its player owes no act, going up by seat and around the table. And where an act is refused as out
+/// of turn, the seat that is told owes one, sits between the two, and is the nearest to the last actor.
+pub fn law_nobody_is_passed_over()
+    ensures { PassesNobodyOver }
 {}
 
 /// The table of some events has at each seat what these events make of that seat. So whoever holds

@@ -29,7 +29,7 @@ mod laws;
 mod places;
 mod points;
 mod replay;
-mod run;
+mod returns;
 mod seats;
 mod step;
 mod streets;
@@ -40,9 +40,10 @@ mod turns;
 pub use faults::BetFault;
 pub use laws::{
     law_a_point_has_contenders, law_a_table_shows_dead_cards, law_a_table_shows_each_seat,
-    law_cards_belong, law_chips_stay, law_places_are_apart, law_turns_are_taken, law_whole_boards,
+    law_cards_belong, law_chips_stay, law_kept_cards_are_held, law_nobody_is_passed_over,
+    law_places_are_apart, law_stud_cards_are_all_that_were_dealt, law_turns_are_taken,
+    law_whole_boards,
 };
 pub use points::Point;
 pub use replay::Replay;
-pub use run::first_fault;
 pub use seats::{Acts, Chips, Deals, Draws};

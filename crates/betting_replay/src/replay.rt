@@ -2,7 +2,7 @@
 
 use crate::points::Point;
 use crate::seats::{Acts, Chips, Deals, Draws};
-use card_sets::{Card, CardSet};
+use card_sets::{Card, CardSet, PlayerSet};
 use history_text::{Header, Street};
 use std::marker::Model;
 
@@ -12,7 +12,7 @@ use std::marker::Model;
 #[derive(Drop)]
 pub struct Replay {
     pub(crate) header: Header,
-    pub(crate) players: u16,
+    pub(crate) players: PlayerSet,
     pub(crate) chips: [Chips; 11],
     pub(crate) acts: [Acts; 11],
     pub(crate) own: [CardSet; 11],

@@ -18,7 +18,7 @@ use crate::hands::{cards_dealt, row_by, shown_after};
 use crate::places::{cards_named, cards_thrown, seat_of, with_cards};
 use crate::replay::Replay;
 use crate::seats::{Acts, Chips, Deals, Draws};
-use card_sets::CardSet;
+use card_sets::{CardSet, PlayerSet};
 use history_text::{Event, Header, PostKind, Street};
 
 /// Whether an event posts the small blind.
@@ -55,7 +55,7 @@ impl Replay {
     {
         Replay {
             header: *header,
-            players,
+            players: PlayerSet::of(players),
             chips: [Chips {
                 seated: false,
                 stack: 0,

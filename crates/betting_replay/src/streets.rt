@@ -1,8 +1,8 @@
-//! The streets: which comes when, and what begins with one.
+//! The streets: which may come when, and what begins with one.
 
 ghost use Rattle.std.specs.Prelude.{◌≡◌, ℕ, Option, Some, ◌<◌, ◌≤◌};
 ghost use Rattle.betting_replay.specs.Events.{SeatFits};
-ghost use Rattle.betting_replay.specs.Streets.{next_street, same_street, next_in_board, next_in_stud, next_in_draw, begun_by_drawing, is_last, is_later, begins};
+ghost use Rattle.betting_replay.specs.Streets.{same_street, begun_by_drawing, is_later, begins};
 ghost use Rattle.betting_replay.specs.Faults.{verdict, fault_with, may_end, marker_stands, draw_stands, street_early, street_order};
 ghost use Rattle.betting_replay.specs.Counting.{cleared, begun_with, begun};
 ghost use Rattle.betting_replay.specs.Turns.{next_to_act};
@@ -15,90 +15,24 @@ use crate::replay::Replay;
 use card_sets::Game;
 use history_text::{Event, Street};
 
-/// The street behind one in a game with a board.
-fn next_in_board(street: Street) -> Option<Street>
-    ensures { result ≡ next_in_board street }
-{
-    match street {
-        Street::First => Some(Street::Flop),
-        Street::Flop => Some(Street::Turn),
-        Street::Turn => Some(Street::River),
-        _ => None,
-    }
-}
-
-/// The street behind one in a stud game.
-fn next_in_stud(street: Street) -> Option<Street>
-    ensures { result ≡ next_in_stud street }
-{
-    match street {
-        Street::First => Some(Street::Fourth),
-        Street::Fourth => Some(Street::Fifth),
-        Street::Fifth => Some(Street::Sixth),
-        Street::Sixth => Some(Street::River),
-        _ => None,
-    }
-}
-
-/// The street behind one in a draw game.
-fn next_in_draw(street: Street) -> Option<Street>
-    ensures { result ≡ next_in_draw street }
-{
-    match street {
-        Street::First => Some(Street::Draw),
-        _ => None,
-    }
-}
-
-/// The street that comes next.
-fn next_street(game: Game, street: Option<Street>) -> Option<Street>
-    ensures { result ≡ next_street game street }
-{
-    let Some(street) = street else {
-        return Some(Street::First);
-    };
-    match game {
-        Game::Holdem | Game::Omaha8 => next_in_board(street),
-        Game::Stud | Game::Razz => next_in_stud(street),
-        Game::Lowball27 => next_in_draw(street),
-    }
-}
-
 /// The street that the first discard or stand-pat begins.
 fn begun_by_drawing(game: Game, street: Option<Street>) -> Option<Street>
     ensures { result ≡ begun_by_drawing game street }
 {
-    match (game, street) {
-        (Game::Lowball27, Some(Street::First)) => Some(Street::Draw),
-        _ => None,
+    if same_street(Street::Draw, game.next_street(street)) {
+        Some(Street::Draw)
+    } else {
+        None
     }
 }
 
-/// Whether a marker is the one that comes next.
+/// Whether a street is the one that comes next, or that the hand is on.
 pub(crate) fn same_street(street: Street, next: Option<Street>) -> bool
     ensures { result ≡ same_street street next }
 {
-    match (street, next) {
-        (Street::First, Some(Street::First)) => true,
-        (Street::Flop, Some(Street::Flop)) => true,
-        (Street::Turn, Some(Street::Turn)) => true,
-        (Street::Fourth, Some(Street::Fourth)) => true,
-        (Street::Fifth, Some(Street::Fifth)) => true,
-        (Street::Sixth, Some(Street::Sixth)) => true,
-        (Street::River, Some(Street::River)) => true,
-        (Street::Draw, Some(Street::Draw)) => true,
-        _ => false,
-    }
-}
-
-/// Whether a street is the last of its game.
-fn is_last(game: Game, street: Street) -> bool
-    ensures { result ≡ is_last game street }
-{
-    match (game, street) {
-        (Game::Holdem | Game::Omaha8 | Game::Stud | Game::Razz, Street::River) => true,
-        (Game::Lowball27, Street::Draw) => true,
-        _ => false,
+    match next {
+        Some(next) => street == next,
+        None => false,
     }
 }
 
@@ -137,7 +71,7 @@ impl Replay {
         self.street = Some(street);
         self.opened = street == Street::First || self.opened;
         self.shown_down = street == Street::ShowDown || self.shown_down;
-        self.last_begun = is_last(self.header.game, street) || self.last_begun;
+        self.last_begun = self.header.game.is_last(street) || self.last_begun;
         if is_later(street) {
             self.clear();
         }
@@ -198,7 +132,7 @@ impl Replay {
             Street::ShowDown => !self.shown_down && self.may_end(),
             Street::Summary => self.may_end(),
             _ => {
-                same_street(street, next_street(self.header.game, self.street))
+                same_street(street, self.header.game.next_street(self.street))
                     && self.contender_count() >= 2
             }
         }
@@ -208,7 +142,7 @@ impl Replay {
     fn draw_stands(&self) -> bool
         ensures { result ≡ draw_stands self.now }
     {
-        self.street == Some(Street::Draw)
+        same_street(Street::Draw, self.street)
             || begun_by_drawing(self.header.game, self.street).is_some()
                 && self.contender_count() >= 2
     }

@@ -11,6 +11,7 @@ use std::alloc::Global;
 use std::test::Fail;
 
 mod all_in;
+mod posts;
 
 /// Stakes of a half and a dollar.
 const DOLLARS: Header = Header {
@@ -315,4 +316,11 @@ fn each_refusal_comes_with_what_it_carries(rt: HostRuntime) -> Result<(), Fail> 
         );
     }
     Ok(())
+}
+
+#[test]
+fn the_laws_of_pots_can_be_called() {
+    pot_layers::law_no_two_pots_have_the_same_players();
+    pot_layers::law_two_sides_share_a_pot();
+    pot_layers::law_winners_of_a_side_get_the_same_or_one_more();
 }

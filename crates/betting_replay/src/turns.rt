@@ -1,11 +1,13 @@
 //! Who owes an act, who may act, and whose turn it is.
 
 ghost use Rattle.std.specs.Prelude.{◌≡◌, ℕ, ◌+◌, ◌-◌, ◌<◌, ◌≤◌, true, false, IfSome, IsNone};
-ghost use Rattle.betting_replay.specs.Seats.{has_seat, first_from, first_between, first_after};
-ghost use Rattle.betting_replay.specs.Turns.{live_at, greatest, is_contender, contender_count, has_chips, is_open, rivals, is_pending, owes, may_act, owes_before, next_to_act, due, has_level, due_to_level, call_fits, raise_fits, second_beside, is_uncalled, is_alone, paid_at, return_fits, uncalled_due};
+ghost use Rattle.card_sets.specs.PlayerSets.{has_player};
+ghost use Rattle.betting_replay.specs.Seats.{first_from, first_between, first_after};
+ghost use Rattle.betting_replay.specs.Accounts.{contenders};
+ghost use Rattle.betting_replay.specs.Turns.{live_at, greatest, is_contender, contender_count, has_chips, is_open, rivals, is_pending, owes, may_act, owes_before, next_to_act, due, has_level, due_to_level};
 
 use crate::replay::Replay;
-use history_text::Street;
+use card_sets::PlayerSet;
 
 impl Replay {
     /// What a seat has put in live on the street.
@@ -34,21 +36,21 @@ impl Replay {
         requires { seat < 11 }
         ensures { result ≡ is_contender self.now seat }
     {
-        (self.players >> seat) & 1 == 1 && !self.acts[seat as usize].folded
+        self.is_player(seat) && !self.acts[seat as usize].folded
+    }
+
+    /// The players who have not folded.
+    pub(crate) fn contender_set(&self) -> PlayerSet
+        ensures { result ≡ contenders self.now }
+    {
+        PlayerSet::passing(11, |seat| self.is_contender(seat))
     }
 
     /// How many players have not folded.
-    #[tactic(auto, unfolding(crate::specs::Turns::contender_count))]
     pub(crate) fn contender_count(&self) -> u8
         ensures { result ≡ contender_count self.now }
     {
-        let mut count = 0;
-        for seat in 0..11 {
-            if self.is_contender(seat) {
-                count += 1;
-            }
-        }
-        count
+        self.contender_set().count()
     }
 
     /// Whether the seat has chips left.
@@ -67,18 +69,14 @@ impl Replay {
     }
 
     /// How many other contenders have chips left.
-    #[tactic(auto, unfolding(crate::specs::Turns::rivals))]
     pub(crate) fn rivals(&self, seat: u8) -> u8
         requires { seat < 11 }
         ensures { result ≡ rivals self.now seat }
     {
-        let mut count = 0;
-        for rival in 0..11 {
-            if rival != seat && self.is_contender(rival) && self.has_chips(rival) {
-                count += 1;
-            }
-        }
-        count
+        PlayerSet::passing(11, |rival| {
+            rival != seat && self.is_contender(rival) && self.has_chips(rival)
+        })
+        .count()
     }
 
     /// Whether the seat is below the greatest, or has a rival and has neither acted nor brought in.
@@ -165,83 +163,6 @@ impl Replay {
             Some(last) => self
                 .first_owing(last + 1, 11)
                 .or(self.first_owing(1, last + 1)),
-        }
-    }
-
-    /// The second of the sums paid, beside that of the seat.
-    fn second_paid(&self, seat: u8) -> u64
-        requires { seat < 11 }
-        ensures { result ≡ second_beside (paid_at self.now) seat }
-    {
-        let mut second = 0;
-        for other in 0..11 {
-            let paid = if other == seat {
-                0
-            } else {
-                self.chips[other as usize].paid
-            };
-            second = second.max(paid);
-        }
-        second
-    }
-
-    /// The second of the sums of the street, beside that of the seat.
-    fn second_live(&self, seat: u8) -> u64
-        requires { seat < 11 }
-        ensures { result ≡ second_beside (live_at self.now) seat }
-    {
-        let mut second = 0;
-        for other in 0..11 {
-            let live = if other == seat { 0 } else { self.live(other) };
-            second = second.max(live);
-        }
-        second
-    }
-
-    /// Whether so many units of the seat are uncalled.
-    #[tactic(auto, unfolding(crate::specs::Turns::return_fits))]
-    pub(crate) fn return_fits(&self, seat: u8, units: u64) -> bool
-        requires { seat < 11 }
-        ensures { result ≡ return_fits self.now seat units }
-    {
-        let chips = self.chips[seat as usize];
-        let paid = self.second_paid(seat);
-        let live = self.second_live(seat);
-        paid < chips.paid && units == chips.paid.saturating_sub(paid)
-            || live < chips.live && units == chips.live.saturating_sub(live)
-    }
-
-    /// Whether the seat alone has paid more than every other.
-    #[tactic(auto, unfolding(crate::specs::Turns::is_alone))]
-    fn is_alone(&self, seat: u8) -> bool
-        requires { seat < 11 }
-        ensures { result ≡ is_alone self.now seat }
-    {
-        self.second_paid(seat) < self.chips[seat as usize].paid
-    }
-
-    /// The first seat that alone has paid more than every other.
-    fn first_alone(&self) -> Option<u8>
-        ensures value { result ≡ first_from (is_alone self.now) 1 10 }
-        ensures few { IfSome result (λ seat. seat < 11) }
-    {
-        for seat in 1..11 {
-            if self.is_alone(seat) {
-                return Some(seat);
-            }
-        }
-        None
-    }
-
-    /// What is uncalled over the whole hand.
-    pub(crate) fn uncalled_due(&self) -> u64
-        ensures { result ≡ uncalled_due self.now }
-    {
-        match self.first_alone() {
-            None => 0,
-            Some(seat) => self.chips[seat as usize]
-                .paid
-                .saturating_sub(self.second_paid(seat)),
         }
     }
 }

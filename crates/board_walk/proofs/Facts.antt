@@ -7,7 +7,7 @@ use Rattle.card_sets.specs.Cards.{cards_where, cards_below, has_card, union, IsC
 use Rattle.card_sets.specs.Bits.{cards_where_same, IsCardSet-cards_where}
 use Rattle.card_sets.specs.Rising.{IsRising-cards_where}
 use Rattle.card_sets.specs.State.{State}
-use Rattle.card_sets.specs.Games.{own_size, board_size, all_fit}
+use Rattle.card_sets.specs.Games.{own_size, board_size, all_fit, only_side}
 use Rattle.card_sets.specs.Disjoint.{all_apart}
 use Rattle.card_sets.specs.declared.games.Game.{Game}
 use Rattle.card_sets.specs.declared.games.Game.TheVariants.{Holdem}
@@ -19,7 +19,6 @@ use Rattle.runout_ranges.specs.Ways.{Within}
 use Rattle.runout_ranges.specs.declared.shapes.Receiver.TheVariants.{Board, Hand}
 use Rattle.showdown_tally.specs.Laws.{IsFull}
 use Rattle.showdown_tally.specs.Numbers.{side_number}
-use Rattle.showdown_tally.specs.Outcomes.{only_side}
 use Rattle.showdown_tally.specs.Showdown.{best, own_after, board_after, value_after}
 use Rattle.showdown_tally.specs.Tallies.{runouts_after}
 use Rattle.showdown_tally.proofs.Dealt.{Deals, runout_deals}

@@ -3,7 +3,6 @@ pub mod RankValues
 pub mod Plain
 pub mod Facts
 pub mod FirstRanks
-pub mod SameCards
 pub mod RowSets
 pub mod Ranges
 pub mod Listing

@@ -9,10 +9,11 @@ use Rattle.card_sets.specs.declared.games.Side.{Side}
 use Rattle.showdown_tally.specs.Deals.{deal_of}
 use Rattle.showdown_tally.specs.Laws.{IsFull}
 use Rattle.showdown_tally.specs.Numbers.{side_number}
-use Rattle.showdown_tally.specs.Outcomes.{AreNumbersAfter, mask_of, only_side, outcome}
+use Rattle.showdown_tally.specs.Outcomes.{AreNumbersAfter, outcome}
+use Rattle.card_sets.specs.PlayerSets.{set_of_players, hands_below}
 use Rattle.showdown_tally.specs.Settling.{number_of, tops_of}
 use Rattle.showdown_tally.specs.Showdown.{eligible_in, own_after, board_after, value_after, winners}
-use Rattle.showdown_tally.specs.Tables.{hands_below}
+use Rattle.card_sets.specs.Games.{only_side}
 use Rattle.showdown_tally.specs.declared.table.Table.{Table}
 use Rattle.showdown_tally.proofs.KeptOrder.{best-KeepOrder}
 use Rattle.showdown_tally.proofs.SideWinners.{KeptSide, kept_side}
@@ -21,7 +22,7 @@ use Rattle.board_walk.specs.Two.{two_winners}
 
 -- the winners by the numbers of the hands' values
 pub outcome_by_numbers : (table : Table) (pot : ℕ) (runout : List (List ℕ)) (values : List (Option ℕ)) → length table.known.hands ≡ 10 → length table.eligible ≡ 10 → pot < table.pots
-    → AreNumbersAfter (state_of table.known) runout values → outcome (deal_of table) pot runout ≡ mask_of (tops_of values (slice_index_or table.eligible pot 0) table.known.count)
+    → AreNumbersAfter (state_of table.known) runout values → outcome (deal_of table) pot runout ≡ set_of_players (tops_of values (slice_index_or table.eligible pot 0) table.known.count)
 outcome_by_numbers table pot runout values ten_hands ten_pots there after =
     let st : State = state_of table.known in
     let game = table.known.game in
@@ -36,10 +37,10 @@ outcome_by_numbers table pot runout values ten_hands ten_pots there after =
     (λ h l. after.numbers h (omega arith))
     (λ i j x y l m e f. best-KeepOrder side game (own_after st runout i) (board_after st runout) x (own_after st runout j) (board_after st runout) y (after.full i (omega arith)) e (after.full j (omega arith)) f) in
     let win : winners (deal_of table) pot side runout ≡ tops_of values mask count = pot_winners side (deal_of table) pot runout values mask count hands kept in
-    ap mask_of win
+    ap set_of_players win
 
 -- of two hands that are both eligible
-pub tops_two : (a b : ℕ) → mask_of (tops_of (Some a ∷ Some b ∷ []) 3 2) ≡ two_winners a b
+pub tops_two : (a b : ℕ) → set_of_players (tops_of (Some a ∷ Some b ∷ []) 3 2) ≡ two_winners a b
 tops_two a b = elim (cases_lt a b) [
   | inl lt ↦
       let m : max a b ≡ b = omega arith in
@@ -66,7 +67,7 @@ tops_two a b = elim (cases_lt a b) [
 pub outcome_two : (table : Table) (pot a b : ℕ) (runout : List (List ℕ)) → length table.known.hands ≡ 10 → length table.eligible ≡ 10 → pot < table.pots → table.known.count ≡ 2 → slice_index_or table.eligible pot 0 ≡ 3
     → AreNumbersAfter (state_of table.known) runout (Some a ∷ Some b ∷ []) → two_winners a b ≡ outcome (deal_of table) pot runout
 outcome_two table pot a b runout ten_hands ten_pots there two both after =
-    sym (outcome_by_numbers table pot runout (Some a ∷ Some b ∷ []) ten_hands ten_pots there after ∙ ap (λ n. mask_of (tops_of (Some a ∷ Some b ∷ []) (slice_index_or table.eligible pot 0) n)) two ∙ ap (λ m. mask_of (tops_of (Some a ∷ Some b ∷ []) m 2)) both ∙ tops_two a b)
+    sym (outcome_by_numbers table pot runout (Some a ∷ Some b ∷ []) ten_hands ten_pots there after ∙ ap (λ n. set_of_players (tops_of (Some a ∷ Some b ∷ []) (slice_index_or table.eligible pot 0) n)) two ∙ ap (λ m. set_of_players (tops_of (Some a ∷ Some b ∷ []) m 2)) both ∙ tops_two a b)
 
 -- the first two hands
 pub first_of : (hands : List (List ℕ)) (n : ℕ) (d : List ℕ) → n ≡ 2 → length hands ≡ 10 → slice_index_or hands 0 d ≡ slice_index_or (take n hands) 0 []

@@ -2,7 +2,7 @@
 use Rattle.std.specs.Prelude.{map, take}
 use Rattle.card_sets.specs.declared.games.Game.TheVariants.{Holdem}
 use Rattle.showdown_tally.specs.Showdown.{Showdown}
-use Rattle.showdown_tally.specs.Tables.{hands_of}
+use Rattle.card_sets.specs.PlayerSets.{hands_of}
 use Rattle.board_walk.specs.declared.deal.Deal.{Deal}
 
 -- the deal of hold'em that was kept

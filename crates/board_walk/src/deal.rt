@@ -4,7 +4,7 @@ ghost use Rattle.std.specs.Prelude.{◌≡◌, IsTrue};
 ghost use Rattle.showdown_tally.specs.Deals.{deal_of};
 ghost use Rattle.board_walk.specs.Kept.{deal_from};
 
-use crate::same::{same_cards, same_hands};
+use crate::same::same_hands;
 use card_sets::{CardSet, Game};
 use showdown_tally::Table;
 
@@ -61,8 +61,8 @@ impl Deal {
     {
         self.count == table.known.count
             && self.pots == table.pots
-            && same_cards(self.board, table.known.board)
-            && same_cards(self.dead, table.known.dead)
+            && self.board == table.known.board
+            && self.dead == table.known.dead
             && same_hands(&self.hands, &table.known.hands)
             && same_masks(&self.eligible, &table.eligible)
     }

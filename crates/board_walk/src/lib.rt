@@ -27,6 +27,6 @@ pub use pair::Pair;
 pub use pairs::Pairs;
 pub use range::count_with;
 pub use row::{PAIRS, last_rank, ranks_of};
-pub use same::{same_cards, same_hands};
+pub use same::same_hands;
 pub use suits::{flags_for, greater, suit_counts};
 pub use walk::{Walk, count_boards};

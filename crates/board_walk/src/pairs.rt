@@ -7,7 +7,6 @@ ghost use Rattle.runout_ranges.specs.Ways.{binomial};
 ghost use Rattle.board_walk.specs.Pairs.{cards_of_pair, IsEndOf};
 
 use crate::pair::Pair;
-use crate::same::same_cards;
 use card_sets::{Card, CardSet};
 use runout_ranges::count_choices;
 
@@ -111,7 +110,7 @@ impl Pairs {
     pub fn serve(&mut self, cards: CardSet)
         ensures { self.new.cards ≡ cards }
     {
-        if !same_cards(self.cards, cards) {
+        if self.cards != cards {
             *self = Pairs::of(cards);
         }
     }

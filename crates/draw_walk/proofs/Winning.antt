@@ -9,7 +9,7 @@ use Rattle.std.proofs.lemmas.List.Sums.{sum_by-cons}
 use Rattle.card_sets.specs.Cards.{union, IsCardSet}
 use Rattle.card_sets.specs.Choose.{choose}
 use Rattle.card_sets.specs.Disjoint.{all_apart}
-use Rattle.card_sets.specs.Games.{own_size, all_fit}
+use Rattle.card_sets.specs.Games.{own_size, all_fit, only_side}
 use Rattle.card_sets.specs.State.{State}
 use Rattle.card_sets.specs.declared.games.Game.{Game}
 use Rattle.card_sets.specs.declared.games.Game.TheVariants.{Holdem, Omaha8, Stud, Razz, Lowball27}
@@ -23,10 +23,10 @@ use Rattle.showdown_tally.proofs.KeptOrder.{best-KeepOrder}
 use Rattle.showdown_tally.proofs.PotFacts.{eligible_pot, pot_winners}
 use Rattle.showdown_tally.proofs.SideWinners.{KeptSide, kept_side}
 use Rattle.showdown_tally.specs.Numbers.{side_number}
-use Rattle.showdown_tally.specs.Outcomes.{mask_of, only_side, outcome}
+use Rattle.showdown_tally.specs.Outcomes.{outcome}
+use Rattle.card_sets.specs.PlayerSets.{set_of_players, hands_of, hands_below, all_within}
 use Rattle.showdown_tally.specs.Settling.{number_of, tops_of}
 use Rattle.showdown_tally.specs.Showdown.{Showdown, best, value_after, own_after, board_after, winners, eligible_in}
-use Rattle.showdown_tally.specs.Tables.{hands_of, hands_below, all_within}
 use Rattle.showdown_tally.specs.Tallies.{runouts_after}
 use Rattle.board_walk.proofs.Facts.{union-none, union-set}
 use Rattle.draw_walk.specs.Draws.{has_no_board}
@@ -47,7 +47,7 @@ alone eligible false true e = refl
 alone eligible false false e = ap (λ t. cond t 1 eligible) e
 
 -- the hands with the greatest number
-tops_pick : (mask v w : ℕ) → mask < 4 → mask_of (tops_of (Some v ∷ Some w ∷ []) mask 2) ≡ pick mask (nat_lt v w) (v == w)
+tops_pick : (mask v w : ℕ) → mask < 4 → set_of_players (tops_of (Some v ∷ Some w ∷ []) mask 2) ≡ pick mask (nat_lt v w) (v == w)
 tops_pick zero v w l = sym (alone 0 (nat_lt v w) (v == w) refl)
 tops_pick (suc zero) v w l = let t : (v == v) ≡ true = grind arith in rw t (sym (alone 1 (nat_lt v w) (v == w) refl))
 tops_pick (suc (suc zero)) v w l = let t : (w == w) ≡ true = grind arith in rw t (sym (alone 2 (nat_lt v w) (v == w) refl))
@@ -123,7 +123,7 @@ outcome_is st pots pot masks first second board two inside there within full =
     (each st side runout v w a b)
     (λ i j x y l m e f. best-KeepOrder side st.game (own_after st runout i) (board_after st runout) x (own_after st runout j) (board_after st runout) y (full.full i (omega arith)) e (full.full j (omega arith)) f) in
     let win : winners deal pot side runout ≡ tops_of values mask 2 = pot_winners side deal pot runout values mask 2 hands kept in
-    ap mask_of win ∙ tops_pick mask v w (lt_true mask 4 (list_all-index (λ mask. nat_lt mask (2 ^ 2)) masks pot 0 within there))
+    ap set_of_players win ∙ tops_pick mask v w (lt_true mask 4 (list_all-index (λ mask. nat_lt mask (2 ^ 2)) masks pot 0 within there))
   where
     each : (st : State) (side : Side) (runout : List (List ℕ)) (v w : ℕ) → Some v ≡ option_map (side_number side st.game) (value_after side st runout 0) → Some w ≡ option_map (side_number side st.game) (value_after side st runout 1)
         → (h : ℕ) → h < 2 → number_of (Some v ∷ Some w ∷ []) h ≡ option_map (side_number side st.game) (value_after side st runout h)

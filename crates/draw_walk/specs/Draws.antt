@@ -1,7 +1,7 @@
 -- Deals in which two hands each lack two cards.
-use Rattle.std.specs.Prelude.{ℕ, ◌==◌, ◌&&◌, Bool, true, false, List, [], ◌∷◌, nat_le, nat_lt}
+use Rattle.std.specs.Prelude.{ℕ, ◌==◌, ◌&&◌, Bool, true, false, not, List, [], ◌∷◌, nat_le, nat_lt}
+use Rattle.card_sets.specs.Games.{has_board}
 use Rattle.card_sets.specs.declared.games.Game.{Game}
-use Rattle.card_sets.specs.declared.games.Game.TheVariants.{Holdem, Omaha8, Stud, Razz, Lowball27}
 use Rattle.runout_ranges.specs.Slots.{same_receiver}
 use Rattle.runout_ranges.specs.Shapes.{slots_of}
 use Rattle.runout_ranges.specs.declared.shapes.Receiver.TheVariants.{Hand}
@@ -11,11 +11,7 @@ use Rattle.showdown_tally.specs.declared.table.Table.{Table}
 
 -- a game without a board
 abbrev pub has_no_board : Game → Bool
-has_no_board Holdem = false
-has_no_board Omaha8 = false
-has_no_board Stud = true
-has_no_board Razz = true
-has_no_board Lowball27 = true
+has_no_board game = not (has_board game)
 
 -- a slot of two cards for a hand
 abbrev pub lacks_two : Slot → ℕ → Bool

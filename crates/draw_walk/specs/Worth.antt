@@ -2,11 +2,10 @@
 use Rattle.std.specs.Prelude.{◌≡◌, ℕ, ◌==◌, Bool, false, List, [], ◌∷◌, length, nat_lt, Option, Some, None, slice_index, slice_index_or}
 use Rattle.std.specs.Option.{option_map}
 use Rattle.card_sets.specs.Cards.{union, IsRising}
-use Rattle.card_sets.specs.Games.{own_size}
+use Rattle.card_sets.specs.Games.{own_size, only_side}
 use Rattle.card_sets.specs.State.{State}
 use Rattle.card_sets.specs.declared.games.Game.{Game}
 use Rattle.showdown_tally.specs.Numbers.{side_number}
-use Rattle.showdown_tally.specs.Outcomes.{only_side}
 use Rattle.showdown_tally.specs.Showdown.{best}
 
 -- a number that there may be, or else 0

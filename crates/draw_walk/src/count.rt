@@ -10,28 +10,18 @@ ghost use Rattle.showdown_tally.specs.Outcomes.{AreOutcomes};
 ghost use Rattle.showdown_tally.specs.Tallies.{runouts_after};
 ghost use Rattle.draw_walk.specs.Orders.{AreOrders};
 ghost use Rattle.draw_walk.specs.Worth.{is_below_after, is_equal_after};
-ghost use Rattle.draw_walk.specs.Draws.{are_two_draws, has_no_board, is_drawn, lacks_two};
+ghost use Rattle.draw_walk.specs.Draws.{are_two_draws, is_drawn, lacks_two};
 
-use crate::draws::Draws;
+use crate::draws::{Draws, POTS};
 use crate::firsts::count_range;
 use crate::numbers::Numbers;
 use crate::orders::Orders;
 use crate::sets::put_pots;
-use card_sets::{CardSet, Game, Known};
+use card_sets::{CardSet, Known};
 use runout_ranges::{Receiver, Shape, Slot};
 use showdown_tally::Table;
 use std::sync::ledger::Ledger;
 use step_count::Steps;
-
-/// How many pots a table may have.
-pub const POTS: usize = 4;
-
-/// Whether a game is played without a board.
-fn has_no_board(game: Game) -> bool
-    ensures { result ≡ has_no_board game }
-{
-    matches!(game, Game::Stud | Game::Razz | Game::Lowball27)
-}
 
 /// Whether a slot has two cards for a hand.
 fn lacks_two(slot: &Slot, hand: u8) -> bool
@@ -55,7 +45,7 @@ fn are_two_draws(shape: &Shape) -> bool
 pub fn is_drawn(table: &Table, shape: &Shape) -> bool
     ensures { result ≡ is_drawn table.now shape.now }
 {
-    has_no_board(table.known.game)
+    !table.known.game.has_board()
         && table.known.count == 2
         && are_two_draws(shape)
         && 0 < table.pots

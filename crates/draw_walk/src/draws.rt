@@ -1,7 +1,9 @@
 //! The room that draws are counted in.
 
-use crate::POTS;
 use crate::numbers::Numbers;
+
+/// How many pots a table may have.
+pub const POTS: usize = 4;
 
 /// The room that draws are counted in, about 38 kB. It is made once and lent to each count, and keeps what the next count of the same
 /// hands can use; what it held before makes no other difference.

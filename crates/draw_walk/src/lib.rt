@@ -13,5 +13,5 @@ mod sets;
 #[cfg(test)]
 mod tests;
 
-pub use count::{POTS, count_draws, is_drawn};
-pub use draws::Draws;
+pub use count::{count_draws, is_drawn};
+pub use draws::{Draws, POTS};

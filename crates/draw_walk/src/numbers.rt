@@ -2,12 +2,10 @@
 
 ghost use Rattle.std.specs.Prelude.{◌≡◌, ℕ, ◌<◌, ◌∷◌, [], length, slice_index, IsTrue};
 ghost use Rattle.card_sets.specs.Games.{own_size, board_size};
-ghost use Rattle.showdown_tally.specs.Outcomes.{only_side};
 ghost use Rattle.draw_walk.specs.Worth.{AreNumbers, IsDraw, full_worth, worth};
 
 use crate::cards::DECK;
-use board_walk::same_cards;
-use card_sets::{Card, CardSet, Game, Side};
+use card_sets::{Card, CardSet, Game};
 use showdown_tally::side_value;
 
 /// What a hand is worth with each two cards that it may draw, as a number that is greater for better.
@@ -38,38 +36,16 @@ fn card_of(number: usize) -> Card
     card
 }
 
-/// How many cards a full hand has.
-fn own_size(game: Game) -> u32
-    ensures { result ≡ own_size game }
-{
-    match game {
-        Game::Holdem => 2,
-        Game::Omaha8 => 4,
-        Game::Stud | Game::Razz => 7,
-        Game::Lowball27 => 5,
-    }
-}
-
-/// What a game is played for, of Omaha Hi/Lo the high.
-fn only_side(game: Game) -> Side
-    ensures { result ≡ only_side game }
-{
-    match game {
-        Game::Holdem | Game::Omaha8 | Game::Stud => Side::High,
-        Game::Razz | Game::Lowball27 => Side::Low,
-    }
-}
-
 /// What a hand is worth, if it is full.
 fn full_worth(game: Game, full: CardSet) -> u32
     requires { board_size game ≡ 0 }
     ensures { length full ≡ own_size game → result ≡ full_worth game full }
 {
-    if full.count() != own_size(game) {
+    if full.count() != game.own_size() {
         return 0;
     }
     let none = CardSet::empty();
-    match side_value(only_side(game), game, full, none) {
+    match side_value(game.only_side(), game, full, none) {
         Some(number) => number,
         None => 0,
     }
@@ -119,7 +95,7 @@ impl Numbers {
         ensures game { self.new.game ≡ game }
         ensures own { self.new.own ≡ own }
     {
-        if self.live && self.game == game && same_cards(self.own, own) {
+        if self.live && self.game == game && self.own == own {
             return;
         }
         let mut rows = [[0; DECK]; DECK];

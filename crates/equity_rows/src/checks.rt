@@ -108,6 +108,19 @@ paid 2000 a\n";
     reports(&rt, alloc, &input, 0, report)
 }
 
+/// Of two pots the second is the side pot: under another name the collections fit no pots, and only the
+/// sums of the hand are checked.
+#[test]
+fn a_name_of_three_pots_fits_none_of_two(rt: HostRuntime) -> Result<(), Fail> {
+    let alloc = rt.alloc();
+    let input = with_line(alloc, SIDE_POTS, 25, "a collected 2000 from side pot-1\n")?;
+    let report = "hand 88 accepted holdem rake 0\n\
+pot 0 gross 1500 unfit\n\
+pot 1 gross 2000 unfit\n\
+paid 3500 a\n";
+    reports(&rt, alloc, &input, 0, report)
+}
+
 /// The odd chip goes to the first winner behind the button; one unit elsewhere is told, and two are not
 /// accepted.
 #[test]

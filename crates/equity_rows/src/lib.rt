@@ -14,6 +14,8 @@ mod games;
 #[cfg(test)]
 mod histories;
 #[cfg(test)]
+mod laws;
+#[cfg(test)]
 mod mixed;
 #[cfg(test)]
 mod other_games;

@@ -7,26 +7,27 @@ use Rattle.history_text.specs.Headers.{header_of}
 use Rattle.betting_replay.specs.Seats.{or_else}
 use Rattle.pot_layers.specs.declared.paid.Pot.{Pot}
 use Rattle.pot_layers.specs.Pots.{pots}
-use Rattle.hand_audit.specs.declared.audit.AllIn.{AllIn}
-use Rattle.hand_audit.specs.declared.audit.HandAudit.TheVariants.{Accepted}
+use Rattle.hand_audit.specs.declared.verdicts.AllIn.{AllIn}
+use Rattle.hand_audit.specs.declared.verdicts.HandAudit.TheVariants.{Accepted}
 use Rattle.hand_audit.specs.declared.cause.Cause.{Cause}
 use Rattle.hand_audit.specs.declared.pot_names.Source.TheVariants.{Numbered}
 use Rattle.hand_audit.specs.declared.settlement.Payment.{Payment}
 use Rattle.hand_audit.specs.declared.settlement.Settlement.{Settlement}
-use Rattle.history_text.specs.declared.events.Street.{Street}
+use Rattle.card_sets.specs.declared.streets.Street.{Street}
 use Rattle.betting_replay.specs.Accepted.{ShowsSeats, ShowsDead}
 use Rattle.betting_replay.specs.CardLaws.{PlacesAreApart, CardsBelongAfter, WholeBoards}
 use Rattle.betting_replay.specs.Tables.{point}
 use Rattle.showdown_tally.specs.declared.table.Table.{Table}
 use Rattle.hand_audit.specs.AllIns.{all_in_of}
 use Rattle.hand_audit.specs.CardsKnown.{KnowsCards, all_known_at}
-use Rattle.hand_audit.specs.declared.audit.AllIn.TheVariants.{Known, Unknown}
+use Rattle.hand_audit.specs.declared.verdicts.AllIn.TheVariants.{Known, Unknown}
 use Rattle.hand_audit.specs.Chips.{KeepsChips}
 use Rattle.hand_audit.specs.Departs.{departs, departs_behind, departs_from}
 use Rattle.hand_audit.specs.Lines.{nothing, players_of}
 use Rattle.hand_audit.specs.MarkLaws.{MarksAreCards}
 use Rattle.hand_audit.specs.PotNames.{fits}
-use Rattle.hand_audit.specs.Settle.{Showing, beyond, beyond_if, beyond_in, beyond_of, beyond_from, settled, settled_of, pay_of, parts_of, part_of_seat, sides_of_seat, distance}
+use Rattle.hand_audit.specs.PotSums.{PotsAddUp}
+use Rattle.hand_audit.specs.Settle.{Showing, beyond, beyond_if, beyond_in, beyond_of, beyond_from, settled, settled_of, pay_of, shares_of_pot, due_of_seat, sides_of_seat, distance}
 use Rattle.hand_audit.specs.Showings.{rake, showing_of}
 use Rattle.hand_audit.specs.Splits.{IsSplitRightly, IsWonBySomebody}
 use Rattle.hand_audit.specs.TablePots.{HasPotsOf}
@@ -37,6 +38,8 @@ use Rattle.pot_layers.specs.Eligible.{ExcludesFolded}
 use Rattle.hand_audit.proofs.Decided.{decided}
 use Rattle.hand_audit.proofs.Ranked.{KeepsOrder}
 use Rattle.hand_audit.proofs.WonPots.{won_pots}
+use Rattle.hand_audit.proofs.PotSums.{add_up}
+use Rattle.pot_layers.specs.Split.{OrdersItsSeats}
 use Rattle.hand_audit.proofs.MarkCards.{marks_are_cards}
 use Rattle.hand_audit.proofs.Tables.{paid_shown}
 use Rattle.hand_choice.specs.AllowedFives.{AllowsFives}
@@ -126,8 +129,8 @@ split_of s fit none number pot is p low high =
     let here : 0 + number ≡ number = omega arith in
     let pot_none : beyond_of s source pot ≡ None = subst (λ (n : ℕ). beyond_of s (Numbered (length (pots s.paid)) n) pot ≡ None) here (none_in s (length (pots s.paid)) 0 (pots s.paid) number pot (within_fit s (fit_of s fit) none) is) in
     record {
-      due = λ known. ap (λ b. if b then part_of_seat p (parts_of s source pot) else (pay_of s source pot p).got) known;
-      near = all_near (pay_of s source pot) (λ q. sides_of_seat q (parts_of s source pot)) 1 10 p pot_none low (omega arith);
+      due = λ known. ap (λ b. if b then due_of_seat p (shares_of_pot s source pot) else (pay_of s source pot p).got) known;
+      near = all_near (pay_of s source pot) (λ q. sides_of_seat q (shares_of_pot s source pot)) 1 10 p pot_none low (omega arith);
     }
 
 pub accepted_split : (number : ℕ) (line : List ℕ) (lines : List (List ℕ)) (g : Header) → header_of line ≡ Ok g → (settlement : Settlement) (all_in : AllIn) (names : List (ℕ × List ℕ)) (players : ℕ)
@@ -179,3 +182,17 @@ accepted_marks fives apart belong boards shows folded number line lines g read s
     let h = events_of g lines in
     let all = decided apart belong boards shows folded g players h end.0.accepted end.0.markers (end.0.part (has_total g players h end.1)) in
     marks_are_cards fives (showing_of g players h) (subst (λ (paid : List Paid). AreDecided (showing_of g players h) (pots paid)) (sym (paid_shown g players h)) all)
+
+pub accepted_adds : OrdersItsSeats → KeepsOrder → AllowsFives → PlacesAreApart → CardsBelongAfter → WholeBoards → ShowsSeats → ExcludesFolded → (number : ℕ) (line : List ℕ) (lines : List (List ℕ)) (g : Header) → header_of line ≡ Ok g
+    → (settlement : Settlement) (all_in : AllIn) (names : List (ℕ × List ℕ)) (players : ℕ)
+    → audit_of number (line ∷ lines) ≡ Some (Accepted settlement all_in names players) → settlement.fits ≡ true → PotsAddUp settlement
+accepted_adds orders law fives apart belong boards shows folded number line lines g read settlement all_in names players is fit =
+    let a = accepted_is number line lines g settlement all_in names players read is in
+    let end = sound_all g players number lines nothing (start g players) a.none in
+    let h = events_of g lines in
+    let s = showing_of g players h in
+    let total = has_total g players h end.1 in
+    let fit_settled : (settled s).fits ≡ true = ap (λ (x : Settlement). x.fits) a.made ∙ fit in
+    let all = decided apart belong boards shows folded g players h end.0.accepted end.0.markers (end.0.part total) in
+    let decided_all = subst (λ (paid : List Paid). AreDecided s (pots paid)) (sym (paid_shown g players h)) all in
+    subst PotsAddUp a.made (add_up orders g players h end.0.accepted end.0.collectors (end.0.chips total) decided_all (won_pots law shows g players h all) (marks_are_cards fives s decided_all) (fit_of s fit_settled))

@@ -3,6 +3,8 @@ use Rattle.std.proofs.Common.{◌≡◌, ℕ, ◌+◌, ◌-◌, ◌<◌, ◌≤�
 use Rattle.std.specs.Prelude.{nat_le, Option, Some, None, Result, Ok, Err, if◌then◌else◌}
 use Rattle.std.specs.List.{list_any}
 use Rattle.std.proofs.lemmas.List.Folds.{list_any-append}
+use Rattle.card_sets.specs.PlayerSetLaws.{has_player-where}
+use Rattle.card_sets.specs.PlayerSets.{has_player}
 use Rattle.history_text.specs.declared.events.Header.{Header}
 use Rattle.history_text.specs.declared.events.Event.{Event}
 use Rattle.history_text.specs.declared.events.Event.TheVariants.{Seat, Post, Act}
@@ -16,7 +18,6 @@ use Rattle.history_text.specs.Reading.{◌>>=◌, or_fault, money, follows, seat
 use Rattle.history_text.specs.Seats.{seat_line, seat_opening, seated as seated_line, seat_event, free_name, preamble_event}
 use Rattle.history_text.specs.Texts.{behind, cut_last}
 use Rattle.betting_replay.specs.Events.{seat_of, SeatFits, is_seat_line, ante_in, live_in, dead_in, returned}
-use Rattle.betting_replay.specs.Seats.{has_seat}
 use Rattle.betting_replay.specs.Sums.{seated, paid, dead, live, small_posted}
 use Rattle.betting_replay.specs.Tables.{table_of, chips_at, chips_of, no_chips}
 use Rattle.betting_replay.specs.Faults.{legal, seat_twice}
@@ -28,7 +29,6 @@ use Rattle.hand_audit.specs.Departs.{departs_from, departs_by, event_cause}
 use Rattle.hand_audit.specs.Lines.{SoFar, nothing, read_at, part_of, with_event, with_line, with_line_by, front_number, seat_number, seat_at, is_again, with_seat, makes_player, plays, players_in, players_of, read_events}
 use Rattle.hand_audit.specs.Verdict.{read_all, events_of}
 use Rattle.hand_audit.proofs.Chips.{Sound, start, sound_more, fits_of, no_fault, no_bet}
-use Rattle.hand_audit.proofs.Seats.{bits_below}
 
 -- a seat line in form seats its number
 seat_event_is : (names : List (ℕ × List ℕ)) (g : Header) (first s : ℕ) (text before : List ℕ) (e : Event) → seat_event names g first (Some s) text before ≡ Ok e → (is_seat_line e ≡ true) × (seat_of e ≡ s)
@@ -189,9 +189,9 @@ idle g (e ∷ h) p none =
     idle_more (seat_of e == p) (paid g h p) (dead g h p) (ante_in e + live_in g.big (small_posted h) (live g h p) e) (returned e) (dead_in g.big (small_posted h) e) (idle g h p both.1)
     (λ is. idle_event g.big (small_posted h) (live g h p) e p both.0 is)
 
-pub others_idle : (g : Header) (number : ℕ) (lines : List (List ℕ)) → departs_from g (players_of g lines) number nothing lines ≡ None → (p : ℕ) → p < 11 → has_seat (players_of g lines) p ≡ false → paid g (events_of g lines) p + dead g (events_of g lines) p ≡ 0
+pub others_idle : (g : Header) (number : ℕ) (lines : List (List ℕ)) → departs_from g (players_of g lines) number nothing lines ≡ None → (p : ℕ) → p < 11 → has_player (players_of g lines) p ≡ false → paid g (events_of g lines) p + dead g (events_of g lines) p ≡ 0
 unfolding players_of
 others_idle g number lines none p l other =
     let all : read_events g nothing [] lines ≡ events_of g lines = reads_all g (players_of g lines) number lines nothing [] (start g (players_of g lines)) (record { each = λ s among. cc }) none in
-    let bit : has_seat (players_of g lines) p ≡ plays (events_of g lines) p = ap (λ h. has_seat (players_in h) p) all ∙ bits_below (plays (events_of g lines)) 11 p l in
+    let bit : has_player (players_of g lines) p ≡ plays (events_of g lines) p = ap (λ h. has_player (players_in h) p) all ∙ has_player-where (plays (events_of g lines)) 11 p l in
     idle g (events_of g lines) p (sym bit ∙ other)

@@ -1,5 +1,5 @@
 -- In a hand with no line that departs, all that was put in is what was collected and the rake.
-use Rattle.std.proofs.Common.{◌≡◌, ℕ, ◌+◌, ◌<◌, ◌≤◌, List, [], ◌∷◌, refl, sym, ap, ◌∙◌, subst, Bool, true, false, ◌==◌, not, ◌||◌, arith}
+use Rattle.std.proofs.Common.{◌≡◌, ℕ, ◌+◌, ◌≤◌, List, [], ◌∷◌, refl, sym, ap, ◌∙◌, subst, Bool, true, false, ◌==◌, not, ◌||◌, arith}
 use Rattle.std.specs.Prelude.{Option, Some, None, Result, Ok, Err, IfOk, All, if◌then◌else◌}
 use Rattle.std.specs.List.{list_any}
 use Rattle.std.proofs.lemmas.List.Elements.{All-push}
@@ -24,18 +24,17 @@ use Rattle.hand_audit.specs.Collections.{taken, collections, collected_by}
 use Rattle.hand_audit.specs.Showings.{rake}
 use Rattle.hand_audit.specs.Departs.{is_total, bet_cause, total_cause, event_cause, end_cause, departs_from, departs_by, at_line, put_in_by, collected}
 use Rattle.hand_audit.specs.Verdict.{read_all, events_of}
-use Rattle.hand_audit.specs.Chips.{IsBalanced, KeepsChips, sum_from, over_seats, closing, opening, collected_at}
+use Rattle.hand_audit.specs.Chips.{IsBalanced, KeepsChips, sum_from, over_seats, closing, collected_at}
 use Rattle.betting_replay.specs.Events.{SeatFits}
-use Rattle.betting_replay.specs.Accepted.{IsAccepted}
+use Rattle.betting_replay.specs.Accepted.{IsAccepted, opening}
 use Rattle.betting_replay.specs.CardLaws.{MarkerFits, MarkersFit}
 use Rattle.betting_replay.specs.Limits.{Fits}
 use Rattle.hand_audit.proofs.MarkerCards.{line_fits}
 use Rattle.betting_replay.specs.Sums.{paid, dead}
 use Rattle.betting_replay.specs.Faults.{legal}
 use Rattle.betting_replay.specs.declared.faults.BetFault.{BetFault}
-use Rattle.betting_replay.proofs.Stands.{seat_below}
+use Rattle.betting_replay.proofs.Kept.{chips_stay}
 use Rattle.hand_audit.proofs.Ranges.{all_fit}
-use Rattle.hand_audit.proofs.Openings.{IsFilled, filled_none, filled_legal}
 use Rattle.hand_audit.proofs.Sums.{AreSeats, Idle, seats_more as collected_more, got_is_taken, put_is_sum, sum_same, sum_plus, closing_is}
 use Rattle.hand_audit.proofs.Quiet.{IsQuiet, quiet, same_paid_in}
 
@@ -44,7 +43,6 @@ pub record Sound (g : Header) (players : ℕ) (so_far : SoFar) : Type 0 where
   pub seats : All IsSeated so_far.names
   pub part : list_any is_total so_far.events ≡ true → part_of so_far.events ≡ SummaryPart
   pub chips : list_any is_total so_far.events ≡ true → IsBalanced g players so_far.events
-  pub filled : (p : ℕ) → p < 11 → IsFilled g so_far.events p
   pub collectors : AreSeats (collections so_far.events)
   pub accepted : IsAccepted g players so_far.events
   pub markers : MarkersFit g.game so_far.events
@@ -151,7 +149,6 @@ sound_more g players so_far line e s is none =
           let k : stands_in SummaryPart e ≡ true = subst (λ (q : Part). stands_in q e ≡ true) p kind in ap (part_after e) p ∙ stays e k;
       chips = λ some. let p : part_of so_far.events ≡ SummaryPart = in_summary_of so_far.events e kind s.part some in
           let k : stands_in SummaryPart e ≡ true = subst (λ (q : Part). stands_in q e ≡ true) p kind in balanced_more g players so_far.events e k none s.chips some;
-      filled = filled_legal g players so_far.events e fits (seat_below e fits.seats) legal_none s.filled;
       collectors = collected_more (collections so_far.events) (collected_by e) s.collectors (collects e fits.seats);
       accepted = (fits, legal_none, s.accepted);
       markers = (subst (λ (r : Result Event TextFault). IfOk r (MarkerFits g.game)) is (line_fits so_far.names g (part_of so_far.events) line), s.markers);
@@ -190,7 +187,7 @@ has_total g players h none = by (list_any is_total h) refl none
     by false e n = cc
 
 pub start : (g : Header) (players : ℕ) → Sound g players nothing
-start g players = record { seats = λ k d l. absurd (omega (arith, l)); part = λ h. cc; chips = λ h. cc; filled = λ p l. filled_none g p; collectors = tt; accepted = tt; markers = tt }
+start g players = record { seats = λ k d l. absurd (omega (arith, l)); part = λ h. cc; chips = λ h. cc; collectors = tt; accepted = tt; markers = tt }
 
 collected_is : (h : List Event) → collected h ≡ taken (collections h)
 unfolding collected
@@ -199,7 +196,7 @@ collected_is h = refl
 kept_of : (g : Header) (players : ℕ) (so_far : SoFar) → Sound g players so_far → list_any is_total so_far.events ≡ true → Idle g players so_far.events → KeepsChips g so_far.events (rake so_far.events)
 kept_of g players so_far s some others =
     let h = so_far.events in
-    let covered : (p : ℕ) → p ≤ 10 → paid g h p + dead g h p ≤ opening h p = (λ p l. let w = (s.filled p (omega (arith, l))).whole in omega (arith, w)) in
+    let covered : (p : ℕ) → p ≤ 10 → paid g h p + dead g h p ≤ opening h p = (λ p l. let w = chips_stay g players h p s.accepted in omega (arith, w)) in
     let each : sum_from (λ q. closing g h q + (paid g h q + dead g h q)) 1 10 ≡ sum_from (λ q. opening h q + collected_at h q) 1 10 = sum_same _ _ 1 10 (omega arith) (λ q l. closing_is g h q (covered q (omega (arith, l)))) in
     let left : sum_from (λ q. closing g h q + (paid g h q + dead g h q)) 1 10 ≡ over_seats (closing g h) + over_seats (λ q. paid g h q + dead g h q) = sum_plus (closing g h) (λ q. paid g h q + dead g h q) 1 10 in
     let right : sum_from (λ q. opening h q + collected_at h q) 1 10 ≡ over_seats (opening h) + over_seats (collected_at h) = sum_plus (opening h) (collected_at h) 1 10 in

@@ -4,6 +4,7 @@ use Rattle.std.proofs.Common.{◌≡◌, ℕ, zero, suc, ◌+◌, ◌<◌, ◌�
 use Rattle.std.specs.Prelude.{Option, Some, None, IfSome, if◌then◌else◌, nat_lt, slice_index_or}
 use Rattle.std.specs.Int.{bit_at}
 use Rattle.std.specs.List.{list_any}
+use Rattle.card_sets.specs.PlayerSets.{has_player, players_from, seats_in}
 use Rattle.card_sets.specs.Cards.{cards_where, minus, union}
 use Rattle.card_sets.specs.Bits.{IsCardSet-cards_where}
 use Rattle.card_sets.specs.Games.{board_size}
@@ -14,7 +15,7 @@ use Rattle.history_text.specs.declared.events.Event.{Event}
 use Rattle.history_text.specs.declared.events.Event.TheVariants.{Street, Deal, Act, Show, SeatCards}
 use Rattle.history_text.specs.declared.events.Part.{Part}
 use Rattle.history_text.specs.declared.events.Part.TheVariants.{Preamble, Play, Summary as SummaryPart}
-use Rattle.history_text.specs.declared.events.Street.TheVariants.{First, Flop, Turn, Fourth, Fifth, Sixth, River, Draw, ShowDown, Summary}
+use Rattle.card_sets.specs.declared.streets.Street.TheVariants.{First, Flop, Turn, Fourth, Fifth, Sixth, River, Draw, ShowDown, Summary}
 use Rattle.pot_layers.specs.declared.paid.Pot.{Pot}
 use Rattle.pot_layers.specs.Pots.{pots}
 use Rattle.pot_layers.specs.Eligible.{ExcludesFolded, is_contender as contends}
@@ -26,7 +27,7 @@ use Rattle.betting_replay.specs.Hands.{dealt, dealt_by, shown, shown_by, shown_a
 use Rattle.betting_replay.specs.Known.{final_cards, final_by, holding_of}
 use Rattle.betting_replay.specs.Dealing.{marked, hides}
 use Rattle.betting_replay.specs.Places.{owned, is_at, place, thrown}
-use Rattle.betting_replay.specs.Seats.{by_seat, has_seat, count_below, or_else}
+use Rattle.betting_replay.specs.Seats.{by_seat, count_below, or_else}
 use Rattle.betting_replay.specs.Sums.{last_begun}
 use Rattle.betting_replay.specs.Table.{Table, own_at, final_at}
 use Rattle.betting_replay.specs.Tables.{table_of}
@@ -35,7 +36,6 @@ use Rattle.betting_replay.proofs.BySeat.{at_by_seat}
 use Rattle.betting_replay.proofs.Members.{apart_among, no_more}
 use Rattle.showdown_tally.specs.Laws.{IsFull}
 use Rattle.hand_audit.specs.Lines.{part_after, part_of}
-use Rattle.hand_audit.specs.Orders.{seats_from, seats_in}
 use Rattle.hand_audit.specs.Settle.{Showing}
 use Rattle.hand_audit.specs.Showings.{paid_from, paid_in, showing_at, showing_of}
 use Rattle.hand_audit.specs.Winning.{AreFull, AreDecided}
@@ -154,7 +154,7 @@ all_full apart shows g players h ok belong size p l =
 contender_from : (t : Table) (p n seat : ℕ) → list_any (λ x. (x.seat == seat) && x.contender) (paid_from t p n) ≡ true → is_contender t seat ≡ true
 unfolding paid_by
 contender_from t p zero seat has = cc
-contender_from t p (suc n) seat has = by (has_seat t.players p) has (contender_from t (p + 1) n seat)
+contender_from t p (suc n) seat has = by (has_player t.players p) has (contender_from t (p + 1) n seat)
   where
     here : (a b : Bool) → (p == seat) ≡ a → is_contender t p ≡ b → ((a && b) || list_any (λ x. (x.seat == seat) && x.contender) (paid_from t (p + 1) n)) ≡ true
         → (list_any (λ x. (x.seat == seat) && x.contender) (paid_from t (p + 1) n) ≡ true → is_contender t seat ≡ true) → is_contender t seat ≡ true
@@ -182,14 +182,14 @@ last_long : (b : Bool) (xs : List ℕ) (p : ℕ) → length (xs ++ (if b then p 
 last_long true xs p = length-append xs (p ∷ [])
 last_long false xs p = length-append xs []
 
-no_more_than : (f : ℕ → Bool) (w n : ℕ) → ((p : ℕ) → (bit_at w p == 1) ≡ true → f p ≡ true) → length (seats_from w 1 n) ≤ count_below f (suc n)
+no_more_than : (f : ℕ → Bool) (w n : ℕ) → ((p : ℕ) → (bit_at w p == 1) ≡ true → f p ≡ true) → length (players_from w 1 n) ≤ count_below f (suc n)
 no_more_than f w zero h = omega arith
 no_more_than f w (suc n) h =
     let next : suc n ≡ n + 1 = omega arith in
     let here : 1 + n ≡ suc n = omega arith in
-    let long : length (seats_from w 1 (suc n)) ≡ length (seats_from w 1 n) + (if bit_at w (suc n) == 1 then 1 else 0)
-    = ap (λ k. length (seats_from w 1 k)) next ∙ ap length (seats_more w 1 n) ∙ last_long (bit_at w (1 + n) == 1) (seats_from w 1 n) (1 + n) ∙ ap (λ k. length (seats_from w 1 n) + (if bit_at w k == 1 then 1 else 0)) here in
-    let more = one_more (bit_at w (suc n) == 1) (f (suc n)) (length (seats_from w 1 n)) (count_below f (suc n)) (no_more_than f w n h) (h (suc n)) in
+    let long : length (players_from w 1 (suc n)) ≡ length (players_from w 1 n) + (if bit_at w (suc n) == 1 then 1 else 0)
+    = ap (λ k. length (players_from w 1 k)) next ∙ ap length (seats_more w 1 n) ∙ last_long (bit_at w (1 + n) == 1) (players_from w 1 n) (1 + n) ∙ ap (λ k. length (players_from w 1 n) + (if bit_at w k == 1 then 1 else 0)) here in
+    let more = one_more (bit_at w (suc n) == 1) (f (suc n)) (length (players_from w 1 n)) (count_below f (suc n)) (no_more_than f w n h) (h (suc n)) in
     rw long more
 
 few_contenders : (t : Table) (w : ℕ) → ((p : ℕ) → (bit_at w p == 1) ≡ true → is_contender t p ≡ true) → length (seats_in w) ≤ contender_count t
@@ -211,8 +211,7 @@ only_contenders law t k d l p set = by (contends (paid_in t) p) refl
     by : (b : Bool) → contends (paid_in t) p ≡ b → is_contender t p ≡ true
     by true e = contends_is t p e
     by false e =
-        let z : bit_at (slice_index_or (pots (paid_in t)) k d).eligible p ≡ 0 = law (paid_in t) p e k d l in
-        let off : (bit_at (slice_index_or (pots (paid_in t)) k d).eligible p == 1) ≡ false = rw z refl in cc
+        let off : has_player (slice_index_or (pots (paid_in t)) k d).eligible p ≡ false = law (paid_in t) p e k d l in cc
 
 begun : (last : Bool) (count : ℕ) → (last || nat_lt count 2) ≡ true → 2 ≤ count → last ≡ true
 begun true count h many = refl

@@ -1,8 +1,8 @@
 -- A hand has no more pots than players, or one.
 use Rattle.std.proofs.Common.{◌≡◌, ℕ, zero, suc, ◌+◌, ◌≤◌, List, [], ◌∷◌, refl, ap, Bool, true, false, ◌==◌, length, arith}
 use Rattle.std.specs.Prelude.{nat_lt, if◌then◌else◌}
+use Rattle.card_sets.specs.PlayerSets.{has_player}
 use Rattle.betting_replay.specs.Accounts.{paid_by}
-use Rattle.betting_replay.specs.Seats.{has_seat}
 use Rattle.betting_replay.specs.Table.{Table}
 use Rattle.pot_layers.specs.declared.paid.Paid.{Paid}
 use Rattle.pot_layers.specs.declared.paid.Pot.{Pot}
@@ -49,7 +49,7 @@ one_length ps (pot ∷ xs) l = l
 
 paid_length : (t : Table) (p n : ℕ) → length (paid_from t p n) ≤ n
 paid_length t p zero = omega arith
-paid_length t p (suc n) = by (has_seat t.players p) (paid_length t (p + 1) n)
+paid_length t p (suc n) = by (has_player t.players p) (paid_length t (p + 1) n)
   where
     by : (b : Bool) → length (paid_from t (p + 1) n) ≤ n → length (if b then paid_by t p ∷ paid_from t (p + 1) n else paid_from t (p + 1) n) ≤ suc n
     by true l = omega (arith, l)

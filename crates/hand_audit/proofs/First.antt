@@ -6,7 +6,7 @@ use Rattle.history_text.specs.declared.events.Event.{Event}
 use Rattle.history_text.specs.declared.events.TextFault.{TextFault}
 use Rattle.history_text.specs.Headers.{header_of}
 use Rattle.betting_replay.specs.Seats.{or_else}
-use Rattle.hand_audit.specs.declared.audit.HandAudit.TheVariants.{Rejected}
+use Rattle.hand_audit.specs.declared.verdicts.HandAudit.TheVariants.{Rejected}
 use Rattle.hand_audit.specs.declared.cause.Cause.{Cause}
 use Rattle.hand_audit.specs.declared.cause.Cause.TheVariants.{Text}
 use Rattle.hand_audit.specs.Before.{Stand, StandsBy}

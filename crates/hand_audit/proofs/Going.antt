@@ -23,9 +23,6 @@ pub record Going (hand : Hand) (g : Header) (players first : ℕ) (all left : Li
   pub same : departs_from g players first nothing all ≡ departs_from g players number so_far left
   pub read : read_all g nothing all ≡ read_all g so_far left
 
-pub going_none : (hand : Hand) (g : Header) (players first : ℕ) (all : List (List ℕ)) → Keeps hand g players nothing → Going hand g players first all all first
-going_none hand g players first all k = record { so_far = nothing; keeps = k; same = refl; read = refl }
-
 -- one line more
 pub going_more : (hand new : Hand) (g : Header) (players first : ℕ) (all : List (List ℕ)) (line : List ℕ) (left left' : List (List ℕ)) (number : ℕ) (r : Going hand g players first all left' number) → left' ≡ line ∷ left
     → Goes new g players r.so_far line (read_at g r.so_far line) None → Going new g players first all left (number + 1)

@@ -9,7 +9,7 @@ use Rattle.history_text.specs.declared.events.Event.TheVariants.{Seat}
 use Rattle.history_text.specs.declared.events.TextFault.{TextFault}
 use Rattle.history_text.specs.Lines.{line_event}
 use Rattle.betting_replay.specs.declared.faults.BetFault.{BetFault}
-use Rattle.betting_replay.specs.Events.{SeatFits}
+use Rattle.betting_replay.specs.Events.{SeatFits, button_after}
 use Rattle.betting_replay.specs.CardLaws.{MarkerFits, MarkersFit}
 use Rattle.betting_replay.specs.Limits.{Fits}
 use Rattle.betting_replay.specs.Tables.{StandsFor, table_of}
@@ -25,7 +25,7 @@ use Rattle.hand_audit.specs.declared.cause.Cause.TheVariants.{Text, Bet, Split, 
 use Rattle.hand_audit.specs.declared.hand.Hand.{Hand}
 use Rattle.hand_audit.specs.Lines.{SoFar, part_after, part_of, read_at, named_by}
 use Rattle.hand_audit.specs.Collections.{collected_by, collections, taken}
-use Rattle.hand_audit.specs.Showings.{paid_in, button_by, rake_by, showing_at, showing_of}
+use Rattle.hand_audit.specs.Showings.{paid_in, rake_by, showing_at, showing_of}
 use Rattle.hand_audit.specs.Departs.{is_total, total_cause, event_cause, end_cause, split_cause, put_in_by, collected}
 use Rattle.hand_audit.specs.Settle.{Showing, beyond}
 use Rattle.card_sets.specs.declared.games.Game.{Game}
@@ -86,7 +86,7 @@ pub goes_on : (new hand : Hand) (g : Header) (players : ℕ) (so_far : SoFar) (l
     → line_event hand.names g hand.part line ≡ Ok e → verdict (legal g players so_far.events e) ≡ Ok u
     → total_cause (put_in_all (paid_in hand.replay)) (taken hand.collections.items) e ≡ None
     → Fits e → MarkerFits g.game e → StandsFor new.replay g players (e ∷ so_far.events) → new.names ≡ named_by e line hand.names → new.part ≡ part_after e hand.part
-    → new.collections.items ≡ hand.collections.items ++ collected_by e → new.button ≡ button_by e hand.button → new.rake ≡ rake_by e hand.rake
+    → new.collections.items ≡ hand.collections.items ++ collected_by e → new.button ≡ button_after e hand.button → new.rake ≡ rake_by e hand.rake
     → new.total ≡ (is_total e || hand.total)
     → Goes new g players so_far line (read_at g so_far line) None
 goes_on new hand g players so_far line e u k is bet total fits marker stands names part all button' rake' total' =
@@ -97,7 +97,7 @@ goes_on new hand g players so_far line e u k is bet total fits marker stands nam
         names = names ∙ ap (named_by e line) k.names;
         part = part ∙ ap (part_after e) k.part;
         collections = all ∙ ap (λ xs. xs ++ collected_by e) k.collections;
-        button = button' ∙ ap (button_by e) k.button;
+        button = button' ∙ ap (button_after e) k.button;
         rake = rake' ∙ ap (rake_by e) k.rake;
         total = total' ∙ ap (λ b. is_total e || b) k.total;
         seats = seats_more e line so_far.names fits.seats k.seats;

@@ -3,11 +3,12 @@ use Rattle.std.proofs.Common.{◌≡◌, ℕ, zero, suc, ◌<◌, ◌≤◌, Lis
 use Rattle.std.specs.Prelude.{Option, Some, None, is_some, unwrap_or, replicate, slice_index_or, if◌then◌else◌}
 use Rattle.std.specs.List.{list_all}
 use Rattle.std.proofs.lemmas.List.{length-map, get_or_append_left}
+use Rattle.card_sets.specs.PlayerSets.{seats_in}
 use Rattle.card_sets.specs.Cards.{has_card}
 use Rattle.card_sets.specs.declared.games.Game.{Game}
 use Rattle.history_text.specs.declared.events.Header.{Header}
 use Rattle.history_text.specs.declared.events.Event.{Event}
-use Rattle.history_text.specs.declared.events.Street.{Street}
+use Rattle.card_sets.specs.declared.streets.Street.{Street}
 use Rattle.betting_replay.specs.Accepted.{IsAccepted, ShowsSeats, ShowsDead}
 use Rattle.betting_replay.specs.AllIn.{point_street, point_contenders}
 use Rattle.betting_replay.specs.Boards.{board_up_to}
@@ -25,10 +26,9 @@ use Rattle.showdown_tally.specs.declared.table.Table.{Table}
 use Rattle.hand_audit.specs.AllIns.{cards_or_none, bare_of, all_in_at, known_with, known_there, eligible_in, all_in_on, all_in_by, all_in_of}
 use Rattle.hand_audit.specs.CardsKnown.{IsHandOf, IsStillHidden, KnowsCards}
 use Rattle.hand_audit.specs.KnownTables.{Bare, ten, holds, with_facts, table_if, table_from, all_hold}
-use Rattle.hand_audit.specs.Orders.{seats_in}
 use Rattle.hand_audit.specs.Showings.{paid_in}
-use Rattle.hand_audit.specs.declared.all_in.AtPoint.{AtPoint}
-use Rattle.hand_audit.specs.declared.audit.AllIn.TheVariants.{Unknown, Known}
+use Rattle.hand_audit.specs.declared.at_point.AtPoint.{AtPoint}
+use Rattle.hand_audit.specs.declared.verdicts.AllIn.TheVariants.{Unknown, Known}
 use Rattle.hand_audit.proofs.Order.{range_from}
 use Rattle.hand_audit.proofs.Tens.{bare}
 

@@ -14,7 +14,6 @@ pub mod FirstPass
 pub mod Whole
 pub mod Sound
 pub mod Shown
-pub mod Openings
 pub mod Sums
 pub mod First
 pub mod AllPlay
@@ -36,4 +35,9 @@ pub mod UnknownCards
 pub mod TablePots
 pub mod MarkCards
 pub mod WonPots
+pub mod Paying
+pub mod Rakes
+pub mod OpenPots
+pub mod Dues
+pub mod PotSums
 pub mod SeatDigits

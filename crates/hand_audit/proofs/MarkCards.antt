@@ -5,6 +5,8 @@ use Rattle.std.specs.Int.{bit_at}
 use Rattle.std.specs.List.{list_all, list_any}
 use Rattle.std.proofs.lemmas.Nat.Bits.{bit_at-zero}
 use mathlib.Core.Bool.{true≢false}
+use Rattle.card_sets.specs.PlayerSetLaws.{has_player-where}
+use Rattle.card_sets.specs.PlayerSets.{has_player, seats_in}
 use Rattle.card_sets.specs.Cards.{has_card, union}
 use Rattle.card_sets.specs.Choose.{choose}
 use Rattle.card_sets.specs.Games.{allowed}
@@ -13,7 +15,6 @@ use Rattle.card_sets.specs.declared.games.Game.TheVariants.{Stud, Razz}
 use Rattle.card_sets.specs.declared.games.Side.{Side}
 use Rattle.card_sets.specs.declared.games.Side.TheVariants.{High, Low}
 use Rattle.betting_replay.proofs.Members.{in_union, either, both, or_left, or_right}
-use Rattle.betting_replay.specs.Seats.{has_seat}
 use Rattle.hand_choice.specs.AllowedFives.{AreFives, AllowsFives}
 use Rattle.rank_high.proofs.SetParts.{has-part}
 use Rattle.rank_high.proofs.Sets.{length-union, Apart-apart}
@@ -27,9 +28,7 @@ use Rattle.hand_audit.specs.MarkLaws.{IsMarkOf, MarksIn, MarksAreCards}
 use Rattle.hand_audit.specs.MarkNumbers.{number_of_five, top_number}
 use Rattle.hand_audit.specs.Settle.{Showing, hand_of, mark_at, value_on, worth_on, side_winners, first_side, first_winners}
 use Rattle.hand_audit.specs.Winning.{AreFull, AreDecided}
-use Rattle.hand_audit.specs.Orders.{seats_in}
 use Rattle.hand_audit.proofs.Among.{among_filter}
-use Rattle.hand_audit.proofs.Seats.{bits_below}
 use Rattle.hand_audit.proofs.MarkFacts.{best_below}
 use Rattle.hand_audit.proofs.WonPots.{decided_at}
 
@@ -164,41 +163,41 @@ own_mark side fives own board is are seven none size = mark_card side (union own
 full_mark : AllowsFives → (game : Game) (own board : List ℕ) → IsFull game own board → AreFives (allowed game own board) × (length (union own board) ≡ length own + length board)
 full_mark law game own board full = (law game own board full.own_cards full.board_cards full.apart, length-union own board full.own_cards full.board_cards (Apart-apart own board full.apart))
 
-stud_mark : AllowsFives → (own board : List ℕ) → IsFull Stud own board → IsMarkOf High (allowed Stud own board) own (mark_of Stud board (Some own))
+stud_mark : AllowsFives → (own board : List ℕ) → IsFull Stud own board → IsMarkOf High (allowed Stud own board) own (mark_of (Some High) Stud board (Some own))
 stud_mark law own board full = (let f = full_mark law Stud own board full in own_mark High (allowed Stud own board) own board refl f.0 full.own_size full.board_size f.1)
 
-razz_mark : AllowsFives → (own board : List ℕ) → IsFull Razz own board → IsMarkOf Low (allowed Razz own board) own (mark_of Razz board (Some own))
+razz_mark : AllowsFives → (own board : List ℕ) → IsFull Razz own board → IsMarkOf Low (allowed Razz own board) own (mark_of (Some Low) Razz board (Some own))
 razz_mark law own board full = (let f = full_mark law Razz own board full in own_mark Low (allowed Razz own board) own board refl f.0 full.own_size full.board_size f.1)
 
 -- in each pot
-marks_in : (game : Game) (side : Side) (s : Showing) → AreDecided s (pots s.paid) → ((own board : List ℕ) → IsFull game own board → IsMarkOf side (allowed game own board) own (mark_of game board (Some own))) → MarksIn game side s
+marks_in : (game : Game) (side : Side) (s : Showing) → AreDecided s (pots s.paid) → ((own board : List ℕ) → IsFull game own board → IsMarkOf side (allowed game own board) own (mark_of (Some side) game board (Some own))) → MarksIn game side s
 marks_in game side s decided each is number pot at more p l own known =
     let full : AreFull s = decided_at s (pots s.paid) number pot decided at more in
     let mine : IsFull s.game own s.board = subst (λ (o : Option (List ℕ)). IfSome o (λ own. IsFull s.game own s.board)) known (full p l) in
-    let mark : mark_at s p ≡ mark_of game s.board (Some own) = ap (λ o. mark_of s.game s.board o) known ∙ ap (λ g. mark_of g s.board (Some own)) is in
+    let mark : mark_at (Some side) s s.board p ≡ mark_of (Some side) game s.board (Some own) = ap (λ o. mark_of (Some side) s.game s.board o) known ∙ ap (λ g. mark_of (Some side) g s.board (Some own)) is in
     subst (λ (n : ℕ). IsMarkOf side (allowed game own s.board) own n) (sym mark) (each own s.board (subst (λ (g : Game). IsFull g own s.board) is mine))
 
 -- whoever wins has known final cards
-has_hand : (side : Side) (s : Showing) (p : ℕ) → is_some (worth_on (Some side) s p) ≡ true → is_some (hand_of s p) ≡ true
-has_hand side s p worth = by (hand_of s p) worth
+has_hand : (side : Side) (s : Showing) (board : List ℕ) (p : ℕ) → is_some (worth_on (Some side) s board p) ≡ true → is_some (hand_of s p) ≡ true
+has_hand side s board p worth = by (hand_of s p) worth
   where
-    by : (o : Option (List ℕ)) → is_some (value_on (Some side) s.game s.board o) ≡ true → is_some o ≡ true
+    by : (o : Option (List ℕ)) → is_some (value_on (Some side) s.game board o) ≡ true → is_some o ≡ true
     by None worth = worth
     by (Some own) worth = refl
 
-winner_known : (side : Option Side) (s : Showing) (eligible p : ℕ) → p < 11 → has_seat (side_winners side s eligible) p ≡ true → is_some (hand_of s p) ≡ true
-winner_known None s eligible p l won = (let none : bit_at 0 p ≡ 0 = bit_at-zero p in absurd (true≢false (sym won ∙ ap (λ bit. bit == 1) none)))
-winner_known (Some side) s eligible p l won =
-    let worth = λ (q : ℕ). worth_on (Some side) s q in
+winner_known : (side : Option Side) (s : Showing) (board : List ℕ) (eligible p : ℕ) → p < 11 → has_player (side_winners side s board eligible) p ≡ true → is_some (hand_of s p) ≡ true
+winner_known None s board eligible p l won = (let none : bit_at 0 p ≡ 0 = bit_at-zero p in absurd (true≢false (sym won ∙ ap (λ bit. bit == 1) none)))
+winner_known (Some side) s board eligible p l won =
+    let worth = λ (q : ℕ). worth_on (Some side) s board q in
     let unbeaten = λ (q : ℕ). list_all (λ j. not (is_beaten_by side (worth q) (worth j))) (seats_in eligible) in
-    let among : list_any (λ q. q == p) (winners_of side (worth_on (Some side) s) (seats_in eligible)) ≡ true
-    = sym (bits_below (λ p. list_any (λ q. q == p) (winners_of side (worth_on (Some side) s) (seats_in eligible))) 11 p l) ∙ won in
+    let among : list_any (λ q. q == p) (winners_of side (worth_on (Some side) s board) (seats_in eligible)) ≡ true
+    = sym (has_player-where (λ p. list_any (λ q. q == p) (winners_of side (worth_on (Some side) s board) (seats_in eligible))) 11 p l) ∙ won in
     let passes = both (list_any (λ q. q == p) (seats_in eligible)) (is_some (worth p) && unbeaten p) (sym (among_filter (λ q. is_some (worth q) && unbeaten q) (seats_in eligible) p) ∙ among) in
-    has_hand side s p (both (is_some (worth p)) (unbeaten p) passes.1).0
+    has_hand side s board p (both (is_some (worth p)) (unbeaten p) passes.1).0
 
-winners_known : (s : Showing) (eligible p : ℕ) → p < 11 → has_seat (first_winners s eligible) p ≡ true → is_some (hand_of s p) ≡ true
+winners_known : (s : Showing) (board : List ℕ) (eligible p : ℕ) → p < 11 → has_player (first_winners s board eligible) p ≡ true → is_some (hand_of s p) ≡ true
 unfolding first_winners
-winners_known s eligible p l won = winner_known (first_side s.game) s eligible p l won
+winners_known s board eligible p l won = winner_known (first_side s.game) s board eligible p l won
 
 pub marks_are_cards : AllowsFives → (s : Showing) → AreDecided s (pots s.paid) → MarksAreCards s
 marks_are_cards law s decided = record { stud = marks_in Stud High s decided (stud_mark law); razz = marks_in Razz Low s decided (razz_mark law); winners = winners_known s }

@@ -1,17 +1,21 @@
 -- The order by marks lists the winners, each once.
 use Rattle.std.proofs.Common.{◌≡◌, ◌≢◌, ℕ, zero, suc, length, length-append, ◌+◌, ◌-◌, ◌<◌, ◌≤◌, List, [], ◌∷◌, ◌++◌, refl, sym, ap, ◌∙◌, Bool, true, false, ◌==◌, ◌&&◌, ◌||◌, arith}
-use Rattle.std.specs.Prelude.{count_by, nat_le, nat_lt, filter, if◌then◌else◌}
+use Rattle.std.specs.Prelude.{count_by, nat_le, nat_lt, filter, if◌then◌else◌, Option}
 use Rattle.std.proofs.lemmas.List.Sums.{count_by-le-length, length-filter}
 use Rattle.std.specs.Int.{bit_at}
 use Rattle.std.proofs.lemmas.List.Folds.{list_any-append}
 use Rattle.std.proofs.lemmas.Nat.Bits.{bit_at-lt, bit_at-zero, same_from_bits}
+use Rattle.card_sets.specs.PlayerSetLaws.{among-players_from}
+use Rattle.card_sets.specs.PlayerSets.{seats_in}
+use Rattle.card_sets.specs.Games.{has_marks}
 use Rattle.pot_layers.specs.Split.{is_among, Differ, InRange, IsOrder}
 use Rattle.card_sets.specs.declared.games.Game.{Game}
-use Rattle.hand_audit.specs.Marks.{has_marks}
+use Rattle.card_sets.specs.declared.games.Side.{Side}
 use Rattle.hand_audit.specs.Settle.{Showing, mark_at, order_of}
-use Rattle.hand_audit.specs.Orders.{odd_order, seats_in, seats_from, by_marks_below, by_marks, OfSeats}
-use Rattle.hand_audit.proofs.Order.{differ_from, range_from, differ_both, range_both, among_from, seat_of_bit, seats_none, seats_some}
+use Rattle.hand_audit.specs.Orders.{odd_order, by_marks_below, by_marks, OfSeats}
+use Rattle.hand_audit.proofs.Order.{differ_from, range_from, differ_both, range_both, seat_of_bit}
 use Rattle.hand_audit.proofs.Among.{among_filter}
+use Rattle.hand_audit.proofs.Seats.{few_seats}
 
 by_part : (a b c d : Bool) → (a || b) ≡ c → ((d && a) || (d && b)) ≡ (d && c)
 by_part a b c true e = e
@@ -85,13 +89,13 @@ marked_ordered m w small of = record {
     off false b c = refl
 
     by : (s : ℕ) (bit : Bool) → (bit_at w s == 1) ≡ bit → is_among s (by_marks_below m (seats_in w) 52) ≡ bit
-    by s false e = among_marks m (seats_in w) 52 s ∙ ap (λ b. b && nat_lt (m s) 52) (among_from w 1 10 s) ∙ rw e (off (nat_le 1 s) (nat_lt s (1 + 10)) (nat_lt (m s) 52))
+    by s false e = among_marks m (seats_in w) 52 s ∙ ap (λ b. b && nat_lt (m s) 52) (among-players_from w 1 10 s) ∙ rw e (off (nat_le 1 s) (nat_lt s (1 + 10)) (nat_lt (m s) 52))
     by s true e =
         let seat = seat_of_bit w s of e in
         let low : nat_le 1 s ≡ true = (let l = seat.0 in grind arith) in
         let high : nat_lt s (1 + 10) ≡ true = (let l : s < 1 + 10 = omega (arith, seat.1) in grind arith) in
         let card : nat_lt (m s) 52 ≡ true = (let l : m s < 52 = small s seat.1 in grind arith) in
-        among_marks m (seats_in w) 52 s ∙ ap (λ b. b && nat_lt (m s) 52) (among_from w 1 10 s) ∙ rw (e, low, high, card) refl
+        among_marks m (seats_in w) 52 s ∙ ap (λ b. b && nat_lt (m s) 52) (among-players_from w 1 10 s) ∙ rw (e, low, high, card) refl
 
     each : (s : ℕ) → is_among s (by_marks_below m (seats_in w) 52) ≡ (bit_at w s == 1)
     each s = by s (bit_at w s == 1) refl
@@ -114,26 +118,6 @@ same_below m o xs (suc n) r h =
 pub same_marks : (m o : ℕ → ℕ) (w : ℕ) → ((p : ℕ) → p < 11 → m p ≡ o p) → by_marks m (seats_in w) ≡ by_marks o (seats_in w)
 unfolding by_marks
 same_marks m o w h = same_below m o (seats_in w) 52 (range_from w 1 10 (omega arith) (omega arith)) h
-
--- a seat that passes, and one that doesn't
-pub filter_skip : (f : ℕ → Bool) (w p : ℕ) → ((bit_at w p == 1) && f p) ≡ false → p < 11 → filter f (seats_from w p (11 - p)) ≡ filter f (seats_from w (p + 1) (11 - (p + 1)))
-filter_skip f w p fails l = by (bit_at w p == 1) refl
-  where
-    by : (b : Bool) → (bit_at w p == 1) ≡ b → filter f (seats_from w p (11 - p)) ≡ filter f (seats_from w (p + 1) (11 - (p + 1)))
-    by false e = ap (filter f) (seats_none w p 11 e l)
-    by true e =
-        let no : f p ≡ false = sym (ap (λ b. b && f p) e) ∙ fails in
-        ap (filter f) (seats_some w p 11 e l) ∙ ap (λ b. if b then p ∷ filter f (seats_from w (p + 1) (11 - (p + 1))) else filter f (seats_from w (p + 1) (11 - (p + 1)))) no
-
-first_true : (a b : Bool) → (a && b) ≡ true → a ≡ true
-first_true true b e = refl
-first_true false b e = cc
-
-pub filter_take : (f : ℕ → Bool) (w p : ℕ) → ((bit_at w p == 1) && f p) ≡ true → p < 11 → filter f (seats_from w p (11 - p)) ≡ p ∷ filter f (seats_from w (p + 1) (11 - (p + 1)))
-filter_take f w p passes l =
-    let set : (bit_at w p == 1) ≡ true = first_true (bit_at w p == 1) (f p) passes in
-    let yes : f p ≡ true = second_true (bit_at w p == 1) (f p) passes in
-    ap (filter f) (seats_some w p 11 set l) ∙ ap (λ b. if b then p ∷ filter f (seats_from w (p + 1) (11 - (p + 1))) else filter f (seats_from w (p + 1) (11 - (p + 1)))) yes
 
 pub room_left : (old new rest all : List ℕ) (p : ℕ) → new ++ p ∷ rest ≡ old ++ all → length old + length all ≤ 10 → length new < 10
 room_left old new rest all p e room =
@@ -181,28 +165,20 @@ length_marks : (m : ℕ → ℕ) (xs : List ℕ) (n : ℕ) → length (by_marks_
 length_marks m xs zero = sym (none_below m xs)
 length_marks m xs (suc n) = length-append (filter (λ p. m p == n) xs) (by_marks_below m xs n) ∙ ap (λ k. length (filter (λ p. m p == n) xs) + k) (length_marks m xs n) ∙ split_filter m n xs
 
-pub few_seats : (w p n : ℕ) → length (seats_from w p n) ≤ n
-few_seats w p zero = omega arith
-few_seats w p (suc n) = by (bit_at w p == 1) (few_seats w (p + 1) n)
-  where
-    by : (b : Bool) → length (seats_from w (p + 1) n) ≤ n → length (if b then p ∷ seats_from w (p + 1) n else seats_from w (p + 1) n) ≤ suc n
-    by true few = omega (arith, few)
-    by false few = omega (arith, few)
-
 pub few_marked : (m : ℕ → ℕ) (w n : ℕ) → length (by_marks_below m (seats_in w) n) ≤ 10
 few_marked m w n =
     let a : length (by_marks_below m (seats_in w) n) ≡ count_by (λ p. nat_lt (m p) n) (seats_in w) = length_marks m (seats_in w) n ∙ length-filter (λ p. nat_lt (m p) n) (seats_in w) in
-    omega (arith, a, count_by-le-length (λ p. nat_lt (m p) n) (seats_in w), few_seats w 1 10)
+    omega (arith, a, count_by-le-length (λ p. nat_lt (m p) n) (seats_in w), few_seats w)
 
 pub by_marks_is : (m : ℕ → ℕ) (w : ℕ) (order : List ℕ) → order ≡ by_marks_below m (seats_in w) 52 → order ≡ by_marks m (seats_in w)
 unfolding by_marks
 by_marks_is m w order is = is
 
 -- the order that the rules ask for
-pub order_marked : (s : Showing) (game : Game) (winners : ℕ) → has_marks game ≡ true → game ≡ s.game → by_marks (mark_at s) (seats_in winners) ≡ order_of s winners
+pub order_marked : (side : Option Side) (s : Showing) (board : List ℕ) (game : Game) (winners : ℕ) → has_marks game ≡ true → game ≡ s.game → by_marks (mark_at side s board) (seats_in winners) ≡ order_of side s board winners
 unfolding order_of
-order_marked s game winners marked same = let yes : has_marks s.game ≡ true = ap has_marks (sym same) ∙ marked in rw yes refl
+order_marked side s board game winners marked same = let yes : has_marks s.game ≡ true = ap has_marks (sym same) ∙ marked in rw yes refl
 
-pub order_seated : (s : Showing) (game : Game) (winners button : ℕ) → has_marks game ≡ false → game ≡ s.game → button ≡ s.button → odd_order button winners ≡ order_of s winners
+pub order_seated : (side : Option Side) (s : Showing) (board : List ℕ) (game : Game) (winners button : ℕ) → has_marks game ≡ false → game ≡ s.game → button ≡ s.button → odd_order button winners ≡ order_of side s board winners
 unfolding order_of
-order_seated s game winners button marked same is = let not_so : has_marks s.game ≡ false = ap has_marks (sym same) ∙ marked in rw not_so (ap (λ b. odd_order b winners) is)
+order_seated side s board game winners button marked same is = let not_so : has_marks s.game ≡ false = ap has_marks (sym same) ∙ marked in rw not_so (ap (λ b. odd_order b winners) is)

@@ -1,12 +1,11 @@
 -- A line that says a marker gives it as many cards as come with its street.
-use Rattle.std.proofs.Common.{◌≡◌, ℕ, ◌+◌, ◌*◌, ◌<◌, List, [], ◌∷◌, refl, sym, ◌∙◌, Bool, true, false, ◌==◌, ◌||◌, ◌-◌, length, drop, arith}
+use Rattle.std.proofs.Common.{◌≡◌, ℕ, ◌+◌, ◌*◌, ◌<◌, List, [], ◌∷◌, refl, sym, Bool, true, false, ◌==◌, ◌||◌, ◌-◌, length, drop, arith}
 use Rattle.std.specs.Prelude.{Option, Some, None, IfSome, Result, Ok, Err, IfOk, is_some, if◌then◌else◌, option_map, option_and_then, position, codes, nat_le, nat_lt}
 use Rattle.std.specs.List.{list_any, position_or_len}
 use Rattle.std.specs.Str.{bytes_eq}
 use Rattle.card_sets.specs.Cards.{has_card}
 use Rattle.card_sets.specs.CardText.{card_of_letters, rank_letters, suit_letters}
 use Rattle.card_sets.specs.declared.games.Game.{Game}
-use Rattle.card_sets.specs.declared.games.Game.TheVariants.{Holdem, Omaha8, Stud, Razz, Lowball27}
 use Rattle.history_text.specs.declared.events.Header.{Header}
 use Rattle.history_text.specs.declared.events.Part.{Part}
 use Rattle.history_text.specs.declared.events.Part.TheVariants.{Preamble, Play, Summary as SummaryPart}
@@ -15,8 +14,7 @@ use Rattle.history_text.specs.declared.events.PostKind.TheVariants.{Small, Big, 
 use Rattle.history_text.specs.declared.events.Verb.{Verb}
 use Rattle.history_text.specs.declared.events.Verb.TheVariants.{PostsSmall, PostsBig, PostsBoth, PostsAnte, BringsIn, Folds, Checks, Calls, Bets, Raises, Shows, Mucks, DoesntShow, Discards, StandsPat, SitsOut, IsSittingOut}
 use Rattle.history_text.specs.declared.events.Act.TheVariants.{Check}
-use Rattle.history_text.specs.declared.events.Street.{Street}
-use Rattle.history_text.specs.declared.events.Street.TheVariants.{First, Flop, Turn, Fourth, Fifth, Sixth, River, Draw, ShowDown, Summary}
+use Rattle.card_sets.specs.declared.streets.Street.{Street}
 use Rattle.history_text.specs.declared.events.Event.{Event}
 use Rattle.history_text.specs.declared.events.Event.TheVariants as event
 use Rattle.history_text.specs.declared.events.TextFault.{TextFault}
@@ -25,13 +23,15 @@ use Rattle.history_text.specs.Texts.{behind, cut_last, cut_first}
 use Rattle.history_text.specs.Reading.{◌>>=◌, ◌otherwise◌, or_fault, is_end, some_money, follows, all_in_end, money, seat_front}
 use Rattle.history_text.specs.Brackets.{closed, counted_cards, cards_of, card_words, at_most_ten, shown_counts}
 use Rattle.history_text.specs.Names.{front_name, seat_named}
-use Rattle.history_text.specs.Acts.{at_end, post, call, bet, raise, perhaps_cards, fold, show, discard_behind, discard, behind_card, is_discarded, pat, said, act_event, verb_of, has_bring_in, has_draw}
+use Rattle.card_sets.specs.Games.{has_bring_in, has_draw}
+use Rattle.history_text.specs.Acts.{at_end, post, call, bet, raise, perhaps_cards, fold, show, discard_behind, discard, behind_card, is_discarded, pat, said, act_event, verb_of}
 use Rattle.history_text.specs.Plays.{acted, deal_end, deal_once, deal_again, deal_cards, deal, dealt, give_back, returned, pot_of, collect, collected, cancelled, play_event, dealt_counts, drawn_counts}
 use Rattle.history_text.specs.Seats.{seat_opening, free_name, seat_event, seated, button_event, button_end, buttoned, preamble_event}
 use Rattle.history_text.specs.Totals.{total_event, totalled, seat_among, last_shown, shown_event, shown, summary_event}
-use Rattle.history_text.specs.Markers.{street_event, board_count, is_of_two_boards, marker_of, marker_event, marked}
+use Rattle.card_sets.specs.Streets.{board_count}
+use Rattle.history_text.specs.Markers.{street_event, is_of_two_boards, marker_of, marker_event, marked}
 use Rattle.history_text.specs.Lines.{line_event}
-use Rattle.betting_replay.specs.CardLaws.{HasCards, MarkerFits, marker_size, street_size}
+use Rattle.betting_replay.specs.CardLaws.{HasCards, MarkerFits}
 
 -- what a reader answers has a property
 record Ends (P : Event → Type 0) (r : Result Event TextFault) : Type 0 where
@@ -135,37 +135,6 @@ words_deck (rank ∷ suit ∷ []) = one_deck (card_of_letters rank suit) (letter
 words_deck (rank ∷ suit ∷ gap ∷ rest) = more_deck (gap == 32) (card_of_letters rank suit) (card_words rest) (letters_deck rank suit) (words_deck rest)
 
 -- a marker has as many cards as come with it
-zero_size : (game : Game) (street : Street) → marker_size street ≡ 0 → 0 ≡ street_size game street
-zero_size Holdem street e = sym e
-zero_size Omaha8 street e = sym e
-zero_size Stud street e = refl
-zero_size Razz street e = refl
-zero_size Lowball27 street e = refl
-
-same_size : (game : Game) (street : Street) → board_count game street ≡ street_size game street
-same_size game First = zero_size game First refl
-same_size Holdem Flop = refl
-same_size Omaha8 Flop = refl
-same_size Stud Flop = refl
-same_size Razz Flop = refl
-same_size Lowball27 Flop = refl
-same_size Holdem Turn = refl
-same_size Omaha8 Turn = refl
-same_size Stud Turn = refl
-same_size Razz Turn = refl
-same_size Lowball27 Turn = refl
-same_size game Fourth = zero_size game Fourth refl
-same_size game Fifth = zero_size game Fifth refl
-same_size game Sixth = zero_size game Sixth refl
-same_size Holdem River = refl
-same_size Omaha8 River = refl
-same_size Stud River = refl
-same_size Razz River = refl
-same_size Lowball27 River = refl
-same_size game Draw = zero_size game Draw refl
-same_size game ShowDown = zero_size game ShowDown refl
-same_size game Summary = zero_size game Summary refl
-
 abbrev IsCounted : ℕ → List ℕ → Type 0
 IsCounted n cards = (length cards ≡ n) × AreOfDeck cards
 
@@ -189,10 +158,10 @@ street_fits : (game : Game) (street : Street) (text : List ℕ) → Ends (Marker
 unfolding street_event
 street_fits game street text = with_equation (board_count game street == 0)
     (λ e. says (none (let z : board_count game street ≡ 0 = grind arith in z)))
-    (λ e. reads (or_fault BadCards (cut_last (codes "[") text)) (λ last. reads (closed last.1) (λ cut. reads_with (counted_cards (board_count game street ∷ []) cut.0) (IsCounted (board_count game street)) (counted (board_count game street) cut.0) (λ cards q. says (record { many = q.0 ∙ same_size game street; deck = q.1 })))))
+    (λ e. reads (or_fault BadCards (cut_last (codes "[") text)) (λ last. reads (closed last.1) (λ cut. reads_with (counted_cards (board_count game street ∷ []) cut.0) (IsCounted (board_count game street)) (counted (board_count game street) cut.0) (λ cards q. says (record { many = q.0; deck = q.1 })))))
   where
     none : board_count game street ≡ 0 → HasCards game street []
-    none e = record { many = sym e ∙ same_size game street; deck = λ card h. cc }
+    none e = record { many = sym e; deck = λ card h. cc }
 
 marker_fits : (g : Header) (text : List ℕ) → Ends (MarkerFits g.game) (marker_event g text)
 unfolding marker_event

@@ -1,13 +1,13 @@
 -- Events of the summary move no chips.
-use Rattle.std.proofs.Common.{◌≡◌, ℕ, zero, suc, ◌+◌, ◌-◌, ◌<◌, ◌≤◌, List, [], ◌∷◌, ◌++◌, refl, sym, ap, ◌∙◌, Bool, true, false, ◌==◌, ◌&&◌, ◌||◌, not, arith}
+use Rattle.std.proofs.Common.{◌≡◌, ℕ, zero, suc, ◌+◌, ◌-◌, ◌<◌, ◌≤◌, List, ◌∷◌, refl, sym, ◌∙◌, Bool, true, false, ◌==◌, ◌&&◌, ◌||◌, not, arith, append-nil}
 use Rattle.std.specs.Prelude.{if◌then◌else◌}
+use Rattle.card_sets.specs.PlayerSets.{has_player}
 use Rattle.history_text.specs.declared.events.Header.{Header}
 use Rattle.history_text.specs.declared.events.Event.{Event}
 use Rattle.history_text.specs.declared.events.Event.TheVariants.{Total, SeatCards, Remark}
 use Rattle.history_text.specs.declared.events.Part.TheVariants.{Summary as SummaryPart}
 use Rattle.history_text.specs.Within.{stands_in}
 use Rattle.betting_replay.specs.Accounts.{paid_by}
-use Rattle.betting_replay.specs.Seats.{has_seat}
 use Rattle.betting_replay.specs.Sums.{paid, dead, folded}
 use Rattle.betting_replay.specs.Tables.{table_of, chips_of, acts_of, no_chips, no_acts}
 use Rattle.betting_replay.specs.Turns.{is_contender}
@@ -34,18 +34,14 @@ same_folded : (b f : Bool) → ((b && false) || f) ≡ f
 same_folded true f = refl
 same_folded false f = refl
 
-append_none : {A : Type 0} (xs : List A) → xs ++ [] ≡ xs
-append_none [] = refl
-append_none (x ∷ xs) = ap (λ ys. x ∷ ys) (append_none xs)
-
 pub quiet : (g : Header) (h : List Event) (e : Event) → stands_in SummaryPart e ≡ true → IsQuiet g h e
-quiet g h (Total units rake) is = record { paid = λ p. same_paid (0 == p) (paid g h p); dead = λ p. same_dead (0 == p) (dead g h p); folded = λ p. same_folded (0 == p) (folded h p); collections = append_none (collections h) }
-quiet g h (SeatCards seat cards) is = record { paid = λ p. same_paid (seat == p) (paid g h p); dead = λ p. same_dead (seat == p) (dead g h p); folded = λ p. same_folded (seat == p) (folded h p); collections = append_none (collections h) }
-quiet g h Remark is = record { paid = λ p. same_paid (0 == p) (paid g h p); dead = λ p. same_dead (0 == p) (dead g h p); folded = λ p. same_folded (0 == p) (folded h p); collections = append_none (collections h) }
+quiet g h (Total units rake) is = record { paid = λ p. same_paid (0 == p) (paid g h p); dead = λ p. same_dead (0 == p) (dead g h p); folded = λ p. same_folded (0 == p) (folded h p); collections = append-nil (collections h) }
+quiet g h (SeatCards seat cards) is = record { paid = λ p. same_paid (seat == p) (paid g h p); dead = λ p. same_dead (seat == p) (dead g h p); folded = λ p. same_folded (seat == p) (folded h p); collections = append-nil (collections h) }
+quiet g h Remark is = record { paid = λ p. same_paid (0 == p) (paid g h p); dead = λ p. same_dead (0 == p) (dead g h p); folded = λ p. same_folded (0 == p) (folded h p); collections = append-nil (collections h) }
 quiet g h _ is = cc
 
 -- what a seat of the table has put in, by the events
-pub paid_is : (g : Header) (players : ℕ) (h : List Event) (p : ℕ) → p < 11 → paid_by (table_of g players h) p ≡ record { seat = p; live = paid g h p; dead = dead g h p; contender = has_seat players p && not (folded h p) }
+pub paid_is : (g : Header) (players : ℕ) (h : List Event) (p : ℕ) → p < 11 → paid_by (table_of g players h) p ≡ record { seat = p; live = paid g h p; dead = dead g h p; contender = has_player players p && not (folded h p) }
 unfolding paid_by is_contender
 paid_is g players h p small = rw (at_by_seat (chips_of g h) p no_chips small, at_by_seat (acts_of g h) p no_acts small) refl
 

@@ -3,7 +3,6 @@ use Rattle.std.proofs.Common.{◌≡◌, ◌≢◌, ℕ, suc, ◌+◌, ◌-◌, 
 use Rattle.std.proofs.lemmas.Int.Digits.{digits_of_step, same_from_digits_of}
 use Rattle.std.proofs.lemmas.List.{append-nil, map-append, drop_more}
 use Rattle.std.proofs.lemmas.Nat.{div-mul-add, mod-mul-add}
-use Rattle.std.proofs.Math.ListN.{drop_of_length-le}
 use Rattle.std.specs.Char.{is_ascii_digit}
 use Rattle.std.specs.BTreeSet.{BTreeSet, UpdatesBy, contains_by}
 use Rattle.std.specs.Cmp.{eq_by_cmp_equiv}
@@ -17,10 +16,6 @@ use Rattle.std.specs.Int.Digits.{digits_of}
 use Rattle.std.specs.Prelude.{cond, fold, map}
 use Rattle.line_text.specs.Amounts.{digit_count, number_of}
 use Rattle.hand_audit.specs.Passing.{digits_text}
-
--- a digit more stands behind the digits of a number
-step_of : ℕ → ℕ → ℕ
-step_of n d = n * 10 + (d - 48)
 
 text_more : (n d : ℕ) → 48 ≤ d → d ≤ 57 → 0 < n * 10 + (d - 48) → digits_text (n * 10 + (d - 48)) ≡ digits_text n ++ d ∷ []
 text_more n d low high some =
@@ -79,20 +74,6 @@ pub record Zeros (digits : List ℕ) (first : ℕ) : Type 0 where
   pub within : first ≤ length digits
   pub digits_left : digit_count (drop first digits) ≡ length (drop first digits)
   pub number : number_of (drop first digits) ≡ number_of digits
-
-pub zeros_more : (digits : List ℕ) (first : ℕ) → Zeros digits first → first < length digits → get_or digits first 0 ≡ 48 → Zeros digits (first + 1)
-zeros_more digits first z inside is =
-    let split : drop first digits ≡ 48 ∷ drop (first + 1) digits = drop_more digits first 0 inside ∙ ap (λ x. x ∷ drop (first + 1) digits) is in
-    record {
-      within = omega (arith, inside);
-      digits_left = (digits_first 48 (drop (first + 1) digits) (sym (ap digit_count split) ∙ z.digits_left ∙ ap length split)).2;
-      number = sym (number_past (drop (first + 1) digits)) ∙ sym (ap number_of split) ∙ z.number;
-    }
-
-pub zeros_end : (digits : List ℕ) (first : ℕ) → Zeros digits first → length digits ≤ first → drop first digits ≡ digits_text (number_of digits)
-zeros_end digits first z past =
-    let none : drop first digits ≡ [] = drop_of_length-le digits past in
-    none ∙ ap digits_text (sym (ap number_of none) ∙ z.number)
 
 pub zeros_stop : (digits : List ℕ) (first : ℕ) → Zeros digits first → first < length digits → get_or digits first 0 ≢ 48 → drop first digits ≡ digits_text (number_of digits)
 zeros_stop digits first z inside other =

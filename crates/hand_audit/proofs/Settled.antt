@@ -11,18 +11,14 @@ use Rattle.hand_audit.specs.declared.settlement.Payment.{Payment}
 use Rattle.hand_audit.specs.declared.settlement.PotLine.{PotLine}
 use Rattle.hand_audit.specs.Collections.{taken_from, got_from}
 use Rattle.hand_audit.specs.PotNames.{counts_from, fits, each_taken}
-use Rattle.hand_audit.specs.Settle.{Showing, settled, settled_of, beyond, beyond_if, is_checked, parts_if, parts_of, payment, payments_from, beyond_from, sides_of_seat, pot_lines, beyond_in, unfit_line}
+use Rattle.hand_audit.specs.Settle.{Showing, settled, settled_of, beyond, beyond_if, is_checked, parts_of, shares_if, shares_of_pot, payment, payments_from, beyond_from, sides_of_seat, pot_lines, beyond_in, unfit_line}
 use Rattle.hand_audit.specs.Settling.{IsOfPot, IsOfHand}
 
--- payments by what is known of a pot
-pays_by : Bool → Source → List Collection → List Share → ℕ → Payment
-pays_by checked source all shares p = payment checked (got_from (counts_from source) p all) shares p
-
-parts_are : (s : Showing) (source : Source) (pot : Pot) (checked : Bool) (net : ℕ) (shares : List Share) (all : List Collection) → s.collections ≡ all → checked ≡ is_checked s pot.eligible
-    → net ≡ taken_from (counts_from source) all → shares ≡ parts_if checked s pot.eligible net → shares ≡ parts_of s source pot
-unfolding parts_of
-parts_are s source pot checked net shares all same known taken is =
-    is ∙ ap (λ b. parts_if b s pot.eligible net) known ∙ ap (λ n. parts_if (is_checked s pot.eligible) s pot.eligible n) (taken ∙ ap (taken_from (counts_from source)) (sym same))
+shares_are : (s : Showing) (source : Source) (pot : Pot) (checked : Bool) (net : ℕ) (shares : List Share) (all : List Collection) → s.collections ≡ all → checked ≡ is_checked s pot.eligible
+    → net ≡ taken_from (counts_from source) all → shares ≡ shares_if checked s pot.eligible (parts_of s net) → shares ≡ shares_of_pot s source pot
+unfolding shares_of_pot
+shares_are s source pot checked net shares all same known taken is =
+    is ∙ ap (λ b. shares_if b s pot.eligible (parts_of s net)) known ∙ ap (λ n. shares_if (is_checked s pot.eligible) s pot.eligible (parts_of s n)) (taken ∙ ap (taken_from (counts_from source)) (sym same))
 
 line_is : (pot : Pot) (net net' : ℕ) (checked checked' : Bool) (paid paid' : List Payment) → net ≡ net' → checked ≡ checked' → paid ≡ paid'
     → let line : PotLine = record { gross = pot.units; rake = pot.units - net; eligible = pot.eligible; checked = checked; paid = paid } in
@@ -30,21 +26,21 @@ line_is : (pot : Pot) (net net' : ℕ) (checked checked' : Bool) (paid paid' : L
 line_is pot net net' checked checked' paid paid' a b c = rw (a, b, c) refl
 
 pub one_pot : (s : Showing) (source : Source) (pot : Pot) (checked : Bool) (net : ℕ) (shares : List Share) (paid : List Payment) (first : Option Payment) (all : List Collection)
-    → s.collections ≡ all → checked ≡ is_checked s pot.eligible → net ≡ taken_from (counts_from source) all → shares ≡ parts_if checked s pot.eligible net
+    → s.collections ≡ all → checked ≡ is_checked s pot.eligible → net ≡ taken_from (counts_from source) all → shares ≡ shares_if checked s pot.eligible (parts_of s net)
     → paid ≡ payments_from (λ p. payment checked (got_from (counts_from source) p all) shares p) 1 10
     → first ≡ beyond_from (λ p. payment checked (got_from (counts_from source) p all) shares p) (λ p. sides_of_seat p shares) 1 10
     → IsOfPot s source pot (record { line = record { gross = pot.units; rake = pot.units - net; eligible = pot.eligible; checked = checked; paid = paid }; beyond = first })
 one_pot s source pot checked net shares paid first all same known taken is pays away =
-    let parts : shares ≡ parts_of s source pot = parts_are s source pot checked net shares all same known taken is in
+    let given : shares ≡ shares_of_pot s source pot = shares_are s source pot checked net shares all same known taken is in
     record {
       line = line_is pot net _ checked _ paid _ (taken ∙ ap (taken_from (counts_from source)) (sym same)) known
           (pays ∙ ap (λ b. payments_from (λ p. payment b (got_from (counts_from source) p all) shares p) 1 10) known
           ∙ ap (λ (xs : List Collection). payments_from (λ p. payment (is_checked s pot.eligible) (got_from (counts_from source) p xs) shares p) 1 10) (sym same)
-          ∙ ap (λ xs. payments_from (λ p. payment (is_checked s pot.eligible) (got_from (counts_from source) p s.collections) xs p) 1 10) parts);
+          ∙ ap (λ xs. payments_from (λ p. payment (is_checked s pot.eligible) (got_from (counts_from source) p s.collections) xs p) 1 10) given);
       beyond =
           away ∙ ap (λ b. beyond_from (λ p. payment b (got_from (counts_from source) p all) shares p) (λ p. sides_of_seat p shares) 1 10) known
           ∙ ap (λ (xs : List Collection). beyond_from (λ p. payment (is_checked s pot.eligible) (got_from (counts_from source) p xs) shares p) (λ p. sides_of_seat p shares) 1 10) (sym same)
-          ∙ ap (λ xs. beyond_from (λ p. payment (is_checked s pot.eligible) (got_from (counts_from source) p s.collections) xs p) (λ p. sides_of_seat p xs) 1 10) parts;
+          ∙ ap (λ xs. beyond_from (λ p. payment (is_checked s pot.eligible) (got_from (counts_from source) p s.collections) xs p) (λ p. sides_of_seat p xs) 1 10) given;
     }
 
 -- names that fit, or don't

@@ -1,27 +1,23 @@
 -- What holds of what is kept, whatever the hand, holds after a line more.
-use Rattle.std.proofs.Common.{◌≡◌, ℕ, ◌+◌, ◌^◌, ◌<◌, ◌≤◌, List, [], ◌∷◌, ◌++◌, refl, sym, ap, ◌∙◌, subst, Bool, true, false, ◌||◌, arith}
+use Rattle.std.proofs.Common.{◌≡◌, ℕ, ◌+◌, ◌^◌, ◌<◌, ◌≤◌, [], ◌++◌, refl, sym, ap, ◌∙◌, subst, Bool, true, false, ◌||◌, arith, append-nil}
 use Rattle.std.specs.Prelude.{None}
 use Rattle.history_text.specs.declared.events.Event.{Event}
 use Rattle.history_text.specs.declared.events.Event.TheVariants.{Button, Total, SeatCards, Remark}
 use Rattle.history_text.specs.declared.events.Part.{Part}
 use Rattle.history_text.specs.declared.events.Part.TheVariants.{Summary as SummaryPart}
 use Rattle.history_text.specs.Within.{stands_in}
+use Rattle.betting_replay.specs.Events.{button_after}
 use Rattle.betting_replay.specs.Limits.{Fits}
 use Rattle.hand_audit.specs.declared.hand.Hand.{Hand}
 use Rattle.hand_audit.specs.Lines.{part_after}
 use Rattle.hand_audit.specs.Collections.{collected_by, taken}
-use Rattle.hand_audit.specs.Showings.{button_by}
 use Rattle.hand_audit.specs.Departs.{is_total, total_cause}
 use Rattle.hand_audit.specs.Keeping.{IsSound}
 use Rattle.hand_audit.proofs.Chips.{total_even, total_part, stays}
 
-button_few : (e : Event) (before : ℕ) → Fits e → before ≤ 10 → button_by e before ≤ 10
+pub button_few : (e : Event) (before : ℕ) → Fits e → before ≤ 10 → button_after e before ≤ 10
 button_few (Button seat) before fits few = fits.seats.1
 button_few _ before fits few = few
-
-append_none : {A : Type 0} (xs : List A) → xs ++ [] ≡ xs
-append_none [] = refl
-append_none (x ∷ xs) = ap (λ ys. x ∷ ys) (append_none xs)
 
 -- an event of the summary collects nothing
 none_collected : (e : Event) → stands_in SummaryPart e ≡ true → collected_by e ≡ []
@@ -45,16 +41,16 @@ small_more hand e p s fits none false true ea eb h = s.room eb
 small_more hand e p s fits none false false ea eb h = cc
 
 pub sound_more : (new hand : Hand) (e : Event) (p : ℕ) → IsSound hand → stands_in hand.part e ≡ true → Fits e → total_cause p (taken hand.collections.items) e ≡ None
-    → new.button ≡ button_by e hand.button → new.part ≡ part_after e hand.part → new.collections.items ≡ hand.collections.items ++ collected_by e → new.total ≡ (is_total e || hand.total) → IsSound new
+    → new.button ≡ button_after e hand.button → new.part ≡ part_after e hand.part → new.collections.items ≡ hand.collections.items ++ collected_by e → new.total ≡ (is_total e || hand.total) → IsSound new
 sound_more new hand e p s is fits none button' part' all' total' = record {
-  button = (let few : button_by e hand.button ≤ 10 = button_few e hand.button fits s.button in rw button' few);
+  button = (let few : button_after e hand.button ≤ 10 = button_few e hand.button fits s.button in rw button' few);
   part = λ some.
       let summary : hand.part ≡ SummaryPart = in_summary hand e s is (is_total e) hand.total refl refl (sym total' ∙ some) in
       let kind : stands_in SummaryPart e ≡ true = subst (λ (q : Part). stands_in q e ≡ true) summary is in part' ∙ ap (part_after e) summary ∙ stays e kind;
   room = λ some.
       let summary : hand.part ≡ SummaryPart = in_summary hand e s is (is_total e) hand.total refl refl (sym total' ∙ some) in
       let kind : stands_in SummaryPart e ≡ true = subst (λ (q : Part). stands_in q e ≡ true) summary is in
-      let same : new.collections.items ≡ hand.collections.items = all' ∙ ap (λ xs. hand.collections.items ++ xs) (none_collected e kind) ∙ append_none hand.collections.items in
+      let same : new.collections.items ≡ hand.collections.items = all' ∙ ap (λ xs. hand.collections.items ++ xs) (none_collected e kind) ∙ append-nil hand.collections.items in
       let small : taken hand.collections.items < 10 ^ 15 = small_more hand e p s fits none (is_total e) hand.total refl refl (sym total' ∙ some) in
       rw same small;
 }

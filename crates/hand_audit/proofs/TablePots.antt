@@ -3,30 +3,29 @@ use Rattle.std.proofs.Common.{◌≡◌, ◌-◌, ℕ, zero, suc, ◌<◌, ◌�
 use Rattle.std.specs.Prelude.{Some, replicate, slice_get, slice_index_or}
 use Rattle.std.specs.Int.{bit_at}
 use Rattle.std.proofs.lemmas.List.{length-map, length-take-le}
+use Rattle.card_sets.specs.PlayerSetLaws.{has_player-where}
+use Rattle.card_sets.specs.PlayerSets.{has_player, seats_in}
 use Rattle.history_text.specs.declared.events.Header.{Header}
 use Rattle.history_text.specs.declared.events.Event.{Event}
-use Rattle.history_text.specs.declared.events.Street.{Street}
+use Rattle.card_sets.specs.declared.streets.Street.{Street}
 use Rattle.betting_replay.specs.AllIn.{point_street, point_contenders}
-use Rattle.betting_replay.specs.Seats.{has_seat}
 use Rattle.betting_replay.specs.Table.{Table as Replayed}
 use Rattle.betting_replay.specs.Tables.{table_of}
 use Rattle.pot_layers.specs.Pots.{pots}
 use Rattle.showdown_tally.specs.Deals.{deal_of}
-use Rattle.showdown_tally.specs.Tables.{hands_of}
+use Rattle.card_sets.specs.PlayerSets.{hands_of}
 use Rattle.showdown_tally.specs.declared.table.Table.{Table}
 use Rattle.hand_audit.specs.AllIns.{bare_of, known_there, eligible_in, all_in_by, all_in_of}
 use Rattle.hand_audit.specs.KnownTables.{Bare, ten, places_in}
-use Rattle.hand_audit.specs.Orders.{seats_in}
 use Rattle.hand_audit.specs.PotSeats.{eligible_of}
 use Rattle.hand_audit.specs.Settle.{settled}
 use Rattle.hand_audit.specs.Showings.{paid_in, showing_of}
 use Rattle.hand_audit.specs.TablePots.{HasPotsOf}
 use Rattle.hand_audit.specs.Verdict.{settlement_of}
-use Rattle.hand_audit.specs.declared.audit.AllIn.TheVariants.{Known}
+use Rattle.hand_audit.specs.declared.verdicts.AllIn.TheVariants.{Known}
 use Rattle.hand_audit.specs.declared.settlement.PotLine.{PotLine}
 use Rattle.hand_audit.proofs.FewPots.{few_pots}
 use Rattle.hand_audit.proofs.KnownCards.{IsMade, made_at, in_ten, in_map}
-use Rattle.hand_audit.proofs.Seats.{bits_below}
 use Rattle.hand_audit.proofs.Tables.{settled_same, paid_shown}
 
 -- a pot by its number
@@ -45,9 +44,9 @@ unfolding ten
 ten_holds xs = omega (arith, length-append xs (replicate (10 - length xs) 0))
 
 -- a seat of a set, by its place
-place_set : (seats : List ℕ) (set i : ℕ) → i < length seats → (bit_at (places_in seats set) i == 1) ≡ has_seat set (slice_index_or seats i 0)
+place_set : (seats : List ℕ) (set i : ℕ) → i < length seats → (bit_at (places_in seats set) i == 1) ≡ has_player set (slice_index_or seats i 0)
 unfolding places_in
-place_set seats set i l = bits_below (λ j. bit_at set (slice_index_or seats j 0) == 1) (length seats) i l
+place_set seats set i l = has_player-where (λ j. bit_at set (slice_index_or seats j 0) == 1) (length seats) i l
 
 pub table_pots : (g : Header) (players : ℕ) (h : List Event) (street : Street) (seats : List ℕ) (table : Table) → all_in_of g players h ≡ Known street seats table → HasPotsOf (settlement_of g players h) seats table
 unfolding all_in_by known_there bare_of
@@ -98,7 +97,7 @@ table_pots g players h street seats table is = record { many = many; few = few; 
         length-map (take table.pots table.eligible) hands_of ∙ length-take-le table.pots table.eligible (omega (arith, number_is, mapped, room)) ∙ number_is ∙ sym as_many
 
     eligible : (number : ℕ) (pot : PotLine) → slice_get lines number ≡ Some pot → (i : ℕ) → i < table.known.count
-        → (bit_at (slice_index_or table.eligible number 0) i == 1) ≡ has_seat pot.eligible (slice_index_or seats i 0)
+        → (bit_at (slice_index_or table.eligible number 0) i == 1) ≡ has_player pot.eligible (slice_index_or seats i 0)
     eligible number pot at i l =
         let there = pot_at lines number pot at in
         let inside : number < length all = omega (arith, there.inside, as_many) in
@@ -107,4 +106,4 @@ table_pots g players h street seats table is = record { many = many; few = few; 
         = ap (λ p. slice_index_or p number 0) in_places ∙ in_ten 0 places number 0 (omega (arith, inside, mapped)) ∙ in_map (places_in xs) all number 0 inside in
         let its_seats : slice_index_or all number 0 ≡ pot.eligible = ap (λ p. slice_index_or p number 0) (sym same) ∙ there.seats in
         let seat : slice_index_or seats i 0 ≡ slice_index_or xs i 0 = ap (λ s. slice_index_or s i 0) made.seats_are ∙ in_ten 0 xs i 0 first in
-        ap (λ n. bit_at n i == 1) (its_place ∙ ap (places_in xs) its_seats) ∙ place_set xs pot.eligible i first ∙ ap (has_seat pot.eligible) (sym seat)
+        ap (λ n. bit_at n i == 1) (its_place ∙ ap (places_in xs) its_seats) ∙ place_set xs pot.eligible i first ∙ ap (has_player pot.eligible) (sym seat)

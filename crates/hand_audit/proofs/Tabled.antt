@@ -4,6 +4,7 @@ use Rattle.std.specs.Prelude.{Some, replicate, nat_le, nat_lt, if◌then◌else�
 use Rattle.std.proofs.lemmas.Nat.{pow_pos}
 use Rattle.std.specs.Int.{bit_at}
 use Rattle.std.specs.List.{list_all}
+use Rattle.card_sets.specs.PlayerSets.{all_within, players_from, seats_in}
 use Rattle.card_sets.specs.Disjoint.{apart, all_apart, all_empty}
 use Rattle.card_sets.specs.Games.{own_size, board_size, all_fit}
 use Rattle.card_sets.specs.declared.games.Game.{Game}
@@ -16,24 +17,22 @@ use Rattle.betting_replay.specs.Known.{cards_at}
 use Rattle.betting_replay.specs.Places.{owned}
 use Rattle.betting_replay.specs.Tables.{point, dead}
 use Rattle.betting_replay.proofs.Members.{apart_from, from_apart, apart_among}
-use Rattle.showdown_tally.specs.Tables.{all_within}
 use Rattle.hand_audit.specs.KnownTables.{ten, places_in}
-use Rattle.hand_audit.specs.Orders.{seats_from, seats_in}
 use Rattle.hand_audit.proofs.Tens.{places_small}
 
 -- of the seats of a set
 walked : (w p n : ℕ) (known test : ℕ → Bool) → 1 ≤ p → p + n ≤ 11 → ((q : ℕ) → p ≤ q → q ≤ 10 → (bit_at w q == 1) ≡ true → known q ≡ true → test q ≡ true)
-    → list_all known (seats_from w p n) ≡ true → list_all test (seats_from w p n) ≡ true
+    → list_all known (players_from w p n) ≡ true → list_all test (players_from w p n) ≡ true
 walked w p zero known test low high each all = refl
 walked w p (suc n) known test low high each all = by (bit_at w p == 1) refl all (walked w (p + 1) n known test (omega arith) (omega arith) (λ q l m. each q (omega (arith, l)) m))
   where
-    here : (b : Bool) → known p ≡ b → (bit_at w p == 1) ≡ true → (b && list_all known (seats_from w (p + 1) n)) ≡ true
-        → (list_all known (seats_from w (p + 1) n) ≡ true → list_all test (seats_from w (p + 1) n) ≡ true) → (test p && list_all test (seats_from w (p + 1) n)) ≡ true
+    here : (b : Bool) → known p ≡ b → (bit_at w p == 1) ≡ true → (b && list_all known (players_from w (p + 1) n)) ≡ true
+        → (list_all known (players_from w (p + 1) n) ≡ true → list_all test (players_from w (p + 1) n) ≡ true) → (test p && list_all test (players_from w (p + 1) n)) ≡ true
     here true k set rest later = let t : test p ≡ true = each p (omega arith) (omega (arith, high)) set k in rw t (later rest)
     here false k set rest later = cc
 
-    by : (b : Bool) → (bit_at w p == 1) ≡ b → list_all known (if b then p ∷ seats_from w (p + 1) n else seats_from w (p + 1) n) ≡ true
-        → (list_all known (seats_from w (p + 1) n) ≡ true → list_all test (seats_from w (p + 1) n) ≡ true) → list_all test (if b then p ∷ seats_from w (p + 1) n else seats_from w (p + 1) n) ≡ true
+    by : (b : Bool) → (bit_at w p == 1) ≡ b → list_all known (if b then p ∷ players_from w (p + 1) n else players_from w (p + 1) n) ≡ true
+        → (list_all known (players_from w (p + 1) n) ≡ true → list_all test (players_from w (p + 1) n) ≡ true) → list_all test (if b then p ∷ players_from w (p + 1) n else players_from w (p + 1) n) ≡ true
     by true set all later = here (known p) refl set all later
     by false set all later = later all
 
@@ -80,23 +79,23 @@ apart_ten xs all = apart_with xs (10 - length xs) all
 -- the hands of different seats share no card
 seats_apart : (f : ℕ → List ℕ) (w p n : ℕ) (known : ℕ → Bool) → 1 ≤ p → p + n ≤ 11
     → ((q r : ℕ) → 1 ≤ q → q < r → r ≤ 10 → known q ≡ true → known r ≡ true → apart (f q) (f r) ≡ true)
-    → list_all known (seats_from w p n) ≡ true → all_apart (map f (seats_from w p n)) ≡ true
+    → list_all known (players_from w p n) ≡ true → all_apart (map f (players_from w p n)) ≡ true
 seats_apart f w p zero known low high each all = refl
 seats_apart f w p (suc n) known low high each all =
     by (bit_at w p == 1) all (seats_apart f w (p + 1) n known (omega arith) (omega arith) each)
     (λ k. walked w (p + 1) n known (λ q. apart (f p) (f q)) (omega arith) (omega arith) (λ q l m set kq. each p q low (omega (arith, l)) m k kq))
   where
-    here : (b : Bool) → known p ≡ b → (b && list_all known (seats_from w (p + 1) n)) ≡ true
-        → (list_all known (seats_from w (p + 1) n) ≡ true → all_apart (map f (seats_from w (p + 1) n)) ≡ true)
-        → (known p ≡ true → list_all known (seats_from w (p + 1) n) ≡ true → list_all (λ q. apart (f p) (f q)) (seats_from w (p + 1) n) ≡ true)
-        → (list_all (apart (f p)) (map f (seats_from w (p + 1) n)) && all_apart (map f (seats_from w (p + 1) n))) ≡ true
-    here true k rest later first = let a : list_all (apart (f p)) (map f (seats_from w (p + 1) n)) ≡ true = sym (all_mapped f (apart (f p)) (seats_from w (p + 1) n)) ∙ first k rest in rw a (later rest)
+    here : (b : Bool) → known p ≡ b → (b && list_all known (players_from w (p + 1) n)) ≡ true
+        → (list_all known (players_from w (p + 1) n) ≡ true → all_apart (map f (players_from w (p + 1) n)) ≡ true)
+        → (known p ≡ true → list_all known (players_from w (p + 1) n) ≡ true → list_all (λ q. apart (f p) (f q)) (players_from w (p + 1) n) ≡ true)
+        → (list_all (apart (f p)) (map f (players_from w (p + 1) n)) && all_apart (map f (players_from w (p + 1) n))) ≡ true
+    here true k rest later first = let a : list_all (apart (f p)) (map f (players_from w (p + 1) n)) ≡ true = sym (all_mapped f (apart (f p)) (players_from w (p + 1) n)) ∙ first k rest in rw a (later rest)
     here false k rest later first = cc
 
-    by : (b : Bool) → list_all known (if b then p ∷ seats_from w (p + 1) n else seats_from w (p + 1) n) ≡ true
-        → (list_all known (seats_from w (p + 1) n) ≡ true → all_apart (map f (seats_from w (p + 1) n)) ≡ true)
-        → (known p ≡ true → list_all known (seats_from w (p + 1) n) ≡ true → list_all (λ q. apart (f p) (f q)) (seats_from w (p + 1) n) ≡ true)
-        → all_apart (map f (if b then p ∷ seats_from w (p + 1) n else seats_from w (p + 1) n)) ≡ true
+    by : (b : Bool) → list_all known (if b then p ∷ players_from w (p + 1) n else players_from w (p + 1) n) ≡ true
+        → (list_all known (players_from w (p + 1) n) ≡ true → all_apart (map f (players_from w (p + 1) n)) ≡ true)
+        → (known p ≡ true → list_all known (players_from w (p + 1) n) ≡ true → list_all (λ q. apart (f p) (f q)) (players_from w (p + 1) n) ≡ true)
+        → all_apart (map f (if b then p ∷ players_from w (p + 1) n else players_from w (p + 1) n)) ≡ true
     by true all later first = here (known p) refl all later first
     by false all later first = later all
 

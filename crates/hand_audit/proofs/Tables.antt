@@ -3,10 +3,11 @@ use Rattle.std.proofs.Common.{◌≡◌, ℕ, zero, suc, ◌+◌, ◌<◌, List,
 use Rattle.std.specs.Prelude.{Some, None, nat_le, is_some, slice_index_or}
 use Rattle.std.specs.List.{list_all}
 use Rattle.std.proofs.lemmas.List.{length-map}
+use Rattle.card_sets.specs.PlayerSets.{seats_in}
 use Rattle.card_sets.specs.declared.games.Game.{Game}
 use Rattle.history_text.specs.declared.events.Header.{Header}
 use Rattle.history_text.specs.declared.events.Event.{Event}
-use Rattle.history_text.specs.declared.events.Street.{Street}
+use Rattle.card_sets.specs.declared.streets.Street.{Street}
 use Rattle.pot_layers.specs.declared.paid.Pot.{Pot}
 use Rattle.pot_layers.specs.Pots.{pots}
 use Rattle.betting_replay.specs.AllIn.{point_street}
@@ -17,12 +18,11 @@ use Rattle.hand_audit.specs.PotNames.{fits}
 use Rattle.hand_audit.specs.Settle.{Showing, settled, settled_of, pot_lines, unfit_line}
 use Rattle.hand_audit.specs.Showings.{paid_in, showing_at, showing_of}
 use Rattle.hand_audit.specs.declared.settlement.PotLine.{PotLine}
-use Rattle.hand_audit.specs.Orders.{seats_in}
 use Rattle.hand_audit.specs.KnownTables.{ten, places_in, Bare, table_from}
 use Rattle.hand_audit.specs.PotSeats.{eligible_of}
 use Rattle.hand_audit.specs.AllIns.{cards_or_none, bare_of, all_in_at, known_with, known_there, eligible_in, all_in_on, all_in_by}
-use Rattle.hand_audit.specs.declared.all_in.AtPoint.{AtPoint}
-use Rattle.hand_audit.specs.declared.audit.AllIn.TheVariants.{None as NoAllIn, Unknown}
+use Rattle.hand_audit.specs.declared.at_point.AtPoint.{AtPoint}
+use Rattle.hand_audit.specs.declared.verdicts.AllIn.TheVariants.{None as NoAllIn, Unknown}
 use Rattle.hand_audit.proofs.Tens.{many_pots}
 
 map_twice : (f : ℕ → ℕ) (pots : List PotLine) → map (λ pot. f pot.eligible) pots ≡ map f (eligible_of pots)

@@ -1,16 +1,12 @@
 -- Lists in ten places, and tables.
-use Rattle.pot_layers.specs.Pots.{seats_below}
-use Rattle.std.proofs.Common.{take, drop, ◌≡◌, ◌*◌, ◌^◌, map, slice_index_or, ◌==◌, ◌&&◌, ℕ, zero, suc, ◌+◌, ◌-◌, ◌<◌, ◌≤◌, List, [], ◌∷◌, ◌++◌, refl, sym, ap, ◌∙◌, subst, Bool, true, false, length, set, arith, append_assoc, length-append}
+use Rattle.std.proofs.Common.{take, drop, ◌≡◌, ◌^◌, map, slice_index_or, ◌&&◌, ℕ, suc, ◌+◌, ◌-◌, ◌<◌, ◌≤◌, List, [], ◌∷◌, ◌++◌, refl, sym, ap, ◌∙◌, Bool, true, false, length, set, arith, append_assoc, length-append, length-drop, drop-cons}
 use Rattle.std.specs.Prelude.{Some, None, nat_le, replicate, if◌then◌else◌}
-use Rattle.std.proofs.Math.Pow.{pow_mono}
 use Rattle.std.proofs.Props.{props}
 use Rattle.std.proofs.lemmas.List.{set-append_right, map_more, length-map, length-take-le}
-use Rattle.std.specs.Int.{bit_at}
+use Rattle.card_sets.specs.PlayerSetLaws.{players_from-add, players_where-skip, players_where-small, with_player-next}
+use Rattle.card_sets.specs.PlayerSets.{all_within, has_player, players_from, players_where, with_player}
 use Rattle.card_sets.specs.Disjoint.{all_apart, all_empty}
 use Rattle.card_sets.specs.Games.{all_fit}
-use Rattle.showdown_tally.specs.Tables.{all_within}
-use Rattle.hand_audit.specs.Orders.{seats_from}
-use Rattle.hand_audit.proofs.Seats.{same_below, small_below}
 use Rattle.hand_audit.specs.KnownTables.{ten, places_in, Bare, Holds, holds, with_facts, table_if, table_from, all_hold}
 use Rattle.showdown_tally.specs.declared.table.Table.{Table}
 
@@ -26,79 +22,12 @@ ten_more none xs x few =
     ∙ sym (append_assoc xs (x ∷ []) (replicate (10 - length (xs ++ x ∷ [])) none))
 
 -- the seats of a set among one more
-pub seats_more : (s p n : ℕ) → seats_from s p (n + 1) ≡ seats_from s p n ++ (if bit_at s (p + n) == 1 then (p + n) ∷ [] else [])
-seats_more s p zero = let same : p + 0 ≡ p = omega arith in ap (λ q. if bit_at s q == 1 then q ∷ [] else []) (sym same)
-seats_more s p (suc n) = ap (seats_from s p) one ∙ more (bit_at s p == 1) (seats_more s (p + 1) n)
-  where
-    one : suc n + 1 ≡ suc (n + 1)
-    one = omega arith
-
-    next : (p + 1) + n ≡ p + suc n
-    next = omega arith
-
-    last : ℕ → List ℕ
-    last q = if bit_at s q == 1 then q ∷ [] else []
-
-    more : (b : Bool) → seats_from s (p + 1) (n + 1) ≡ seats_from s (p + 1) n ++ last ((p + 1) + n)
-        → (if b then p ∷ seats_from s (p + 1) (n + 1) else seats_from s (p + 1) (n + 1)) ≡ (if b then p ∷ seats_from s (p + 1) n else seats_from s (p + 1) n) ++ last (p + suc n)
-    more true ih = ap (λ xs. p ∷ xs) (ih ∙ ap (λ q. seats_from s (p + 1) n ++ last q) next)
-    more false ih = ih ∙ ap (λ q. seats_from s (p + 1) n ++ last q) next
-
--- those below a seat
-abbrev pub before : ℕ → ℕ → List ℕ
-before s p = seats_from s 1 (p - 1)
-
-pub before_more : (s p : ℕ) → 1 ≤ p → before s (p + 1) ≡ before s p ++ (if bit_at s p == 1 then p ∷ [] else [])
-before_more s p l =
-    let n : (p + 1) - 1 ≡ (p - 1) + 1 = omega arith in
-    let q : 1 + (p - 1) ≡ p = omega arith in
-    ap (seats_from s 1) n ∙ seats_more s 1 (p - 1) ∙ ap (λ r. before s p ++ (if bit_at s r == 1 then r ∷ [] else [])) q
-
-append_none : {A : Type 0} (xs : List A) → xs ++ [] ≡ xs
-append_none [] = refl
-append_none (x ∷ xs) = ap (λ ys. x ∷ ys) (append_none xs)
-
-pub before_none : (s p : ℕ) → 1 ≤ p → (bit_at s p == 1) ≡ false → before s (p + 1) ≡ before s p
-before_none s p l none = before_more s p l ∙ ap (λ b. before s p ++ (if b then p ∷ [] else [])) none ∙ append_none (before s p)
-
-pub before_some : (s p : ℕ) → 1 ≤ p → (bit_at s p == 1) ≡ true → before s (p + 1) ≡ before s p ++ p ∷ []
-before_some s p l some = before_more s p l ∙ ap (λ b. before s p ++ (if b then p ∷ [] else [])) some
-
-map_last : {A : Type 0} (f : ℕ → A) (xs : List ℕ) (p : ℕ) → map f (xs ++ p ∷ []) ≡ map f xs ++ f p ∷ []
-map_last f [] p = refl
-map_last f (x ∷ xs) p = ap (λ ys. f x ∷ ys) (map_last f xs p)
-
-pub all_before : (s p : ℕ) → p ≡ 11 → before s p ≡ seats_from s 1 10
-all_before s p e = ap (before s) e
-
-map_same : (xs : List ℕ) → map (λ p. p) xs ≡ xs
-map_same [] = refl
-map_same (x ∷ xs) = ap (λ ys. x ∷ ys) (map_same xs)
-
-pub ten_same : (xs : List ℕ) → ten 0 (map (λ p. p) xs) ≡ ten 0 xs
-ten_same xs = ap (ten 0) (map_same xs)
+pub seats_more : (s p n : ℕ) → players_from s p (n + 1) ≡ players_from s p n ++ (if has_player s (p + n) then (p + n) ∷ [] else [])
+seats_more s p n = players_from-add s p n 1
 
 pub ten_none : {A : Type 0} → (none : A) → replicate 10 none ≡ ten none []
 unfolding ten
 ten_none none = refl
-
--- how many there are
-pub count_none : (s p n : ℕ) → 1 ≤ p → (bit_at s p == 1) ≡ false → n ≡ length (before s p) → n ≡ length (before s (p + 1))
-count_none s p n l none is = is ∙ ap length (sym (before_none s p l none))
-
-pub count_some : (s p n : ℕ) → 1 ≤ p → (bit_at s p == 1) ≡ true → n ≡ length (before s p) → n + 1 ≡ length (before s (p + 1))
-count_some s p n l some is = let longer : length (before s (p + 1)) ≡ length (before s p) + 1 = ap length (before_some s p l some) ∙ length-append (before s p) (p ∷ []) in omega (arith, is, longer)
-
--- what they have, in ten places
-pub fill_none : {A : Type 0} (none : A) (f : ℕ → A) (s p : ℕ) (all : List A) → 1 ≤ p → (bit_at s p == 1) ≡ false → all ≡ ten none (map f (before s p)) → all ≡ ten none (map f (before s (p + 1)))
-fill_none none f s p all l unset is = is ∙ ap (λ xs. ten none (map f xs)) (sym (before_none s p l unset))
-
-pub fill_some : {A : Type 0} (none : A) (f : ℕ → A) (s p n : ℕ) (all : List A) → 1 ≤ p → n < 10 → (bit_at s p == 1) ≡ true → n ≡ length (before s p) → all ≡ ten none (map f (before s p)) → set all n (f p) ≡ ten none (map f (before s (p + 1)))
-fill_some none f s p n all l few some count is =
-    let here : n ≡ length (map f (before s p)) = count ∙ sym (length-map (before s p) f) in
-    let inside : length (map f (before s p)) < 10 = omega (arith, here, few) in
-    ap (λ xs. set xs n (f p)) is ∙ ap (λ k. set (ten none (map f (before s p))) k (f p)) here ∙ ten_more none (map f (before s p)) (f p) inside
-    ∙ ap (ten none) (sym (map_last f (before s p) p)) ∙ ap (λ xs. ten none (map f xs)) (sym (before_some s p l some))
 
 -- what a list's items have, in ten places, one further
 pub fill_next : {A B : Type 0} (none : B) (f : A → B) (xs : List A) (n : ℕ) (d : A) (all : List B) → length xs ≤ 10 → n < length xs → all ≡ ten none (map f (take n xs)) → set all n (f (slice_index_or xs n d)) ≡ ten none (map f (take (n + 1) xs))
@@ -108,49 +37,54 @@ fill_next none f xs n d all few l e =
     let inside : length (map f (take n xs)) < 10 = omega (arith, short, few, l) in
     ap (λ ys. set ys n x) e ∙ ap (λ k. set (ten none (map f (take n xs))) k x) (sym short) ∙ ten_more none (map f (take n xs)) x inside ∙ ap (ten none) (sym (map_more f xs n d l))
 
--- the places of the seats of a set
-same_place : (xs : List ℕ) (p i : ℕ) → i < length xs → slice_index_or (xs ++ p ∷ []) i 0 ≡ slice_index_or xs i 0
-same_place [] p i l = absurd (omega arith)
-same_place (x ∷ xs) p zero l = refl
-same_place (x ∷ xs) p (suc i) l = same_place xs p i (omega arith)
+-- one seat further in a list
+pub record Further (xs : List ℕ) (n seat : ℕ) (rest : List ℕ) : Type 0 where
+  pub inside : n < length xs
+  pub here : slice_index_or xs n 0 ≡ seat
+  pub left : drop (n + 1) xs ≡ rest
 
-last_place : (xs : List ℕ) (p : ℕ) → slice_index_or (xs ++ p ∷ []) (length xs) 0 ≡ p
-last_place [] p = refl
-last_place (x ∷ xs) p = last_place xs p
+pub further : (xs : List ℕ) (n seat : ℕ) (rest : List ℕ) → drop n xs ≡ seat ∷ rest → Further xs n seat rest
+further xs n seat rest is =
+    let long : length xs - n ≡ suc (length rest) = sym (length-drop n xs) ∙ ap length is in
+    let inside : n < length xs = omega (arith, long) in
+    let both : slice_index_or xs n 0 ∷ drop (suc n) xs ≡ seat ∷ rest = sym (drop-cons xs n 0 inside) ∙ is in
+    let here : slice_index_or xs n 0 ≡ seat = cc in
+    let left : drop (suc n) xs ≡ rest = cc in
+    let next : n + 1 ≡ suc n = omega arith in
+    record { inside = inside; here = here; left = ap (λ k. drop k xs) next ∙ left }
 
-pub places_more : (xs : List ℕ) (p set : ℕ) → places_in (xs ++ p ∷ []) set ≡ places_in xs set + (if bit_at set p == 1 then 2 ^ length xs else 0)
+-- what its seats have, in ten places
+pub fill_seat : {A : Type 0} (none : A) (f : ℕ → A) (xs : List ℕ) (n seat : ℕ) (rest : List ℕ) (all : List A) → length xs ≤ 10 → drop n xs ≡ seat ∷ rest
+    → all ≡ ten none (map f (take n xs)) → set all n (f seat) ≡ ten none (map f (take (n + 1) xs))
+fill_seat none f xs n seat rest all few is so_far =
+    let at = further xs n seat rest is in
+    ap (λ p. set all n (f p)) (sym at.here) ∙ fill_next none f xs n 0 all few at.inside so_far
+
+-- the places of its seats in another set
+abbrev pub has_place : List ℕ → ℕ → ℕ → Bool
+has_place xs set i = has_player set (slice_index_or xs i 0)
+
+pub place_more : (xs : List ℕ) (set n seat places : ℕ) (rest : List ℕ) → length xs ≤ 10 → drop n xs ≡ seat ∷ rest → places ≡ players_where (has_place xs set) n
+    → (if has_player set seat then with_player places n else places) ≡ players_where (has_place xs set) (n + 1)
+place_more xs set n seat places rest few is so_far = by (has_player set seat) refl
+  where
+    at : Further xs n seat rest
+    at = further xs n seat rest is
+
+    by : (b : Bool) → has_player set seat ≡ b → (if b then with_player places n else places) ≡ players_where (has_place xs set) (n + 1)
+    by true e = let inside = at.inside in ap (λ s. with_player s n) so_far ∙ with_player-next (has_place xs set) n (omega (arith, inside, few)) (ap (has_player set) at.here ∙ e)
+    by false e = so_far ∙ players_where-skip (has_place xs set) n (ap (has_player set) at.here ∙ e)
+
+pub placed : (xs : List ℕ) (set n places : ℕ) → drop n xs ≡ [] → n ≤ length xs → places ≡ players_where (has_place xs set) n → places ≡ places_in xs set
 unfolding places_in
-places_more xs p set =
-    let longer : length (xs ++ p ∷ []) ≡ suc (length xs) = length-append xs (p ∷ []) ∙ (omega arith) in
-    ap (seats_below (λ i. bit_at set (slice_index_or (xs ++ p ∷ []) i 0) == 1)) longer
-    ∙ ap (λ q. seats_below (λ i. bit_at set (slice_index_or (xs ++ p ∷ []) i 0) == 1) (length xs) + (if bit_at set q == 1 then 2 ^ length xs else 0)) (last_place xs p)
-    ∙ ap (λ n. n + (if bit_at set p == 1 then 2 ^ length xs else 0)) (same_below _ _ (length xs) (λ i l. ap (λ q. bit_at set q == 1) (same_place xs p i l)))
-
-pub places_next : (s p set n places bit : ℕ) → 1 ≤ p → (bit_at s p == 1) ≡ true → n ≡ length (before s p) → places ≡ places_in (before s p) set → bit ≡ (if bit_at set p == 1 then 2 ^ n else 0) → places + bit ≡ places_in (before s (p + 1)) set
-places_next s p set n places bit l some count is more =
-    ap (λ k. places + k) more ∙ ap (λ k. k + (if bit_at set p == 1 then 2 ^ n else 0)) is ∙ ap (λ k. places_in (before s p) set + (if bit_at set p == 1 then 2 ^ k else 0)) count
-    ∙ sym (places_more (before s p) p set) ∙ ap (λ xs. places_in xs set) (sym (before_some s p l some))
-
-ap_below : {m n k : ℕ} → m ≡ n → k < 2 ^ n → k < 2 ^ m
-ap_below {m} {n} {k} e = subst (λ (x : ℕ). k < 2 ^ x) (sym e)
-
-pub small_next : (on : Bool) (n places bit : ℕ) → places < 2 ^ n → bit ≡ (if on then 2 ^ n else 0) → places + bit < 2 ^ (n + 1)
-small_next true n places bit small is = let next : n + 1 ≡ suc n = omega arith in let two : 2 ^ suc n ≡ 2 * 2 ^ n = omega arith in ap_below next (omega (arith, two, small, is))
-small_next false n places bit small is = let next : n + 1 ≡ suc n = omega arith in let two : 2 ^ suc n ≡ 2 * 2 ^ n = omega arith in ap_below next (omega (arith, two, small, is))
-
-pub places_fit : (on : Bool) (n places bit : ℕ) → n < 10 → places < 2 ^ n → bit ≡ (if on then 2 ^ n else 0) → places + bit < 65536
-places_fit on n places bit few small is =
-    let next : places + bit < 2 ^ (n + 1) = small_next on n places bit small is in
-    let most : 2 ^ (n + 1) ≤ 2 ^ 10 = pow_mono {i = n + 1} {j = 10} (omega arith) in
-    omega (arith, next, most)
-
-pub places_nowhere : (set : ℕ) → 0 ≡ places_in [] set
-unfolding places_in
-places_nowhere set = refl
+placed xs set n places over some is =
+    let long : length xs - n ≡ 0 = sym (length-drop n xs) ∙ ap length over in
+    let same : n ≡ length xs = omega (arith, long, some) in
+    is ∙ ap (players_where (has_place xs set)) same
 
 pub places_small : (xs : List ℕ) (set : ℕ) → places_in xs set < 2 ^ length xs
 unfolding places_in
-places_small xs set = small_below (λ i. bit_at set (slice_index_or xs i 0) == 1) (length xs)
+places_small xs set = players_where-small (λ i. has_player set (slice_index_or xs i 0)) (length xs)
 
 -- what holds of a table
 holds_prop : (b : Bare) → IsProp (Holds b)

@@ -3,15 +3,18 @@ use Rattle.std.proofs.Common.{◌≡◌, ℕ, zero, suc, length, ◌+◌, ◌<�
 use Rattle.std.specs.Prelude.{Option, Some, None, is_some, nat_lt, if◌then◌else◌, slice_index_or}
 use Rattle.std.specs.Int.{bit_at}
 use Rattle.std.specs.List.{list_all, list_any}
+use Rattle.card_sets.specs.PlayerSetLaws.{players_where-same}
+use Rattle.card_sets.specs.PlayerSets.{has_player, players_from, players_where, seats_in}
 use Rattle.card_sets.specs.declared.games.Side.{Side}
-use Rattle.pot_layers.specs.Pots.{seats_below}
 use Rattle.showdown_tally.specs.Settling.{number_of}
 use Rattle.showdown_tally.specs.Showdown.{is_beaten_by, winners_of}
-use Rattle.hand_audit.specs.Orders.{seats_from, seats_in, OfSeats}
+use Rattle.hand_audit.specs.Orders.{OfSeats}
 use Rattle.hand_audit.specs.Settle.{Showing, set_of, hand_of, value_on, worth_on, first_side, second_side, side_winners, is_alone, is_checked, first_winners, second_winners}
 use Rattle.hand_audit.specs.Marks.{mark_of}
-use Rattle.hand_audit.specs.Winning.{Ranks, Tells, AreFull, IsDecided, full_with, is_beaten, is_unbeaten, is_seat_in, wins, winners_by}
+use Rattle.hand_audit.specs.Winning.{Ranks, Tells, TellsSide, TellsBoard, AreFull, Decides, full_with, is_beaten, is_unbeaten, is_seat_in, wins, winners_by}
 use Rattle.hand_audit.specs.declared.standings.Standings.{Standings}
+use Rattle.hand_audit.specs.declared.worths.OnBoard.{OnBoard}
+use Rattle.hand_audit.specs.declared.worths.OnSide.{OnSide}
 use Rattle.card_sets.specs.declared.games.Game.{Game}
 use Rattle.betting_replay.specs.Seats.{by_seat}
 use Rattle.betting_replay.specs.Tables.{Table, own_at, final_at}
@@ -19,7 +22,7 @@ use Rattle.betting_replay.proofs.BySeat.{at_by_seat}
 use Rattle.hand_audit.specs.declared.collections.Collection.{Collection}
 use Rattle.hand_audit.specs.Showings.{showing_at}
 use Rattle.hand_audit.proofs.Among.{among_filter}
-use Rattle.hand_audit.proofs.Seats.{same_below, among_seats}
+use Rattle.hand_audit.proofs.Seats.{among_seats}
 use Rattle.hand_audit.proofs.Ranked.{same_ranks, same_full}
 
 off : (x : Bool) → (x && false) ≡ false
@@ -27,12 +30,12 @@ off true = refl
 off false = refl
 
 -- a test of the seats of a set that agrees with another
-same_more : (f g : ℕ → Bool) (s p n : ℕ) → f p ≡ g p → list_all f (seats_from s (p + 1) n) ≡ list_all g (seats_from s (p + 1) n) → (b : Bool)
-    → list_all f (if b then p ∷ seats_from s (p + 1) n else seats_from s (p + 1) n) ≡ list_all g (if b then p ∷ seats_from s (p + 1) n else seats_from s (p + 1) n)
+same_more : (f g : ℕ → Bool) (s p n : ℕ) → f p ≡ g p → list_all f (players_from s (p + 1) n) ≡ list_all g (players_from s (p + 1) n) → (b : Bool)
+    → list_all f (if b then p ∷ players_from s (p + 1) n else players_from s (p + 1) n) ≡ list_all g (if b then p ∷ players_from s (p + 1) n else players_from s (p + 1) n)
 same_more f g s p n here rest true = rw (here, rest) refl
 same_more f g s p n here rest false = rest
 
-same_all_from : (f g : ℕ → Bool) (s p n : ℕ) → p + n ≤ 11 → ((q : ℕ) → q < 11 → f q ≡ g q) → list_all f (seats_from s p n) ≡ list_all g (seats_from s p n)
+same_all_from : (f g : ℕ → Bool) (s p n : ℕ) → p + n ≤ 11 → ((q : ℕ) → q < 11 → f q ≡ g q) → list_all f (players_from s p n) ≡ list_all g (players_from s p n)
 same_all_from f g s p zero l h = refl
 same_all_from f g s p (suc n) l h = same_more f g s p n (h p (omega arith)) (same_all_from f g s (p + 1) n (omega arith) h) (bit_at s p == 1)
 
@@ -67,23 +70,23 @@ no_seat values v s p r none l =
     off true false = refl
     off false b = refl
 
-nobody : (n : ℕ) → seats_below (λ p. false) n ≡ 0
+nobody : (n : ℕ) → players_where (λ p. false) n ≡ 0
 nobody zero = refl
-nobody (suc n) = let e : seats_below (λ p. false) n ≡ 0 = nobody n in rw e refl
+nobody (suc n) = let e : players_where (λ p. false) n ≡ 0 = nobody n in rw e refl
 
-pub side_told : (side : Option Side) (values : List (Option ℕ)) (s : Showing) (eligible : ℕ) → Ranks side values (worth_on side s) → winners_by values eligible ≡ side_winners side s eligible
+pub side_told : (side : Option Side) (values : List (Option ℕ)) (s : Showing) (board : List ℕ) (eligible : ℕ) → Ranks side values (worth_on side s board) → winners_by values eligible ≡ side_winners side s board eligible
 unfolding winners_by
-side_told (Some side) values s eligible r = same_below (wins values eligible) (λ p. list_any (λ q. q == p) (winners_of side (worth_on (Some side) s) (seats_in eligible))) 11 (λ p l. one_seat side values (worth_on (Some side) s) eligible p r l)
-side_told None values s eligible r = same_below (wins values eligible) (λ p. false) 11 (λ p l. no_seat values (worth_on None s) eligible p r (λ q m. refl) l) ∙ nobody 11
+side_told (Some side) values s board eligible r = players_where-same (wins values eligible) (λ p. list_any (λ q. q == p) (winners_of side (worth_on (Some side) s board) (seats_in eligible))) 11 (λ p l. one_seat side values (worth_on (Some side) s board) eligible p r l)
+side_told None values s board eligible r = players_where-same (wins values eligible) (λ p. false) 11 (λ p l. no_seat values (worth_on None s board) eligible p r (λ q m. refl) l) ∙ nobody 11
 
 -- what is kept answers what the rules ask
 pub checked_alone : (s : Showing) (eligible : ℕ) → is_alone eligible ≡ true → true ≡ is_checked s eligible
 unfolding is_checked
 checked_alone s eligible one = rw one refl
 
-pub checked_told : (w : Standings) (s : Showing) (eligible : ℕ) (known : Bool) → Tells w s → is_alone eligible ≡ false → known ≡ list_all (λ p. slice_index_or w.known p false) (seats_in eligible) → known ≡ is_checked s eligible
+pub checked_told : (w : Standings) (s : Showing) (eligible : ℕ) (known : Bool) → Tells w s → is_alone eligible ≡ false → known ≡ list_all (has_player w.known) (seats_in eligible) → known ≡ is_checked s eligible
 unfolding is_checked
-checked_told w s eligible known t many are = rw many (are ∙ same_all (λ p. slice_index_or w.known p false) (λ p. is_some (hand_of s p)) eligible t.known)
+checked_told w s eligible known t many are = rw many (are ∙ same_all (has_player w.known) (λ p. is_some (hand_of s p)) eligible t.known)
 
 -- where nobody is eligible nobody wins
 not_winning : (values : List (Option ℕ)) (s p : ℕ) → p < 11 → seats_in s ≡ [] → wins values s p ≡ false
@@ -94,11 +97,11 @@ not_winning values s p l none =
 
 nobody_wins : (values : List (Option ℕ)) (s : ℕ) → seats_in s ≡ [] → winners_by values s ≡ 0
 unfolding winners_by
-nobody_wins values s none = same_below (wins values s) (λ p. false) 11 (λ p l. not_winning values s p l none) ∙ nobody 11
+nobody_wins values s none = players_where-same (wins values s) (λ p. false) 11 (λ p l. not_winning values s p l none) ∙ nobody 11
 
-pub no_winners : (side : Option Side) (s : Showing) (eligible : ℕ) → seats_in eligible ≡ [] → side_winners side s eligible ≡ 0
-no_winners None s eligible none = refl
-no_winners (Some side) s eligible none = ap (λ xs. set_of (winners_of side (worth_on (Some side) s) xs)) none ∙ nobody 11
+pub no_winners : (side : Option Side) (s : Showing) (board : List ℕ) (eligible : ℕ) → seats_in eligible ≡ [] → side_winners side s board eligible ≡ 0
+no_winners None s board eligible none = refl
+no_winners (Some side) s board eligible none = ap (λ xs. set_of (winners_of side (worth_on (Some side) s board) xs)) none ∙ nobody 11
 
 -- a set has no seat, or one, or more
 pub data HowMany (eligible : ℕ) : Type 0 where
@@ -113,39 +116,52 @@ how_many eligible others = by (seats_in eligible) refl
     by (p ∷ []) e = let one : is_alone eligible ≡ true = ap (λ xs. length xs == 1) e in cc
     by (p ∷ q ∷ xs) e = let l : length (seats_in eligible) ≡ suc (suc (length xs)) = ap length e in many (omega (arith, l))
 
-told : (side : Option Side) (values : List (Option ℕ)) (s : Showing) (eligible : ℕ) → (AreFull s → Ranks side values (worth_on side s)) → IsDecided s eligible → HowMany eligible → winners_by values eligible ≡ side_winners side s eligible
-told side values s eligible ranks d (none e) = nobody_wins values eligible e ∙ sym (no_winners side s eligible e)
-told side values s eligible ranks d (many m) = side_told side values s eligible (ranks (d m))
+told : (side : Option Side) (values : List (Option ℕ)) (s : Showing) (board : List ℕ) (eligible : ℕ) → (2 ≤ length (seats_in eligible) → Ranks side values (worth_on side s board)) → HowMany eligible → winners_by values eligible ≡ side_winners side s board eligible
+told side values s board eligible ranks (none e) = nobody_wins values eligible e ∙ sym (no_winners side s board eligible e)
+told side values s board eligible ranks (many m) = side_told side values s board eligible (ranks m)
 
-pub first_told : (w : Standings) (s : Showing) (eligible : ℕ) → Tells w s → IsDecided s eligible → is_alone eligible ≡ false → winners_by w.first eligible ≡ first_winners s eligible
+pub first_told : (w : OnBoard) (s : Showing) (board : List ℕ) (eligible : ℕ) → Decides w s board eligible → is_alone eligible ≡ false → winners_by w.first.values eligible ≡ first_winners s board eligible
 unfolding first_winners
-first_told w s eligible t d others = told (first_side s.game) w.first s eligible t.first d (how_many eligible others)
+first_told w s board eligible d others = told (first_side s.game) w.first.values s board eligible (λ m. (d m).tells.first.ranks) (how_many eligible others)
 
-pub second_told : (w : Standings) (s : Showing) (eligible : ℕ) → Tells w s → IsDecided s eligible → is_alone eligible ≡ false → winners_by w.second eligible ≡ second_winners s eligible
+pub second_told : (w : OnBoard) (s : Showing) (board : List ℕ) (eligible : ℕ) → Decides w s board eligible → is_alone eligible ≡ false → winners_by w.second.values eligible ≡ second_winners s board eligible
 unfolding second_winners
-second_told w s eligible t d others = told (second_side s.game) w.second s eligible t.second d (how_many eligible others)
+second_told w s board eligible d others = told (second_side s.game) w.second.values s board eligible (λ m. (d m).tells.second.ranks) (how_many eligible others)
 
 pub no_seats : OfSeats 0
 no_seats = record { small = omega arith; first = refl }
 
+-- what is kept of some hands is what is kept of others that are the same seat by seat
+AreSame : List (Option (List ℕ)) → List (Option (List ℕ)) → Type 0
+AreSame hands others = (p : ℕ) → p < 11 → slice_index_or hands p None ≡ slice_index_or others p None
+
+same_side : (w : OnSide) (side : Option Side) (game : Game) (board : List ℕ) (hands others : List (Option (List ℕ))) → AreSame hands others → TellsSide w side game board hands → TellsSide w side game board others
+unfolding AreSame
+same_side w side game board hands others same t = record {
+  ranks = same_ranks side w.values _ _ (λ p l. ap (value_on side game board) (same p l)) t.ranks;
+  marks = λ p l. t.marks p l ∙ ap (mark_of side game board) (same p l);
+}
+
+same_board : (w : OnBoard) (game : Game) (board : List ℕ) (hands others : List (Option (List ℕ))) → AreSame hands others → TellsBoard w game board hands → TellsBoard w game board others
+same_board w game board hands others same t = record {
+  first = same_side w.first (first_side game) game board hands others same t.first;
+  second = same_side w.second (second_side game) game board hands others same t.second;
+}
+
 -- what is kept of a hand so far tells who wins
 pub tells : (w : Standings) (game : Game) (t : Table) (all : List Collection) (button : ℕ) (hands : List (Option (List ℕ)))
     → ((p : ℕ) → p < 11 → slice_index_or hands p None ≡ full_with game (own_at t 0) (final_at t p))
-    → ((p : ℕ) → p < 11 → slice_index_or w.known p false ≡ is_some (final_at t p))
-    → Ranks (first_side game) w.first (λ p. value_on (first_side game) game (own_at t 0) (slice_index_or hands p None))
-    → Ranks (second_side game) w.second (λ p. value_on (second_side game) game (own_at t 0) (slice_index_or hands p None))
-    → ((p : ℕ) → p < 11 → slice_index_or w.marks p 0 ≡ mark_of game (own_at t 0) (slice_index_or hands p None))
+    → ((p : ℕ) → p < 11 → has_player w.known p ≡ is_some (final_at t p))
+    → TellsBoard w.board game (own_at t 0) hands
     → w.game ≡ game → w.button ≡ button → Tells w (showing_at game t all button)
-unfolding showing_at
-tells w game t all button hands are known first second marks g b =
+unfolding showing_at AreSame
+tells w game t all button hands are known board g b =
     let at : (p : ℕ) → p < 11 → slice_index_or (by_seat (final_at t)) p None ≡ final_at t p = (λ p l. at_by_seat (final_at t) p None l) in
-    let same : AreFull (showing_at game t all button) → (p : ℕ) → p < 11 → slice_index_or hands p None ≡ slice_index_or (by_seat (final_at t)) p None
+    let same : AreFull (showing_at game t all button) → AreSame hands (by_seat (final_at t))
     = (λ full p l. are p l ∙ ap (full_with game (own_at t 0)) (sym (at p l)) ∙ same_full game (own_at t 0) (slice_index_or (by_seat (final_at t)) p None) (full p l)) in
     record {
       game = g;
       known = λ p l. known p l ∙ ap is_some (sym (at p l));
-      first = λ full. same_ranks (first_side game) w.first _ _ (λ p l. ap (value_on (first_side game) game (own_at t 0)) (same full p l)) first;
-      second = λ full. same_ranks (second_side game) w.second _ _ (λ p l. ap (value_on (second_side game) game (own_at t 0)) (same full p l)) second;
-      marks = λ full p l. marks p l ∙ ap (mark_of game (own_at t 0)) (same full p l);
+      board = λ full. same_board w.board game (own_at t 0) hands (by_seat (final_at t)) (same full) board;
       button = b;
     }

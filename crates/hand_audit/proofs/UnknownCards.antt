@@ -3,11 +3,12 @@ use Rattle.std.proofs.Common.{◌≡◌, ℕ, ◌<◌, ◌≤◌, List, [], ◌�
 use Rattle.std.specs.Prelude.{Option, Some, None, is_some, nat_le, slice_index_or, if◌then◌else◌}
 use Rattle.std.specs.List.{list_all}
 use Rattle.std.proofs.lemmas.List.{length-map}
+use Rattle.card_sets.specs.PlayerSets.{all_within, seats_in}
 use Rattle.card_sets.specs.Disjoint.{all_apart, all_empty}
 use Rattle.card_sets.specs.Games.{all_fit}
 use Rattle.history_text.specs.declared.events.Header.{Header}
 use Rattle.history_text.specs.declared.events.Event.{Event}
-use Rattle.history_text.specs.declared.events.Street.{Street}
+use Rattle.card_sets.specs.declared.streets.Street.{Street}
 use Rattle.betting_replay.specs.declared.points.Point.{Point}
 use Rattle.betting_replay.specs.Accepted.{IsAccepted, ShowsSeats, ShowsDead}
 use Rattle.betting_replay.specs.AllIn.{point_street, point_contenders, dead_at}
@@ -19,18 +20,16 @@ use Rattle.betting_replay.specs.Table.{Table as Replayed, known_at}
 use Rattle.betting_replay.specs.Tables.{table_of, point, dead}
 use Rattle.betting_replay.proofs.BySeat.{at_by_seat}
 use Rattle.pot_layers.specs.Pots.{pots}
-use Rattle.showdown_tally.specs.Tables.{all_within}
 use Rattle.showdown_tally.specs.declared.table.Table.{Table}
 use Rattle.hand_audit.specs.AllIns.{cards_or_none, bare_of, all_in_at, known_with, known_there, eligible_in, all_in_on, all_in_by, all_in_of}
 use Rattle.hand_audit.specs.CardsKnown.{all_known_at}
 use Rattle.hand_audit.specs.KnownTables.{Bare, ten, holds, table_if, table_from}
-use Rattle.hand_audit.specs.Orders.{seats_in}
 use Rattle.hand_audit.specs.Showings.{paid_in}
-use Rattle.hand_audit.specs.declared.all_in.AtPoint.{AtPoint}
-use Rattle.hand_audit.specs.declared.audit.AllIn.TheVariants.{None as NoAllIn, Unknown, Known}
+use Rattle.hand_audit.specs.declared.at_point.AtPoint.{AtPoint}
+use Rattle.hand_audit.specs.declared.verdicts.AllIn.TheVariants.{None as NoAllIn, Unknown, Known}
 use Rattle.hand_audit.proofs.FewPots.{few_pots}
 use Rattle.hand_audit.proofs.KnownCards.{some_is}
-use Rattle.hand_audit.proofs.Marked.{few_seats}
+use Rattle.hand_audit.proofs.Seats.{few_seats}
 use Rattle.hand_audit.proofs.Tabled.{Stands, stands, empty_behind, within_ten}
 use Rattle.hand_audit.proofs.Told.{same_all}
 
@@ -44,7 +43,7 @@ bare_holds p all few s =
     let xs = seats_in p.contenders in
     let hands = map (cards_or_none p.cards) xs in
     let size : length hands ≡ length xs = length-map xs (cards_or_none p.cards) in
-    let count : nat_le (length xs) 10 ≡ true = (let l = few_seats p.contenders 1 10 in grind (arith, l)) in
+    let count : nat_le (length xs) 10 ≡ true = (let l = few_seats p.contenders in grind (arith, l)) in
     let unused : all_empty (drop (length xs) (ten [] hands)) ≡ true = ap (λ n. all_empty (drop n (ten [] hands))) (sym size) ∙ empty_behind hands in
     let some_pots : nat_le (length all) 10 ≡ true = grind (arith, few) in
     holds_by (bare_of p all) count s.disjoint unused s.fitting some_pots (within_ten xs all)

@@ -1,19 +1,16 @@
 -- A whole hand: its header line, and those behind it.
-use Rattle.std.proofs.Common.{◌≡◌, ℕ, List, [], ◌∷◌, sym, ap, ◌∙◌, true, false}
+use Rattle.std.proofs.Common.{◌≡◌, ℕ, List, ◌∷◌, sym, ap, ◌∙◌, false}
 use Rattle.std.specs.Prelude.{Option, Some, None, Ok, Err}
 use Rattle.history_text.specs.declared.events.Header.{Header}
 use Rattle.history_text.specs.declared.events.TextFault.{TextFault}
 use Rattle.history_text.specs.Headers.{header_of}
-use Rattle.hand_audit.specs.declared.audit.HandAudit.{HandAudit}
-use Rattle.hand_audit.specs.declared.audit.HandAudit.TheVariants.{Rejected}
+use Rattle.hand_audit.specs.declared.verdicts.HandAudit.{HandAudit}
+use Rattle.hand_audit.specs.declared.verdicts.HandAudit.TheVariants.{Rejected}
 use Rattle.hand_audit.specs.declared.cause.Cause.{Cause}
 use Rattle.hand_audit.specs.declared.cause.Cause.TheVariants.{Text}
 use Rattle.hand_audit.specs.Lines.{nothing, players_of}
-use Rattle.hand_audit.specs.Departs.{departs, departs_behind, departs_from, begins_hand}
+use Rattle.hand_audit.specs.Departs.{departs, departs_behind, departs_from}
 use Rattle.hand_audit.specs.Verdict.{audit_of, audit_behind, judged, accepted_by, read_all}
-
-pub no_lines : (all : List (List ℕ)) → all ≡ [] → begins_hand all ≡ true → ⊥
-no_lines all none some = let e : begins_hand all ≡ false = ap begins_hand none in cc
 
 -- the header line departs
 pub audit_fault : (n : ℕ) (all : List (List ℕ)) (line : List ℕ) (rest : List (List ℕ)) (f : TextFault) → all ≡ line ∷ rest → header_of line ≡ Err f → audit_of n all ≡ Some (Rejected n (Text f) false)
@@ -37,6 +34,3 @@ pub audit_ends : (n : ℕ) (all : List (List ℕ)) (line : List ℕ) (rest : Lis
     → departs_from g players n nothing rest ≡ None → audit ≡ accepted_by g players (read_all g nothing rest) → audit_of n all ≡ Some audit
 audit_ends n all line rest g players audit is read play none same =
     judged_is n all line rest g players None is read play none ∙ ap (λ p. Some (accepted_by g p (read_all g nothing rest))) (sym play) ∙ ap (λ x. Some x) (sym same)
-
-pub header_line : (all : List (List ℕ)) (line : List ℕ) (rest : List (List ℕ)) → all ≡ line ∷ rest → begins_hand all ≡ true → begins_hand (line ∷ rest) ≡ true
-header_line all line rest is some = ap begins_hand (sym is) ∙ some

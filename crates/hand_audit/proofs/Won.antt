@@ -1,10 +1,12 @@
 -- Who has a pot's units.
-use Rattle.std.proofs.Common.{◌≡◌, ℕ, zero, suc, ◌+◌, ◌<◌, ◌≤◌, List, [], ◌∷◌, refl, sym, ap, ◌∙◌, subst, Bool, true, false, ◌==◌, ◌&&◌, ◌||◌, not, length, arith}
+use Rattle.std.proofs.Common.{◌≡◌, ℕ, zero, suc, ◌+◌, ◌<◌, ◌≤◌, List, [], ◌∷◌, refl, sym, ap, ◌∙◌, subst, Bool, true, false, ◌==◌, ◌&&◌, ◌||◌, not, length, arith, append-nil}
 use Rattle.std.specs.Prelude.{Option, Some, None, is_some, unwrap_or, IfSome, map, nat_le, nat_lt}
 use Rattle.std.specs.Int.{bit_at}
 use Rattle.std.specs.List.{list_all, list_any}
 use Rattle.std.proofs.lemmas.Nat.Bits.{bit_at-zero}
 use Rattle.std.proofs.lemmas.List.{length-map}
+use Rattle.card_sets.specs.PlayerSetLaws.{has_player-where}
+use Rattle.card_sets.specs.PlayerSets.{players_where, seats_in}
 use Rattle.card_sets.specs.Cards.{union}
 use Rattle.card_sets.specs.Choose.{choose}
 use Rattle.card_sets.specs.declared.games.Game.{Game}
@@ -13,16 +15,14 @@ use Rattle.rank_high.proofs.Sets.{length-union, Apart-apart}
 use Rattle.rank_low.specs.Low.{low_a5, low_27, least_of}
 use Rattle.rank_low.proofs.BestFive.{some-choice}
 use Rattle.showdown_tally.specs.Laws.{IsFull}
-use Rattle.hand_audit.specs.declared.standings.Standings.{Standings}
+use Rattle.hand_audit.specs.declared.worths.OnBoard.{OnBoard}
 use Rattle.pot_layers.specs.declared.paid.Share.{Share}
-use Rattle.pot_layers.specs.Pots.{seats_below}
 use Rattle.pot_layers.specs.Split.{InRange, IsOrder, OrdersItsSeats, shares, shares_from, sides_won, is_among}
-use Rattle.hand_audit.specs.Orders.{seats_in}
-use Rattle.hand_audit.specs.Settle.{Showing, value_on, worth_on, set_of, is_alone, is_checked, are_known, hand_of, first_winners, second_winners, first_side, second_side, side_winners, parts_alone, parts_by, parts_if, parts_among, order_of}
-use Rattle.hand_audit.specs.Winning.{AreFull, IsDecided, Ranks, Tells, is_beaten, is_unbeaten, is_seat_in, wins, winners_by}
+use Rattle.hand_audit.specs.Settle.{Showing, Part, parts_of, value_on, worth_on, set_of, is_alone, is_checked, are_known, hand_of, first_winners, second_winners, first_side, second_side, side_winners, shares_alone, shares_by, shares_if, shares_among, order_of}
+use Rattle.hand_audit.specs.Winning.{AreFullOn, Decides, Ranks, TellsBoard, is_beaten, is_unbeaten, is_seat_in, wins, winners_by}
 use Rattle.hand_audit.proofs.Order.{differ_from, range_from}
 use Rattle.showdown_tally.specs.Settling.{number_of}
-use Rattle.hand_audit.proofs.Seats.{bits_below, among_seats}
+use Rattle.hand_audit.proofs.Seats.{among_seats}
 use Rattle.hand_audit.proofs.Told.{HowMany, how_many, no_winners, side_told}
 use Rattle.hand_audit.proofs.Told.HowMany.{many, none}
 
@@ -37,22 +37,25 @@ nobody_shares : (units : ℕ) (order other : List ℕ) → shares units 0 0 orde
 unfolding shares
 nobody_shares units order other = nobody_from units order other 1 10
 
-no_parts : (s : Showing) (units eligible : ℕ) → seats_in eligible ≡ [] → [] ≡ parts_by s units (first_winners s eligible) (second_winners s eligible)
-unfolding parts_by first_winners second_winners
-no_parts s units eligible nowhere =
-    let first : side_winners (first_side s.game) s eligible ≡ 0 = no_winners (first_side s.game) s eligible nowhere in
-    let second : side_winners (second_side s.game) s eligible ≡ 0 = no_winners (second_side s.game) s eligible nowhere in
-    sym (nobody_shares units (order_of s 0) (order_of s 0)) ∙ ap (λ f. shares units f 0 (order_of s f) (order_of s 0)) (sym first) ∙ ap (λ g. shares units (side_winners (first_side s.game) s eligible) g (order_of s (side_winners (first_side s.game) s eligible)) (order_of s g)) (sym second)
+no_shares : (s : Showing) (part : Part) (eligible : ℕ) → seats_in eligible ≡ [] → [] ≡ shares_by s part (first_winners s part.board eligible) (second_winners s part.board eligible)
+unfolding shares_by first_winners second_winners
+no_shares s part eligible nowhere =
+    let first_order = order_of (first_side s.game) s part.board in
+    let second_order = order_of (second_side s.game) s part.board in
+    let first : side_winners (first_side s.game) s part.board eligible ≡ 0 = no_winners (first_side s.game) s part.board eligible nowhere in
+    let second : side_winners (second_side s.game) s part.board eligible ≡ 0 = no_winners (second_side s.game) s part.board eligible nowhere in
+    sym (nobody_shares part.units (first_order 0) (second_order 0)) ∙ ap (λ f. shares part.units f 0 (first_order f) (second_order 0)) (sym first)
+    ∙ ap (λ g. shares part.units (side_winners (first_side s.game) s part.board eligible) g (first_order (side_winners (first_side s.game) s part.board eligible)) (second_order g)) (sym second)
 
 -- a set that some seat is in isn't empty
-has_some : (f : ℕ → Bool) (p : ℕ) → p < 11 → f p ≡ true → 0 < seats_below f 11
-has_some f p l passes = by (seats_below f 11) refl
+has_some : (f : ℕ → Bool) (p : ℕ) → p < 11 → f p ≡ true → 0 < players_where f 11
+has_some f p l passes = by (players_where f 11) refl
   where
-    by : (n : ℕ) → seats_below f 11 ≡ n → 0 < n
+    by : (n : ℕ) → players_where f 11 ≡ n → 0 < n
     by zero e =
         let z : bit_at 0 p ≡ 0 = bit_at-zero p in
         let off : (bit_at 0 p == 1) ≡ false = rw z refl in
-        let on : (bit_at 0 p == 1) ≡ true = ap (λ w. bit_at w p == 1) (sym e) ∙ bits_below f 11 p l ∙ passes in cc
+        let on : (bit_at 0 p == 1) ≡ true = ap (λ w. bit_at w p == 1) (sym e) ∙ has_player-where f 11 p l ∙ passes in cc
     by (suc n) e = omega arith
 
 -- the set of one seat isn't
@@ -73,19 +76,30 @@ order_alone law eligible high order is are =
 pub order_nobody : (order : List ℕ) → order ≡ [] → IsOrder 0 order
 order_nobody order is = subst (λ (xs : List ℕ). IsOrder 0 xs) (sym is) (record { once = tt; seats = tt; each = λ seat. (let z : bit_at 0 seat ≡ 0 = bit_at-zero seat in rw z refl); none = λ e. refl })
 
-pub alone_is : (eligible units high : ℕ) (order other : List ℕ) (all : List Share) → high ≡ set_of (seats_in eligible) → order ≡ seats_in eligible → other ≡ [] → all ≡ shares units high 0 order other → all ≡ parts_alone eligible units
-unfolding parts_alone
+pub alone_is : (eligible units high : ℕ) (order other : List ℕ) (all : List Share) → high ≡ set_of (seats_in eligible) → order ≡ seats_in eligible → other ≡ [] → all ≡ shares units high 0 order other → all ≡ shares_alone eligible units
+unfolding shares_alone
 alone_is eligible units high order other all h o e is = is ∙ ap (λ w. shares units w 0 order other) h ∙ ap (λ xs. shares units (set_of (seats_in eligible)) 0 xs other) o ∙ ap (λ xs. shares units (set_of (seats_in eligible)) 0 (seats_in eligible) xs) e
 
-pub by_is : (s : Showing) (units first second : ℕ) (order other : List ℕ) (all : List Share) → order ≡ order_of s first → other ≡ order_of s second → all ≡ shares units first second order other → all ≡ parts_by s units first second
-unfolding parts_by
-by_is s units first second order other all o e is = is ∙ ap (λ xs. shares units first second xs other) o ∙ ap (λ xs. shares units first second (order_of s first) xs) e
+pub by_is : (s : Showing) (part : Part) (first second : ℕ) (order other : List ℕ) (all : List Share) → order ≡ order_of (first_side s.game) s part.board first → other ≡ order_of (second_side s.game) s part.board second
+    → all ≡ shares part.units first second order other → all ≡ shares_by s part first second
+unfolding shares_by
+by_is s part first second order other all o e is =
+    is ∙ ap (λ xs. shares part.units first second xs other) o ∙ ap (λ xs. shares part.units first second (order_of (first_side s.game) s part.board first) xs) e
 
-pub if_alone : (s : Showing) (eligible units : ℕ) → is_alone eligible ≡ true → parts_alone eligible units ≡ parts_if true s eligible units
-if_alone s eligible units one = ap (λ b. parts_among b s eligible units) (sym one)
+pub if_alone : (s : Showing) (eligible : ℕ) (part : Part) → is_alone eligible ≡ true → shares_alone eligible part.units ≡ shares_among (is_alone eligible) s eligible part
+if_alone s eligible part one = ap (λ b. shares_among b s eligible part) (sym one)
 
-pub if_others : (s : Showing) (eligible units : ℕ) → is_alone eligible ≡ false → parts_by s units (first_winners s eligible) (second_winners s eligible) ≡ parts_if true s eligible units
-if_others s eligible units others = ap (λ b. parts_among b s eligible units) (sym others)
+pub if_others : (s : Showing) (eligible : ℕ) (part : Part) → is_alone eligible ≡ false → shares_by s part (first_winners s part.board eligible) (second_winners s part.board eligible) ≡ shares_among (is_alone eligible) s eligible part
+if_others s eligible part others = ap (λ b. shares_among b s eligible part) (sym others)
+
+-- the shares of one part alone are those of all
+pub one_part : (s : Showing) (eligible units : ℕ) (checked : Bool) (all : List Share) → checked ≡ true → all ≡ shares_among (is_alone eligible) s eligible (record { units = units; board = s.board })
+    → all ≡ shares_if checked s eligible (parts_of s units)
+one_part s eligible units checked all known is =
+    is ∙ sym (append-nil (shares_among (is_alone eligible) s eligible (record { units = units; board = s.board }))) ∙ ap (λ b. shares_if b s eligible (parts_of s units)) (sym known)
+
+pub unknown_part : (s : Showing) (eligible units : ℕ) (checked : Bool) → checked ≡ false → [] ≡ shares_if checked s eligible (parts_of s units)
+unknown_part s eligible units checked unknown = ap (λ b. shares_if b s eligible (parts_of s units)) (sym unknown)
 
 -- whole hands have a value on the first side of their game
 least_some : (ls : List (List ℕ)) → 0 < length ls → is_some (least_of ls) ≡ true
@@ -106,9 +120,9 @@ first_some Stud own board full = refl
 first_some Razz own board full = some_five 5 Razz own board low_a5 full (omega (arith, full.own_size))
 first_some Lowball27 own board full = some_five 5 Lowball27 own board low_27 full (omega (arith, full.own_size))
 
-hand_some : (s : Showing) (o : Option (List ℕ)) → is_some o ≡ true → IfSome o (λ own. IsFull s.game own s.board) → is_some (value_on (first_side s.game) s.game s.board o) ≡ true
-hand_some s None known full = cc
-hand_some s (Some own) known full = first_some s.game own s.board full
+hand_some : (s : Showing) (board : List ℕ) (o : Option (List ℕ)) → is_some o ≡ true → IfSome o (λ own. IsFull s.game own board) → is_some (value_on (first_side s.game) s.game board o) ≡ true
+hand_some s board None known full = cc
+hand_some s board (Some own) known full = first_some s.game own board full
 
 -- of some numbers one is the greatest
 all_up : (f : ℕ → ℕ) (m n : ℕ) (xs : List ℕ) → m ≤ n → list_all (λ j. nat_le (f j) m) xs ≡ true → list_all (λ j. nat_le (f j) n) xs ≡ true
@@ -202,31 +216,33 @@ winners_some : (values : List (Option ℕ)) (eligible p : ℕ) → p < 11 → wi
 unfolding winners_by
 winners_some values eligible p l won = has_some (wins values eligible) p l won
 
--- somebody wins a pot of which it is known who wins, where somebody is eligible
-pub some_win : (values : List (Option ℕ)) (s : Showing) (eligible : ℕ) → Ranks (first_side s.game) values (worth_on (first_side s.game) s) → AreFull s → is_checked s eligible ≡ true → is_alone eligible ≡ false → 2 ≤ length (seats_in eligible) → first_winners s eligible ≡ 0 → ⊥
+-- somebody wins a part of a pot of which it is known who wins, where somebody is eligible
+pub some_win : (values : List (Option ℕ)) (s : Showing) (board : List ℕ) (eligible : ℕ) → Ranks (first_side s.game) values (worth_on (first_side s.game) s board) → AreFullOn s board
+    → is_checked s eligible ≡ true → is_alone eligible ≡ false → 2 ≤ length (seats_in eligible) → first_winners s board eligible ≡ 0 → ⊥
 unfolding first_winners
-some_win values s eligible ranks full checked others more nobody =
+some_win values s board eligible ranks full checked others more nobody =
     let xs = seats_in eligible in
     let top = top_among (kept values) xs more in
     let p = top.seat in
     let l : p < 11 = range_at xs p (range_from eligible 1 10 (omega arith) (omega arith)) top.among in
     let known : is_some (hand_of s p) ≡ true = all_at (λ q. is_some (hand_of s q)) xs p (known_all s eligible checked others) top.among in
-    let some : is_some (number_of values p) ≡ true = ranks.some p l ∙ hand_some s (hand_of s p) known (full p l) in
+    let some : is_some (number_of values p) ≡ true = ranks.some p l ∙ hand_some s board (hand_of s p) known (full p l) in
     let won : 0 < winners_by values eligible = winners_some values eligible p l (top_wins values eligible top some) in
-    let same : winners_by values eligible ≡ 0 = side_told (first_side s.game) values s eligible ranks ∙ nobody in
+    let same : winners_by values eligible ≡ 0 = side_told (first_side s.game) values s board eligible ranks ∙ nobody in
     omega (arith, won, same)
 
-pub won_full : (s : Showing) (eligible : ℕ) → IsDecided s eligible → is_alone eligible ≡ false → (first_winners s eligible ≡ 0 → ⊥) → AreFull s
+pub won_tells : (w : OnBoard) (s : Showing) (board : List ℕ) (eligible : ℕ) → Decides w s board eligible → is_alone eligible ≡ false → (first_winners s board eligible ≡ 0 → ⊥) → TellsBoard w s.game board s.hands
 unfolding first_winners
-won_full s eligible d others somebody = by (how_many eligible others)
+won_tells w s board eligible d others somebody = by (how_many eligible others)
   where
-    by : HowMany eligible → AreFull s
-    by (none e) = absurd (somebody (no_winners (first_side s.game) s eligible e))
-    by (many m) = d m
+    by : HowMany eligible → TellsBoard w s.game board s.hands
+    by (none e) = absurd (somebody (no_winners (first_side s.game) s board eligible e))
+    by (many m) = (d m).tells
 
-pub not_won : (w : Standings) (s : Showing) (eligible units : ℕ) → Tells w s → IsDecided s eligible → is_checked s eligible ≡ true → is_alone eligible ≡ false → first_winners s eligible ≡ 0 → [] ≡ parts_if true s eligible units
-not_won w s eligible units t d checked others nobody = by (how_many eligible others)
+pub not_won : (w : OnBoard) (s : Showing) (part : Part) (eligible : ℕ) → Decides w s part.board eligible → is_checked s eligible ≡ true → is_alone eligible ≡ false → first_winners s part.board eligible ≡ 0
+    → [] ≡ shares_among (is_alone eligible) s eligible part
+not_won w s part eligible d checked others nobody = by (how_many eligible others)
   where
-    by : HowMany eligible → [] ≡ parts_if true s eligible units
-    by (none e) = no_parts s units eligible e ∙ if_others s eligible units others
-    by (many m) = absurd (some_win w.first s eligible (t.first (d m)) (d m) checked others m nobody)
+    by : HowMany eligible → [] ≡ shares_among (is_alone eligible) s eligible part
+    by (none e) = no_shares s part eligible e ∙ if_others s eligible part others
+    by (many m) = absurd (some_win w.first.values s part.board eligible (d m).tells.first.ranks (d m).full checked others m nobody)

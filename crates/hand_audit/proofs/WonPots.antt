@@ -1,7 +1,8 @@
 -- In an accepted hand somebody wins each pot of which it is known who wins.
 use Rattle.std.proofs.Common.{◌≡◌, ◌==◌, ℕ, zero, suc, ◌<◌, ◌≤◌, List, [], ◌∷◌, refl, sym, ap, ◌∙◌, subst, true, false, length, arith}
-use Rattle.std.specs.Prelude.{Option, Some, None, IfSome, slice_get}
+use Rattle.std.specs.Prelude.{Option, Some, None, IfSome, slice_get, All}
 use Rattle.std.specs.Option.{option_map}
+use Rattle.card_sets.specs.PlayerSets.{seats_in}
 use Rattle.card_sets.specs.Cards.{IsCardSet}
 use Rattle.card_sets.specs.Bits.{IsCardSet-cards_where}
 use Rattle.card_sets.specs.declared.games.Game.{Game}
@@ -16,8 +17,7 @@ use Rattle.pot_layers.specs.declared.paid.Paid.{Paid}
 use Rattle.pot_layers.specs.declared.paid.Pot.{Pot}
 use Rattle.pot_layers.specs.Pots.{pots}
 use Rattle.showdown_tally.specs.Laws.{IsFull}
-use Rattle.hand_audit.specs.Orders.{seats_in}
-use Rattle.hand_audit.specs.Settle.{Showing, hand_of, value_on, worth_on, first_side, first_winners}
+use Rattle.hand_audit.specs.Settle.{Showing, Part, hand_of, value_on, worth_on, first_side, first_winners}
 use Rattle.hand_audit.specs.Showings.{paid_in, showing_at, showing_of}
 use Rattle.hand_audit.specs.Splits.{IsWonBySomebody}
 use Rattle.hand_audit.specs.Winning.{Ranks, number_on, is_full, AreFull, IsDecided, AreDecided}
@@ -36,7 +36,7 @@ set_test : (game : Game) (board : List ℕ) (o : Option (List ℕ)) → IfSome o
 set_test game board None f = tt
 set_test game board (Some own) f = f.own_cards
 
-ranks_of : KeepsOrder → (s : Showing) → AreFull s → IsCardSet s.board → Ranks (first_side s.game) (values_of s) (worth_on (first_side s.game) s)
+ranks_of : KeepsOrder → (s : Showing) → AreFull s → IsCardSet s.board → Ranks (first_side s.game) (values_of s) (worth_on (first_side s.game) s s.board)
 unfolding values_of
 ranks_of law s full set =
     ranked law (first_side s.game) s.game s.board s.hands (values_of s) set (λ p l. full_test s.game s.board (hand_of s p) (full p l)) (λ p l. set_test s.game s.board (hand_of s p) (full p l))
@@ -58,9 +58,15 @@ some_number (suc n) none = omega arith
 more_than_one : (n : ℕ) → 2 ≤ n → (n == 1) ≡ false
 more_than_one n l = grind arith
 
+-- what holds of one part holds of all where there is no other
+of_one : {A : Type 0} (P : A → Type 0) (x : A) → P x → All P (x ∷ [])
+of_one P x holds zero d l = holds
+of_one P x holds (suc k) d l = absurd (omega arith)
+
 pub won_pots : KeepsOrder → ShowsSeats → (g : Header) (players : ℕ) (h : List Event) → AreDecided (showing_of g players h) (pots (paid_in (table_of g players h))) → IsWonBySomebody (showing_of g players h)
 won_pots law shows g players h all number pot is checked more =
     let s = showing_of g players h in
     let here : slice_get (pots (paid_in (table_of g players h))) number ≡ Some pot = ap (λ (ps : List Paid). slice_get (pots ps) number) (sym (paid_shown g players h)) ∙ is in
     let full : AreFull s = decided_at s (pots (paid_in (table_of g players h))) number pot all here more in
-    some_number (first_winners s pot.eligible) (λ nobody. some_win (values_of s) s pot.eligible (ranks_of law s full (board_set shows g players h)) full checked (more_than_one (length (seats_in pot.eligible)) more) more nobody)
+    of_one (λ (part : Part). 0 < first_winners s part.board pot.eligible) _
+    (some_number (first_winners s s.board pot.eligible) (λ nobody. some_win (values_of s) s s.board pot.eligible (ranks_of law s full (board_set shows g players h)) full checked (more_than_one (length (seats_in pot.eligible)) more) more nobody))

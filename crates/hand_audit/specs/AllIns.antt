@@ -1,9 +1,10 @@
 -- The all-in of a hand.
 use Rattle.std.specs.Prelude.{ℕ, if◌then◌else◌, List, [], map, length, unwrap_or, slice_index_or, Option, Some, None, is_some}
 use Rattle.std.specs.List.{list_all}
+use Rattle.card_sets.specs.PlayerSets.{seats_in}
 use Rattle.history_text.specs.declared.events.Header.{Header}
 use Rattle.history_text.specs.declared.events.Event.{Event}
-use Rattle.history_text.specs.declared.events.Street.{Street}
+use Rattle.card_sets.specs.declared.streets.Street.{Street}
 use Rattle.card_sets.specs.declared.games.Game.{Game}
 use Rattle.pot_layers.specs.declared.paid.Pot.{Pot}
 use Rattle.pot_layers.specs.Pots.{pots}
@@ -13,11 +14,10 @@ use Rattle.betting_replay.specs.Table.{Table as Replayed, board_at, known_at}
 use Rattle.betting_replay.specs.Tables.{table_of}
 use Rattle.showdown_tally.specs.declared.table.Table.{Table}
 use Rattle.hand_audit.specs.Showings.{paid_in}
-use Rattle.hand_audit.specs.Orders.{seats_in}
 use Rattle.hand_audit.specs.KnownTables.{Bare, ten, places_in, table_from}
-use Rattle.hand_audit.specs.declared.all_in.AtPoint.{AtPoint}
-use Rattle.hand_audit.specs.declared.audit.AllIn.{AllIn}
-use Rattle.hand_audit.specs.declared.audit.AllIn.TheVariants.{None as NoAllIn, Unknown, Known}
+use Rattle.hand_audit.specs.declared.at_point.AtPoint.{AtPoint}
+use Rattle.hand_audit.specs.declared.verdicts.AllIn.{AllIn}
+use Rattle.hand_audit.specs.declared.verdicts.AllIn.TheVariants.{None as NoAllIn, Unknown, Known}
 
 -- a seat's cards, and none where they are unknown
 abbrev pub cards_or_none : List (Option (List ℕ)) → ℕ → List ℕ

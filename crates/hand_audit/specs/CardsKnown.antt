@@ -1,12 +1,12 @@
 -- What is known at the all-in of an accepted hand.
 use Rattle.std.specs.Prelude.{◌≡◌, ◌<◌, ℕ, Bool, true, false, List, [], Option, Some, None, is_some, slice_index_or}
 use Rattle.std.specs.List.{list_all}
+use Rattle.card_sets.specs.PlayerSets.{seats_in}
 use Rattle.betting_replay.specs.declared.points.Point.{Point}
-use Rattle.hand_audit.specs.Orders.{seats_in}
 use Rattle.card_sets.specs.Cards.{has_card}
 use Rattle.history_text.specs.declared.events.Header.{Header}
 use Rattle.history_text.specs.declared.events.Event.{Event}
-use Rattle.history_text.specs.declared.events.Street.{Street}
+use Rattle.card_sets.specs.declared.streets.Street.{Street}
 use Rattle.betting_replay.specs.Boards.{board_up_to}
 use Rattle.betting_replay.specs.CardLaws.{Among}
 use Rattle.betting_replay.specs.Known.{cards_at}

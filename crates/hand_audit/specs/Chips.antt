@@ -1,8 +1,8 @@
 -- Chips are kept.
-use Rattle.std.specs.Prelude.{◌≡◌, ℕ, zero, suc, ◌+◌, ◌-◌, ◌==◌, ◌≤◌, true, if◌then◌else◌, List, [], ◌∷◌}
+use Rattle.std.specs.Prelude.{◌≡◌, ℕ, zero, suc, ◌+◌, ◌-◌, ◌≤◌, true, List}
 use Rattle.history_text.specs.declared.events.Header.{Header}
 use Rattle.history_text.specs.declared.events.Event.{Event}
-use Rattle.betting_replay.specs.Events.{seat_of, bought}
+use Rattle.betting_replay.specs.Accepted.{opening}
 use Rattle.betting_replay.specs.Sums.{paid, dead}
 use Rattle.hand_audit.specs.Collections.{collections, got_from}
 use Rattle.hand_audit.specs.Departs.{put_in_by, collected}
@@ -11,11 +11,6 @@ use Rattle.hand_audit.specs.Showings.{rake}
 -- all that the players put in is what was collected and the stated rake
 pub record IsBalanced (g : Header) (players : ℕ) (h : List Event) : Type 0 where
   pub whole : put_in_by g players h ≡ collected h + rake h
-
--- the opening stack of a seat: the units of its seat line
-abbrev pub opening : List Event → ℕ → ℕ
-opening [] p = 0
-opening (e ∷ h) p = if seat_of e == p then opening h p + bought e else opening h p
 
 -- what a seat collected
 abbrev pub collected_at : List Event → ℕ → ℕ
@@ -29,7 +24,7 @@ sum_from f p (suc n) = f p + sum_from f (p + 1) n
 abbrev pub over_seats : (ℕ → ℕ) → ℕ
 over_seats f = sum_from f 1 10
 
--- what a seat has behind a hand: its opening stack, less what it put in, and what it collected
+-- what a seat has behind a hand: its opening stack, the units of its seat line, less what it put in, and what it collected
 abbrev pub closing : Header → List Event → ℕ → ℕ
 closing g h p = opening h p - (paid g h p + dead g h p) + collected_at h p
 

@@ -9,6 +9,7 @@ use Rattle.history_text.specs.declared.events.Part.TheVariants.{Summary as Summa
 use Rattle.history_text.specs.Within.{IsSeated}
 use Rattle.betting_replay.specs.Accepted.{IsAccepted}
 use Rattle.betting_replay.specs.CardLaws.{MarkersFit}
+use Rattle.betting_replay.specs.Sums.{button}
 use Rattle.betting_replay.specs.Tables.{StandsFor}
 use Rattle.hand_audit.specs.declared.cause.Cause.{Cause}
 use Rattle.hand_audit.specs.declared.cause.Cause.TheVariants.{Text}
@@ -17,7 +18,7 @@ use Rattle.hand_audit.specs.declared.follow.Followed.{Followed}
 use Rattle.hand_audit.specs.declared.follow.Followed.TheVariants.{Departs, Ends}
 use Rattle.hand_audit.specs.Lines.{SoFar, part_of, with_event, nothing}
 use Rattle.hand_audit.specs.Collections.{collections, taken}
-use Rattle.hand_audit.specs.Showings.{button, rake, showing_of}
+use Rattle.hand_audit.specs.Showings.{rake, showing_of}
 use Rattle.hand_audit.specs.Departs.{is_total, event_cause, end_cause, departs_from}
 use Rattle.hand_audit.specs.Verdict.{read_all}
 use Rattle.hand_audit.specs.declared.settling.HandSettled.{HandSettled}

@@ -1,12 +1,10 @@
 -- The table of an all-in: the known cards, and which hands may win which pot.
-use Rattle.std.specs.Prelude.{◌≡◌, ◌≤◌, ℕ, ◌-◌, ◌==◌, ◌&&◌, Bool, true, false, IsTrue, nat_le, List, ◌∷◌, ◌++◌, drop, length, refl, replicate, slice_index_or, Option, Some, None}
+use Rattle.std.specs.Prelude.{◌≡◌, ◌≤◌, ℕ, ◌-◌, ◌&&◌, Bool, true, false, IsTrue, nat_le, List, ◌∷◌, ◌++◌, drop, length, refl, replicate, slice_index_or, Option, Some, None}
 use Rattle.std.proofs.Common.{arith}
-use Rattle.std.specs.Int.{bit_at}
+use Rattle.card_sets.specs.PlayerSets.{all_within, has_player, players_where}
 use Rattle.card_sets.specs.Disjoint.{all_apart, all_empty}
 use Rattle.card_sets.specs.Games.{all_fit}
 use Rattle.card_sets.specs.declared.games.Game.{Game}
-use Rattle.pot_layers.specs.Pots.{seats_below}
-use Rattle.showdown_tally.specs.Tables.{all_within}
 use Rattle.showdown_tally.specs.declared.table.Table.{Table}
 
 -- ten places: those of a list, and the same in each place behind them
@@ -15,7 +13,7 @@ ten none xs = xs ++ replicate (10 - length xs) none
 
 -- which of some seats are in a set: bit i for the i-th of them
 unfoldable pub places_in : List ℕ → ℕ → ℕ
-places_in seats set = seats_below (λ i. bit_at set (slice_index_or seats i 0) == 1) (length seats)
+places_in seats set = players_where (λ i. has_player set (slice_index_or seats i 0)) (length seats)
 
 -- what a table has
 pub record Bare : Type 0 where

@@ -16,6 +16,7 @@ pub mod Verdict
 pub mod Keeping
 pub mod Chips
 pub mod Splits
+pub mod PotSums
 pub mod Before
 pub mod Passing
 pub mod CardsKnown

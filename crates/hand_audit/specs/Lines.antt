@@ -1,11 +1,12 @@
 -- The events of the lines of a hand.
 use Rattle.std.specs.Prelude.{ℕ, ◌==◌, Bool, false, if◌then◌else◌, List, [], ◌∷◌, ◌++◌, take, codes, Option, Some, None, option_map, option_and_then, Result, Ok, Err}
 use Rattle.std.specs.List.{list_any, slice_range}
+use Rattle.card_sets.specs.PlayerSets.{players_where}
 use Rattle.line_text.specs.Amounts.{digit_count, number_of}
 use Rattle.history_text.specs.declared.events.Header.{Header}
 use Rattle.history_text.specs.declared.events.Event.{Event}
 use Rattle.history_text.specs.declared.events.Event.TheVariants.{Seat, Post, Deal, Street, Act, Discard, Pat}
-use Rattle.history_text.specs.declared.events.Street.TheVariants.{First, Summary}
+use Rattle.card_sets.specs.declared.streets.Street.TheVariants.{First, Summary}
 use Rattle.history_text.specs.declared.events.Part.{Part}
 use Rattle.history_text.specs.declared.events.Part.TheVariants.{Preamble, Play, Summary as SummaryPart}
 use Rattle.history_text.specs.declared.events.TextFault.{TextFault}
@@ -13,7 +14,6 @@ use Rattle.history_text.specs.Lines.{line_event}
 use Rattle.history_text.specs.Seats.{seat_line}
 use Rattle.history_text.specs.Texts.{behind}
 use Rattle.betting_replay.specs.Places.{is_at}
-use Rattle.pot_layers.specs.Pots.{seats_below}
 
 -- the part of the next line, by the events so far, the latest first
 abbrev pub part_after : Event → Part → Part
@@ -100,7 +100,7 @@ abbrev pub plays : List Event → ℕ → Bool
 plays h p = list_any (makes_player p) h
 
 abbrev pub players_in : List Event → ℕ
-players_in h = seats_below (plays h) 11
+players_in h = players_where (plays h) 11
 
 unfoldable pub players_of : Header → List (List ℕ) → ℕ
 players_of header lines = players_in (read_events header nothing [] lines)

@@ -1,16 +1,15 @@
 -- The marks of players in stud and razz are cards of theirs.
 use Rattle.std.specs.Prelude.{◌≡◌, ◌≤◌, ◌<◌, ℕ, true, List, length, Some, is_some, slice_get, Contains}
+use Rattle.card_sets.specs.PlayerSets.{has_player, seats_in}
 use Rattle.card_sets.specs.Cards.{has_card}
 use Rattle.card_sets.specs.Games.{allowed}
 use Rattle.card_sets.specs.declared.games.Game.{Game}
 use Rattle.card_sets.specs.declared.games.Game.TheVariants.{Stud, Razz}
 use Rattle.card_sets.specs.declared.games.Side.{Side}
 use Rattle.card_sets.specs.declared.games.Side.TheVariants.{High, Low}
-use Rattle.betting_replay.specs.Seats.{has_seat}
 use Rattle.pot_layers.specs.declared.paid.Pot.{Pot}
 use Rattle.pot_layers.specs.Pots.{pots}
 use Rattle.hand_audit.specs.Marks.{best_fives, height}
-use Rattle.hand_audit.specs.Orders.{seats_in}
 use Rattle.hand_audit.specs.Settle.{Showing, hand_of, mark_at, first_winners}
 
 -- a mark is how high one of the own cards counts that is in a five of best value, and no card of any such five counts higher
@@ -28,11 +27,11 @@ pub record IsMarkOf (side : Side) (fives : List (List ℕ)) (own : List ℕ) (ma
 abbrev pub MarksIn : Game → Side → Showing → Type 0
 MarksIn game side s = s.game ≡ game → (number : ℕ) (pot : Pot) → slice_get (pots s.paid) number ≡ Some pot
     → 2 ≤ length (seats_in pot.eligible) → (p : ℕ) → p < 11 → (own : List ℕ) → hand_of s p ≡ Some own
-    → IsMarkOf side (allowed game own s.board) own (mark_at s p)
+    → IsMarkOf side (allowed game own s.board) own (mark_at (Some side) s s.board p)
 
 -- in stud, which is played for the high, and in razz, in which the ace is the lowest; and the final cards of whoever wins are
 -- known
 pub record MarksAreCards (s : Showing) : Type 0 where
   pub stud : MarksIn Stud High s
   pub razz : MarksIn Razz Low s
-  pub winners : (eligible p : ℕ) → p < 11 → has_seat (first_winners s eligible) p ≡ true → is_some (hand_of s p) ≡ true
+  pub winners : (board : List ℕ) (eligible p : ℕ) → p < 11 → has_player (first_winners s board eligible) p ≡ true → is_some (hand_of s p) ≡ true

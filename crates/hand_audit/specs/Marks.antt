@@ -1,9 +1,8 @@
 -- The marks of players in stud and razz, by which winners get odd units. This project's own.
-use Rattle.std.specs.Prelude.{ℕ, Bool, true, false, not, List, [], ◌∷◌, map, filter, max, Option, Some, None}
+use Rattle.std.specs.Prelude.{ℕ, not, if◌then◌else◌, List, [], ◌∷◌, map, filter, max, Option, Some, None}
 use Rattle.std.specs.List.{list_all}
-use Rattle.card_sets.specs.Games.{allowed}
+use Rattle.card_sets.specs.Games.{allowed, has_marks}
 use Rattle.card_sets.specs.declared.games.Game.{Game}
-use Rattle.card_sets.specs.declared.games.Game.TheVariants.{Holdem, Omaha8, Stud, Razz, Lowball27}
 use Rattle.card_sets.specs.declared.games.Side.{Side}
 use Rattle.card_sets.specs.declared.games.Side.TheVariants.{High, Low}
 use Rattle.rank_high.specs.High.{high}
@@ -37,23 +36,12 @@ top_card side five = highest (map (height side) five)
 unfoldable pub mark_among : Side → List (List ℕ) → ℕ
 mark_among side fives = highest (map (top_card side) (best_fives side fives))
 
--- the games in which odd units go by marks
-abbrev pub has_marks : Game → Bool
-has_marks Holdem = false
-has_marks Omaha8 = false
-has_marks Stud = true
-has_marks Razz = true
-has_marks Lowball27 = false
+-- a player's mark on a side is that of the fives that the game allows; the other games have no marks
+abbrev pub mark_by : Side → Game → List ℕ → List ℕ → ℕ
+mark_by side game board own = if has_marks game then mark_among side (allowed game own board) else 0
 
--- a player's mark is that of the fives that the game allows. The games with a board and with a draw have no marks
-abbrev pub mark_by : Game → List ℕ → List ℕ → ℕ
-mark_by Holdem board own = 0
-mark_by Omaha8 board own = 0
-mark_by Stud board own = mark_among High (allowed Stud own board)
-mark_by Razz board own = mark_among Low (allowed Razz own board)
-mark_by Lowball27 board own = 0
-
--- and 0 where his cards are unknown
-abbrev pub mark_of : Game → List ℕ → Option (List ℕ) → ℕ
-mark_of game board None = 0
-mark_of game board (Some own) = mark_by game board own
+-- and 0 where his cards are unknown, or the game hasn't the side
+abbrev pub mark_of : Option Side → Game → List ℕ → Option (List ℕ) → ℕ
+mark_of None game board own = 0
+mark_of (Some side) game board None = 0
+mark_of (Some side) game board (Some own) = mark_by side game board own

@@ -8,9 +8,8 @@ use Rattle.std.specs.BTreeSet.{BTreeSet, contains_by}
 use denote.Ref.{Bor}
 use Rattle.history_text.specs.declared.events.Header.{Header}
 use Rattle.history_text.specs.Within.{IsSeated}
-use Rattle.betting_replay.specs.Seats.{by_seat}
 use Rattle.hand_audit.specs.declared.first_pass.Pass.{Pass}
-use Rattle.hand_audit.specs.Lines.{SoFar, part_of, plays, with_line, with_seat, seat_at, is_again}
+use Rattle.hand_audit.specs.Lines.{SoFar, part_of, players_in, with_line, with_seat, seat_at, is_again}
 
 -- a number digit by digit, with no zero before it: 0 has no digit
 abbrev pub digits_text : ℕ → List ℕ
@@ -24,7 +23,7 @@ HasNumbers set before = (n : ℕ) → contains_by (λ k. slice_cmp nat_cmp (digi
 pub record Passes (pass : Pass) (so_far : SoFar) (before : List ℕ) : Type 0 where
   pub names : pass.names ≡ so_far.names
   pub part : pass.part ≡ part_of so_far.events
-  pub made : pass.made ≡ by_seat (plays so_far.events)
+  pub players : pass.players ≡ players_in so_far.events
   pub seats : HasNumbers pass.seats before
   pub seated : All IsSeated so_far.names
 

@@ -1,14 +1,15 @@
 -- The settlement: what each pot holds, what was collected from it, and what the rules give of it.
-use Rattle.std.specs.Prelude.{ℕ, zero, suc, ◌+◌, ◌-◌, ◌==◌, ◌||◌, nat_lt, Bool, true, false, if◌then◌else◌, List, [], ◌∷◌, map, length, max, min, Option, Some, None, is_some, slice_index_or}
+use Rattle.std.specs.Prelude.{ℕ, zero, suc, ◌+◌, ◌-◌, ◌==◌, ◌||◌, nat_lt, Bool, true, false, if◌then◌else◌, List, [], ◌∷◌, ◌++◌, map, length, max, min, sum_by, Option, Some, None, is_some, slice_index_or}
 use Rattle.std.specs.List.{list_all, list_any}
+use Rattle.card_sets.specs.PlayerSets.{players_where, seats_in}
 use Rattle.card_sets.specs.declared.games.Game.{Game}
 use Rattle.card_sets.specs.declared.games.Side.{Side}
-use Rattle.card_sets.specs.Games.{sides_of}
+use Rattle.card_sets.specs.Games.{sides_of, has_marks}
 use Rattle.showdown_tally.specs.Showdown.{best, winners_of}
 use Rattle.pot_layers.specs.declared.paid.Paid.{Paid}
 use Rattle.pot_layers.specs.declared.paid.Pot.{Pot}
 use Rattle.pot_layers.specs.declared.paid.Share.{Share}
-use Rattle.pot_layers.specs.Pots.{pots, seats_below}
+use Rattle.pot_layers.specs.Pots.{pots}
 use Rattle.pot_layers.specs.Split.{shares}
 use Rattle.betting_replay.specs.Seats.{or_else}
 use Rattle.hand_audit.specs.declared.collections.Collection.{Collection}
@@ -18,8 +19,8 @@ use Rattle.hand_audit.specs.Collections.{taken_from, got_from}
 use Rattle.hand_audit.specs.PotNames.{counts_from, fits}
 use Rattle.hand_audit.specs.declared.pot_names.Source.{Source}
 use Rattle.hand_audit.specs.declared.pot_names.Source.TheVariants.{Any, Numbered}
-use Rattle.hand_audit.specs.Orders.{odd_order, by_marks, seats_in}
-use Rattle.hand_audit.specs.Marks.{has_marks, mark_of}
+use Rattle.hand_audit.specs.Orders.{odd_order, by_marks}
+use Rattle.hand_audit.specs.Marks.{mark_of}
 
 -- what a settlement looks at: the game, what each player paid, the collections, the button, the final cards by seat and the
 -- board's
@@ -30,6 +31,15 @@ pub record Showing : Type 0 where
   pub button : ℕ
   pub hands : List (Option (List ℕ))
   pub board : List ℕ
+
+-- what is split of a pot: so many units, to those who win by the cards of a board
+pub record Part : Type 0 where
+  pub units : ℕ
+  pub board : List ℕ
+
+-- the parts of so many units: one of them all, by the board
+abbrev pub parts_of : Showing → ℕ → List Part
+parts_of s units = record { units = units; board = s.board } ∷ []
 
 -- a seat's final cards
 abbrev pub hand_of : Showing → ℕ → Option (List ℕ)
@@ -44,12 +54,12 @@ abbrev pub value_on : Option Side → Game → List ℕ → Option (List ℕ) �
 value_on None game board own = None
 value_on (Some side) game board own = value_of_hand side game board own
 
-abbrev pub worth_on : Option Side → Showing → ℕ → Option (List ℕ)
-worth_on side s p = value_on side s.game s.board (hand_of s p)
+abbrev pub worth_on : Option Side → Showing → List ℕ → ℕ → Option (List ℕ)
+worth_on side s board p = value_on side s.game board (hand_of s p)
 
 -- the set of some seats
 abbrev pub set_of : List ℕ → ℕ
-set_of seats = seats_below (λ p. list_any (λ q. q == p) seats) 11
+set_of seats = players_where (λ p. list_any (λ q. q == p) seats) 11
 
 -- the sides that a pot is played for, the first and the second; none where the game hasn't so many
 abbrev pub first_side : Game → Option Side
@@ -68,56 +78,60 @@ are_known s eligible = list_all (λ p. is_some (hand_of s p)) (seats_in eligible
 unfoldable pub is_checked : Showing → ℕ → Bool
 is_checked s eligible = is_alone eligible || are_known s eligible
 
--- the winners of a side of a pot, and none where the game hasn't the side
-abbrev pub side_winners : Option Side → Showing → ℕ → ℕ
-side_winners None s eligible = 0
-side_winners (Some side) s eligible = set_of (winners_of side (worth_on (Some side) s) (seats_in eligible))
+-- the winners of a side of a pot by a board, and none where the game hasn't the side
+abbrev pub side_winners : Option Side → Showing → List ℕ → ℕ → ℕ
+side_winners None s board eligible = 0
+side_winners (Some side) s board eligible = set_of (winners_of side (worth_on (Some side) s board) (seats_in eligible))
 
 -- the winners of the first side, and of the second
-unfoldable pub first_winners : Showing → ℕ → ℕ
-first_winners s eligible = side_winners (first_side s.game) s eligible
+unfoldable pub first_winners : Showing → List ℕ → ℕ → ℕ
+first_winners s board eligible = side_winners (first_side s.game) s board eligible
 
-unfoldable pub second_winners : Showing → ℕ → ℕ
-second_winners s eligible = side_winners (second_side s.game) s eligible
+unfoldable pub second_winners : Showing → List ℕ → ℕ → ℕ
+second_winners s board eligible = side_winners (second_side s.game) s board eligible
 
--- a player's mark, 0 where his final cards are unknown
-abbrev pub mark_at : Showing → ℕ → ℕ
-mark_at s p = mark_of s.game s.board (hand_of s p)
+-- a player's mark on a side, 0 where his final cards are unknown
+abbrev pub mark_at : Option Side → Showing → List ℕ → ℕ → ℕ
+mark_at side s board p = mark_of side s.game board (hand_of s p)
 
--- the order in which the winners of a side get odd units: by their marks in stud and razz, and by the button in the games with a
--- board and with a draw
-unfoldable pub order_of : Showing → ℕ → List ℕ
-order_of s winners = if has_marks s.game then by_marks (mark_at s) (seats_in winners) else odd_order s.button winners
+-- the order in which the winners of a side get odd units: by their marks on it in stud and razz, and by the button in the games with
+-- a board and with a draw
+unfoldable pub order_of : Option Side → Showing → List ℕ → ℕ → List ℕ
+order_of side s board winners = if has_marks s.game then by_marks (mark_at side s board) (seats_in winners) else odd_order s.button winners
 
--- the rules' parts of so many units of a pot: a player who is alone has them all
-unfoldable pub parts_alone : ℕ → ℕ → List Share
-parts_alone eligible units = shares units (set_of (seats_in eligible)) 0 (seats_in eligible) []
+-- the rules' shares of a part: a player who is alone has all units
+unfoldable pub shares_alone : ℕ → ℕ → List Share
+shares_alone eligible units = shares units (set_of (seats_in eligible)) 0 (seats_in eligible) []
 
 -- else they go to the winners of its two sides
-unfoldable pub parts_by : Showing → ℕ → ℕ → ℕ → List Share
-parts_by s units first second = shares units first second (order_of s first) (order_of s second)
+unfoldable pub shares_by : Showing → Part → ℕ → ℕ → List Share
+shares_by s part first second =
+    shares part.units first second (order_of (first_side s.game) s part.board first) (order_of (second_side s.game) s part.board second)
 
-abbrev pub parts_among : Bool → Showing → ℕ → ℕ → List Share
-parts_among true s eligible units = parts_alone eligible units
-parts_among false s eligible units = parts_by s units (first_winners s eligible) (second_winners s eligible)
+abbrev pub shares_among : Bool → Showing → ℕ → Part → List Share
+shares_among true s eligible part = shares_alone eligible part.units
+shares_among false s eligible part = shares_by s part (first_winners s part.board eligible) (second_winners s part.board eligible)
+
+-- those of some parts, one part after another
+abbrev pub shares_of_parts : Showing → ℕ → List Part → List Share
+shares_of_parts s eligible [] = []
+shares_of_parts s eligible (part ∷ parts) = shares_among (is_alone eligible) s eligible part ++ shares_of_parts s eligible parts
 
 -- and none where it isn't known who wins
-abbrev pub parts_if : Bool → Showing → ℕ → ℕ → List Share
-parts_if true s eligible units = parts_among (is_alone eligible) s eligible units
-parts_if false s eligible units = []
+abbrev pub shares_if : Bool → Showing → ℕ → List Part → List Share
+shares_if true s eligible parts = shares_of_parts s eligible parts
+shares_if false s eligible parts = []
 
--- a seat's part, and the sides that it wins, which are its tolerance
-abbrev pub part_of_seat : ℕ → List Share → ℕ
-part_of_seat p [] = 0
-part_of_seat p (share ∷ all) = if share.seat == p then share.units else part_of_seat p all
+-- what some shares give a seat, and how many sides of parts it wins, which are its tolerance
+abbrev pub due_of_seat : ℕ → List Share → ℕ
+due_of_seat p all = sum_by (λ share. if share.seat == p then share.units else 0) all
 
 abbrev pub sides_of_seat : ℕ → List Share → ℕ
-sides_of_seat p [] = 0
-sides_of_seat p (share ∷ all) = if share.seat == p then share.sides else sides_of_seat p all
+sides_of_seat p all = sum_by (λ share. if share.seat == p then share.sides else 0) all
 
 -- the payment of a seat: what it got and what it is due; where it isn't known who wins it is due what it got
 abbrev pub payment : Bool → ℕ → List Share → ℕ → Payment
-payment checked got all p = record { seat = p; got = got; due = if checked then part_of_seat p all else got }
+payment checked got all p = record { seat = p; got = got; due = if checked then due_of_seat p all else got }
 
 -- the payments of the seats from one on who got something or are due something, rising
 abbrev pub is_payment : Payment → Bool
@@ -140,11 +154,11 @@ beyond_from pay tolerance p (suc n) =
 abbrev pub net_of : Showing → Source → ℕ
 net_of s source = taken_from (counts_from source) s.collections
 
-unfoldable pub parts_of : Showing → Source → Pot → List Share
-parts_of s source pot = parts_if (is_checked s pot.eligible) s pot.eligible (net_of s source)
+unfoldable pub shares_of_pot : Showing → Source → Pot → List Share
+shares_of_pot s source pot = shares_if (is_checked s pot.eligible) s pot.eligible (parts_of s (net_of s source))
 
 abbrev pub pay_of : Showing → Source → Pot → ℕ → Payment
-pay_of s source pot p = payment (is_checked s pot.eligible) (got_from (counts_from source) p s.collections) (parts_of s source pot) p
+pay_of s source pot p = payment (is_checked s pot.eligible) (got_from (counts_from source) p s.collections) (shares_of_pot s source pot) p
 
 abbrev pub pot_line : Showing → Source → Pot → PotLine
 pot_line s source pot = record {
@@ -155,9 +169,9 @@ pot_line s source pot = record {
   paid = payments_from (pay_of s source pot) 1 10;
 }
 
--- its first payment that is further from what is due than the number of sides that the seat wins
+-- its first payment that is further from what is due than the number of sides of parts that the seat wins
 abbrev pub beyond_of : Showing → Source → Pot → Option Payment
-beyond_of s source pot = beyond_from (pay_of s source pot) (λ p. sides_of_seat p (parts_of s source pot)) 1 10
+beyond_of s source pot = beyond_from (pay_of s source pot) (λ p. sides_of_seat p (shares_of_pot s source pot)) 1 10
 
 -- the pots numbered from k on, of so many
 abbrev pub pot_lines : Showing → ℕ → ℕ → List Pot → List PotLine

@@ -1,30 +1,23 @@
 -- What a settlement looks at, after the events of a hand.
 use Rattle.std.specs.Prelude.{ℕ, zero, suc, ◌+◌, if◌then◌else◌, List, [], ◌∷◌}
+use Rattle.card_sets.specs.PlayerSets.{has_player}
 use Rattle.card_sets.specs.declared.games.Game.{Game}
 use Rattle.history_text.specs.declared.events.Header.{Header}
 use Rattle.history_text.specs.declared.events.Event.{Event}
-use Rattle.history_text.specs.declared.events.Event.TheVariants.{Button, Total}
+use Rattle.history_text.specs.declared.events.Event.TheVariants.{Total}
 use Rattle.pot_layers.specs.declared.paid.Paid.{Paid}
 use Rattle.betting_replay.specs.Accounts.{paid_by}
-use Rattle.betting_replay.specs.Seats.{by_seat, has_seat}
+use Rattle.betting_replay.specs.Seats.{by_seat}
+use Rattle.betting_replay.specs.Sums.{button}
 use Rattle.betting_replay.specs.Tables.{Table, table_of, own_at, final_at}
 use Rattle.hand_audit.specs.declared.collections.Collection.{Collection}
 use Rattle.hand_audit.specs.Collections.{collections}
 use Rattle.hand_audit.specs.Settle.{Showing}
 
--- the seat of the last button line, 0 where there is none
-abbrev pub button_by : Event → ℕ → ℕ
-button_by (Button seat) before = seat
-button_by e before = before
-
-abbrev pub button : List Event → ℕ
-button [] = 0
-button (e ∷ h) = button_by e (button h)
-
 -- what each player among the seats from one on has put in, by rising seat
 abbrev pub paid_from : Table → ℕ → ℕ → List Paid
 paid_from t p zero = []
-paid_from t p (suc n) = if has_seat t.players p then paid_by t p ∷ paid_from t (p + 1) n else paid_from t (p + 1) n
+paid_from t p (suc n) = if has_player t.players p then paid_by t p ∷ paid_from t (p + 1) n else paid_from t (p + 1) n
 
 unfoldable pub paid_in : Table → List Paid
 paid_in t = paid_from t 1 10

@@ -1,20 +1,21 @@
 -- Pots are split by the rules.
-use Rattle.std.specs.Prelude.{◌≡◌, ℕ, ◌<◌, ◌≤◌, true, length, Some, slice_get}
+use Rattle.std.specs.Prelude.{◌≡◌, ℕ, ◌<◌, ◌≤◌, true, length, Some, slice_get, All}
+use Rattle.card_sets.specs.PlayerSets.{seats_in}
 use Rattle.pot_layers.specs.declared.paid.Pot.{Pot}
 use Rattle.pot_layers.specs.Pots.{pots}
 use Rattle.hand_audit.specs.declared.pot_names.Source.TheVariants.{Numbered}
-use Rattle.hand_audit.specs.Orders.{seats_in}
-use Rattle.hand_audit.specs.Settle.{Showing, is_checked, first_winners, pay_of, parts_of, part_of_seat, sides_of_seat, distance}
+use Rattle.hand_audit.specs.Settle.{Showing, Part, parts_of, net_of, is_checked, first_winners, pay_of, shares_of_pot, due_of_seat, sides_of_seat, distance}
 
--- what a seat got of a pot is due to it by the rules, but for a unit for each side that it wins
+-- what a seat got of a pot is due to it by the rules, but for a unit for each side of a part that it wins
 pub record IsRightly (s : Showing) (number : ℕ) (pot : Pot) (p : ℕ) : Type 0 where
-  pub due : is_checked s pot.eligible ≡ true → (pay_of s (Numbered (length (pots s.paid)) number) pot p).due ≡ part_of_seat p (parts_of s (Numbered (length (pots s.paid)) number) pot)
-  pub near : distance (pay_of s (Numbered (length (pots s.paid)) number) pot p).got (pay_of s (Numbered (length (pots s.paid)) number) pot p).due ≤ sides_of_seat p (parts_of s (Numbered (length (pots s.paid)) number) pot)
+  pub due : is_checked s pot.eligible ≡ true → (pay_of s (Numbered (length (pots s.paid)) number) pot p).due ≡ due_of_seat p (shares_of_pot s (Numbered (length (pots s.paid)) number) pot)
+  pub near : distance (pay_of s (Numbered (length (pots s.paid)) number) pot p).got (pay_of s (Numbered (length (pots s.paid)) number) pot p).due ≤ sides_of_seat p (shares_of_pot s (Numbered (length (pots s.paid)) number) pot)
 
 -- so is what each seat got of each pot
 abbrev pub IsSplitRightly : Showing → Type 0
 IsSplitRightly s = (number : ℕ) (pot : Pot) → slice_get (pots s.paid) number ≡ Some pot → (p : ℕ) → 1 ≤ p → p ≤ 10 → IsRightly s number pot p
 
--- in each pot of two players or more of which it is known who wins, somebody wins the first side
+-- of each part of each pot of two players or more of which it is known who wins, somebody wins the first side
 abbrev pub IsWonBySomebody : Showing → Type 0
-IsWonBySomebody s = (number : ℕ) (pot : Pot) → slice_get (pots s.paid) number ≡ Some pot → is_checked s pot.eligible ≡ true → 2 ≤ length (seats_in pot.eligible) → 0 < first_winners s pot.eligible
+IsWonBySomebody s = (number : ℕ) (pot : Pot) → slice_get (pots s.paid) number ≡ Some pot → is_checked s pot.eligible ≡ true → 2 ≤ length (seats_in pot.eligible)
+    → All (λ (part : Part). 0 < first_winners s part.board pot.eligible) (parts_of s (net_of s (Numbered (length (pots s.paid)) number)))

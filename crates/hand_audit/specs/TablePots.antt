@@ -1,7 +1,6 @@
 -- The pots of an all-in's table.
-use Rattle.std.specs.Prelude.{◌≡◌, ◌≤◌, ◌<◌, ◌==◌, ℕ, List, length, slice_get, slice_index_or, Some}
-use Rattle.std.specs.Int.{bit_at}
-use Rattle.betting_replay.specs.Seats.{has_seat}
+use Rattle.std.specs.Prelude.{◌≡◌, ◌≤◌, ◌<◌, ℕ, List, length, slice_get, slice_index_or, Some}
+use Rattle.card_sets.specs.PlayerSets.{has_player}
 use Rattle.showdown_tally.specs.Deals.{deal_of}
 use Rattle.showdown_tally.specs.declared.table.Table.{Table}
 use Rattle.hand_audit.specs.declared.settlement.PotLine.{PotLine}
@@ -12,4 +11,4 @@ pub record HasPotsOf (settlement : Settlement) (seats : List ℕ) (table : Table
   pub many : length (deal_of table).pots ≡ length settlement.pots
   pub few : length settlement.pots ≤ 10
   pub eligible : (number : ℕ) (pot : PotLine) → slice_get settlement.pots number ≡ Some pot
-      → (i : ℕ) → i < table.known.count → (bit_at (slice_index_or table.eligible number 0) i == 1) ≡ has_seat pot.eligible (slice_index_or seats i 0)
+      → (i : ℕ) → i < table.known.count → has_player (slice_index_or table.eligible number 0) i ≡ has_player pot.eligible (slice_index_or seats i 0)

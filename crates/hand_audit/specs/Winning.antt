@@ -1,7 +1,7 @@
 -- The winners of a side, by the numbers that the values of the hands are kept as: greater for better.
 use Rattle.std.specs.Prelude.{◌≡◌, ℕ, ◌<◌, ◌≤◌, ◌&&◌, ◌==◌, not, nat_lt, Bool, false, if◌then◌else◌, List, [], ◌∷◌, length, slice_index_or, Option, Some, None, is_some, IfSome}
 use Rattle.std.specs.List.{list_all}
-use Rattle.std.specs.Int.{bit_at}
+use Rattle.card_sets.specs.PlayerSets.{has_player, players_where, seats_in}
 use Rattle.card_sets.specs.Disjoint.{apart}
 use Rattle.card_sets.specs.Games.{own_size, board_size}
 use Rattle.card_sets.specs.declared.games.Side.{Side}
@@ -11,10 +11,11 @@ use Rattle.showdown_tally.specs.Settling.{number_of}
 use Rattle.showdown_tally.specs.Showdown.{is_beaten_by}
 use Rattle.showdown_tally.specs.Laws.{IsFull}
 use Rattle.pot_layers.specs.declared.paid.Pot.{Pot}
-use Rattle.pot_layers.specs.Pots.{seats_below}
-use Rattle.hand_audit.specs.Orders.{seats_in}
+use Rattle.hand_audit.specs.declared.worths.OnSide.{OnSide}
+use Rattle.hand_audit.specs.declared.worths.OnBoard.{OnBoard}
 use Rattle.hand_audit.specs.declared.standings.Standings.{Standings}
-use Rattle.hand_audit.specs.Settle.{Showing, hand_of, worth_on, first_side, second_side, mark_at}
+use Rattle.hand_audit.specs.Marks.{mark_of}
+use Rattle.hand_audit.specs.Settle.{Showing, hand_of, value_on, first_side, second_side}
 
 -- whether a number is beaten by another's
 abbrev pub is_beaten : Option ℕ → Option ℕ → Bool
@@ -28,14 +29,14 @@ is_unbeaten values seats mine = list_all (λ q. not (is_beaten mine (number_of v
 
 -- a seat wins where it is in the set, and has a number which no other's beats; 0 is no seat
 unfoldable pub wins : List (Option ℕ) → ℕ → ℕ → Bool
-wins values seats p = nat_lt 0 p && (bit_at seats p == 1) && is_some (number_of values p) && is_unbeaten values seats (number_of values p)
+wins values seats p = nat_lt 0 p && has_player seats p && is_some (number_of values p) && is_unbeaten values seats (number_of values p)
 
 unfoldable pub winners_by : List (Option ℕ) → ℕ → ℕ
-winners_by values seats = seats_below (wins values seats) 11
+winners_by values seats = players_where (wins values seats) 11
 
 -- a seat of the table is in a set
 abbrev pub is_seat_in : ℕ → ℕ → Bool
-is_seat_in seats p = nat_lt 0 p && (bit_at seats p == 1)
+is_seat_in seats p = nat_lt 0 p && has_player seats p
 
 -- a side's beating; nothing is beaten where the game hasn't the side
 abbrev pub beaten_on : Option Side → Option (List ℕ) → Option (List ℕ) → Bool
@@ -60,23 +61,43 @@ abbrev pub full_with : Game → List ℕ → Option (List ℕ) → Option (List 
 full_with game board None = None
 full_with game board (Some own) = if is_full game board own then Some own else None
 
--- all final cards that are known can be
-abbrev pub AreFull : Showing → Type 0
-AreFull s = (p : ℕ) → p < 11 → IfSome (hand_of s p) (λ own. IsFull s.game own s.board)
+-- all final cards that are known can be, on one board
+abbrev pub AreFullOn : Showing → List ℕ → Type 0
+AreFullOn s board = (p : ℕ) → p < 11 → IfSome (hand_of s p) (λ own. IsFull s.game own board)
 
--- and what is kept of them tells who wins then
+-- and on the board of each part
+abbrev pub AreFull : Showing → Type 0
+AreFull s = AreFullOn s s.board
+
+-- what is kept of some hands, by seat, on a side of a board tells who wins it, and in which order
+pub record TellsSide (w : OnSide) (side : Option Side) (game : Game) (board : List ℕ) (hands : List (Option (List ℕ))) : Type 0 where
+  pub ranks : Ranks side w.values (λ p. value_on side game board (slice_index_or hands p None))
+  pub marks : (p : ℕ) → p < 11 → slice_index_or w.marks p 0 ≡ mark_of side game board (slice_index_or hands p None)
+
+-- so of both sides
+pub record TellsBoard (w : OnBoard) (game : Game) (board : List ℕ) (hands : List (Option (List ℕ))) : Type 0 where
+  pub first : TellsSide w.first (first_side game) game board hands
+  pub second : TellsSide w.second (second_side game) game board hands
+
+-- what is kept of the final cards does, where they can be shown down
 pub record Tells (w : Standings) (s : Showing) : Type 0 where
   pub game : w.game ≡ s.game
-  pub known : (p : ℕ) → p < 11 → slice_index_or w.known p false ≡ is_some (hand_of s p)
-  pub first : AreFull s → Ranks (first_side s.game) w.first (worth_on (first_side s.game) s)
-  pub second : AreFull s → Ranks (second_side s.game) w.second (worth_on (second_side s.game) s)
-  pub marks : AreFull s → (p : ℕ) → p < 11 → slice_index_or w.marks p 0 ≡ mark_at s p
+  pub known : (p : ℕ) → p < 11 → has_player w.known p ≡ is_some (hand_of s p)
+  pub board : AreFull s → TellsBoard w.board s.game s.board s.hands
   pub button : w.button ≡ s.button
 
--- the button is a seat or none, and marks are cards
+-- marks are cards, on each side of a board
+abbrev pub HasMarks : OnSide → Type 0
+HasMarks w = (p : ℕ) → p < 11 → slice_index_or w.marks p 0 < 52
+
+pub record HasBothMarks (w : OnBoard) : Type 0 where
+  pub first : HasMarks w.first
+  pub second : HasMarks w.second
+
+-- and the button is a seat or none
 pub record IsReady (w : Standings) : Type 0 where
   pub button : w.button ≤ 10
-  pub marks : (p : ℕ) → p < 11 → slice_index_or w.marks p 0 < 52
+  pub board : HasBothMarks w.board
 
 -- where a pot has two players or more, their final cards, where they are known, can be shown down
 abbrev pub IsDecided : Showing → ℕ → Type 0
@@ -86,3 +107,11 @@ IsDecided s eligible = 2 ≤ length (seats_in eligible) → AreFull s
 abbrev pub AreDecided : Showing → List Pot → Type 0
 AreDecided s [] = Unit {0}
 AreDecided s (pot ∷ pots) = IsDecided s pot.eligible × AreDecided s pots
+
+-- where a pot has two players or more, their final cards can be shown down on a board, and what is kept tells who wins by it
+pub record TellsFull (w : OnBoard) (s : Showing) (board : List ℕ) : Type 0 where
+  pub full : AreFullOn s board
+  pub tells : TellsBoard w s.game board s.hands
+
+abbrev pub Decides : OnBoard → Showing → List ℕ → ℕ → Type 0
+Decides w s board eligible = 2 ≤ length (seats_in eligible) → TellsFull w s board

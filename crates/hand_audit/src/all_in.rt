@@ -2,7 +2,7 @@
 
 ghost use Rattle.std.specs.Prelude.{◌≡◌, ◌<◌, None, is_some, slice_index_or};
 ghost use Rattle.std.specs.List.{list_all};
-ghost use Rattle.hand_audit.specs.Orders.{seats_in};
+ghost use Rattle.card_sets.specs.PlayerSets.{seats_in};
 ghost use Rattle.pot_layers.specs.Pots.{pots};
 ghost use Rattle.betting_replay.specs.Seats.{by_seat};
 ghost use Rattle.betting_replay.specs.Table.{known_at};
@@ -10,49 +10,20 @@ ghost use Rattle.hand_audit.specs.PotSeats.{eligible_of};
 ghost use Rattle.hand_audit.specs.Showings.{paid_in};
 ghost use Rattle.hand_audit.specs.AllIns.{all_in_at, known_there, eligible_in, all_in_by};
 
-use crate::audit::AllIn;
-use crate::known_tables::known_table;
-use crate::orders::is_in;
-use crate::seat_sets::seats_of;
+use crate::at_point::AtPoint;
+use crate::known_tables::{known_table, seats_of};
 use crate::settlement::PotLine;
+use crate::verdicts::AllIn;
 use betting_replay::Replay;
-use card_sets::{CardSet, Game};
+use card_sets::{CardSet, Game, PlayerSet};
 use history_text::Street;
 
-/// What is known at an all-in point.
-#[derive(Clone, Copy)]
-pub(crate) struct AtPoint {
-    /// The game.
-    pub(crate) game: Game,
-    /// The street on which it lies.
-    pub(crate) street: Street,
-    /// The contenders there: bit s for seat s.
-    pub(crate) contenders: u16,
-    /// The cards of each seat, where they are known.
-    pub(crate) cards: [Option<CardSet>; 11],
-    /// The cards of the board.
-    pub(crate) board: CardSet,
-    /// The cards that are known not to come.
-    pub(crate) dead: CardSet,
-}
-
-/// Whether a seat's cards are known.
-fn is_known(cards: &[Option<CardSet>; 11], seat: u8) -> bool
-    requires { seat < 11 }
-    ensures { result ≡ is_some (slice_index_or cards.now seat None) }
-{
-    cards[seat as usize].is_some()
-}
-
 /// Whether the cards of each seat of a set are known.
-fn are_all_known(cards: &[Option<CardSet>; 11], seats: u16) -> bool
+fn are_all_known(cards: &[Option<CardSet>; 11], seats: PlayerSet) -> bool
     ensures { result ≡ list_all (λ p. is_some (slice_index_or cards.now p None)) (seats_in seats) }
 {
-    for seat in 1..11u8 {
-        if !is_in(seats, seat) {
-            continue;
-        }
-        if !is_known(cards, seat) {
+    for seat in seats.seats().each() {
+        if cards[seat as usize].is_none() {
             return false;
         }
     }
@@ -95,7 +66,7 @@ fn known_there(game: Game, replay: &Replay, street: Street) -> AtPoint
     AtPoint {
         game,
         street,
-        contenders: replay.all_in_contenders(),
+        contenders: PlayerSet::of(replay.all_in_contenders()),
         cards: cards_on(replay, street),
         board: replay.board_at(street),
         dead: replay.dead(),

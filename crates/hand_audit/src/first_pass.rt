@@ -3,17 +3,16 @@
 ghost use Rattle.std.specs.Prelude.{◌≡◌, ℕ, ◌+◌, ◌≤◌, ◌<◌, ◌++◌, ◌∷◌, [], List, All, IfOk, IfSome, false, slice_index_or, Option, OnOk, option_map, codes, drop, length};
 ghost use Rattle.line_text.specs.Amounts.{digit_count, number_of};
 ghost use Rattle.line_text.specs.Lines.{lines};
-ghost use Rattle.pot_layers.specs.Pots.{seats_below};
 ghost use Rattle.history_text.specs.declared.events.Event.{Event};
 ghost use Rattle.history_text.specs.Texts.{behind};
 ghost use Rattle.history_text.specs.Within.{IsSeated};
 ghost use Rattle.betting_replay.specs.Limits.{Fits};
 ghost use Rattle.betting_replay.specs.Seats.{by_seat};
-ghost use Rattle.hand_audit.specs.Lines.{SoFar, nothing, front_number, seat_number, seat_at, is_again, with_seat, player_of, plays, players_of};
+ghost use Rattle.hand_audit.specs.Lines.{SoFar, nothing, front_number, seat_number, seat_at, is_again, with_seat, player_of, players_in, players_of};
 ghost use Rattle.hand_audit.specs.Passing.{HasNumbers, Passes, Took, digits_text};
 
 use crate::hand::{part_after, read, seat_name};
-use card_sets::Memory;
+use card_sets::{Memory, PlayerSet};
 use history_text::{Event, Header, Names, Part, seat_line};
 use line_text::{digit_count, next_line};
 use std::alloc::{AllocError, Global};
@@ -24,8 +23,8 @@ use std::collections::BTreeSet;
 pub(crate) struct Pass<'a> {
     pub(crate) names: Names,
     pub(crate) part: Part,
-    /// By seat: who plays.
-    pub(crate) made: [bool; 11],
+    /// Who plays.
+    pub(crate) players: PlayerSet,
     /// The numbers of the seat lines that stood, digit by digit: they may be of any length.
     pub(crate) seats: BTreeSet<&'a [u8]>,
 }
@@ -115,27 +114,15 @@ fn player_of(e: &Event) -> Option<u8>
     }
 }
 
-/// The seat of an event plays.
-fn note_player(made: &mut [bool; 11], e: &Event)
+/// The players with the seat that an event makes one.
+fn with_player_of(players: PlayerSet, e: &Event) -> PlayerSet
     requires { Fits e.now }
-    ensures { (h : List Event) → made.old ≡ by_seat (plays h) → made.new ≡ by_seat (plays (e.now ∷ h)) }
+    ensures { (h : List Event) → players ≡ players_in h → result ≡ players_in (e.now ∷ h) }
 {
-    if let Some(seat) = player_of(e) {
-        made[seat as usize] = true;
+    match player_of(e) {
+        Some(seat) => players.with(seat),
+        None => players,
     }
-}
-
-/// The set of the seats that play.
-fn set_of(made: &[bool; 11]) -> u16
-    ensures { result ≡ seats_below (λ p. slice_index_or made.now p false) 11 }
-{
-    let mut seats = 0;
-    for seat in 0..11u8 {
-        if made[seat as usize] {
-            seats += 1 << seat;
-        }
-    }
-    seats
 }
 
 impl<'a> Pass<'a> {
@@ -146,7 +133,7 @@ impl<'a> Pass<'a> {
         Pass {
             names: Names::new(alloc),
             part: Part::Preamble,
-            made: [false; 11],
+            players: PlayerSet::empty(),
             seats: BTreeSet::new(alloc),
         }
     }
@@ -168,7 +155,7 @@ impl<'a> Pass<'a> {
             Err(_) => return Ok(false),
         };
         seat_name(&mut self.names, &e, line)?;
-        note_player(&mut self.made, &e);
+        self.players = with_player_of(self.players, &e);
         self.part = part_after(&e, self.part);
         Ok(false)
     }
@@ -188,9 +175,9 @@ pub(crate) fn players_of(
     let mut at = start;
     'lines: while let Some(line) = next_line(bytes, at) {
         if pass.take(header, &bytes[line.first..line.end])? {
-            return Ok(set_of(&pass.made));
+            return Ok(pass.players.bits());
         }
         at = line.next;
     }
-    Ok(set_of(&pass.made))
+    Ok(pass.players.bits())
 }

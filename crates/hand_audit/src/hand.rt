@@ -7,12 +7,13 @@ ghost use Rattle.history_text.specs.declared.events.Event.{Event};
 ghost use Rattle.history_text.specs.declared.events.Header.{Header};
 ghost use Rattle.history_text.specs.Lines.{line_event};
 ghost use Rattle.betting_replay.specs.CardLaws.{MarkerFits};
+ghost use Rattle.betting_replay.specs.Events.{button_after};
 ghost use Rattle.betting_replay.specs.Limits.{Fits};
 ghost use Rattle.betting_replay.specs.Tables.{StandsFor};
 ghost use Rattle.hand_audit.specs.Lines.{SoFar, nothing, part_after, read_at, named_by, with_event};
 ghost use Rattle.hand_audit.specs.Collections.{collected_by, taken};
 ghost use Rattle.hand_audit.specs.Settling.{IsOfHand};
-ghost use Rattle.hand_audit.specs.Showings.{paid_in, button_by, rake_by, showing_at};
+ghost use Rattle.hand_audit.specs.Showings.{paid_in, rake_by, showing_at};
 ghost use Rattle.hand_audit.specs.Departs.{is_total, total_cause, event_cause};
 ghost use Rattle.hand_audit.specs.Keeping.{Keeps, Goes, HasName, IsSound, EndsAs};
 ghost use Rattle.history_text.specs.Within.{IsSeated, stands_in};
@@ -70,9 +71,9 @@ fn is_total(e: &Event) -> bool
     matches!(e, Event::Total { .. })
 }
 
-/// The button behind an event.
-fn button_by(e: &Event, before: u8) -> u8
-    ensures { result ≡ button_by e.now before }
+/// The seat of the button after an event, where it was at another before.
+fn button_after(e: &Event, before: u8) -> u8
+    ensures { result ≡ button_after e.now before }
 {
     match *e {
         Event::Button { seat } => seat,
@@ -227,7 +228,7 @@ impl Hand {
         seat_name(&mut self.names, &e, line)?;
         collect(&mut self.collections, &e)?;
         self.part = part_after(&e, self.part);
-        self.button = button_by(&e, self.button);
+        self.button = button_after(&e, self.button);
         self.rake = rake_by(&e, self.rake);
         self.total = is_total(&e) || self.total;
         Ok(None)

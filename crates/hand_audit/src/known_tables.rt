@@ -1,20 +1,16 @@
 //! The table of an all-in: the known cards, and which hands may win which pot.
 
-ghost use Rattle.std.specs.Prelude.{◌≡◌, ◌<◌, ◌≤◌, [], map, length, nat_le};
+ghost use Rattle.std.specs.Prelude.{◌≡◌, ◌<◌, ◌≤◌, [], if◌then◌else◌, map, length, nat_le};
 ghost use Rattle.std.specs.List.{list_all};
+ghost use Rattle.card_sets.specs.PlayerSets.{all_within, seats_in, with_player};
 ghost use Rattle.card_sets.specs.Disjoint.{apart, all_apart, all_empty};
-ghost use Rattle.showdown_tally.specs.Tables.{all_within};
-ghost use Rattle.hand_audit.specs.Orders.{seats_in};
 ghost use Rattle.hand_audit.specs.KnownTables.{ten, places_in, holds, table_from};
 ghost use Rattle.hand_audit.specs.PotSeats.{eligible_of};
 ghost use Rattle.hand_audit.specs.AllIns.{cards_or_none, bare_of};
 
-use crate::all_in::AtPoint;
-use crate::orders::is_in;
-use crate::seat_sets::{count_seats, places_in};
+use crate::at_point::AtPoint;
 use crate::settlement::PotLine;
-use crate::standings::{are_apart, board_size, own_size};
-use card_sets::{CardSet, Game, Known};
+use card_sets::{CardSet, Game, Known, PlayerSet};
 use showdown_tally::Table;
 
 /// A seat's cards, and none where they are unknown.
@@ -25,30 +21,61 @@ fn cards_at(cards: &[Option<CardSet>; 11], seat: u8) -> CardSet
     cards[seat as usize].unwrap_or(CardSet::empty())
 }
 
+/// The seats of a set, rising, in ten places.
+pub(crate) fn seats_of(seats: PlayerSet) -> [u8; 10]
+    ensures { result ≡ ten 0 (seats_in seats) }
+{
+    let mut all = [0; 10];
+    let mut count = 0usize;
+    for seat in seats.seats().each() {
+        all[count] = seat;
+        count += 1;
+    }
+    all
+}
+
 /// The cards of the seats of a set, in ten places.
-fn hands_of(cards: &[Option<CardSet>; 11], seats: u16) -> [CardSet; 10]
+fn hands_of(cards: &[Option<CardSet>; 11], seats: PlayerSet) -> [CardSet; 10]
     ensures { result ≡ ten [] (map (cards_or_none cards.now) (seats_in seats)) }
 {
     let mut all = [CardSet::empty(); 10];
     let mut count = 0usize;
-    for seat in 1..11u8 {
-        if !is_in(seats, seat) {
-            continue;
-        }
+    for seat in seats.seats().each() {
         all[count] = cards_at(cards, seat);
         count += 1;
     }
     all
 }
 
+/// A set with a place too, where a test holds.
+fn with_if(places: PlayerSet, test: bool, place: u8) -> PlayerSet
+    requires { place < 16 }
+    ensures { result ≡ (if test then with_player places place else places) }
+{
+    if test { places.with(place) } else { places }
+}
+
+/// Which of the seats of a set are in another: place i for the i-th of them.
+fn places_in(seats: PlayerSet, set: PlayerSet) -> PlayerSet
+    ensures { result ≡ places_in (seats_in seats) set }
+{
+    let mut places = PlayerSet::empty();
+    let mut count = 0u8;
+    for seat in seats.seats().each() {
+        places = with_if(places, set.has(seat), count);
+        count += 1;
+    }
+    places
+}
+
 /// What of each pot's players has a place among some seats, in ten places.
-fn eligible_of(pots: &[PotLine], seats: u16) -> [u16; 10]
+fn eligible_of(pots: &[PotLine], seats: PlayerSet) -> [u16; 10]
     requires { length pots.now ≤ 10 }
     ensures { result ≡ ten 0 (map (λ pot. places_in (seats_in seats) pot.eligible) pots.now) }
 {
     let mut all = [0; 10];
     for (number, pot) in pots.iter().enumerate() {
-        all[number] = places_in(seats, pot.eligible);
+        all[number] = places_in(seats, PlayerSet::of(pot.eligible)).bits();
     }
     all
 }
@@ -59,7 +86,7 @@ fn apart_from_all(cards: CardSet, sets: &[CardSet]) -> bool
 {
     match sets {
         [] => true,
-        [first, others @ ..] => are_apart(cards, *first) && apart_from_all(cards, others),
+        [first, others @ ..] => cards.is_apart(*first) && apart_from_all(cards, others),
     }
 }
 
@@ -118,13 +145,13 @@ fn holds(
     ensures { result ≡ holds (record { game = game; count = count; hands = hands.now; board = board; dead = dead; pots = pots; eligible = eligible.now }) }
 {
     let hands = &hands[..];
-    are_apart(board, dead)
+    board.is_apart(dead)
         && apart_from_all(board, hands)
         && apart_from_all(dead, hands)
         && all_apart(hands)
         && all_empty(&hands[usize::from(count)..])
-        && board.count() <= board_size(game)
-        && all_small(hands, own_size(game))
+        && board.count() <= game.board_size()
+        && all_small(hands, game.own_size())
         && pots <= 10
         && all_within(count, eligible)
 }
@@ -136,7 +163,7 @@ pub(crate) fn known_table(point: &AtPoint, pots: &[PotLine]) -> Option<Table>
     if 10 < pots.len() {
         return None;
     }
-    let count = count_seats(point.contenders);
+    let count = point.contenders.seats().count();
     let hands = hands_of(&point.cards, point.contenders);
     let eligible = eligible_of(pots, point.contenders);
     if !holds(

@@ -10,23 +10,24 @@ ghost use Rattle.hand_audit.specs.declared.cause.Cause.{Cause};
 ghost use Rattle.hand_audit.specs.Showings.{showing_of};
 ghost use Rattle.hand_audit.specs.Splits.{IsSplitRightly, IsWonBySomebody};
 ghost use Rattle.hand_audit.specs.Verdict.{audit_of, events_of};
-ghost use Rattle.hand_audit.specs.declared.audit.AllIn.{AllIn};
-ghost use Rattle.hand_audit.specs.declared.audit.HandAudit.TheVariants.{Accepted, Rejected};
+ghost use Rattle.hand_audit.specs.declared.verdicts.AllIn.{AllIn};
+ghost use Rattle.hand_audit.specs.declared.verdicts.HandAudit.TheVariants.{Accepted, Rejected};
 ghost use Rattle.hand_audit.specs.CardsKnown.{KnowsCards, all_known_at};
 ghost use Rattle.hand_audit.specs.MarkLaws.{MarksAreCards};
+ghost use Rattle.hand_audit.specs.PotSums.{PotsAddUp};
 ghost use Rattle.hand_audit.specs.TablePots.{HasPotsOf};
 ghost use Rattle.betting_replay.specs.Tables.{point};
 ghost use Rattle.hand_audit.specs.declared.settlement.Settlement.{Settlement};
-ghost use Rattle.history_text.specs.declared.events.Street.{Street};
+ghost use Rattle.card_sets.specs.declared.streets.Street.{Street};
 ghost use Rattle.showdown_tally.specs.declared.table.Table.{Table};
 
-use crate::audit::AllIn;
+use crate::verdicts::AllIn;
 use betting_replay::{
     law_a_table_shows_dead_cards, law_a_table_shows_each_seat, law_cards_belong,
     law_places_are_apart, law_whole_boards,
 };
 use hand_choice::law_fives_have_five_cards;
-use pot_layers::law_a_folded_player_is_eligible_nowhere;
+use pot_layers::{law_a_folded_player_is_eligible_nowhere, law_a_list_orders_its_seats};
 use showdown_tally::law_values_keep_order;
 
 /// A law on chips. Of a hand that is accepted: no seat put in more than its opening stack, and over all
@@ -40,7 +41,8 @@ pub fn law_chips_are_kept()
 {}
 
 /// A law on splits. Of a hand that is accepted and whose pot names fit: in each pot of which it is known
-/// who wins, what a seat got differs from what the rules give it by no more than the sides that it wins.
+/// who wins, what a seat got differs from what the rules give it by no more than the sides of parts that
+/// it wins.
 pub fn law_pots_are_split_by_the_rules()
     ensures { (number : ℕ) (line : List ℕ) (lines : List (List ℕ)) (header : Header) → header_of line ≡ Ok header
         → (settlement : Settlement) (all_in : AllIn) (names : List (ℕ × List ℕ)) (players : ℕ)
@@ -48,8 +50,27 @@ pub fn law_pots_are_split_by_the_rules()
         → settlement.fits ≡ true → IsSplitRightly (showing_of header players (events_of header lines)) }
 {}
 
-/// A law on pots. Of a hand that is accepted: in each pot of two players or more of which it is known who
-/// wins, somebody wins the first side.
+/// A law on sums. Of a hand that is accepted and whose pot names fit: what was collected from a pot and its
+/// rake are what it holds, what is due of it is as much as was collected, and where there is a pot the
+/// rakes of all pots are together the stated rake.
+pub fn law_pots_add_up()
+    ensures { (number : ℕ) (line : List ℕ) (lines : List (List ℕ)) (header : Header) → header_of line ≡ Ok header
+        → (settlement : Settlement) (all_in : AllIn) (names : List (ℕ × List ℕ)) (players : ℕ)
+        → audit_of number (line ∷ lines) ≡ Some (Accepted settlement all_in names players)
+        → settlement.fits ≡ true → PotsAddUp settlement }
+{
+    law_a_list_orders_its_seats();
+    law_values_keep_order();
+    law_fives_have_five_cards();
+    law_places_are_apart();
+    law_cards_belong();
+    law_whole_boards();
+    law_a_table_shows_each_seat();
+    law_a_folded_player_is_eligible_nowhere();
+}
+
+/// A law on pots. Of a hand that is accepted: of each part of each pot of two players or more of which it
+/// is known who wins, somebody wins the first side.
 pub fn law_checked_pots_are_won()
     ensures { (number : ℕ) (line : List ℕ) (lines : List (List ℕ)) (header : Header) → header_of line ≡ Ok header
         → (settlement : Settlement) (all_in : AllIn) (names : List (ℕ × List ℕ)) (players : ℕ)

@@ -1,9 +1,9 @@
 //! The marks of players in stud and razz, by which winners get odd units.
 
 ghost use Rattle.std.specs.Prelude.{◌≡◌, ℕ, ◌<◌, ◌==◌, filter, map, length, true, None, IfSome, slice_index_or};
-ghost use Rattle.card_sets.specs.Games.{allowed};
+ghost use Rattle.card_sets.specs.Games.{allowed, has_marks};
 ghost use Rattle.hand_choice.specs.AllowedFives.{AreFives};
-ghost use Rattle.hand_audit.specs.Marks.{has_marks, height, highest, top_card, mark_among, mark_by, mark_of};
+ghost use Rattle.hand_audit.specs.Marks.{height, highest, top_card, mark_among, mark_by, mark_of};
 ghost use Rattle.hand_audit.specs.Winning.{is_full};
 ghost use Rattle.hand_audit.specs.MarkNumbers.{number_of_five, top_number};
 
@@ -11,13 +11,6 @@ use card_sets::{Card, CardSet, Game, Side};
 use hand_choice::{Fives, fives, law_fives_have_five_cards};
 use rank_high::high_of_five;
 use rank_low::ace_of_five;
-
-/// Whether odd units go by marks in a game.
-pub(crate) fn has_marks(game: Game) -> bool
-    ensures { result ≡ has_marks game }
-{
-    matches!(game, Game::Stud | Game::Razz)
-}
 
 /// The number that a five's worth is kept as: greater is better.
 fn number_of_five(side: Side, five: CardSet) -> u32
@@ -81,8 +74,8 @@ fn mark_with(side: Side, fives: Fives, number: u32) -> u8
     mark
 }
 
-/// A player's mark in a game of one side.
-fn mark_on(side: Side, game: Game, board: CardSet, own: CardSet) -> u8
+/// A player's mark on a side, in a game that has marks.
+fn mark_among(side: Side, game: Game, board: CardSet, own: CardSet) -> u8
     requires full { is_full game board own ≡ true }
     ensures value { result ≡ mark_among side (allowed game own board) }
     ensures card { result < 52 }
@@ -94,40 +87,48 @@ fn mark_on(side: Side, game: Game, board: CardSet, own: CardSet) -> u8
     mark_with(side, fives(game, own, board), number)
 }
 
-/// A player's mark.
-fn mark_by(game: Game, board: CardSet, own: CardSet) -> u8
+/// A player's mark on a side; 0 in the games that have no marks.
+fn mark_by(side: Side, game: Game, board: CardSet, own: CardSet) -> u8
     requires { is_full game board own ≡ true }
-    ensures value { result ≡ mark_by game board own }
+    ensures value { result ≡ mark_by side game board own }
     ensures card { result < 52 }
 {
-    match game {
-        Game::Stud => mark_on(Side::High, game, board, own),
-        Game::Razz => mark_on(Side::Low, game, board, own),
-        Game::Holdem | Game::Omaha8 | Game::Lowball27 => 0,
+    if game.has_marks() {
+        mark_among(side, game, board, own)
+    } else {
+        0
     }
 }
 
-/// A player's mark, 0 where his cards are unknown.
-fn mark_of(game: Game, board: CardSet, own: Option<CardSet>) -> u8
+/// A player's mark on a side, 0 where his cards are unknown or the game hasn't the side.
+fn mark_of(side: Option<Side>, game: Game, board: CardSet, own: Option<CardSet>) -> u8
     requires { IfSome own (λ own. is_full game board own ≡ true) }
-    ensures value { result ≡ mark_of game board own }
+    ensures value { result ≡ mark_of side game board own }
     ensures card { result < 52 }
 {
+    let Some(side) = side else {
+        return 0;
+    };
     match own {
-        Some(own) => mark_by(game, board, own),
+        Some(own) => mark_by(side, game, board, own),
         None => 0,
     }
 }
 
-/// The marks of the players, by seat.
-pub(crate) fn marks(game: Game, board: CardSet, hands: &[Option<CardSet>; 11]) -> [u8; 11]
+/// The marks of the players on a side, by seat.
+pub(crate) fn marks(
+    side: Option<Side>,
+    game: Game,
+    board: CardSet,
+    hands: &[Option<CardSet>; 11],
+) -> [u8; 11]
     requires { (p : ℕ) → p < 11 → IfSome (slice_index_or hands.now p None) (λ own. is_full game board own ≡ true) }
-    ensures value { (p : ℕ) → p < 11 → slice_index_or result p 0 ≡ mark_of game board (slice_index_or hands.now p None) }
+    ensures value { (p : ℕ) → p < 11 → slice_index_or result p 0 ≡ mark_of side game board (slice_index_or hands.now p None) }
     ensures cards { (p : ℕ) → p < 11 → slice_index_or result p 0 < 52 }
 {
     let mut marks = [0; 11];
     for seat in 0..11usize {
-        marks[seat] = mark_of(game, board, hands[seat]);
+        marks[seat] = mark_of(side, game, board, hands[seat]);
     }
     marks
 }
@@ -135,31 +136,31 @@ pub(crate) fn marks(game: Game, board: CardSet, hands: &[Option<CardSet>; 11]) -
 #[cfg(test)]
 mod tests {
     use super::*;
-    use crate::standings::full_with;
+    use crate::worths::full_with;
     use std::test::Fail;
 
-    /// The mark of a hand of seven, where it is one.
-    fn mark(game: Game, texts: &[[u8; 2]]) -> Option<u8> {
+    /// The mark of a hand of seven on a side, where it is one.
+    fn mark(game: Game, side: Side, texts: &[[u8; 2]]) -> Option<u8> {
         let mut own = CardSet::empty();
         for text in texts {
             own = own.with(Card::read(*text)?);
         }
         let own = full_with(game, CardSet::empty(), Some(own))?;
-        Some(mark_of(game, CardSet::empty(), Some(own)))
+        Some(mark_of(Some(side), game, CardSet::empty(), Some(own)))
     }
 
     #[test]
     fn marks_are_the_highest_cards_of_the_best_fives(rt: HostRuntime) -> Result<(), Fail> {
         // kings full of sevens: the king of spades; the ace isn't in it
         let full = [*b"Kc", *b"Kd", *b"Ks", *b"7h", *b"7d", *b"2c", *b"As"];
-        assert_eq!(rt; mark(Game::Stud, &full), Some(47));
+        assert_eq!(rt; mark(Game::Stud, Side::High, &full), Some(47));
         // nine high straight, with either nine: the nine of spades
         let straight = [*b"9c", *b"9s", *b"8d", *b"7h", *b"6c", *b"5d", *b"2c"];
-        assert_eq!(rt; mark(Game::Stud, &straight), Some(31));
+        assert_eq!(rt; mark(Game::Stud, Side::High, &straight), Some(31));
         // six low: the six of spades, above each ace
         let six = [*b"As", *b"Ac", *b"2d", *b"3h", *b"4c", *b"6s", *b"Kd"];
-        assert_eq!(rt; mark(Game::Razz, &six), Some(23));
-        assert_eq!(rt; mark(Game::Stud, &[*b"Kc"]), None);
+        assert_eq!(rt; mark(Game::Razz, Side::Low, &six), Some(23));
+        assert_eq!(rt; mark(Game::Stud, Side::High, &[*b"Kc"]), None);
         Ok(())
     }
 }

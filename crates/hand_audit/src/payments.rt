@@ -1,55 +1,59 @@
 //! What each seat got of a pot, and what it is due.
 
-ghost use Rattle.std.specs.Prelude.{◌≡◌, ℕ, ◌+◌, ◌-◌, ◌<◌, ◌≤◌, ◌==◌, ◌||◌, nat_lt, IfOk, Some, None};
+ghost use Rattle.std.specs.Prelude.{◌≡◌, ℕ, ◌+◌, ◌-◌, ◌<◌, ◌≤◌, ◌==◌, ◌||◌, ◌^◌, if◌then◌else◌, nat_lt, IfOk, Some, None};
 ghost use Rattle.pot_layers.specs.declared.paid.Share.{Share};
-ghost use Rattle.hand_audit.specs.Settle.{part_of_seat, sides_of_seat, payment, is_payment, distance, payments_from, beyond_from};
+ghost use Rattle.pot_layers.specs.Split.{given_in_all};
+ghost use Rattle.hand_audit.specs.Settle.{due_of_seat, sides_of_seat, payment, is_payment, distance, payments_from, beyond_from};
 ghost use Rattle.hand_audit.specs.Collections.{taken_from, got_from};
 ghost use Rattle.hand_audit.specs.PotNames.{counts_from};
 
 use crate::collections::Collection;
-use crate::pot_names::{Source, got_from};
+use crate::pot_names::{Source, got_from, units_if};
 use crate::settlement::Payment;
 use pot_layers::Share;
 use std::alloc::{AllocError, Global};
 
-/// What the rules give a seat.
-fn part_of_seat(shares: &[Share], seat: u8) -> u64
-    ensures { result ≡ part_of_seat seat shares.now }
+/// What some shares give a seat.
+fn units_of_seat(shares: &[Share], seat: u8) -> u128
+    ensures value { result ≡ due_of_seat seat shares.now }
+    ensures room { result < 2 ^ 127 }
 {
-    match shares {
-        [] => 0,
-        [share, others @ ..] => {
-            if share.seat == seat {
-                share.units
-            } else {
-                part_of_seat(others, seat)
-            }
-        }
+    let _count = shares.len();
+    let mut units = 0u128;
+    for share in shares {
+        units += u128::from(units_if(share.seat == seat, share.units));
     }
+    units
 }
 
-/// How many sides a seat wins.
-pub(crate) fn sides_of_seat(shares: &[Share], seat: u8) -> u8
-    ensures { result ≡ sides_of_seat seat shares.now }
+/// How many sides of parts a seat wins.
+fn sides_of_seat(shares: &[Share], seat: u8) -> u128
+    ensures value { result ≡ sides_of_seat seat shares.now }
+    ensures room { result < 2 ^ 127 }
 {
-    match shares {
-        [] => 0,
-        [share, others @ ..] => {
-            if share.seat == seat {
-                share.sides
-            } else {
-                sides_of_seat(others, seat)
-            }
-        }
+    let _count = shares.len();
+    let mut sides = 0u128;
+    for share in shares {
+        sides += u128::from(units_if(share.seat == seat, u64::from(share.sides)));
     }
+    sides
+}
+
+/// What the rules give a seat, by shares of no more than this.
+fn due_of_seat(shares: &[Share], seat: u8, most: u64) -> u64
+    requires { given_in_all shares.now ≤ most }
+    ensures { result ≡ due_of_seat seat shares.now }
+{
+    units_of_seat(shares, seat) as u64
 }
 
 /// The payment of a seat.
-pub(crate) fn payment(checked: bool, got: u64, shares: &[Share], seat: u8) -> Payment
+fn payment(checked: bool, got: u64, shares: &[Share], seat: u8, most: u64) -> Payment
+    requires { given_in_all shares.now ≤ most }
     ensures { result ≡ payment checked got shares.now seat }
 {
     let due = if checked {
-        part_of_seat(shares, seat)
+        due_of_seat(shares, seat, most)
     } else {
         got
     };
@@ -57,7 +61,7 @@ pub(crate) fn payment(checked: bool, got: u64, shares: &[Share], seat: u8) -> Pa
 }
 
 /// Whether there is something to pay.
-pub(crate) fn is_payment(pay: Payment) -> bool
+fn is_payment(pay: Payment) -> bool
     ensures { result ≡ is_payment pay }
 {
     0 < pay.got || 0 < pay.due
@@ -71,10 +75,10 @@ fn distance(a: u64, b: u64) -> u64
 }
 
 /// Whether a payment is further from what is due than so many units.
-pub(crate) fn is_beyond(pay: Payment, tolerance: u8) -> bool
+fn is_beyond(pay: Payment, tolerance: u128) -> bool
     ensures { result ≡ nat_lt tolerance (distance pay.got pay.due) }
 {
-    u64::from(tolerance) < distance(pay.got, pay.due)
+    tolerance < u128::from(distance(pay.got, pay.due))
 }
 
 /// What a seat collected from a pot from which no more was collected than this.
@@ -94,12 +98,14 @@ pub(crate) fn payments(
     source: Source,
     most: u64,
 ) -> Result<Vec<Payment>, AllocError>
-    requires { taken_from (counts_from source) all.now ≤ most }
+    requires taken { taken_from (counts_from source) all.now ≤ most }
+    requires given { given_in_all shares.now ≤ most }
     ensures { IfOk result (λ pays. pays.items ≡ payments_from (λ p. payment checked (got_from (counts_from source) p all.now) shares.now p) 1 10) }
 {
     let mut pays = Vec::new(alloc);
     for seat in 1..11 {
-        let pay = payment(checked, got_of(all, source, seat, most), shares, seat);
+        let got = got_of(all, source, seat, most);
+        let pay = payment(checked, got, shares, seat, most);
         if !is_payment(pay) {
             continue;
         }
@@ -116,11 +122,13 @@ pub(crate) fn beyond(
     source: Source,
     most: u64,
 ) -> Option<Payment>
-    requires { taken_from (counts_from source) all.now ≤ most }
+    requires taken { taken_from (counts_from source) all.now ≤ most }
+    requires given { given_in_all shares.now ≤ most }
     ensures { result ≡ beyond_from (λ p. payment checked (got_from (counts_from source) p all.now) shares.now p) (λ p. sides_of_seat p shares.now) 1 10 }
 {
     for seat in 1..11 {
-        let pay = payment(checked, got_of(all, source, seat, most), shares, seat);
+        let got = got_of(all, source, seat, most);
+        let pay = payment(checked, got, shares, seat, most);
         if is_beyond(pay, sides_of_seat(shares, seat)) {
             return Some(pay);
         }

@@ -58,7 +58,7 @@ fn counts_from(source: Source, pot: PotName) -> bool
 }
 
 /// Units that count where a test holds.
-fn units_if(test: bool, units: u64) -> u64
+pub(crate) fn units_if(test: bool, units: u64) -> u64
     ensures { result ≡ (if test then units else 0) }
 {
     if test { units } else { 0 }

@@ -9,12 +9,12 @@ ghost use Rattle.hand_audit.specs.Winning.{Tells, IsReady, IsDecided, AreDecided
 ghost use Rattle.hand_audit.specs.Settling.{IsOfPot, AreOfPots, IsOfHand};
 
 use crate::collections::Collection;
-use crate::parts::parts_if;
 use crate::payments::{beyond, payments};
 use crate::pot_names::{Source, fits, taken_from};
 use crate::settlement::{Payment, Payments, PotLine, PotLines};
+use crate::shares::shares_if;
 use crate::standings::Standings;
-use card_sets::Memory;
+use card_sets::{Memory, PlayerSet};
 use pot_layers::Pot;
 use std::alloc::{AllocError, Global};
 
@@ -46,9 +46,10 @@ fn settle_pot(
     requires taken { taken_from (counts_from source) all.now ≤ pot.units }
     ensures { IfOk result (λ one. (s : Showing) → Tells standings.now s → IsDecided s pot.eligible → s.collections ≡ all.now → IsOfPot s source pot one) }
 {
-    let checked = standings.is_checked(pot.eligible);
+    let eligible = PlayerSet::of(pot.eligible);
+    let checked = standings.is_checked(eligible);
     let net = taken_from(all, source) as u64;
-    let shares = parts_if(alloc, checked, standings, pot.eligible, net)?;
+    let shares = shares_if(alloc, checked, standings, eligible, net)?;
     let paid = payments(alloc, checked, all, shares.items(), source, pot.units)?;
     let beyond = beyond(checked, all, shares.items(), source, pot.units);
     Ok(PotSettled {

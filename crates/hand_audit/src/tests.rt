@@ -3,86 +3,73 @@
 ghost use Rattle.std.specs.Prelude.{◌≡◌, length};
 ghost use Rattle.line_text.specs.Lines.{lines};
 
-use crate::first_pass::players_of;
 use crate::*;
-use betting_replay::BetFault;
-use history_text::{TextFault, is_header, read_header};
+use card_sets::{Card, CardSet, Known};
+use history_text::{Street, is_header};
 use line_text::next_line;
-use std::alloc::{AllocError, Global};
+use std::alloc::Global;
 use std::test::Fail;
 
-/// A hand whose stacks make a main pot and a side pot.
-pub(crate) const SIDE_POT: &[u8] =
+/// A hand of four whose stacks make three pots, beside one who sits out. The winner of the last pot is shown by
+/// the summary alone.
+const THREE_POTS: &[u8] =
     b"PokerStars Hand #1: Tournament #5, $1+$0.10 USD Hold'em No Limit - Level I (10/20)
-Table 'x' 3-max Seat #1 is the button
-Seat 1: ann (1000 in chips)
-Seat 2: bob (200 in chips)
+Table 'x' 6-max Seat #4 is the button
+Seat 1: ann (100 in chips)
+Seat 2: bob (300 in chips)
 Seat 3: cat (600 in chips)
-bob: posts small blind 10
-cat: posts big blind 20
+Seat 4: dan (1000 in chips)
+Seat 5: eve (500 in chips) is sitting out
+eve: is sitting out
+ann: posts small blind 10
+bob: posts big blind 20
 *** HOLE CARDS ***
-ann: raises 580 to 600
-bob: calls 190 and is all-in
-cat: calls 580 and is all-in
+cat: raises 580 to 600 and is all-in
+dan: calls 600
+ann: calls 90 and is all-in
+bob: calls 280 and is all-in
+eve: sits out
 *** FLOP *** [2c 7d 9h]
 *** TURN *** [2c 7d 9h] [Js]
 *** RIVER *** [2c 7d 9h Js] [3c]
 *** SHOW DOWN ***
-ann: shows [Kd Kh]
-cat: shows [Qd Qh]
-ann collected 800 from side pot
-bob: shows [Ad Ah]
-bob collected 600 from main pot
+dan: shows [Td Th]
+cat: doesn't show hand
+cat collected 600 from side pot-2
+bob: shows [Kd Kh]
+bob collected 600 from side pot-1
+ann: shows [Ad Ah]
+ann collected 400 from main pot
 *** SUMMARY ***
-Total pot 1400 Main pot 600. Side pot 800. | Rake 0
+Total pot 1600 Main pot 400. Side pot-1 600. Side pot-2 600. | Rake 0
+Seat 3: cat mucked [Qd Qh]
 ";
 
-/// A hand in which two share 25 chips, up to the flop: eleven lines.
-const START: &[u8] =
-    b"PokerStars Hand #2: Tournament #5, $1+$0.10 USD Hold'em No Limit - Level I (5/10)
+/// A hand in which bob and cat are all-in on the flop, and cat folds behind it. Ann's cards are known, and she folds
+/// before it.
+const FOLDED_BEHIND: &[u8] =
+    b"PokerStars Hand #4: Tournament #5, $1+$0.10 USD Hold'em No Limit - Level I (10/20)
 Table 'x' 3-max Seat #1 is the button
-Seat 1: ann (100 in chips)
-Seat 2: bob (100 in chips)
-Seat 3: cat (100 in chips)
-bob: posts small blind 5
-cat: posts big blind 10
+Seat 1: ann (1000 in chips)
+Seat 2: bob (300 in chips)
+Seat 3: cat (500 in chips)
+bob: posts small blind 10
+cat: posts big blind 20
 *** HOLE CARDS ***
-ann: calls 10
-bob: folds
+Dealt to ann [2c 2d]
+ann: folds
+bob: calls 10
 cat: checks
+*** FLOP *** [Kd 7h 3s]
+bob: bets 280 and is all-in
+cat: calls 280
+*** TURN *** [Kd 7h 3s] [9c]
+cat: folds [7c 7d]
+bob collected 600 from pot
+bob: shows [Ks Qs]
+*** SUMMARY ***
+Total pot 600 | Rake 0
 ";
-
-/// The board is the best that both have: up to the showdown, 13 lines.
-const STREETS: &[u8] = b"*** FLOP *** [Ts Js Qd]
-cat: checks
-ann: checks
-*** TURN *** [Ts Js Qd] [Kh]
-cat: checks
-ann: checks
-*** RIVER *** [Ts Js Qd Kh] [Ac]
-cat: checks
-ann: checks
-*** SHOW DOWN ***
-cat: shows [2c 3c]
-ann: shows [2d 3d]
-";
-
-const SHARES: &[u8] = b"cat collected 13 from pot
-ann collected 12 from pot
-";
-
-const END: &[u8] = b"*** SUMMARY ***
-Total pot 25 | Rake 0
-Seat 3: cat (big blind) showed [2c 3c] and won (13)
-";
-
-pub(crate) fn text(alloc: Global, parts: &[&[u8]]) -> Result<Vec<u8>, AllocError> {
-    let mut bytes = Vec::new(alloc);
-    for part in parts {
-        bytes.extend_from_slice(part)?;
-    }
-    Ok(bytes)
-}
 
 fn count_lines(bytes: &[u8]) -> usize
     ensures { result ≡ length (lines bytes.now) }
@@ -96,7 +83,7 @@ fn count_lines(bytes: &[u8]) -> usize
     count
 }
 
-pub(crate) fn audit(alloc: Global, bytes: &[u8]) -> Option<HandAudit> {
+fn audit(alloc: Global, bytes: &[u8]) -> Option<HandAudit> {
     let head = next_line(bytes, 0)?;
     if !is_header(&bytes[head.first..head.end]) || count_lines(bytes) > 99 {
         return None;
@@ -115,159 +102,76 @@ fn settlement(alloc: Global, bytes: &[u8]) -> Option<Settlement> {
     }
 }
 
-fn departed(audit: &HandAudit) -> Option<(u32, Cause)> {
-    match audit {
-        HandAudit::Accepted { .. } => None,
-        HandAudit::Rejected { line, cause, .. } => Some((*line, *cause)),
-    }
-}
-
-fn departure(alloc: Global, bytes: &[u8]) -> Option<(u32, Cause)> {
-    let audit = audit(alloc, bytes)?;
-    departed(&audit)
-}
-
-fn players(alloc: Global, bytes: &[u8]) -> Option<u16> {
-    let head = next_line(bytes, 0)?;
-    let line = &bytes[head.first..head.end];
-    if !is_header(line) {
-        return None;
-    }
-    let Ok(header) = read_header(line) else {
-        return None;
-    };
-    match players_of(alloc, &header, bytes, head.next) {
-        Ok(players) => Some(players),
-        Err(_) => None,
-    }
-}
-
-/// Whether a pot holds so much, for these seats, and it is known who wins, and these are paid.
-fn is_pot(
-    settlement: &Settlement,
-    number: usize,
-    gross: u64,
-    eligible: u16,
-    paid: &[Payment],
-) -> bool {
+/// Whether a pot holds so much, for these seats, and it is known who wins, and a seat has all of it.
+fn is_pot(settlement: &Settlement, number: usize, gross: u64, eligible: u16, winner: u8) -> bool {
+    let paid = [Payment {
+        seat: winner,
+        got: gross,
+        due: gross,
+    }];
     match settlement.pots.items().get(number) {
         Some(pot) => {
             pot.gross == gross
                 && pot.rake == 0
                 && pot.eligible == eligible
                 && pot.checked
-                && pot.paid.items() == paid
+                && pot.paid.items() == &paid[..]
         }
         None => false,
     }
 }
 
-fn due(seat: u8, units: u64) -> Payment {
-    Payment {
-        seat,
-        got: units,
-        due: units,
+#[test]
+fn three_pots_are_collected_by_their_names(rt: HostRuntime) -> Result<(), Fail> {
+    let settlement = settlement(rt.alloc(), THREE_POTS).ok_or("rejected")?;
+    assert!(rt; settlement.fits && !settlement.hundredths);
+    assert_eq!(rt; settlement.pots.items().len(), 3);
+    assert!(rt; is_pot(&settlement, 0, 400, 0b11110, 1));
+    assert!(rt; is_pot(&settlement, 1, 600, 0b11100, 2));
+    assert!(rt; is_pot(&settlement, 2, 600, 0b11000, 3));
+    Ok(())
+}
+
+/// What is known of a hand's all-in, where it is on this street and of these seats, and its pots.
+fn known_at(audit: &HandAudit, at: Street, of: [u8; 10]) -> Option<(Known, [u16; 10])> {
+    match audit {
+        HandAudit::Accepted {
+            all_in: AllIn::Known {
+                street,
+                seats,
+                table,
+            },
+            ..
+        } => {
+            if *street == at && *seats == of && table.pots == 1 {
+                Some((table.known, table.eligible))
+            } else {
+                None
+            }
+        }
+        _ => None,
+    }
+}
+
+/// Whether a set has just these two cards.
+fn is_pair(cards: CardSet, first: [u8; 2], second: [u8; 2]) -> bool {
+    match (Card::read(first), Card::read(second)) {
+        (Some(first), Some(second)) => {
+            cards.has(first) && cards.has(second) && cards.count() == 2
+        }
+        _ => false,
     }
 }
 
 #[test]
-fn the_side_pot_goes_to_another_than_the_main_pot(rt: HostRuntime) -> Result<(), Fail> {
-    let settlement = settlement(rt.alloc(), SIDE_POT).ok_or("rejected")?;
-    assert!(rt; settlement.fits && !settlement.hundredths);
-    assert_eq!(rt; settlement.pots.items().len(), 2);
-    assert!(rt; is_pot(&settlement, 0, 600, 0b1110, &[due(2, 600)]));
-    assert!(rt; is_pot(&settlement, 1, 800, 0b1010, &[due(1, 800)]));
-    Ok(())
-}
-
-#[test]
-fn the_odd_chip_goes_to_the_first_above_the_button(rt: HostRuntime) -> Result<(), Fail> {
-    let bytes = text(rt.alloc(), &[START, STREETS, SHARES, END])?;
-    let settlement = settlement(rt.alloc(), &bytes).ok_or("rejected")?;
-    assert_eq!(rt; settlement.pots.items().len(), 1);
-    assert!(rt; is_pot(&settlement, 0, 25, 0b1010, &[due(1, 12), due(3, 13)]));
-    Ok(())
-}
-
-#[test]
-fn each_cause_is_told(rt: HostRuntime) -> Result<(), Fail> {
-    let alloc = rt.alloc();
-    let bytes = text(alloc, &[START, b"ann: dances\n", STREETS, SHARES, END])?;
-    assert!(rt;
-        matches!(
-            departure(alloc, &bytes),
-            Some((12, Cause::Text(TextFault::BadAction)))
-        )
-    );
-    let bytes = text(alloc, &[START, b"ann: checks\n", STREETS, SHARES, END])?;
-    assert!(rt;
-        matches!(
-            departure(alloc, &bytes),
-            Some((12, Cause::Bet(BetFault::NothingOwed)))
-        )
-    );
-    let chips: &[u8] = b"*** SUMMARY ***\nTotal pot 24 | Rake 0\n";
-    let bytes = text(alloc, &[START, STREETS, SHARES, chips])?;
-    assert!(rt;
-        matches!(
-            departure(alloc, &bytes),
-            Some((
-                27,
-                Cause::Chips {
-                    stated: 24,
-                    counted: 25
-                }
-            ))
-        )
-    );
-    let rake: &[u8] = b"*** SUMMARY ***\nTotal pot 25 | Rake 1\n";
-    let bytes = text(alloc, &[START, STREETS, SHARES, rake])?;
-    assert!(rt;
-        matches!(
-            departure(alloc, &bytes),
-            Some((
-                27,
-                Cause::Chips {
-                    stated: 25,
-                    counted: 26
-                }
-            ))
-        )
-    );
-    let shares: &[u8] = b"cat collected 15 from pot\nann collected 10 from pot\n";
-    let bytes = text(alloc, &[START, STREETS, shares, END])?;
-    assert!(rt;
-        matches!(
-            departure(alloc, &bytes),
-            Some((
-                28,
-                Cause::Split {
-                    seat: 1,
-                    due: 12,
-                    got: 10
-                }
-            ))
-        )
-    );
-    let bytes = text(alloc, &[START, STREETS, SHARES])?;
-    assert!(rt; matches!(departure(alloc, &bytes), Some((25, Cause::Unfinished))));
-    Ok(())
-}
-
-#[test]
-fn a_second_line_of_no_seat_ends_the_first_pass(rt: HostRuntime) -> Result<(), Fail> {
-    let alloc = rt.alloc();
-    let head: &[u8] =
-        b"PokerStars Hand #3: Tournament #5, $1+$0.10 USD Hold'em No Limit - Level I (5/10)
-Seat 1: ann (100 in chips)
-Seat 2: bob (100 in chips)
-Seat 11: cat (100 in chips)
-ann: posts small blind 5
-";
-    let post: &[u8] = b"bob: posts big blind 10\n";
-    let bytes = text(alloc, &[head, b"Seat 12: dan (100 in chips)\n", post])?;
-    assert_eq!(rt; players(alloc, &bytes), Some(0b110));
-    let bytes = text(alloc, &[head, b"Seat 011: dan (100 in chips)\n", post])?;
-    assert_eq!(rt; players(alloc, &bytes), Some(0b10));
+fn who_folds_behind_the_point_wins_no_pot(rt: HostRuntime) -> Result<(), Fail> {
+    let audit = audit(rt.alloc(), FOLDED_BEHIND).ok_or("no hand")?;
+    let seats = [2, 3, 0, 0, 0, 0, 0, 0, 0, 0];
+    let (known, pots) = known_at(&audit, Street::Flop, seats).ok_or("another")?;
+    assert_eq!(rt; pots, [0b1, 0, 0, 0, 0, 0, 0, 0, 0, 0]);
+    assert!(rt; known.count == 2 && known.board.count() == 3);
+    assert!(rt; is_pair(known.hands[0], *b"Ks", *b"Qs"));
+    assert!(rt; is_pair(known.hands[1], *b"7c", *b"7d"));
+    assert!(rt; is_pair(known.dead, *b"2c", *b"2d"));
     Ok(())
 }

@@ -56,10 +56,9 @@ pub fn fives(game: Game, own: CardSet, board: CardSet) -> Fives
     ensures { result ≡ allowed game own board }
 {
     match game {
-        Game::Holdem => any_five(all_cards(own, board)),
         Game::Omaha8 => two_and_three(own, board),
-        Game::Stud => any_five(all_cards(own, board)),
-        Game::Razz => any_five(all_cards(own, board)),
-        Game::Lowball27 => any_five(all_cards(own, board)),
+        Game::Holdem | Game::Stud | Game::Razz | Game::Lowball27 => {
+            any_five(all_cards(own, board))
+        }
     }
 }

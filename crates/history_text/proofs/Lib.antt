@@ -4,3 +4,9 @@ pub mod Counts
 pub mod Headings
 pub mod Longest
 pub mod Within
+pub mod ExampleHands
+pub mod ExampleLines
+pub mod ExampleHeaders
+pub mod WrittenLines
+pub mod WrittenMoves
+pub mod WrittenSeats

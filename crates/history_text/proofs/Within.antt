@@ -16,7 +16,7 @@ use Rattle.history_text.specs.declared.events.Part.{Part}
 use Rattle.history_text.specs.declared.events.Part.TheVariants.{Preamble, Play, Summary as SummaryPart}
 use Rattle.history_text.specs.declared.events.PostKind.{PostKind}
 use Rattle.history_text.specs.declared.events.PotName.{PotName}
-use Rattle.history_text.specs.declared.events.Street.{Street}
+use Rattle.card_sets.specs.declared.streets.Street.{Street}
 use Rattle.history_text.specs.declared.events.TextFault.{TextFault}
 use Rattle.history_text.specs.declared.events.TextFault.TheVariants.{Cancelled, TwoBoards, BadMarker, BadAction, BadCards}
 use Rattle.history_text.specs.declared.events.Verb.{Verb}
@@ -24,10 +24,12 @@ use Rattle.history_text.specs.declared.events.Verb.TheVariants.{PostsSmall, Post
 use Rattle.history_text.specs.Texts.{behind, cut_at, cut_last, last_place}
 use Rattle.history_text.specs.Reading.{◌>>=◌, ◌otherwise◌, or_fault, is_end, money, money_of, some_money, follows, all_in_end, seat_of, seat_front}
 use Rattle.history_text.specs.Names.{Fit, fit, longer, longest, front_name, seat_named, is_taken, is_seated}
-use Rattle.history_text.specs.Acts.{post, call, bet, raise, fold, show, discard, discard_behind, is_discarded, pat, said, act_event, at_end, has_bring_in, has_draw, perhaps_cards, behind_card}
+use Rattle.card_sets.specs.Games.{has_bring_in, has_draw}
+use Rattle.card_sets.specs.Streets.{board_count}
+use Rattle.history_text.specs.Acts.{post, call, bet, raise, fold, show, discard, discard_behind, is_discarded, pat, said, act_event, at_end, perhaps_cards, behind_card}
 use Rattle.history_text.specs.Brackets.{closed, counted_cards, shown_counts}
 use Rattle.history_text.specs.Plays.{acted, dealt, deal, deal_cards, deal_once, deal_again, deal_end, deal_nothing, dealt_counts, drawn_counts, give_back, returned, collect, collected, pot_of, cancelled, play_event}
-use Rattle.history_text.specs.Markers.{street_event, board_count, marker_event, marked, marker_of, is_of_two_boards}
+use Rattle.history_text.specs.Markers.{street_event, marker_event, marked, marker_of, is_of_two_boards}
 use Rattle.history_text.specs.Seats.{seat_opening, free_name, seat_event, seated, button_event, button_end, buttoned, preamble_event}
 use Rattle.history_text.specs.Totals.{total_event, totalled, seat_among, last_shown, shown_event, shown, summary_event}
 use Rattle.history_text.specs.Lines.{line_event}

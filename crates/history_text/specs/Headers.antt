@@ -1,10 +1,10 @@
 -- Header lines.
-use Rattle.std.specs.Prelude.{ℕ, suc, ◌+◌, ◌-◌, ◌==◌, ◌&&◌, ◌||◌, nat_le, nat_lt, nat_eq, if◌then◌else◌, Bool, true, false, List, [], ◌∷◌, length, take, drop, codes, Option, Some, None, option_map, option_and_then, Result, Ok, Err}
+use Rattle.std.specs.Prelude.{ℕ, suc, ◌+◌, ◌-◌, ◌==◌, ◌&&◌, ◌||◌, nat_le, nat_lt, nat_eq, if◌then◌else◌, Bool, false, List, [], ◌∷◌, ◌++◌, map, length, take, drop, codes, Option, Some, None, option_map, option_and_then, Result, Ok, Err}
 use Rattle.std.specs.List.{list_all, list_any, ends_with}
 use Rattle.std.specs.Char.{is_ascii_alphabetic}
 use Rattle.std.specs.Str.{bytes_eq}
 use Rattle.card_sets.specs.declared.games.Game.{Game}
-use Rattle.card_sets.specs.declared.games.Game.TheVariants.{Holdem, Omaha8, Stud, Razz, Lowball27}
+use Rattle.card_sets.specs.Games.{all_games, header_name}
 use Rattle.line_text.specs.Amounts.{Written, written, units_of, greatest, digit_count}
 use Rattle.history_text.specs.declared.events.Header.{Header}
 use Rattle.history_text.specs.declared.events.Limit.{Limit}
@@ -57,21 +57,25 @@ behind_start line =
     if is_start cut.0 && nat_le (digit_count cut.1) 19 then behind (codes ": ") (drop (digit_count cut.1) cut.1) else None)
     (title line)
 
--- the games and the limits by their words
-abbrev pub game_words : GameName → List ℕ
-game_words name.Holdem = codes "Hold'em "
-game_words name.OmahaHiLo = codes "Omaha Hi/Lo "
-game_words name.SevenCardStud = codes "7 Card Stud "
-game_words name.Razz = codes "Razz "
-game_words name.SingleDraw = codes "Single Draw 2-7 Lowball "
-game_words name.Omaha = codes "Omaha "
-game_words name.SevenCardStudHiLo = codes "7 Card Stud Hi/Lo "
-game_words name.TripleDraw = codes "Triple Draw 2-7 Lowball "
-game_words name.FiveCardDraw = codes "5 Card Draw "
+-- the names of games, of those that are read and of others
+abbrev pub name_words : GameName → List ℕ
+name_words (name.Played game) = header_name game
+name_words name.Omaha = codes "Omaha"
+name_words name.SevenCardStudHiLo = codes "7 Card Stud Hi/Lo"
+name_words name.TripleDraw = codes "Triple Draw 2-7 Lowball"
+name_words name.FiveCardDraw = codes "5 Card Draw"
+
+abbrev pub other_names : List GameName
+other_names = name.Omaha ∷ name.SevenCardStudHiLo ∷ name.TripleDraw ∷ name.FiveCardDraw ∷ []
 
 abbrev pub game_names : List GameName
-game_names = name.Holdem ∷ name.OmahaHiLo ∷ name.SevenCardStud ∷ name.Razz ∷ name.SingleDraw ∷ name.Omaha ∷ name.SevenCardStudHiLo ∷ name.TripleDraw ∷ name.FiveCardDraw ∷ []
+game_names = map (λ (game : Game). name.Played game) all_games ++ other_names
 
+-- what stands behind a name and a space
+abbrev pub behind_name : GameName → List ℕ → Option (List ℕ)
+behind_name game text = option_and_then (λ rest. behind (codes " ") rest) (behind (name_words game) text)
+
+-- the limits by their words
 abbrev pub limit_words : Limit → List ℕ
 limit_words NoLimit = codes "No Limit"
 limit_words PotLimit = codes "Pot Limit"
@@ -90,7 +94,7 @@ abbrev pub game_at : List GameName → List ℕ → Option Named
 game_at [] text = None
 game_at (game ∷ games) text =
     option_map (λ l. Some (let named : Named = record { name = game; limit = l.0; rest = l.1 } in named))
-    (option_and_then (λ tail. first_opening limit_words limits tail) (behind (game_words game) text))
+    (option_and_then (λ tail. first_opening limit_words limits tail) (behind_name game text))
     otherwise game_at games text
 
 -- the first place at which these stand: what stands before it, and what stands there
@@ -124,11 +128,7 @@ other_words =
 
 -- the game that is played under a name, if it is one of those that are read
 abbrev pub played : GameName → Option Game
-played name.Holdem = Some Holdem
-played name.OmahaHiLo = Some Omaha8
-played name.SevenCardStud = Some Stud
-played name.Razz = Some Razz
-played name.SingleDraw = Some Lowball27
+played (name.Played game) = Some game
 played name.Omaha = None
 played name.SevenCardStudHiLo = None
 played name.TripleDraw = None

@@ -1,7 +1,7 @@
 //! What lines say.
 
 use crate::Cards;
-use card_sets::Game;
+use card_sets::{Game, Street};
 
 /// The limit of the bets.
 #[derive(Clone, Copy, Debug, PartialEq, Eq)]
@@ -17,16 +17,8 @@ pub enum Limit {
 /// The games whose names are known in a header, played or not.
 #[derive(Clone, Copy, Debug, PartialEq, Eq)]
 pub enum GameName {
-    /// `Hold'em`.
-    Holdem,
-    /// `Omaha Hi/Lo`.
-    OmahaHiLo,
-    /// `7 Card Stud`.
-    SevenCardStud,
-    /// `Razz`.
-    Razz,
-    /// `Single Draw 2-7 Lowball`.
-    SingleDraw,
+    /// A game that is read, under its name.
+    Played(Game),
     /// `Omaha`, for the high alone.
     Omaha,
     /// `7 Card Stud Hi/Lo`.
@@ -102,31 +94,6 @@ pub enum PotName {
     Side,
     /// `side pot-K`, K from 1 to 9.
     SideNumber(u8),
-}
-
-/// A street, the showdown or the summary.
-#[derive(Clone, Copy, Debug, PartialEq, Eq)]
-pub enum Street {
-    /// The first street: hole cards, 3rd street, or the deal of a draw game.
-    First,
-    /// The flop.
-    Flop,
-    /// The turn.
-    Turn,
-    /// 4th street.
-    Fourth,
-    /// 5th street.
-    Fifth,
-    /// 6th street.
-    Sixth,
-    /// The river, on a board or the seventh card of stud and razz.
-    River,
-    /// The draw.
-    Draw,
-    /// The marker of the showdown.
-    ShowDown,
-    /// The marker of the summary.
-    Summary,
 }
 
 /// What a player's line may say that he does, by its words.

@@ -1,9 +1,10 @@
 //! Header lines.
 
-ghost use Rattle.std.specs.Prelude.{◌≡◌, ◌==◌, ◌||◌, ◌≤◌, ◌+◌, ◌-◌, [], ◌∷◌, drop, length, option_map, take, IfOk, IfSome, IsTrue, MatchOption};
+ghost use Rattle.std.specs.Prelude.{◌≡◌, ◌==◌, ◌||◌, ◌≤◌, ◌+◌, ◌-◌, [], ◌∷◌, drop, length, map, option_map, take, IfOk, IfSome, IsTrue, MatchOption};
 ghost use Rattle.std.specs.List.{list_all};
 ghost use Rattle.history_text.specs.Acts.{first_opening};
-ghost use Rattle.history_text.specs.Headers.{behind_start, big_of, first_game, first_stakes, game_at, game_names, game_of, game_words, hand_number, header_behind, header_of, is_header, is_letter_or_space, is_other_word, is_start, is_title, last_word, limit_words, limits, opened, played, stakes_at, stakes_of, title, word_before};
+ghost use Rattle.history_text.specs.Headers.{behind_name, behind_start, big_of, first_game, first_stakes, game_at, game_names, game_of, hand_number, header_behind, header_of, is_header, is_letter_or_space, is_other_word, is_start, is_title, last_word, limit_words, limits, name_words, opened, played, stakes_at, stakes_of, title, word_before};
+ghost use Rattle.history_text.specs.declared.events.GameName.TheVariants.{Played};
 ghost use Rattle.history_text.specs.Games.{capped_stakes, kept_header, seen_found, seen_named};
 
 use crate::texts::{behind, cut_first, cut_last};
@@ -91,13 +92,8 @@ fn behind_start(line: &[u8]) -> Option<&[u8]>
     behind(text, b": ")
 }
 
-/// The games whose names a header may have.
-const GAME_NAMES: [GameName; 9] = [
-    GameName::Holdem,
-    GameName::OmahaHiLo,
-    GameName::SevenCardStud,
-    GameName::Razz,
-    GameName::SingleDraw,
+/// The games whose names are known, and that aren't read.
+const OTHER_NAMES: &[GameName] = &[
     GameName::Omaha,
     GameName::SevenCardStudHiLo,
     GameName::TripleDraw,
@@ -108,20 +104,16 @@ const GAME_NAMES: [GameName; 9] = [
 const LIMITS: [Limit; 3] = [Limit::NoLimit, Limit::PotLimit, Limit::Fixed];
 
 impl GameName {
-    /// The name, and a space.
+    /// The name.
     fn words(self) -> &'static [u8]
-        ensures { result.now ≡ game_words self }
+        ensures { result.now ≡ name_words self }
     {
         match self {
-            GameName::Holdem => b"Hold'em ",
-            GameName::OmahaHiLo => b"Omaha Hi/Lo ",
-            GameName::SevenCardStud => b"7 Card Stud ",
-            GameName::Razz => b"Razz ",
-            GameName::SingleDraw => b"Single Draw 2-7 Lowball ",
-            GameName::Omaha => b"Omaha ",
-            GameName::SevenCardStudHiLo => b"7 Card Stud Hi/Lo ",
-            GameName::TripleDraw => b"Triple Draw 2-7 Lowball ",
-            GameName::FiveCardDraw => b"5 Card Draw ",
+            GameName::Played(game) => game.header_name().as_bytes(),
+            GameName::Omaha => b"Omaha",
+            GameName::SevenCardStudHiLo => b"7 Card Stud Hi/Lo",
+            GameName::TripleDraw => b"Triple Draw 2-7 Lowball",
+            GameName::FiveCardDraw => b"5 Card Draw",
         }
     }
 
@@ -130,11 +122,7 @@ impl GameName {
         ensures { result ≡ played self }
     {
         match self {
-            GameName::Holdem => Some(Game::Holdem),
-            GameName::OmahaHiLo => Some(Game::Omaha8),
-            GameName::SevenCardStud => Some(Game::Stud),
-            GameName::Razz => Some(Game::Razz),
-            GameName::SingleDraw => Some(Game::Lowball27),
+            GameName::Played(game) => Some(game),
             GameName::Omaha
             | GameName::SevenCardStudHiLo
             | GameName::TripleDraw
@@ -177,15 +165,34 @@ fn first_limit<'a>(limits: &[Limit], text: &'a [u8]) -> Option<(Limit, &'a [u8])
     None
 }
 
+/// What stands behind a game's name and a space.
+fn behind_name(name: GameName, text: &[u8]) -> Option<&[u8]>
+    ensures { option_map (λ rest. rest.now) result ≡ behind_name name text.now }
+{
+    behind(behind(text, name.words())?, b" ")
+}
+
 /// One game's name with a limit, at the front of the text.
 fn named_at(name: GameName, text: &[u8]) -> Option<NamedGame<'_>>
     ensures { option_map seen_named result ≡ game_at (name ∷ []) text.now }
 {
-    let (limit, rest) = first_limit(&LIMITS, behind(text, name.words())?)?;
+    let (limit, rest) = first_limit(&LIMITS, behind_name(name, text)?)?;
     Some(NamedGame { name, limit, rest })
 }
 
-/// The first of some games that the text begins with, with a limit.
+/// The first of some games that are read that the text begins with, with a limit.
+fn played_at<'a>(games: &[Game], text: &'a [u8]) -> Option<NamedGame<'a>>
+    ensures { option_map seen_named result ≡ game_at (map (λ game. Played game) games.now) text.now }
+{
+    for game in games {
+        if let Some(found) = named_at(GameName::Played(*game), text) {
+            return Some(found);
+        }
+    }
+    None
+}
+
+/// The first of some names that the text begins with, with a limit.
 fn game_at<'a>(names: &[GameName], text: &'a [u8]) -> Option<NamedGame<'a>>
     ensures { option_map seen_named result ≡ game_at names.now text.now }
 {
@@ -201,7 +208,10 @@ fn game_at<'a>(names: &[GameName], text: &'a [u8]) -> Option<NamedGame<'a>>
 fn named_game(text: &[u8]) -> Option<NamedGame<'_>>
     ensures { option_map seen_named result ≡ game_at game_names text.now }
 {
-    game_at(&GAME_NAMES, text)
+    match played_at(Game::all(), text) {
+        Some(found) => Some(found),
+        None => game_at(OTHER_NAMES, text),
+    }
 }
 
 /// The first place at which a game and a limit stand.

@@ -11,11 +11,10 @@ use Rattle.card_sets.specs.declared.games.Side.{Side}
 use Rattle.card_sets.specs.declared.games.Side.TheVariants.{High}
 use Rattle.omaha_ranks.specs.Omaha.{omaha_high}
 use Rattle.showdown_tally.specs.Laws.{IsFull, KeepOrder}
-use Rattle.showdown_tally.specs.Outcomes.{mask_of}
+use Rattle.card_sets.specs.PlayerSets.{AreBelow, set_of_players, hands_below}
 use Rattle.showdown_tally.specs.Showdown.{Showdown, best, is_beaten_by, winners, own_after, board_after, value_after, eligible_in}
 use Rattle.showdown_tally.specs.Sides.{side_outcome}
-use Rattle.showdown_tally.specs.Tables.{hands_below}
-use Rattle.omaha_walk.specs.Bests.{AreBelow, best_value, best_set, high_of}
+use Rattle.omaha_walk.specs.Bests.{best_value, best_set, high_of}
 
 Below-more : (n m : ℕ) (hands : List ℕ) → n ≤ m → AreBelow n hands → AreBelow m hands
 Below-more n m [] l b = tt
@@ -46,7 +45,7 @@ filter-same p q n [] b e = refl
 filter-same p q n (h ∷ hands) b e = ap (λ t. cond t (h ∷ filter p hands) (filter p hands)) (e h b.0) ∙ ap (λ l. cond (q h) (h ∷ l) l) (filter-same p q n hands b.1 e)
 
 pub set-same : (v w : ℕ → ℕ) (n : ℕ) (hands : List ℕ) → AreBelow n hands → ((h : ℕ) → h < n → v h ≡ w h) → best_set v hands ≡ best_set w hands
-set-same v w n hands b e = ap mask_of (filter-same (λ h. v h == best_value v hands) (λ h. w h == best_value w hands) n hands b (λ h l. ap (λ m. m == best_value v hands) (e h l) ∙ ap (λ t. w h == t) (value-same v w n hands b e)))
+set-same v w n hands b e = ap set_of_players (filter-same (λ h. v h == best_value v hands) (λ h. w h == best_value w hands) n hands b (λ h l. ap (λ m. m == best_value v hands) (e h l) ∙ ap (λ t. w h == t) (value-same v w n hands b e)))
 
 -- tests of numbers
 not_less_max : (a b c : ℕ) → (not (nat_lt a b) && not (nat_lt a c)) ≡ not (nat_lt a (max b c))
@@ -137,7 +136,7 @@ unfolding winners
 outcome_best deal pot n runout keeps game full below =
     let st : State = deal.state in
     let hands : List ℕ = eligible_in deal pot in
-    ap mask_of (filter-same (λ i. is_some (value_after High st runout i) && list_all (λ j. not (is_beaten_by High (value_after High st runout i) (value_after High st runout j))) hands) (λ i. not (nat_lt (high_of st runout i) (best_value (high_of st runout) hands))) n hands below (λ i l.
+    ap set_of_players (filter-same (λ i. is_some (value_after High st runout i) && list_all (λ j. not (is_beaten_by High (value_after High st runout i) (value_after High st runout j))) hands) (λ i. not (nat_lt (high_of st runout i) (best_value (high_of st runout) hands))) n hands below (λ i l.
     ap (λ o. is_some o && list_all (λ j. not (is_beaten_by High (value_after High st runout i) (value_after High st runout j))) hands) (best_is st.game (own_after st runout i) (board_after st runout) game)
     ∙ unbeaten st runout n i hands keeps game full l below)
     ∙ top_test (high_of st runout) (best_value (high_of st runout) hands) hands (omega arith))
@@ -162,7 +161,7 @@ max_filter v p f n t (h ∷ hands) below e l =
 pub first_wins : (v p f : ℕ → ℕ) (n : ℕ) (hands : List ℕ) → AreBelow n hands → ((h : ℕ) → h < n → v h ≡ max (p h) (f h)) → best_value f hands < best_value p hands → best_set v hands ≡ best_set p hands
 first_wins v p f n hands below e l =
     let top : best_value v hands ≡ best_value p hands = max_value v p f n hands below e ∙ omega arith in
-    ap (λ t. mask_of (filter (λ h. v h == t) hands)) top ∙ ap mask_of (max_filter v p f n (best_value p hands) hands below e l)
+    ap (λ t. set_of_players (filter (λ h. v h == t) hands)) top ∙ ap set_of_players (max_filter v p f n (best_value p hands) hands below e l)
 
 pub second_wins : (v p f : ℕ → ℕ) (n : ℕ) (hands : List ℕ) → AreBelow n hands → ((h : ℕ) → h < n → v h ≡ max (p h) (f h)) → best_value p hands < best_value f hands → best_set v hands ≡ best_set f hands
 second_wins v p f n hands below e l = first_wins v f p n hands below (λ h k. e h k ∙ omega arith) l

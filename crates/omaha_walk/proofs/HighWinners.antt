@@ -28,7 +28,8 @@ use Rattle.board_walk.specs.Boards.{IsBoardAlone}
 use Rattle.board_walk.specs.Suits.{IsShortWith}
 use Rattle.board_walk.proofs.Facts.{own_alone, board_alone}
 use Rattle.board_walk.proofs.PlainWith.{full_after}
-use Rattle.omaha_walk.specs.Bests.{AreBelow, best_value, best_set, high_of, plain_of, flush_of}
+use Rattle.card_sets.specs.PlayerSets.{AreBelow}
+use Rattle.omaha_walk.specs.Bests.{best_value, best_set, high_of, plain_of, flush_of}
 use Rattle.omaha_walk.specs.HeldSuits.{AreHeld}
 use Rattle.omaha_walk.proofs.BestHands.{Keeps, outcome_best, set-same, first_wins, second_wins}
 use Rattle.omaha_walk.proofs.Dealt.{unflagged}

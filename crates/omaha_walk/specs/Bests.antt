@@ -3,7 +3,7 @@ use Rattle.std.specs.Prelude.{◌≡◌, ℕ, ◌<◌, ◌==◌, List, [], ◌�
 use Rattle.card_sets.specs.State.{State}
 use Rattle.omaha_ranks.specs.Omaha.{omaha_high, omaha_plain, omaha_suited}
 use Rattle.rank_high.specs.High.{value_of}
-use Rattle.showdown_tally.specs.Outcomes.{mask_of}
+use Rattle.card_sets.specs.PlayerSets.{set_of_players}
 use Rattle.showdown_tally.specs.Showdown.{Showdown, own_after, board_after, eligible_in}
 
 -- the greatest number of some hands, 0 for none
@@ -13,12 +13,7 @@ best_value value (h ∷ hands) = max (value h) (best_value value hands)
 
 -- the hands with the greatest number, as the number with their bits
 abbrev pub best_set : (ℕ → ℕ) → List ℕ → ℕ
-best_set value hands = mask_of (filter (λ h. value h == best_value value hands) hands)
-
--- the hands are among the first so many
-abbrev pub AreBelow : ℕ → List ℕ → Type 0
-AreBelow n [] = Unit {0}
-AreBelow n (h ∷ hands) = (h < n) × AreBelow n hands
+best_set value hands = set_of_players (filter (λ h. value h == best_value value hands) hands)
 
 -- what a hand is worth as a high after a runout, by ranks alone and with flushes
 abbrev pub plain_of : State → List (List ℕ) → ℕ → ℕ

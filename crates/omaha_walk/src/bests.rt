@@ -1,14 +1,13 @@
 //! The best of some hands by numbers.
 
-ghost use Rattle.std.specs.Prelude.{◌≡◌, ℕ, ◌<◌, ◌≤◌, ◌==◌, if◌then◌else◌, length, slice_index};
-ghost use Rattle.std.specs.Int.{bit_at};
+ghost use Rattle.std.specs.Prelude.{◌≡◌, ℕ, ◌<◌, ◌≤◌, if◌then◌else◌, length, slice_index};
 ghost use Rattle.card_sets.specs.State.{state_of};
 ghost use Rattle.showdown_tally.specs.Deals.{deal_of};
 ghost use Rattle.showdown_tally.specs.Showdown.{eligible_in};
-ghost use Rattle.showdown_tally.specs.Tables.{hands_below};
-ghost use Rattle.omaha_walk.specs.Bests.{AreBelow, best_set, best_value};
+ghost use Rattle.card_sets.specs.PlayerSets.{AreBelow, has_player, hands_below};
+ghost use Rattle.omaha_walk.specs.Bests.{best_set, best_value};
 
-use card_sets::CardSet;
+use card_sets::{CardSet, PlayerSet};
 use showdown_tally::Table;
 
 /// The greatest number of some hands, and those that have it, as the number with their bits.
@@ -20,29 +19,20 @@ pub(crate) struct Best {
     pub(crate) set: u16,
 }
 
-/// Whether the bit of a hand is set.
-#[inline]
-fn is_one(hands: u16, hand: u8) -> bool
-    requires { hand < 5 }
-    ensures { result ≡ (bit_at hands hand == 1) }
-{
-    (hands >> hand) & 1 == 1
-}
-
-/// The number of a hand whose bit is set, and else 0.
+/// The number of a hand of a set, and else 0.
 #[inline]
 fn value_at(values: &[u32; 5], hands: u16, hand: u8) -> u32
     requires { hand < 5 }
-    ensures { result ≡ (if bit_at hands hand == 1 then slice_index values.now hand else 0) }
+    ensures { result ≡ (if has_player hands hand then slice_index values.now hand else 0) }
 {
-    if is_one(hands, hand) {
+    if PlayerSet::of(hands).has(hand) {
         values[usize::from(hand)]
     } else {
         0
     }
 }
 
-/// The greatest number of the first `count` hands whose bit is set.
+/// The greatest number of the first `count` hands that are in a set.
 #[inline]
 fn top_of(values: &[u32; 5], hands: u16, count: u8) -> u32
     requires { count ≤ 5 }
@@ -55,7 +45,7 @@ fn top_of(values: &[u32; 5], hands: u16, count: u8) -> u32
     top
 }
 
-/// The best of the first `count` hands whose bit is set.
+/// The best of the first `count` hands that are in a set.
 pub(crate) fn best_of(values: &[u32; 5], hands: u16, count: u8) -> Best
     requires { count ≤ 5 }
     ensures top { result.top ≡ best_value (slice_index values.now) (hands_below hands count) }
@@ -65,7 +55,7 @@ pub(crate) fn best_of(values: &[u32; 5], hands: u16, count: u8) -> Best
     let top = top_of(values, hands, count);
     let mut set: u16 = 0;
     for hand in 0..count {
-        if is_one(hands, hand) && values[usize::from(hand)] == top {
+        if PlayerSet::of(hands).has(hand) && values[usize::from(hand)] == top {
             set += 1 << hand;
         }
     }

@@ -3,7 +3,7 @@
 ghost use Rattle.std.specs.Prelude.{◌≡◌, IsTrue};
 ghost use Rattle.showdown_tally.specs.Deals.{deal_of};
 
-use board_walk::{same_cards, same_hands};
+use board_walk::same_hands;
 use card_sets::{CardSet, Game, Known};
 use showdown_tally::Table;
 
@@ -21,8 +21,8 @@ pub(crate) fn same_deal(a: &Table, b: &Table) -> bool
     a.known.game == b.known.game
         && a.known.count == b.known.count
         && a.pots == b.pots
-        && same_cards(a.known.board, b.known.board)
-        && same_cards(a.known.dead, b.known.dead)
+        && a.known.board == b.known.board
+        && a.known.dead == b.known.dead
         && same_hands(&a.known.hands, &b.known.hands)
         && same_masks(&a.eligible, &b.eligible)
 }

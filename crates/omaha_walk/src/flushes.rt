@@ -7,7 +7,6 @@ ghost use Rattle.showdown_tally.specs.Deals.{deal_of};
 ghost use Rattle.omaha_walk.specs.Bests.{IsBestFlush};
 
 use crate::bests::{Best, pot_best};
-use board_walk::same_cards;
 use card_sets::{CardSet, Game};
 use omaha_ranks::omaha_suited_value;
 use showdown_tally::Table;
@@ -33,7 +32,7 @@ impl Flush {
     pub(crate) fn is_of(&self, cards: CardSet, suit: u8) -> bool
         ensures { IsTrue result → (self.now.cards ≡ cards) × (self.now.suit ≡ suit) }
     {
-        self.suit == suit && same_cards(self.cards, cards)
+        self.suit == suit && self.cards == cards
     }
 
     /// Its number, and who has it.

@@ -1,48 +1,16 @@
 -- Who may win which pot.
-use Rattle.std.proofs.Common.{◌≡◌, ℕ, zero, suc, ◌+◌, ◌-◌, ◌*◌, ◌^◌, ◌<◌, ◌≤◌, List, [], ◌∷◌, refl, ap, ◌∙◌, Bool, true, false, ◌==◌, ◌&&◌, ◌||◌, arith, All}
+use Rattle.std.proofs.Common.{◌≡◌, ℕ, zero, suc, ◌<◌, ◌≤◌, List, [], ◌∷◌, refl, ◌∙◌, Bool, true, false, ◌==◌, ◌&&◌, ◌||◌, arith, All}
 use Rattle.std.specs.Prelude.{if◌then◌else◌, nat_le, nat_lt}
-use Rattle.std.specs.Int.{bit_at}
-use Rattle.std.proofs.lemmas.Nat.Bits.{bit_at_above, bit_at_cat_low, bit_at_cat_high, bit_at-pow_same}
+use Rattle.card_sets.specs.PlayerSets.{has_player}
+use Rattle.card_sets.specs.PlayerSetLaws.{players_where-small, has_player-where, has_player-above}
 use Rattle.pot_layers.specs.declared.paid.Paid.{Paid}
 use Rattle.pot_layers.specs.declared.paid.Pot.{Pot}
-use Rattle.pot_layers.specs.Pots.{seats_below, reaches, reaching, pots_from, pots, or_one, more_first, more_last, levels, all_dead, above, highest, any_contender}
+use Rattle.pot_layers.specs.Pots.{reaches, reaching, pots_from, pots, or_one, more_first, more_last, levels, all_dead, above, highest, any_contender}
 use Rattle.pot_layers.specs.Eligible.{is_contender, EligibleBy}
 
-pub few_below : (test : ℕ → Bool) (n : ℕ) → seats_below test n < 2 ^ n
-few_below test zero = omega arith
-few_below test (suc n) = one (test n) (few_below test n)
-  where
-    one : (b : Bool) → seats_below test n < 2 ^ n → seats_below test n + (if b then 2 ^ n else 0) < 2 ^ suc n
-    one true h = let twice : 2 ^ suc n ≡ 2 ^ n + 2 ^ n = grind arith in omega (arith, twice, h)
-    one false h = let twice : 2 ^ suc n ≡ 2 ^ n + 2 ^ n = grind arith in omega (arith, twice, h)
-
-bit_low : (s n k : ℕ) (b : Bool) → k < n → bit_at (s + (if b then 2 ^ n else 0)) k ≡ bit_at s k
-bit_low s n k true h = let turned : s + 2 ^ n ≡ 1 * 2 ^ n + s = omega arith in ap (λ w. bit_at w k) turned ∙ bit_at_cat_low 1 n s k h
-bit_low s n k false h = let turned : s + 0 ≡ s = omega arith in ap (λ w. bit_at w k) turned
-
-bit_high : (s n : ℕ) (b : Bool) → s < 2 ^ n → bit_at (s + (if b then 2 ^ n else 0)) n ≡ (if b then 1 else 0)
-bit_high s n true few =
-    let turned : s + 2 ^ n ≡ 1 * 2 ^ n + s = omega arith in
-    let none : n - n ≡ 0 = omega arith in
-    ap (λ w. bit_at w n) turned ∙ bit_at_cat_high 1 n s n few (omega arith) ∙ ap (λ j. bit_at 1 j) none ∙ bit_at-pow_same 0
-bit_high s n false few = let turned : s + 0 ≡ s = omega arith in ap (λ w. bit_at w n) turned ∙ bit_at_above s n n few (omega arith)
-
--- the bit of a seat below the end is set exactly where the seat passes
-pub bit_below : (test : ℕ → Bool) (n k : ℕ) → k < n → bit_at (seats_below test n) k ≡ (if test k then 1 else 0)
-bit_below test zero k h = absurd (omega arith)
-bit_below test (suc n) k h = one (k == n) refl (λ l. bit_below test n k l)
-  where
-    one : (b : Bool) → (k == n) ≡ b → (k < n → bit_at (seats_below test n) k ≡ (if test k then 1 else 0)) → bit_at (seats_below test n + (if test n then 2 ^ n else 0)) k ≡ (if test k then 1 else 0)
-    one true e go = let is : k ≡ n = grind arith in rw is (bit_high (seats_below test n) n (test n) (few_below test n))
-    one false e go = let low : k < n = grind arith in bit_low (seats_below test n) n k (test n) low ∙ go low
-
-pub set_or_not : (b : Bool) → ((if b then 1 else 0) == 1) ≡ b
-set_or_not true = refl
-set_or_not false = refl
-
 -- a seat is eligible exactly where it is of a contender who reaches the level
-eligible : (ps : List Paid) (level seat : ℕ) → seat < 11 → (bit_at (reaching ps level) seat == 1) ≡ reaches ps level seat
-eligible ps level seat h = ap (λ w. w == 1) (bit_below (reaches ps level) 11 seat h) ∙ set_or_not (reaches ps level seat)
+pub eligible : (ps : List Paid) (level seat : ℕ) → seat < 11 → has_player (reaching ps level) seat ≡ reaches ps level seat
+eligible ps level seat h = has_player-where (reaches ps level) 11 seat h
 
 by_levels : (ps : List Paid) (low : ℕ) (ls : List ℕ) → EligibleBy ps ls (pots_from ps low ls)
 by_levels ps low [] = tt
@@ -77,15 +45,15 @@ reaches_none (p ∷ ps) level seat h = one ((p.seat == seat) && p.contender) (na
     one true l c r h go = cc
     one false l c r h go = go h
 
-out_of : (ps : List Paid) (level seat : ℕ) → is_contender ps seat ≡ false → bit_at (reaching ps level) seat ≡ 0
+out_of : (ps : List Paid) (level seat : ℕ) → is_contender ps seat ≡ false → has_player (reaching ps level) seat ≡ false
 out_of ps level seat h = one (nat_lt seat 11) refl
   where
-    one : (b : Bool) → nat_lt seat 11 ≡ b → bit_at (reaching ps level) seat ≡ 0
-    one true e = let low : seat < 11 = grind arith in bit_below (reaches ps level) 11 seat low ∙ rw (reaches_none ps level seat h) refl
-    one false e = let high : 11 ≤ seat = grind arith in bit_at_above (reaching ps level) 11 seat (few_below (reaches ps level) 11) high
+    one : (b : Bool) → nat_lt seat 11 ≡ b → has_player (reaching ps level) seat ≡ false
+    one true e = let low : seat < 11 = grind arith in eligible ps level seat low ∙ reaches_none ps level seat h
+    one false e = let high : 11 ≤ seat = grind arith in has_player-above (reaching ps level) 11 seat (players_where-small (reaches ps level) 11) high
 
 abbrev IsOut : ℕ → Pot → Type 0
-IsOut seat pot = bit_at pot.eligible seat ≡ 0
+IsOut seat pot = has_player pot.eligible seat ≡ false
 
 out_levels : (ps : List Paid) (seat : ℕ) → is_contender ps seat ≡ false → (low : ℕ) (ls : List ℕ) → All (IsOut seat) (pots_from ps low ls)
 out_levels ps seat h low [] k d l = absurd (omega arith)

@@ -4,3 +4,5 @@ pub mod Whole
 pub mod Eligible
 pub mod Listed
 pub mod Halves
+pub mod Shared
+pub mod Different

@@ -3,3 +3,5 @@ pub mod Uncalled
 pub mod Split
 pub mod Eligible
 pub mod Halves
+pub mod Shared
+pub mod Different

@@ -1,9 +1,8 @@
 -- How a pot is split. Source: after the rules of the TDA.
 use Rattle.std.specs.Prelude.{◌≡◌, ℕ, zero, suc, ◌+◌, ◌-◌, ◌/◌, ◌%◌, ◌==◌, Bool, false, if◌then◌else◌, List, [], ◌∷◌, min, length, sum_by, ◌≤◌}
 use Rattle.std.specs.List.{list_any}
-use Rattle.std.specs.Int.{bit_at}
+use Rattle.card_sets.specs.PlayerSets.{has_player, players_where}
 use Rattle.pot_layers.specs.declared.paid.Share.{Share}
-use Rattle.pot_layers.specs.Pots.{seats_below}
 
 -- what a seat gets where each of some seats gets so much and the first of them one more, while units are left over
 abbrev pub given : ℕ → ℕ → List ℕ → ℕ → ℕ
@@ -23,7 +22,7 @@ low_half units low = if low == 0 then 0 else units / 2
 
 -- how many of the two sides a seat wins
 abbrev pub sides_won : ℕ → ℕ → ℕ → ℕ
-sides_won high low seat = bit_at high seat + bit_at low seat
+sides_won high low seat = (if has_player high seat then 1 else 0) + (if has_player low seat then 1 else 0)
 
 -- the parts of the winners among the seats from one on, rising
 abbrev pub shares_from : ℕ → ℕ → ℕ → List ℕ → List ℕ → ℕ → ℕ → List Share
@@ -58,7 +57,7 @@ InRange (s ∷ order) = (1 ≤ s) × (s ≤ 10) × InRange order
 pub record IsOrder (winners : ℕ) (order : List ℕ) : Type 0 where
   pub once : Differ order
   pub seats : InRange order
-  pub each : (seat : ℕ) → is_among seat order ≡ (bit_at winners seat == 1)
+  pub each : (seat : ℕ) → is_among seat order ≡ has_player winners seat
   -- as follows from the others, and is said for those who use it
   pub none : order ≡ [] → winners ≡ 0
 
@@ -68,4 +67,4 @@ given_in_all parts = sum_by (λ part. part.units) parts
 
 -- a list of different seats is an order of those that it lists
 abbrev pub OrdersItsSeats : Type 0
-OrdersItsSeats = (order : List ℕ) → Differ order → InRange order → IsOrder (seats_below (λ seat. is_among seat order) 11) order
+OrdersItsSeats = (order : List ℕ) → Differ order → InRange order → IsOrder (players_where (λ seat. is_among seat order) 11) order

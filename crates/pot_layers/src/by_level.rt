@@ -1,11 +1,11 @@
 //! The pots of a hand: one walk over the levels, from the lowest up.
 
-ghost use Rattle.std.specs.Prelude.{◌≡◌, ℕ, ◌+◌, ◌-◌, ◌<◌, ◌≤◌, ◌^◌, ◌&&◌, ◌==◌, min, nat_le, IfOk, true, [], map};
+ghost use Rattle.std.specs.Prelude.{◌≡◌, ℕ, ◌+◌, ◌-◌, ◌<◌, ◌≤◌, ◌^◌, ◌&&◌, ◌==◌, min, nat_le, IfOk, true, [], map, Some};
 ghost use Rattle.std.specs.List.{sum_by};
-ghost use Rattle.pot_layers.specs.Pots.{pots, between, above, all_dead, any_contender, reaches, reaching, seats_below, least_above, lesser, held, put_in_all, more_first, more_last, pots_from, levels, or_one, highest};
+ghost use Rattle.pot_layers.specs.Pots.{pots, between, above, all_dead, any_contender, reaches, reaching, least_above, lesser, held, put_in_all, more_first, more_last, pots_from, levels, or_one, highest};
 
 use crate::paid::{Paid, Pot};
-use card_sets::Memory;
+use card_sets::{Memory, PlayerSet};
 use std::alloc::{AllocError, Global};
 use std::marker::Model;
 
@@ -52,23 +52,27 @@ fn between(paid: &[Paid], low: u64, high: u64) -> u64
     units
 }
 
+/// The lesser of two sums, of which the first may be missing.
+fn lesser(least: Option<u64>, sum: u64) -> u64
+    ensures { lesser least sum ≡ Some result }
+{
+    match least {
+        None => sum,
+        Some(least) => least.min(sum),
+    }
+}
+
 /// The least sum above a level that a contender has paid.
 fn least_above(low: u64, paid: &[Paid]) -> Option<u64>
     ensures { result ≡ least_above low paid.now }
 {
-    match paid {
-        [] => None,
-        [player, others @ ..] => {
-            let rest = least_above(low, others);
-            if !player.contender || player.live <= low {
-                return rest;
-            }
-            match rest {
-                None => Some(player.live),
-                Some(level) => Some(level.min(player.live)),
-            }
+    let mut least = None;
+    for player in paid {
+        if player.contender && player.live > low {
+            least = Some(lesser(least, player.live));
         }
     }
+    least
 }
 
 /// Whether the seat is of a contender who has paid up to a level.
@@ -83,13 +87,7 @@ fn reaches(paid: &[Paid], level: u64, seat: u8) -> bool
 fn reaching(paid: &[Paid], level: u64) -> u16
     ensures { result ≡ reaching paid.now level }
 {
-    let mut seats = 0;
-    for seat in 0..11 {
-        if reaches(paid, level, seat) {
-            seats += 1 << seat;
-        }
-    }
-    seats
+    PlayerSet::passing(11, |seat| reaches(paid, level, seat)).bits()
 }
 
 /// The pot of each level, and the highest level.
@@ -113,17 +111,13 @@ fn each_level(alloc: Global, paid: &[Paid]) -> Result<Vec<Pot>, AllocError>
 fn highest(paid: &[Paid]) -> u64
     ensures { result ≡ highest paid.now }
 {
-    match paid {
-        [] => 0,
-        [player, others @ ..] => {
-            let rest = highest(others);
-            if player.contender {
-                player.live.max(rest)
-            } else {
-                rest
-            }
+    let mut greatest = 0;
+    for player in paid {
+        if player.contender {
+            greatest = greatest.max(player.live);
         }
     }
+    greatest
 }
 
 /// Whether there is a contender.

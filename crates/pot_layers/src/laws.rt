@@ -1,7 +1,9 @@
 //! Who may win which pot, what its sides get, and in which order odd units go, in plain words. Each law is a call that does nothing.
 
 ghost use Rattle.pot_layers.specs.Eligible.{ReachesLevels, ExcludesFolded};
+ghost use Rattle.pot_layers.specs.Different.{PotsDiffer};
 ghost use Rattle.pot_layers.specs.Halves.{HalvesAreShared};
+ghost use Rattle.pot_layers.specs.Shared.{SharesAreEven};
 ghost use Rattle.pot_layers.specs.Split.{OrdersItsSeats};
 
 /// In the pot of a level exactly those contenders are eligible who have paid up to that level: nobody
@@ -15,6 +17,12 @@ pub fn law_a_folded_player_is_eligible_nowhere()
     ensures { ExcludesFolded }
 {}
 
+/// Where each player has a seat of the table of his own no two pots are for the same players: at each
+/// level a contender stops.
+pub fn law_no_two_pots_have_the_same_players()
+    ensures { PotsDiffer }
+{}
+
 /// A list of different seats of the table is an order of the seats that it lists, as a split asks for.
 pub fn law_a_list_orders_its_seats()
     ensures { OrdersItsSeats }
@@ -25,4 +33,10 @@ pub fn law_a_list_orders_its_seats()
 /// gets all.
 pub fn law_two_sides_share_a_pot()
     ensures { HalvesAreShared }
+{}
+
+/// The winners of a side get as much as one another, or one unit more, and those who get more stand
+/// earlier in the order.
+pub fn law_winners_of_a_side_get_the_same_or_one_more()
+    ensures { SharesAreEven }
 {}

@@ -21,7 +21,8 @@ mod tests;
 pub use by_level::{Pots, layers};
 pub use laws::{
     law_a_folded_player_is_eligible_nowhere, law_a_list_orders_its_seats,
-    law_eligible_players_reach_the_level,
+    law_eligible_players_reach_the_level, law_no_two_pots_have_the_same_players,
+    law_two_sides_share_a_pot, law_winners_of_a_side_get_the_same_or_one_more,
 };
 pub use orders::OddOrder;
 pub use paid::{Paid, Pot, Share, SideWinners};

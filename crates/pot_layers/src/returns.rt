@@ -9,17 +9,13 @@ use crate::paid::Paid;
 fn rival(paid: &[Paid], seat: u8) -> u64
     ensures { result ≡ rival paid.now seat }
 {
-    match paid {
-        [] => 0,
-        [player, others @ ..] => {
-            let rest = rival(others, seat);
-            if player.seat == seat {
-                rest
-            } else {
-                player.live.max(rest)
-            }
+    let mut greatest = 0;
+    for player in paid {
+        if player.seat != seat {
+            greatest = greatest.max(player.live);
         }
     }
+    greatest
 }
 
 /// The seat that alone has a live sum above all others, and by how many units it is above the second

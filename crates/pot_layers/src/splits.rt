@@ -2,12 +2,11 @@
 
 ghost use Rattle.std.specs.Prelude.{◌≡◌, ℕ, ◌+◌, ◌-◌, ◌/◌, ◌%◌, ◌<◌, ◌≤◌, ◌^◌, ◌==◌, IfOk, length, min};
 ghost use Rattle.std.specs.List.{sum_by};
-ghost use Rattle.std.specs.Int.{bit_at};
 ghost use Rattle.pot_layers.specs.Split.{given, side_share, high_half, low_half, sides_won, shares_from, shares, IsOrder, given_in_all};
 
 use crate::orders::OddOrder;
 use crate::paid::{Share, SideWinners};
-use card_sets::Memory;
+use card_sets::{Memory, PlayerSet};
 use std::alloc::{AllocError, Global};
 use std::marker::Model;
 
@@ -48,16 +47,14 @@ fn given(each: u64, extra: u64, order: &[u8], seat: u8) -> u64
     ensures value { result ≡ given each extra order.now seat }
     ensures within { result ≤ each + extra }
 {
-    match order {
-        [] => 0,
-        [first, others @ ..] => {
-            if *first == seat {
-                each + extra.min(1)
-            } else {
-                given(each, extra.saturating_sub(1), others, seat)
-            }
+    let mut extra = extra;
+    for first in order {
+        if *first == seat {
+            return each + extra.min(1);
         }
+        extra = extra.saturating_sub(1);
     }
+    0
 }
 
 /// What a seat gets of a side.
@@ -78,7 +75,7 @@ fn sides_won(winners: SideWinners, seat: u8) -> u8
     ensures value { result ≡ sides_won winners.high winners.low seat }
     ensures few { result ≤ 2 }
 {
-    ((winners.high >> seat) & 1) as u8 + ((winners.low >> seat) & 1) as u8
+    PlayerSet::of(winners.high).has(seat) as u8 + PlayerSet::of(winners.low).has(seat) as u8
 }
 
 /// The half of the high, rounded up; all of it where nobody wins the low.

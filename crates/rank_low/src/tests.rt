@@ -1,8 +1,17 @@
 //! Lows in order, and their edges. The order is by the rules of the games, worked out by hand.
 
-use crate::{LowValue, ace_five, deuce_seven, eight_or_better};
+use crate::{LowValue, ace_five, ace_of_five, deuce_of_five, deuce_seven, eight_or_better};
 use card_sets::{Card, CardSet};
 use std::test::Fail;
+
+/// What the best five are worth as an ace-to-five low; none where there are not five to seven cards.
+fn ace(text: &str) -> Option<LowValue> {
+    let set = cards(text)?;
+    if set.count() < 5 || set.count() > 7 {
+        return None;
+    }
+    Some(ace_five(set))
+}
 
 /// The cards that a text of two letters a card names.
 fn cards(text: &str) -> Option<CardSet> {
@@ -14,15 +23,6 @@ fn cards(text: &str) -> Option<CardSet> {
         set = set.with(Card::read([*rank, *suit])?);
     }
     Some(set)
-}
-
-/// What the best five are worth as an ace-to-five low; none where there are not five to seven cards.
-fn ace(text: &str) -> Option<LowValue> {
-    let set = cards(text)?;
-    if set.count() < 5 || set.count() > 7 {
-        return None;
-    }
-    Some(ace_five(set))
 }
 
 /// What they are worth as a low of eight or better, if they qualify.
@@ -41,6 +41,24 @@ fn deuce(text: &str) -> Option<LowValue> {
         return None;
     }
     Some(deuce_seven(set))
+}
+
+/// What five cards are worth as an ace-to-five low, by their groups; none where they are not five.
+fn ace_by_groups(text: &str) -> Option<LowValue> {
+    let set = cards(text)?;
+    if set.count() != 5 {
+        return None;
+    }
+    Some(ace_of_five(set))
+}
+
+/// What they are worth as a deuce-to-seven low, by their groups.
+fn deuce_by_groups(text: &str) -> Option<LowValue> {
+    let set = cards(text)?;
+    if set.count() != 5 {
+        return None;
+    }
+    Some(deuce_of_five(set))
 }
 
 /// Each line beats the next as an ace-to-five low.
@@ -78,12 +96,17 @@ fn lows_beat_each_other_in_order(rt: HostRuntime) -> Result<(), Fail> {
     for text in ACE_TO_FIVE {
         let value = ace(text).ok_or(text)?;
         assert!(rt; before.is_none_or(|better| better < value));
+        assert!(rt;
+            ace_by_groups(text).is_none_or(|plain| plain == value),
+            "{text}"
+        );
         before = Some(value);
     }
     before = None;
     for text in DEUCE_TO_SEVEN {
         let value = deuce(text).ok_or(text)?;
         assert!(rt; before.is_none_or(|better| better < value));
+        assert!(rt; deuce_by_groups(text) == Some(value), "{text}");
         before = Some(value);
     }
     Ok(())

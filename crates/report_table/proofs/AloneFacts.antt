@@ -6,7 +6,7 @@ use Rattle.std.proofs.lemmas.Nat.{pow_pos}
 use Rattle.std.proofs.lemmas.Nat.Bits.{bit_at_mask_inside}
 use Rattle.report_table.specs.Spots.{every_hand}
 use Rattle.showdown_tally.proofs.Winners.{hands_short}
-use Rattle.showdown_tally.specs.Tables.{hands_below, hands_of}
+use Rattle.card_sets.specs.PlayerSets.{hands_below, hands_of}
 
 -- where each bit below n is set, every hand below n is among those of the mask
 every_bit : (mask n : ℕ) → ((hand : ℕ) → hand < n → bit_at mask hand ≡ 1) → hands_below mask n ≡ every_hand n

@@ -14,7 +14,7 @@ use Rattle.card_sets.specs.declared.games.Side.TheVariants.{High, Low}
 use Rattle.equity_job.specs.Jobs.{IsDeckShort, IsAboveLimit}
 use Rattle.hand_audit.specs.declared.settlement.PotLine.{PotLine}
 use Rattle.hand_audit.specs.declared.settlement.Settlement.{Settlement}
-use Rattle.history_text.specs.declared.events.Street.{Street}
+use Rattle.card_sets.specs.declared.streets.Street.{Street}
 use Rattle.runout_ranges.specs.Slots.{unseen, slots, counts_of}
 use Rattle.runout_ranges.specs.Ways.{ways}
 use Rattle.runout_ranges.proofs.Numbers.{binomial_none, length_runouts}
@@ -29,7 +29,7 @@ use Rattle.report_table.proofs.SpotFacts.{some_runout}
 use Rattle.showdown_tally.specs.Cells.{Sums, units_at}
 use Rattle.showdown_tally.specs.CountLaws.{units_small}
 use Rattle.showdown_tally.specs.Showdown.{Showdown, eligible_in, units}
-use Rattle.showdown_tally.specs.Tables.{hands_of}
+use Rattle.card_sets.specs.PlayerSets.{hands_of}
 use Rattle.showdown_tally.specs.Tallies.{Counts, runouts_after}
 
 -- the eligible hands of a pot are those of its mask
@@ -37,16 +37,20 @@ pub eligible_by_mask : (masks : List ℕ) (k : ℕ) → k < length masks → sli
 eligible_by_mask masks k below = get_or-map hands_of masks k 0 [] below
 
 -- a pot in which fewer than two hands are eligible has no lines
-pub pot_alone : (form : Form) (deal : Showdown) (figures : Figures) (names : Seated) (seats : List ℕ) (k mask : ℕ) → eligible_in deal k ≡ hands_of mask → nat_lt 1 (length (hands_of mask)) ≡ false →
+pub pot_alone : (form : Form) (deal : Showdown) (figures : Figures) (names : Seated) (seats : List ℕ) (k : ℕ) → length (eligible_in deal k) < 2 →
     pot_equity form deal figures names seats k ≡ []
 unfolding pot_equity
-pot_alone form deal figures names seats k mask hands few = rw (hands, few) refl
+pot_alone form deal figures names seats k few =
+    let alone : nat_lt 1 (length (eligible_in deal k)) ≡ false = grind (arith, few) in
+    rw alone refl
 
 -- another has those of each of them
-pub pot_contested : (form : Form) (deal : Showdown) (figures : Figures) (names : Seated) (seats : List ℕ) (k mask : ℕ) → eligible_in deal k ≡ hands_of mask → nat_lt 1 (length (hands_of mask)) ≡ true →
-    pot_equity form deal figures names seats k ≡ flat_map (player_lines form deal.state.game figures names seats k) (hands_of mask)
+pub pot_contested : (form : Form) (deal : Showdown) (figures : Figures) (names : Seated) (seats : List ℕ) (k : ℕ) → 2 ≤ length (eligible_in deal k) →
+    pot_equity form deal figures names seats k ≡ flat_map (player_lines form deal.state.game figures names seats k) (eligible_in deal k)
 unfolding pot_equity
-pot_contested form deal figures names seats k mask hands some = rw (hands, some) refl
+pot_contested form deal figures names seats k some =
+    let more : nat_lt 1 (length (eligible_in deal k)) ≡ true = grind (arith, some) in
+    rw more refl
 
 -- figures that agree on the pots and hands that there may be
 pub record Agree (a b : Figures) : Type 0 where

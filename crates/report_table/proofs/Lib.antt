@@ -1,5 +1,7 @@
 pub mod Listed
-pub mod LineFacts
+pub mod SheetFacts
+pub mod ReadBackFacts
+pub mod ExpectFacts
 pub mod AloneFacts
 pub mod SpotFacts
 pub mod EquityFacts

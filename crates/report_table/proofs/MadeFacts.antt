@@ -1,10 +1,9 @@
 -- What a counted all-in gives the two seats.
-use Rattle.std.proofs.Common.{◌≡◌, ℕ, ◌<◌, ◌≤◌, Bool, true, false, List, length, if◌then◌else◌, ap, ◌∙◌, sym, arith}
+use Rattle.std.proofs.Common.{◌≡◌, ℕ, ◌<◌, ◌≤◌, Bool, true, false, List, if◌then◌else◌, ap, sym, arith}
 use Rattle.report_table.specs.Equities.{IsFull}
 use Rattle.report_table.specs.HandEquities.{full_figures, tally_figures}
 use Rattle.report_table.specs.Made.{counted_all_in, hand_units, known_all_in, no_all_in}
 use Rattle.report_table.specs.Totals.{is_counted}
-use Rattle.report_table.specs.declared.made_sums.AllInSums.{AllInSums}
 use Rattle.report_table.proofs.EquityFacts.{Agree-full}
 use Rattle.report_table.proofs.Listed.{sums_same}
 use Rattle.showdown_tally.specs.Cells.{Sums}

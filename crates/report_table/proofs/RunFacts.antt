@@ -13,9 +13,9 @@ use Rattle.std.proofs.lemmas.List.Folds.{list_any-append}
 use Rattle.std.proofs.lemmas.List.Sums.{sum_by_push, sum_by-cons}
 use Rattle.std.proofs.lemmas.Map.Views.{any-filter_same}
 use Rattle.std.proofs.lemmas.Grind.{flat_map-append}
-use Rattle.hand_audit.specs.declared.audit.AllIn.{AllIn}
-use Rattle.hand_audit.specs.declared.audit.HandAudit.{HandAudit}
-use Rattle.hand_audit.specs.declared.audit.HandAudit.TheVariants.{Rejected, Accepted}
+use Rattle.hand_audit.specs.declared.verdicts.AllIn.{AllIn}
+use Rattle.hand_audit.specs.declared.verdicts.HandAudit.{HandAudit}
+use Rattle.hand_audit.specs.declared.verdicts.HandAudit.TheVariants.{Rejected, Accepted}
 use Rattle.hand_audit.specs.declared.cause.Cause.{Cause}
 use Rattle.hand_audit.specs.declared.settlement.Settlement.{Settlement}
 use Rattle.history_text.specs.Names.{seat_named}

@@ -7,10 +7,10 @@ use Rattle.std.specs.List.{AllByRecursion, IsDistinct, flat_map, list_any, sum_b
 use Rattle.std.specs.Map.{keys_of}
 use Rattle.std.specs.Option.{option_map_or}
 use Rattle.std.specs.Str.{bytes_eq}
-use Rattle.hand_audit.specs.declared.audit.AllIn.{AllIn}
-use Rattle.hand_audit.specs.declared.audit.AllIn.TheVariants.{None as NoAllIn, Unknown, Known}
-use Rattle.hand_audit.specs.declared.audit.HandAudit.{HandAudit}
-use Rattle.hand_audit.specs.declared.audit.HandAudit.TheVariants.{Rejected, Accepted}
+use Rattle.hand_audit.specs.declared.verdicts.AllIn.{AllIn}
+use Rattle.hand_audit.specs.declared.verdicts.AllIn.TheVariants.{None as NoAllIn, Unknown, Known}
+use Rattle.hand_audit.specs.declared.verdicts.HandAudit.{HandAudit}
+use Rattle.hand_audit.specs.declared.verdicts.HandAudit.TheVariants.{Rejected, Accepted}
 use Rattle.hand_audit.specs.declared.settlement.Settlement.{Settlement}
 use Rattle.history_text.specs.Names.{seat_named}
 use Rattle.report_table.specs.Hands.{Seated}

@@ -4,10 +4,10 @@ use Rattle.equity_job.specs.Jobs.{IsDeckShort, IsAboveLimit}
 use Rattle.equity_job.specs.declared.jobs.JobFault.{JobFault}
 use Rattle.equity_job.specs.declared.jobs.JobFault.TheVariants.{DeckShort, AboveLimit}
 use Rattle.equity_job.specs.declared.limits.TheConstants.{RUNOUT_MAX}
-use Rattle.hand_audit.specs.declared.audit.AllIn.{AllIn}
-use Rattle.hand_audit.specs.declared.audit.AllIn.TheVariants.{None, Unknown, Known}
-use Rattle.hand_audit.specs.declared.audit.HandAudit.{HandAudit}
-use Rattle.hand_audit.specs.declared.audit.HandAudit.TheVariants.{Rejected, Accepted}
+use Rattle.hand_audit.specs.declared.verdicts.AllIn.{AllIn}
+use Rattle.hand_audit.specs.declared.verdicts.AllIn.TheVariants.{None, Unknown, Known}
+use Rattle.hand_audit.specs.declared.verdicts.HandAudit.{HandAudit}
+use Rattle.hand_audit.specs.declared.verdicts.HandAudit.TheVariants.{Rejected, Accepted}
 use Rattle.report_table.specs.declared.equity.Equity.{Equity}
 use Rattle.report_table.specs.declared.equity.Equity.TheVariants.{NotAsked, Refused, Counted}
 use Rattle.showdown_tally.specs.Cells.{Sums}

@@ -6,13 +6,13 @@ use Rattle.std.specs.Option.{option_map_or}
 use Rattle.card_sets.specs.Games.{sides_of}
 use Rattle.card_sets.specs.declared.games.Game.{Game}
 use Rattle.card_sets.specs.declared.games.Side.{Side}
-use Rattle.hand_audit.specs.declared.audit.AllIn.{AllIn}
-use Rattle.hand_audit.specs.declared.audit.AllIn.TheVariants.{None, Unknown, Known}
-use Rattle.hand_audit.specs.declared.audit.HandAudit.{HandAudit}
-use Rattle.hand_audit.specs.declared.audit.HandAudit.TheVariants.{Rejected, Accepted}
+use Rattle.hand_audit.specs.declared.verdicts.AllIn.{AllIn}
+use Rattle.hand_audit.specs.declared.verdicts.AllIn.TheVariants.{None, Unknown, Known}
+use Rattle.hand_audit.specs.declared.verdicts.HandAudit.{HandAudit}
+use Rattle.hand_audit.specs.declared.verdicts.HandAudit.TheVariants.{Rejected, Accepted}
 use Rattle.hand_audit.specs.declared.settlement.PotLine.{PotLine}
 use Rattle.hand_audit.specs.declared.settlement.Settlement.{Settlement}
-use Rattle.history_text.specs.declared.events.Street.{Street}
+use Rattle.card_sets.specs.declared.streets.Street.{Street}
 use Rattle.runout_ranges.specs.Slots.{unseen, slots, counts_of}
 use Rattle.share_fractions.specs.Round.{round}
 use Rattle.showdown_tally.specs.Cells.{Sums, cell_at, units_at}

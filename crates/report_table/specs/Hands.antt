@@ -1,16 +1,17 @@
 -- The block of lines that a hand has in the report: its verdict, its pots, and who got what of them.
 use Rattle.std.specs.Prelude.{ℕ, ◌+◌, ◌==◌, ◌&&◌, not, Bool, false, if◌then◌else◌, List, [], ◌∷◌, ◌++◌, codes, decimal, unwrap_or}
 use Rattle.std.specs.List.{flat_map}
+use Rattle.card_sets.specs.Games.{game_word}
 use Rattle.history_text.specs.Names.{name_of}
-use Rattle.hand_audit.specs.declared.audit.HandAudit.{HandAudit}
-use Rattle.hand_audit.specs.declared.audit.HandAudit.TheVariants.{Rejected, Accepted}
+use Rattle.hand_audit.specs.declared.verdicts.HandAudit.{HandAudit}
+use Rattle.hand_audit.specs.declared.verdicts.HandAudit.TheVariants.{Rejected, Accepted}
 use Rattle.hand_audit.specs.declared.cause.Cause.{Cause}
 use Rattle.hand_audit.specs.declared.settlement.Payment.{Payment}
 use Rattle.hand_audit.specs.declared.settlement.PotLine.{PotLine}
 use Rattle.hand_audit.specs.declared.settlement.Settlement.{Settlement}
 use Rattle.report_table.specs.Causes.{cause_words}
 use Rattle.report_table.specs.Lines.{Line, plain, named, line_in}
-use Rattle.report_table.specs.Words.{game_word, money}
+use Rattle.report_table.specs.Words.{money}
 use Rattle.report_table.specs.declared.equity.Form.{Form}
 
 -- the names of a hand's seats, each with its seat

@@ -6,6 +6,9 @@ pub use Rattle.equity_job.specs.Jobs
 pub use Rattle.history_text.specs.Names
 pub mod Words
 pub mod Lines
+pub mod Sheets
+pub mod ReadBack
+pub mod ExpectLaws
 pub mod Made
 pub mod MadeSeen
 pub mod Spots

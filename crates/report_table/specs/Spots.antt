@@ -3,7 +3,7 @@
 use Rattle.std.specs.Prelude.{ℕ, zero, suc, ◌+◌, ◌*◌, nat_lt, if◌then◌else◌, List, [], ◌∷◌, ◌++◌, length, codes, decimal, Result, Ok, Err}
 use Rattle.std.specs.List.{flat_map}
 use Rattle.std.specs.Option.{option_map_or}
-use Rattle.card_sets.specs.Games.{sides_of}
+use Rattle.card_sets.specs.Games.{game_word, sides_of}
 use Rattle.card_sets.specs.State.{State, state_of}
 use Rattle.card_sets.specs.declared.known_cards.Known.{Known}
 use Rattle.card_sets.specs.declared.games.Game.{Game}
@@ -14,7 +14,7 @@ use Rattle.showdown_tally.specs.Tallies.{cell_over, units_over, runouts_after}
 use Rattle.showdown_tally.specs.declared.cells.Cell.{Cell}
 use Rattle.spot_text.specs.declared.faults.SpotFault.{SpotFault}
 use Rattle.report_table.specs.Lines.{Line, plain, line_in}
-use Rattle.report_table.specs.Words.{game_word, side_word, fault_words}
+use Rattle.report_table.specs.Words.{side_word, fault_words}
 use Rattle.report_table.specs.declared.equity.Form.{Form}
 
 -- the hands numbered below n, rising

@@ -1,36 +1,32 @@
 -- The words of the report, and its money.
 use Rattle.std.specs.Prelude.{ℕ, Bool, if◌then◌else◌, List, [], ◌∷◌, Option, Some, None, codes}
 use Rattle.card_sets.specs.CardText.{text_of_card}
+use Rattle.card_sets.specs.Games.{family_of}
 use Rattle.card_sets.specs.declared.games.Game.{Game}
-use Rattle.card_sets.specs.declared.games.Game.TheVariants.{Holdem, Omaha8, Stud, Razz, Lowball27}
+use Rattle.card_sets.specs.declared.games.Family.{Family}
+use Rattle.card_sets.specs.declared.games.Family.TheVariants as family
 use Rattle.card_sets.specs.declared.games.Side.{Side}
 use Rattle.card_sets.specs.declared.games.Side.TheVariants.{High, Low}
-use Rattle.history_text.specs.declared.events.Street.{Street}
-use Rattle.history_text.specs.declared.events.Street.TheVariants.{First, Flop, Turn, Fourth, Fifth, Sixth, River, Draw, ShowDown, Summary}
+use Rattle.card_sets.specs.declared.streets.Street.{Street}
+use Rattle.card_sets.specs.declared.streets.Street.TheVariants.{First, Flop, Turn, Fourth, Fifth, Sixth, River, Draw, ShowDown, Summary}
 use Rattle.share_fractions.specs.Round.{fixed_text}
 use Rattle.spot_text.specs.declared.faults.SpotFault.{SpotFault}
 use Rattle.spot_text.specs.declared.faults.SpotFault.TheVariants.{UnknownWord, BadCard, TwiceCard, HandSize, BoardSize, PlayerCount, DeckShort}
-
--- how a game is written
-abbrev pub game_word : Game → List ℕ
-game_word Holdem = codes "holdem"
-game_word Omaha8 = codes "omaha8"
-game_word Stud = codes "stud"
-game_word Razz = codes "razz"
-game_word Lowball27 = codes "lowball27"
 
 -- how a side is written
 abbrev pub side_word : Side → List ℕ
 side_word High = codes "high"
 side_word Low = codes "low"
 
+-- how the first street of a family is written
+abbrev pub first_word : Family → List ℕ
+first_word family.Board = codes "preflop"
+first_word family.Stud = codes "3rd"
+first_word family.Draw = codes "predraw"
+
 -- how the street of an all-in is written; on the last street no card is to come, so there is none
 abbrev pub street_word : Game → Street → Option (List ℕ)
-street_word Holdem First = Some (codes "preflop")
-street_word Omaha8 First = Some (codes "preflop")
-street_word Stud First = Some (codes "3rd")
-street_word Razz First = Some (codes "3rd")
-street_word Lowball27 First = Some (codes "predraw")
+street_word game First = Some (first_word (family_of game))
 street_word game Flop = Some (codes "flop")
 street_word game Turn = Some (codes "turn")
 street_word game Fourth = Some (codes "4th")

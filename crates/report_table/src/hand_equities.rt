@@ -1,28 +1,24 @@
 //! The lines of a hand behind its verdict: its all-in, how all runouts of it end, and what each hand of
-//! the table may expect. Each `push` adds words to a line, and each `write` appends to `out`; where memory
-//! is refused, it may have appended a part.
+//! the table may expect. Each method appends whole lines, but for those that add words to one.
 
-ghost use Rattle.std.specs.Prelude.{◌≡◌, ℕ, ◌*◌, ◌<◌, ◌≤◌, ◌==◌, ◌^◌, [], ◌∷◌, ◌++◌, nat_lt, OnOk, length, unwrap_or};
-ghost use Rattle.std.specs.Int.{bit_at};
+ghost use Rattle.std.specs.Prelude.{◌≡◌, ℕ, ◌*◌, ◌<◌, ◌≤◌, ◌^◌, [], OnOk, length, unwrap_or};
+ghost use Rattle.card_sets.specs.PlayerSets.{AreBelow, players_in};
 ghost use Rattle.std.specs.List.{flat_map};
 ghost use Rattle.report_table.specs.Equities.{IsEquityOf, IsFull};
 ghost use Rattle.report_table.specs.HandEquities.{all_in_line, counted_all_in, every_pot, expect_line, expected_units, given_to, gross_of, hand_expect, known_all_in, player_name, pot_equity, pot_ev_line, pot_hand_lines, pot_name, pot_side_line, above_line, short_line, tally_figures};
-ghost use Rattle.report_table.specs.Lines.{line_in};
+ghost use Rattle.report_table.specs.Sheets.{IsBetweenLines, with_line, with_lines, with_words};
 ghost use Rattle.report_table.specs.Spots.{every_hand};
 ghost use Rattle.report_table.specs.Words.{street_word};
 ghost use Rattle.showdown_tally.specs.Cells.{units_at};
 ghost use Rattle.showdown_tally.specs.Deals.{deal_of};
 ghost use Rattle.showdown_tally.specs.Showdown.{eligible_in};
-ghost use Rattle.showdown_tally.specs.Tables.{hands_of};
 
 use crate::alone::hand_count;
-use crate::equity::{Equity, Form};
+use crate::equity::Equity;
 use crate::hands::name_text;
-use crate::lines::{Words, write_named, write_plain};
-use crate::numbers::{push_expected, push_money, push_number};
-use crate::spots::push_side_columns;
-use crate::words::{push_refused, push_text, street_word};
-use card_sets::{Game, Side, sides};
+use crate::sheet::Sheet;
+use crate::words::street_word;
+use card_sets::{Game, PlayerSet, Side, sides};
 use equity_job::JobFault;
 use hand_audit::{PotLine, Settlement};
 use history_text::{Names, Street};
@@ -30,122 +26,22 @@ use share_fractions::rounded;
 use showdown_tally::{Cell, Table, Tally};
 use std::alloc::AllocError;
 
-/// Who sits where: the names of the seats, and the seats of the table's hands, hand by hand.
+/// An all-in with known cards as it is shown: the settlement of its hand, the names of the seats, the seats
+/// of the table's hands, hand by hand, and the table.
 #[derive(Clone, Copy)]
-pub(crate) struct Seating<'a> {
+pub(crate) struct Shown<'a> {
+    pub(crate) settlement: &'a Settlement,
     pub(crate) names: &'a Names,
     pub(crate) seats: &'a [u8; 10],
+    pub(crate) table: &'a Table,
 }
 
 /// The name of a hand of the table, byte for byte.
-fn player_name<'a>(seating: &Seating<'a>, hand: u8) -> &'a [u8]
+fn player_name<'a>(shown: &Shown<'a>, hand: u8) -> &'a [u8]
     requires { hand < 10 }
-    ensures { result.now ≡ player_name seating.now.names.now seating.now.seats.now hand }
+    ensures { result.now ≡ player_name shown.now.names.now shown.now.seats.now hand }
 {
-    name_text(seating.names, seating.seats[usize::from(hand)])
-}
-
-/// The first words of a line of a pot. Pots count from 0.
-#[tactic(auto, unfolding(crate::specs::HandEquities::pot_name))]
-fn push_pot_name(words: &mut Words, k: u8) -> Result<(), AllocError>
-    ensures { OnOk result (words.new ≡ words.old ++ pot_name k) }
-{
-    push_text(words, "pot")?;
-    push_number(words, u64::from(k))
-}
-
-/// How all runouts end for a hand on a side of a pot.
-#[tactic(auto, unfolding(crate::specs::HandEquities::pot_side_line))]
-fn write_pot_side_line(
-    out: &mut Vec<u8>,
-    form: Form,
-    all: u64,
-    k: u8,
-    name: &[u8],
-    side: Side,
-    cell: Cell,
-) -> Result<(), AllocError>
-    requires some { 0 < all }
-    ensures { OnOk result (out.new.items ≡ out.old.items ++ line_in form (pot_side_line all k name.now side cell)) }
-{
-    let mut words = Words::none(*out.allocator());
-    push_pot_name(&mut words, k)?;
-    push_side_columns(&mut words, all, side, cell)?;
-    write_named(out, form, words, name)
-}
-
-/// What part of a pot a hand may expect, from its units of 1/5040 of it over all runouts.
-#[tactic(auto, unfolding(crate::specs::HandEquities::pot_ev_line))]
-fn write_pot_ev_line(
-    out: &mut Vec<u8>,
-    form: Form,
-    all: u64,
-    k: u8,
-    name: &[u8],
-    units: u64,
-) -> Result<(), AllocError>
-    requires some { 0 < all }
-    ensures { OnOk result (out.new.items ≡ out.old.items ++ line_in form (pot_ev_line all k name.now units)) }
-{
-    let mut words = Words::none(*out.allocator());
-    push_pot_name(&mut words, k)?;
-    push_text(&mut words, "ev")?;
-    push_expected(&mut words, units, all)?;
-    write_named(out, form, words, name)
-}
-
-/// The lines of a hand in a pot: its sides, the high first, and then what it may expect.
-#[tactic(auto, unfolding(crate::specs::HandEquities::pot_hand_lines))]
-fn write_pot_hand(
-    out: &mut Vec<u8>,
-    form: Form,
-    game: Game,
-    tally: &Tally,
-    k: u8,
-    name: &[u8],
-    hand: u8,
-) -> Result<(), AllocError>
-    requires some { 0 < tally.now.runouts }
-    requires pot { k < 10 }
-    requires hand { hand < 10 }
-    ensures { OnOk result (out.new.items ≡ out.old.items
-        ++ pot_hand_lines form game (tally_figures tally.now) k name.now hand) }
-{
-    let all = tally.runouts();
-    for played in &sides(game) {
-        if let Some(side) = *played {
-            write_pot_side_line(out, form, all, k, name, side, tally.cell(k, hand, side))?;
-        }
-    }
-    write_pot_ev_line(out, form, all, k, name, tally.units(k, hand))
-}
-
-/// Whether a hand is eligible, by the bits of a pot.
-fn is_eligible(eligible: u16, hand: u8) -> bool
-    requires { hand < 10 }
-    ensures { result ≡ (bit_at eligible hand == 1) }
-{
-    (eligible >> hand) & 1 == 1
-}
-
-/// How many hands are eligible.
-fn eligible_count(eligible: u16) -> u8
-    ensures { result ≡ length (hands_of eligible) }
-{
-    let mut count = 0;
-    for hand in 0..10 {
-        if is_eligible(eligible, hand) {
-            count += 1;
-        }
-    }
-    count
-}
-
-/// Whether two or more hands are eligible.
-fn is_contested(eligible: u16) -> bool
-    ensures { result ≡ nat_lt 1 (length (hands_of eligible)) }
-{
-    eligible_count(eligible) > 1
+    name_text(shown.names, shown.seats[usize::from(hand)])
 }
 
 /// How many pots there are.
@@ -156,40 +52,13 @@ pub(crate) fn pot_count(table: &Table) -> u8
     table.eligible[..usize::from(table.pots)].len() as u8
 }
 
-/// The eligible hands of a pot, by their bits.
-fn pot_hands(table: &Table, k: u8) -> u16
+/// The eligible hands of a pot.
+fn pot_hands(table: &Table, k: u8) -> PlayerSet
     requires { k < length (deal_of table.now).pots }
-    ensures { eligible_in (deal_of table.now) k ≡ hands_of result }
+    ensures hands { eligible_in (deal_of table.now) k ≡ players_in result }
+    ensures few { AreBelow 10 (players_in result) }
 {
-    table.eligible[..usize::from(table.pots)][usize::from(k)]
-}
-
-/// The lines of a pot: those of each hand that is eligible in it, where two or more are.
-fn write_pot_equity(
-    out: &mut Vec<u8>,
-    form: Form,
-    table: &Table,
-    tally: &Tally,
-    seating: &Seating,
-    k: u8,
-) -> Result<(), AllocError>
-    requires some { 0 < tally.now.runouts }
-    requires pot { k < length (deal_of table.now).pots }
-    requires few { k < 10 }
-    ensures { OnOk result (out.new.items ≡ out.old.items
-        ++ pot_equity form (deal_of table.now) (tally_figures tally.now) seating.now.names.now seating.now.seats.now k) }
-{
-    let eligible = pot_hands(table, k);
-    if !is_contested(eligible) {
-        return Ok(());
-    }
-    for hand in 0..10 {
-        if is_eligible(eligible, hand) {
-            let name = player_name(seating, hand);
-            write_pot_hand(out, form, table.known.game, tally, k, name, hand)?;
-        }
-    }
-    Ok(())
+    PlayerSet::of(table.eligible[..usize::from(table.pots)][usize::from(k)]).below(10)
 }
 
 /// What a pot holds; nothing where it isn't there.
@@ -236,63 +105,6 @@ pub(crate) fn expected_by(pots: &[PotLine], table: &Table, tally: &Tally, hand: 
     rounded(given, 5040 * u128::from(tally.runouts()), 0).whole
 }
 
-/// What a hand of the table may expect, as a line.
-#[tactic(auto, unfolding(crate::specs::HandEquities::expect_line))]
-fn write_expect_line(
-    out: &mut Vec<u8>,
-    form: Form,
-    hundredths: bool,
-    name: &[u8],
-    units: u128,
-) -> Result<(), AllocError>
-    ensures { OnOk result (out.new.items ≡ out.old.items ++ line_in form (expect_line hundredths name.now units)) }
-{
-    let mut words = Words::none(*out.allocator());
-    push_text(&mut words, "expect")?;
-    push_money(&mut words, hundredths, units)?;
-    write_named(out, form, words, name)
-}
-
-/// What a hand of the table may expect.
-fn write_expect(
-    out: &mut Vec<u8>,
-    form: Form,
-    settlement: &Settlement,
-    table: &Table,
-    tally: &Tally,
-    seating: &Seating,
-    hand: u8,
-) -> Result<(), AllocError>
-    requires some { 0 < tally.now.runouts }
-    requires hand { hand < 10 }
-    requires small { (k : ℕ) → k < 10 → units_at tally.now k hand ≤ 2 ^ 37 }
-    ensures { OnOk result (out.new.items ≡ out.old.items
-        ++ hand_expect form settlement.now seating.now.names.now seating.now.seats.now (deal_of table.now) (tally_figures tally.now) hand) }
-{
-    let units = expected_by(settlement.pots.items(), table, tally, hand);
-    let name = player_name(seating, hand);
-    write_expect_line(out, form, settlement.hundredths, name, units)
-}
-
-/// The first line of an all-in that is counted.
-#[tactic(auto, unfolding(crate::specs::HandEquities::all_in_line))]
-fn write_all_in_line(
-    out: &mut Vec<u8>,
-    form: Form,
-    game: Game,
-    street: Street,
-    all: u64,
-) -> Result<(), AllocError>
-    ensures { OnOk result (out.new.items ≡ out.old.items ++ line_in form (all_in_line game street all)) }
-{
-    let mut words = Words::none(*out.allocator());
-    push_text(&mut words, "all-in")?;
-    push_text(&mut words, street_text(game, street))?;
-    push_text(&mut words, "runouts")?;
-    push_number(&mut words, all)?;
-    write_plain(out, form, words)
-}
-
 /// How the street of an all-in is written.
 fn street_text(game: Game, street: Street) -> &'static str
     ensures { result.now ≡ unwrap_or (street_word game street) [] }
@@ -303,129 +115,236 @@ fn street_text(game: Game, street: Street) -> &'static str
     }
 }
 
-/// The lines of all pots.
-fn write_pot_equities(
-    out: &mut Vec<u8>,
-    form: Form,
-    table: &Table,
-    tally: &Tally,
-    seating: &Seating,
-) -> Result<(), AllocError>
-    requires some { 0 < tally.now.runouts }
-    ensures { OnOk result (out.new.items ≡ out.old.items
-        ++ flat_map (pot_equity form (deal_of table.now) (tally_figures tally.now) seating.now.names.now seating.now.seats.now) (every_pot (length (deal_of table.now).pots))) }
-{
-    for k in 0..pot_count(table) {
-        write_pot_equity(out, form, table, tally, seating, k)?;
+impl Sheet {
+    /// The first words of a line of a pot. Pots count from 0.
+    #[tactic(auto, using(crate::proofs::SheetFacts::word_steps), unfolding(crate::specs::HandEquities::pot_name))]
+    fn pot_name(&mut self, k: u8) -> Result<(), AllocError>
+        ensures { OnOk result (self.new ≡ with_words self.old (pot_name k)) }
+    {
+        self.text("pot")?;
+        self.number(u64::from(k))
     }
-    Ok(())
-}
 
-/// What each hand of the table may expect.
-fn write_expects(
-    out: &mut Vec<u8>,
-    form: Form,
-    settlement: &Settlement,
-    table: &Table,
-    tally: &Tally,
-    seating: &Seating,
-) -> Result<(), AllocError>
-    requires some { 0 < tally.now.runouts }
-    requires small { (k hand : ℕ) → k < 10 → hand < 10 → units_at tally.now k hand ≤ 2 ^ 37 }
-    ensures { OnOk result (out.new.items ≡ out.old.items
-        ++ flat_map (hand_expect form settlement.now seating.now.names.now seating.now.seats.now (deal_of table.now) (tally_figures tally.now)) (every_hand (length (deal_of table.now).state.hands))) }
-{
-    for hand in 0..hand_count(&table.known) {
-        write_expect(out, form, settlement, table, tally, seating, hand)?;
+    /// How all runouts end for a hand on a side of a pot.
+    #[tactic(auto, using(crate::proofs::SheetFacts::sheet_steps), unfolding(crate::specs::HandEquities::pot_side_line))]
+    fn pot_side_line(
+        &mut self,
+        all: u64,
+        k: u8,
+        name: &[u8],
+        side: Side,
+        cell: Cell,
+    ) -> Result<(), AllocError>
+        requires between { IsBetweenLines self.old }
+        requires some { 0 < all }
+        ensures { OnOk result (self.new ≡ with_line self.old (pot_side_line all k name.now side cell)) }
+    {
+        self.pot_name(k)?;
+        self.side_columns(all, side, cell)?;
+        self.end_with(name)
     }
-    Ok(())
-}
 
-/// An all-in that is counted: its street, each pot with its hands, and then what each hand may expect.
-#[tactic(auto, unfolding(crate::specs::HandEquities::counted_all_in))]
-fn write_counted_all_in(
-    out: &mut Vec<u8>,
-    form: Form,
-    settlement: &Settlement,
-    seating: &Seating,
-    street: Street,
-    table: &Table,
-    tally: &Tally,
-) -> Result<(), AllocError>
-    requires some { 0 < tally.now.runouts }
-    requires small { (k hand : ℕ) → k < 10 → hand < 10 → units_at tally.now k hand ≤ 2 ^ 37 }
-    ensures { OnOk result (out.new.items ≡ out.old.items
-        ++ counted_all_in form settlement.now seating.now.names.now seating.now.seats.now street (deal_of table.now) (tally_figures tally.now)) }
-{
-    write_all_in_line(out, form, table.known.game, street, tally.runouts())?;
-    write_pot_equities(out, form, table, tally, seating)?;
-    write_expects(out, form, settlement, table, tally, seating)
-}
-
-/// That fewer cards may come than are lacking.
-#[tactic(auto, unfolding(crate::specs::HandEquities::short_line))]
-fn write_deck_short(out: &mut Vec<u8>, form: Form) -> Result<(), AllocError>
-    ensures { OnOk result (out.new.items ≡ out.old.items ++ line_in form short_line) }
-{
-    let mut words = Words::none(*out.allocator());
-    push_text(&mut words, "all-in")?;
-    push_text(&mut words, "refused")?;
-    push_text(&mut words, "DeckShort")?;
-    write_plain(out, form, words)
-}
-
-/// That there are too many runouts.
-#[tactic(auto, unfolding(crate::specs::HandEquities::above_line))]
-fn write_above_limit(out: &mut Vec<u8>, form: Form) -> Result<(), AllocError>
-    ensures { OnOk result (out.new.items ≡ out.old.items ++ line_in form above_line) }
-{
-    let mut words = Words::none(*out.allocator());
-    push_text(&mut words, "all-in")?;
-    push_refused(&mut words)?;
-    write_plain(out, form, words)
-}
-
-/// An all-in with a tally of all its runouts; where there is none, fewer cards may come than are lacking.
-fn write_full_all_in(
-    out: &mut Vec<u8>,
-    form: Form,
-    settlement: &Settlement,
-    seating: &Seating,
-    street: Street,
-    table: &Table,
-    tally: &Tally,
-) -> Result<(), AllocError>
-    requires full { IsFull (deal_of table.now) tally.now }
-    ensures { OnOk result (out.new.items ≡ out.old.items
-        ++ known_all_in form settlement.now seating.now.names.now seating.now.seats.now street (deal_of table.now)) }
-{
-    if tally.runouts() == 0 {
-        return write_deck_short(out, form);
+    /// What part of a pot a hand may expect, from its units of 1/5040 of it over all runouts.
+    #[tactic(auto, using(crate::proofs::SheetFacts::sheet_steps), unfolding(crate::specs::HandEquities::pot_ev_line))]
+    fn pot_ev_line(&mut self, all: u64, k: u8, name: &[u8], units: u64) -> Result<(), AllocError>
+        requires between { IsBetweenLines self.old }
+        requires some { 0 < all }
+        ensures { OnOk result (self.new ≡ with_line self.old (pot_ev_line all k name.now units)) }
+    {
+        self.pot_name(k)?;
+        self.text("ev")?;
+        self.expected(units, all)?;
+        self.end_with(name)
     }
-    write_counted_all_in(out, form, settlement, seating, street, table, tally)
-}
 
-/// An all-in with known cards: it is refused, or counted.
-#[tactic(auto, unfolding(crate::specs::HandEquities::known_all_in))]
-pub(crate) fn write_known_all_in(
-    out: &mut Vec<u8>,
-    form: Form,
-    settlement: &Settlement,
-    seating: &Seating,
-    street: Street,
-    table: &Table,
-    equity: &Equity,
-) -> Result<(), AllocError>
-    requires { IsEquityOf (deal_of table.now) equity.now }
-    ensures { OnOk result (out.new.items ≡ out.old.items
-        ++ known_all_in form settlement.now seating.now.names.now seating.now.seats.now street (deal_of table.now)) }
-{
-    match equity {
-        Equity::Counted(tally) => {
-            write_full_all_in(out, form, settlement, seating, street, table, tally)
+    /// The lines of a hand in a pot: its sides, the high first, and then what it may expect.
+    #[tactic(auto, using(crate::proofs::SheetFacts::sheet_steps), unfolding(crate::specs::HandEquities::pot_hand_lines))]
+    fn pot_hand(
+        &mut self,
+        game: Game,
+        tally: &Tally,
+        k: u8,
+        name: &[u8],
+        hand: u8,
+    ) -> Result<(), AllocError>
+        requires between { IsBetweenLines self.old }
+        requires some { 0 < tally.now.runouts }
+        requires pot { k < 10 }
+        requires hand { hand < 10 }
+        ensures { OnOk result (self.new ≡ with_lines self.old
+            (pot_hand_lines self.old.form game (tally_figures tally.now) k name.now hand)) }
+    {
+        let all = tally.runouts();
+        for played in &sides(game) {
+            if let Some(side) = *played {
+                self.pot_side_line(all, k, name, side, tally.cell(k, hand, side))?;
+            }
         }
-        Equity::Refused(JobFault::DeckShort) => write_deck_short(out, form),
-        Equity::Refused(JobFault::AboveLimit) => write_above_limit(out, form),
-        Equity::NotAsked => unreachable!(),
+        self.pot_ev_line(all, k, name, tally.units(k, hand))
+    }
+
+    /// The lines of a pot: those of each hand that is eligible in it, where two or more are.
+    fn pot_equity(&mut self, shown: &Shown, tally: &Tally, k: u8) -> Result<(), AllocError>
+        requires between { IsBetweenLines self.old }
+        requires some { 0 < tally.now.runouts }
+        requires pot { k < length (deal_of shown.now.table.now).pots }
+        requires few { k < 10 }
+        ensures { OnOk result (self.new ≡ with_lines self.old
+            (pot_equity self.old.form (deal_of shown.now.table.now) (tally_figures tally.now) shown.now.names.now shown.now.seats.now k)) }
+    {
+        let hands = pot_hands(shown.table, k);
+        if hands.count() < 2 {
+            return Ok(());
+        }
+        let game = shown.table.known.game;
+        for hand in hands.each() {
+            self.pot_hand(game, tally, k, player_name(shown, hand), hand)?;
+        }
+        Ok(())
+    }
+
+    /// What a hand of the table may expect, as a line.
+    #[tactic(auto, using(crate::proofs::SheetFacts::sheet_steps), unfolding(crate::specs::HandEquities::expect_line))]
+    fn expect_line(&mut self, hundredths: bool, name: &[u8], units: u128) -> Result<(), AllocError>
+        requires { IsBetweenLines self.old }
+        ensures { OnOk result (self.new ≡ with_line self.old (expect_line hundredths name.now units)) }
+    {
+        self.text("expect")?;
+        self.money(hundredths, units)?;
+        self.end_with(name)
+    }
+
+    /// What a hand of the table may expect.
+    fn hand_expect(&mut self, shown: &Shown, tally: &Tally, hand: u8) -> Result<(), AllocError>
+        requires between { IsBetweenLines self.old }
+        requires some { 0 < tally.now.runouts }
+        requires hand { hand < 10 }
+        requires small { (k : ℕ) → k < 10 → units_at tally.now k hand ≤ 2 ^ 37 }
+        ensures { OnOk result (self.new ≡ with_lines self.old
+            (hand_expect self.old.form shown.now.settlement.now shown.now.names.now shown.now.seats.now (deal_of shown.now.table.now) (tally_figures tally.now) hand)) }
+    {
+        let units = expected_by(shown.settlement.pots.items(), shown.table, tally, hand);
+        self.expect_line(shown.settlement.hundredths, player_name(shown, hand), units)
+    }
+
+    /// The first line of an all-in that is counted.
+    #[tactic(auto, using(crate::proofs::SheetFacts::sheet_steps), unfolding(crate::specs::HandEquities::all_in_line))]
+    fn all_in_line(&mut self, game: Game, street: Street, all: u64) -> Result<(), AllocError>
+        requires { IsBetweenLines self.old }
+        ensures { OnOk result (self.new ≡ with_line self.old (all_in_line game street all)) }
+    {
+        self.text("all-in")?;
+        self.text(street_text(game, street))?;
+        self.text("runouts")?;
+        self.number(all)?;
+        self.end()
+    }
+
+    /// The lines of all pots.
+    fn pot_equities(&mut self, shown: &Shown, tally: &Tally) -> Result<(), AllocError>
+        requires between { IsBetweenLines self.old }
+        requires some { 0 < tally.now.runouts }
+        ensures { OnOk result (self.new ≡ with_lines self.old
+            (flat_map (pot_equity self.old.form (deal_of shown.now.table.now) (tally_figures tally.now) shown.now.names.now shown.now.seats.now) (every_pot (length (deal_of shown.now.table.now).pots)))) }
+    {
+        for k in 0..pot_count(shown.table) {
+            self.pot_equity(shown, tally, k)?;
+        }
+        Ok(())
+    }
+
+    /// What each hand of the table may expect.
+    fn expects(&mut self, shown: &Shown, tally: &Tally) -> Result<(), AllocError>
+        requires between { IsBetweenLines self.old }
+        requires some { 0 < tally.now.runouts }
+        requires small { (k hand : ℕ) → k < 10 → hand < 10 → units_at tally.now k hand ≤ 2 ^ 37 }
+        ensures { OnOk result (self.new ≡ with_lines self.old
+            (flat_map (hand_expect self.old.form shown.now.settlement.now shown.now.names.now shown.now.seats.now (deal_of shown.now.table.now) (tally_figures tally.now)) (every_hand (length (deal_of shown.now.table.now).state.hands)))) }
+    {
+        for hand in 0..hand_count(&shown.table.known) {
+            self.hand_expect(shown, tally, hand)?;
+        }
+        Ok(())
+    }
+
+    /// An all-in that is counted: its street, each pot with its hands, and then what each hand may expect.
+    #[tactic(auto, using(crate::proofs::SheetFacts::lines_more), unfolding(crate::specs::HandEquities::counted_all_in))]
+    fn counted_all_in(
+        &mut self,
+        shown: &Shown,
+        street: Street,
+        tally: &Tally,
+    ) -> Result<(), AllocError>
+        requires between { IsBetweenLines self.old }
+        requires some { 0 < tally.now.runouts }
+        requires small { (k hand : ℕ) → k < 10 → hand < 10 → units_at tally.now k hand ≤ 2 ^ 37 }
+        ensures { OnOk result (self.new ≡ with_lines self.old
+            (counted_all_in self.old.form shown.now.settlement.now shown.now.names.now shown.now.seats.now street (deal_of shown.now.table.now) (tally_figures tally.now))) }
+    {
+        self.all_in_line(shown.table.known.game, street, tally.runouts())?;
+        self.pot_equities(shown, tally)?;
+        self.expects(shown, tally)
+    }
+
+    /// That fewer cards may come than are lacking.
+    #[tactic(auto, using(crate::proofs::SheetFacts::sheet_steps), unfolding(crate::specs::HandEquities::short_line))]
+    fn deck_short(&mut self) -> Result<(), AllocError>
+        requires { IsBetweenLines self.old }
+        ensures { OnOk result (self.new ≡ with_line self.old short_line) }
+    {
+        self.text("all-in")?;
+        self.text("refused")?;
+        self.text("DeckShort")?;
+        self.end()
+    }
+
+    /// That there are too many runouts.
+    #[tactic(auto, using(crate::proofs::SheetFacts::sheet_steps), unfolding(crate::specs::HandEquities::above_line))]
+    fn above_limit(&mut self) -> Result<(), AllocError>
+        requires { IsBetweenLines self.old }
+        ensures { OnOk result (self.new ≡ with_line self.old above_line) }
+    {
+        self.text("all-in")?;
+        self.refused()?;
+        self.end()
+    }
+
+    /// An all-in with a tally of all its runouts; where there is none, fewer cards may come than are lacking.
+    fn full_all_in(
+        &mut self,
+        shown: &Shown,
+        street: Street,
+        tally: &Tally,
+    ) -> Result<(), AllocError>
+        requires between { IsBetweenLines self.old }
+        requires full { IsFull (deal_of shown.now.table.now) tally.now }
+        ensures { OnOk result (self.new ≡ with_lines self.old
+            (known_all_in self.old.form shown.now.settlement.now shown.now.names.now shown.now.seats.now street (deal_of shown.now.table.now))) }
+    {
+        if tally.runouts() == 0 {
+            return self.deck_short();
+        }
+        self.counted_all_in(shown, street, tally)
+    }
+
+    /// An all-in with known cards: it is refused, or counted.
+    #[tactic(auto, unfolding(crate::specs::HandEquities::known_all_in))]
+    pub(crate) fn known_all_in(
+        &mut self,
+        shown: &Shown,
+        street: Street,
+        equity: &Equity,
+    ) -> Result<(), AllocError>
+        requires between { IsBetweenLines self.old }
+        requires equity { IsEquityOf (deal_of shown.now.table.now) equity.now }
+        ensures { OnOk result (self.new ≡ with_lines self.old
+            (known_all_in self.old.form shown.now.settlement.now shown.now.names.now shown.now.seats.now street (deal_of shown.now.table.now))) }
+    {
+        match equity {
+            Equity::Counted(tally) => self.full_all_in(shown, street, tally),
+            Equity::Refused(JobFault::DeckShort) => self.deck_short(),
+            Equity::Refused(JobFault::AboveLimit) => self.above_limit(),
+            Equity::NotAsked => unreachable!(),
+        }
     }
 }

@@ -11,11 +11,11 @@ mod hand_blocks;
 mod hand_equities;
 mod hands;
 mod laws;
-mod lines;
 mod made_sums;
 mod numbers;
 mod player_sums;
 mod players;
+mod sheet;
 mod spot_blocks;
 mod spots;
 mod total_laws;
@@ -26,7 +26,9 @@ mod words;
 pub use alone::table_alone;
 pub use equity::{Equity, Form};
 pub use hand_blocks::write_hand;
-pub use laws::law_money_is_written_whole;
+pub use laws::{
+    law_a_record_is_read_back, law_expectations_add_up_to_the_pots, law_money_is_written_whole,
+};
 pub use made_sums::{AllInSums, MadeSums};
 pub use spot_blocks::write_spot;
 pub use total_laws::{law_hands_are_those_that_are_played, law_no_player_is_listed_twice};

@@ -1,21 +1,20 @@
 //! What the hands of a run with two seats come to.
 
 ghost use Rattle.std.specs.Prelude.{◌≡◌, ℕ, ◌<◌, ◌≤◌, ◌*◌, ◌^◌, List, [], ◌∷◌, ◌++◌, true, false, decimal, OnOk, OnErr};
-ghost use Rattle.hand_audit.specs.declared.audit.HandAudit.{HandAudit};
+ghost use Rattle.hand_audit.specs.declared.verdicts.HandAudit.{HandAudit};
 ghost use Rattle.report_table.specs.Equities.{IsEquityOf, IsFull, IsOfAllIn, IsOfHand, is_asked};
 ghost use Rattle.report_table.specs.HandEquities.{full_figures, tally_figures};
 ghost use Rattle.report_table.specs.Lines.{line_in};
 ghost use Rattle.report_table.specs.Made.{all_in_sums, hand_units, known_all_in, made_columns, made_line, made_sums, made_title, seat_units};
 ghost use Rattle.report_table.specs.MadeSeen.{AreSmall};
+ghost use Rattle.report_table.specs.Sheets.{IsBetweenLines, with_line, with_words};
 ghost use Rattle.report_table.specs.Words.{money};
 ghost use Rattle.showdown_tally.specs.Deals.{deal_of};
 
 use crate::equity::{Equity, Form};
 use crate::hand_equities::pot_count;
-use crate::lines::{Words, write_plain};
-use crate::numbers::{push_money, push_number};
 use crate::player_sums::hand_at;
-use crate::words::push_text;
+use crate::sheet::Sheet;
 use card_sets::Memory;
 use hand_audit::{AllIn, HandAudit};
 use showdown_tally::{Table, Tally};
@@ -172,62 +171,60 @@ impl MadeSums {
         ensures block { OnOk result (out.new.items ≡ out.old.items ++ line_in form (made_line hands self.now.accepted self.now.all_ins)) }
         ensures memory { OnErr result (out.new.items ≡ out.old.items) }
     {
-        let mut line = Vec::new(*out.allocator());
-        write_made_line(&mut line, form, hands, self.accepted, &self.all_ins)?;
-        out.extend_from_slice(&line)?;
+        let mut sheet = Sheet::new(*out.allocator(), form);
+        sheet.made_line(hands, self.accepted, &self.all_ins)?;
+        out.extend_from_slice(sheet.bytes())?;
         Ok(())
     }
 }
 
-/// A name of a sum, and the sum.
-fn push_named(words: &mut Words, name: &str, number: u128) -> Result<(), AllocError>
-    ensures { OnOk result (words.new ≡ words.old ++ name.now ∷ money false number ∷ []) }
-{
-    push_text(words, name)?;
-    push_money(words, false, number)
-}
+impl Sheet {
+    /// A name of a sum, and the sum.
+    #[tactic(auto, using(crate::proofs::SheetFacts::word_steps))]
+    fn name_and_sum(&mut self, name: &str, number: u128) -> Result<(), AllocError>
+        ensures { OnOk result (self.new ≡ with_words self.old (name.now ∷ money false number ∷ [])) }
+    {
+        self.text(name)?;
+        self.money(false, number)
+    }
 
-/// A name of a number, and the number.
-fn push_count(words: &mut Words, name: &str, number: u64) -> Result<(), AllocError>
-    ensures { OnOk result (words.new ≡ words.old ++ name.now ∷ decimal number ∷ []) }
-{
-    push_text(words, name)?;
-    push_number(words, number)
-}
+    /// A name of a number, and the number.
+    #[tactic(auto, using(crate::proofs::SheetFacts::word_steps))]
+    fn name_and_count(&mut self, name: &str, number: u64) -> Result<(), AllocError>
+        ensures { OnOk result (self.new ≡ with_words self.old (name.now ∷ decimal number ∷ [])) }
+    {
+        self.text(name)?;
+        self.number(number)
+    }
 
-/// The first words of the line of so many hands that were made.
-#[tactic(auto, unfolding(crate::specs::Made::made_title))]
-fn push_made_title(words: &mut Words, hands: u64, accepted: u64) -> Result<(), AllocError>
-    ensures { OnOk result (words.new ≡ words.old ++ made_title hands accepted) }
-{
-    push_text(words, "made")?;
-    push_count(words, "hands", hands)?;
-    push_count(words, "accepted", accepted)
-}
+    /// The first words of the line of so many hands that were made.
+    #[tactic(auto, using(crate::proofs::SheetFacts::word_steps), unfolding(crate::specs::Made::made_title))]
+    fn made_title(&mut self, hands: u64, accepted: u64) -> Result<(), AllocError>
+        ensures { OnOk result (self.new ≡ with_words self.old (made_title hands accepted)) }
+    {
+        self.text("made")?;
+        self.name_and_count("hands", hands)?;
+        self.name_and_count("accepted", accepted)
+    }
 
-/// What stands behind them.
-#[tactic(auto, unfolding(crate::specs::Made::made_columns))]
-fn push_made_columns(words: &mut Words, sums: &AllInSums) -> Result<(), AllocError>
-    ensures { OnOk result (words.new ≡ words.old ++ made_columns sums.now) }
-{
-    push_named(words, "runouts", sums.runouts)?;
-    push_named(words, "first", sums.first)?;
-    push_named(words, "second", sums.second)
-}
+    /// What stands behind them.
+    #[tactic(auto, using(crate::proofs::SheetFacts::word_steps), unfolding(crate::specs::Made::made_columns))]
+    fn made_columns(&mut self, sums: &AllInSums) -> Result<(), AllocError>
+        ensures { OnOk result (self.new ≡ with_words self.old (made_columns sums.now)) }
+    {
+        self.name_and_sum("runouts", sums.runouts)?;
+        self.name_and_sum("first", sums.first)?;
+        self.name_and_sum("second", sums.second)
+    }
 
-/// The line of so many hands that were made.
-#[tactic(auto, unfolding(crate::specs::Made::made_line))]
-fn write_made_line(
-    out: &mut Vec<u8>,
-    form: Form,
-    hands: u64,
-    accepted: u64,
-    sums: &AllInSums,
-) -> Result<(), AllocError>
-    ensures { OnOk result (out.new.items ≡ out.old.items ++ line_in form (made_line hands accepted sums.now)) }
-{
-    let mut words = Words::none(*out.allocator());
-    push_made_title(&mut words, hands, accepted)?;
-    push_made_columns(&mut words, sums)?;
-    write_plain(out, form, words)
+    /// The line of so many hands that were made.
+    #[tactic(auto, using(crate::proofs::SheetFacts::sheet_steps), unfolding(crate::specs::Made::made_line))]
+    fn made_line(&mut self, hands: u64, accepted: u64, sums: &AllInSums) -> Result<(), AllocError>
+        requires { IsBetweenLines self.old }
+        ensures { OnOk result (self.new ≡ with_line self.old (made_line hands accepted sums.now)) }
+    {
+        self.made_title(hands, accepted)?;
+        self.made_columns(sums)?;
+        self.end()
+    }
 }

@@ -11,7 +11,7 @@ ghost use Rattle.report_table.specs.TotalsSeen.{AllAreOfHands, AreOfHands, first
 
 use crate::equity::Equity;
 use crate::player_sums::{PlayerSums, seat_sums};
-use card_sets::Memory;
+use card_sets::{Memory, PlayerSet};
 use hand_audit::{AllIn, Settlement};
 use history_text::Names;
 use indexmap::IndexMap;
@@ -47,7 +47,7 @@ pub(crate) struct Lineup<'a> {
 fn plays(players: u16, seat: u8) -> bool
     ensures { result ≡ (bit_at players seat == 1) }
 {
-    seat < 16 && (players >> seat) & 1 == 1
+    seat < 16 && PlayerSet::of(players).has(seat)
 }
 
 impl<'a> Lineup<'a> {

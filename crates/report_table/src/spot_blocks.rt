@@ -4,53 +4,56 @@ ghost use Rattle.std.specs.Prelude.{◌≡◌, ◌≤◌, ◌++◌, IfOk, OnOk, 
 ghost use Rattle.card_sets.specs.State.{state_of};
 ghost use Rattle.runout_ranges.specs.Slots.{unseen, slots, counts_of};
 ghost use Rattle.report_table.specs.Equities.{IsEquityOf};
+ghost use Rattle.report_table.specs.Sheets.{IsBetweenLines, with_lines};
 ghost use Rattle.report_table.specs.Spots.{alone, seen_spot, spot_block};
 
 use crate::equity::{Equity, Form};
-use crate::spots::{write_counted, write_refused, write_rejected};
+use crate::sheet::Sheet;
 use card_sets::{Known, Memory};
 use equity_job::JobFault;
 use spot_text::SpotFault;
 use std::alloc::AllocError;
 
-/// Appends the block of a spot that is well written.
-#[tactic(auto, unfolding(crate::specs::Spots::spot_block))]
-fn write_known(
-    out: &mut Vec<u8>,
-    form: Form,
-    place: u64,
-    line: u32,
-    known: &Known,
-    equity: &Equity,
-) -> Result<(), AllocError>
-    requires enough { sum (counts_of (slots (state_of known.now))) ≤ length (unseen (state_of known.now)) }
-    requires equity { IsEquityOf (alone (state_of known.now)) equity.now }
-    ensures { OnOk result (out.new.items ≡ out.old.items ++ spot_block form place line (Ok (state_of known.now))) }
-{
-    match equity {
-        Equity::Counted(tally) => write_counted(out, form, place, known, tally),
-        Equity::Refused(JobFault::AboveLimit) => write_refused(out, form, place, known.game),
-        Equity::Refused(JobFault::DeckShort) | Equity::NotAsked => unreachable!(),
+impl Sheet {
+    /// Appends the block of a spot that is well written.
+    #[tactic(auto, unfolding(crate::specs::Spots::spot_block))]
+    fn known_spot(
+        &mut self,
+        place: u64,
+        line: u32,
+        known: &Known,
+        equity: &Equity,
+    ) -> Result<(), AllocError>
+        requires between { IsBetweenLines self.old }
+        requires enough { sum (counts_of (slots (state_of known.now))) ≤ length (unseen (state_of known.now)) }
+        requires equity { IsEquityOf (alone (state_of known.now)) equity.now }
+        ensures { OnOk result (self.new ≡ with_lines self.old (spot_block self.old.form place line (Ok (state_of known.now)))) }
+    {
+        match equity {
+            Equity::Counted(tally) => self.counted_spot(place, known, tally),
+            Equity::Refused(JobFault::AboveLimit) => self.refused_spot(place, known.game),
+            Equity::Refused(JobFault::DeckShort) | Equity::NotAsked => unreachable!(),
+        }
     }
-}
 
-/// Appends the line of a spot that is rejected, or the block of one that is well written.
-#[tactic(auto, unfolding(crate::specs::Spots::spot_block))]
-fn write_block(
-    out: &mut Vec<u8>,
-    form: Form,
-    place: u64,
-    line: u32,
-    known: &Result<Known, SpotFault>,
-    equity: &Equity,
-) -> Result<(), AllocError>
-    requires enough { IfOk known.now (λ k. sum (counts_of (slots (state_of k))) ≤ length (unseen (state_of k))) }
-    requires equity { IfOk known.now (λ k. IsEquityOf (alone (state_of k)) equity.now) }
-    ensures { OnOk result (out.new.items ≡ out.old.items ++ spot_block form place line (seen_spot known.now)) }
-{
-    match known {
-        Ok(known) => write_known(out, form, place, line, known, equity),
-        Err(fault) => write_rejected(out, form, place, u64::from(line), fault),
+    /// Appends the line of a spot that is rejected, or the block of one that is well written.
+    #[tactic(auto, unfolding(crate::specs::Spots::spot_block))]
+    fn spot(
+        &mut self,
+        place: u64,
+        line: u32,
+        known: &Result<Known, SpotFault>,
+        equity: &Equity,
+    ) -> Result<(), AllocError>
+        requires between { IsBetweenLines self.old }
+        requires enough { IfOk known.now (λ k. sum (counts_of (slots (state_of k))) ≤ length (unseen (state_of k))) }
+        requires equity { IfOk known.now (λ k. IsEquityOf (alone (state_of k)) equity.now) }
+        ensures { OnOk result (self.new ≡ with_lines self.old (spot_block self.old.form place line (seen_spot known.now))) }
+    {
+        match known {
+            Ok(known) => self.known_spot(place, line, known, equity),
+            Err(fault) => self.rejected_spot(place, u64::from(line), fault),
+        }
     }
 }
 
@@ -71,8 +74,8 @@ pub fn write_spot(
     ensures block { OnOk result (out.new.items ≡ out.old.items ++ spot_block form place line (seen_spot known.now)) }
     ensures memory { OnErr result (out.new.items ≡ out.old.items) }
 {
-    let mut block = Vec::new(*out.allocator());
-    write_block(&mut block, form, place, line, known, equity)?;
-    out.extend_from_slice(&block)?;
+    let mut sheet = Sheet::new(*out.allocator(), form);
+    sheet.spot(place, line, known, equity)?;
+    out.extend_from_slice(sheet.bytes())?;
     Ok(())
 }

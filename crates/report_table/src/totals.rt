@@ -1,13 +1,13 @@
 //! What all hands of a run come to.
 
 ghost use Rattle.std.specs.Prelude.{◌≡◌, ℕ, ◌<◌, ◌^◌, List, [], ◌∷◌, ◌++◌, true, OnOk, OnErr};
-ghost use Rattle.hand_audit.specs.declared.audit.HandAudit.{HandAudit};
+ghost use Rattle.hand_audit.specs.declared.verdicts.HandAudit.{HandAudit};
 ghost use Rattle.report_table.specs.Equities.{IsOfHand, is_asked};
 ghost use Rattle.report_table.specs.Totals.{run_block, totals_of};
 
 use crate::equity::{Equity, Form};
 use crate::players::{Lineup, Players, add_players, add_sums};
-use crate::total_lines::{write_player_lines, write_totals_line};
+use crate::sheet::Sheet;
 use card_sets::Memory;
 use hand_audit::HandAudit;
 use std::alloc::Global;
@@ -113,10 +113,10 @@ impl Totals {
         ensures block { OnOk result (out.new.items ≡ out.old.items ++ run_block form self.now) }
         ensures memory { OnErr result (out.new.items ≡ out.old.items) }
     {
-        let mut block = Vec::new(*out.allocator());
-        write_totals_line(&mut block, form, self.accepted, self.rejected)?;
-        write_player_lines(&mut block, form, &self.players)?;
-        out.extend_from_slice(&block)?;
+        let mut sheet = Sheet::new(*out.allocator(), form);
+        sheet.totals_line(self.accepted, self.rejected)?;
+        sheet.player_lines(&self.players)?;
+        out.extend_from_slice(sheet.bytes())?;
         Ok(())
     }
 }

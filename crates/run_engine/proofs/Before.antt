@@ -1,10 +1,8 @@
 -- The walk over all hands of some bytes.
 use Rattle.std.proofs.Common.{◌≡◌, ℕ, ◌<◌, ◌≤◌, ◌^◌, List, [], ◌++◌, length, Option, Some, None, option_to_list, refl, sym, ap, ◌∙◌, arith, append_assoc, append-nil, length-append}
 use Rattle.std.specs.List.{cons_option, filter_map, slice_range}
-use Rattle.hand_audit.specs.declared.audit.HandAudit.{HandAudit}
+use Rattle.hand_audit.specs.declared.verdicts.HandAudit.{HandAudit}
 use Rattle.line_text.specs.Lines.{lines}
-use Rattle.report_table.specs.Made.{MadeTotals, made_sums}
-use Rattle.report_table.specs.Totals.{RunTotals, totals_of}
 use Rattle.run_engine.specs.Histories.{HandLines, verdict_of}
 use Rattle.run_engine.specs.Report.{verdicts}
 use Rattle.run_engine.specs.Writing.{AreBefore, CutsHand, hands_at, start, verdicts_at}
@@ -46,14 +44,8 @@ all_before bytes c hands before none = before.all ∙ ap (λ later. hands ++ fil
 pub few_before : (bytes : List ℕ) (c : Cursor) (hands : List HandAudit) → AreBefore bytes c hands → length bytes ≤ 67108864 → length hands < 2 ^ 32
 few_before bytes c hands before small = omega (arith, before.few, before.inside.within, small)
 
--- the totals of the hands before a cursor
-pub record TotalsBefore (bytes : List ℕ) (c : Cursor) (totals : RunTotals) : Type 0 where
+-- sums of the hands before a cursor
+pub record SumsBefore (Sums : Type 0) (sums_of : List HandAudit → Sums) (bytes : List ℕ) (c : Cursor) (sums : Sums) : Type 0 where
   pub hands : List HandAudit
   pub before : AreBefore bytes c hands
-  pub so_far : totals ≡ totals_of hands
-
--- what the hands before a cursor come to
-pub record SumsBefore (bytes : List ℕ) (c : Cursor) (sums : MadeTotals) : Type 0 where
-  pub hands : List HandAudit
-  pub before : AreBefore bytes c hands
-  pub so_far : sums ≡ made_sums hands
+  pub so_far : sums ≡ sums_of hands

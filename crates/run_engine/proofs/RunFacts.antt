@@ -18,7 +18,7 @@ use Rattle.run_engine.specs.declared.reading.Ending.{Ending}
 use Rattle.run_engine.specs.declared.reading.Ending.TheVariants.{Whole, Failed, TooLong}
 use Rattle.run_engine.specs.Closed.{closed, closed_hands}
 use Rattle.run_engine.specs.Histories.{hand_block, hands_from}
-use Rattle.run_engine.specs.Reading.{Takes, Counted, EndsSo, reported}
+use Rattle.run_engine.specs.Reading.{Takes, Counted, EndsSo, piece, reported}
 use Rattle.run_engine.specs.Command.{reads_input}
 use Rattle.run_engine.specs.Laws.{has_blocks}
 use Rattle.run_engine.specs.Report.{blocks, blocks_in, hand_blocks, spots_from, report, rejects}
@@ -114,9 +114,9 @@ run_written limit command Whole rejected bytes old new some counted ends count w
       no_write_fault = fine;
     })
 run_written limit command Failed rejected bytes old new some counted ends count written fine =
-    run_read_fault limit command old new (record { reads = some; rises = ends; bytes = bytes; counted = counted; written = written })
+    run_read_fault limit command old new (record { reads = some; rises = ends.1; bytes = bytes; read = ends.0; written = written }) fine
 run_written limit command TooLong rejected bytes old new some counted ends count written fine =
-    run_too_long limit command old new (record { reads = some; bytes = bytes; read = ends.0; written = written })
+    run_too_long limit command old new (record { reads = some; bytes = bytes; read = ends.0; written = written }) fine ends.1
 
 -- a write of the report failed
 pub run_unwritten : (limit : ℕ) (command : Command) (ending : Ending) (bytes : List ℕ) (old new : Ends) → reads_input command.mode ≡ true → Counted limit old.left new.left bytes
@@ -127,24 +127,24 @@ run_unwritten limit command ending bytes old new some counted ends rises front =
 
 -- memory ran out while the report was written
 pub run_cut : (limit : ℕ) (command : Command) (ending : Ending) (bytes : List ℕ) (old new : Ends) → reads_input command.mode ≡ true → Counted limit old.left new.left bytes
-    → EndsSo limit old.left new.left old.read_faults new.read_faults bytes ending → WritesBlocks old.taken new.taken (blocks command (reported command.mode ending bytes)) → IsRun limit (Some command) 6 old new
-run_cut limit command ending bytes old new some counted ends written =
-    run_memory limit command old new (λ none. reading command some none) (record { bytes = bytes; counted = counted; ending = ending; count = written.0; ended = λ _ _. ends; written = written.1 })
+    → EndsSo limit old.left new.left old.read_faults new.read_faults bytes ending → WritesBlocks old.taken new.taken (blocks command (reported command.mode ending bytes)) → new.write_faults ≡ old.write_faults → IsRun limit (Some command) 6 old new
+run_cut limit command ending bytes old new some counted ends written calm =
+    run_memory limit command old new (λ none. reading command some none) (record { bytes = bytes; counted = counted; ending = ending; count = written.0; ended = λ _ _. ends; written = written.1 }) calm
 
 -- memory ran out while the input was read, or before: nothing is written
-run_unread_by : (limit : ℕ) (command : Command) (taken : List ℕ) (old new : Ends) → (reads_input command.mode ≡ false → (new.left ≡ old.left) × (new.read_faults ≡ old.read_faults)) → Takes old.left new.left taken → new.taken ≡ old.taken → IsRun limit (Some command) 6 old new
-run_unread_by limit command taken old new unread takes same =
+run_unread_by : (limit : ℕ) (command : Command) (taken : List ℕ) (old new : Ends) → (reads_input command.mode ≡ false → (new.left ≡ old.left) × (new.read_faults ≡ old.read_faults)) → Takes old.left new.left taken → length taken ≤ limit + piece → new.taken ≡ old.taken → new.write_faults ≡ old.write_faults → IsRun limit (Some command) 6 old new
+run_unread_by limit command taken old new unread takes near same calm =
     run_memory limit command old new unread (record {
       bytes = take limit taken;
-      counted = (taken, takes, refl);
+      counted = (taken, takes, refl, near);
       ending = Whole;
       count = 0;
       ended = λ _ some. absurd (omega (arith, some));
       written = (let w = writes_none old.taken in rw same w);
-    })
+    }) calm
 
-pub run_unread : (limit : ℕ) (command : Command) (taken : List ℕ) (old new : Ends) → reads_input command.mode ≡ true → Takes old.left new.left taken → new.taken ≡ old.taken → IsRun limit (Some command) 6 old new
-run_unread limit command taken old new some takes same = run_unread_by limit command taken old new (λ none. reading command some none) takes same
+pub run_unread : (limit : ℕ) (command : Command) (taken : List ℕ) (old new : Ends) → reads_input command.mode ≡ true → Takes old.left new.left taken → length taken ≤ limit + piece → new.taken ≡ old.taken → new.write_faults ≡ old.write_faults → IsRun limit (Some command) 6 old new
+run_unread limit command taken old new some takes near same calm = run_unread_by limit command taken old new (λ none. reading command some none) takes near same calm
 
 -- nothing was taken of what is left as it was
 takes_none : (a b : Option (List ℕ)) → b ≡ a → Takes a b []
@@ -152,13 +152,13 @@ takes_none None b same = same
 takes_none (Some all) b same = (all, same, refl)
 
 -- memory ran out before anything was read or written, whatever the words ask for
-pub run_unstarted : (limit : ℕ) (asked : Option Command) (old new : Ends) → new.left ≡ old.left → new.read_faults ≡ old.read_faults → new.taken ≡ old.taken → IsRun limit asked 6 old new
-run_unstarted limit None old new left faults taken = run_usage_short limit old new left faults taken
-run_unstarted limit (Some command) old new left faults taken = run_unread_by limit command [] old new (λ _. (left, faults)) (takes_none old.left new.left left) taken
+pub run_unstarted : (limit : ℕ) (asked : Option Command) (old new : Ends) → new.left ≡ old.left → new.read_faults ≡ old.read_faults → new.taken ≡ old.taken → new.write_faults ≡ old.write_faults → IsRun limit asked 6 old new
+run_unstarted limit None old new left faults taken calm = run_usage_short limit old new left faults taken calm
+run_unstarted limit (Some command) old new left faults taken calm = run_unread_by limit command [] old new (λ _. (left, faults)) (takes_none old.left new.left left) (omega arith) taken calm
 
 -- hands that are made: nothing is read
 counts_none : (limit : ℕ) (left : Option (List ℕ)) → Counted limit left left []
-counts_none limit left = ([], takes_none left left refl, sym (take-nil limit))
+counts_none limit left = ([], takes_none left left refl, sym (take-nil limit), omega arith)
 
 pub made_written : (limit : ℕ) (command : Command) (rejected : ℕ) (left : Option (List ℕ)) (faults : ℕ) (taken taken' : Option (List ℕ)) (bad bad' : ℕ) → reads_input command.mode ≡ false
     → rejected ≡ rejects command [] → WritesAll taken taken' (report command []) → bad' ≡ bad
@@ -180,7 +180,7 @@ made_unwritten limit command left faults taken taken' bad bad' none rises front 
     run_write_fault limit command _ _ (λ _. (refl, refl)) (record { rises = rises; bytes = []; counted = counts_none limit left; ending = Whole; ended = λ some. reading command some none; written = front })
 
 pub made_cut : (limit : ℕ) (command : Command) (left : Option (List ℕ)) (faults : ℕ) (taken taken' : Option (List ℕ)) (bad bad' : ℕ) → reads_input command.mode ≡ false
-    → WritesBlocks taken taken' (blocks command [])
+    → WritesBlocks taken taken' (blocks command []) → bad' ≡ bad
     → IsRun limit (Some command) 6 (record { left = left; read_faults = faults; taken = taken; write_faults = bad }) (record { left = left; read_faults = faults; taken = taken'; write_faults = bad' })
-made_cut limit command left faults taken taken' bad bad' none written =
-    run_memory limit command _ _ (λ _. (refl, refl)) (record { bytes = []; counted = counts_none limit left; ending = Whole; count = written.0; ended = λ some _. reading command some none; written = written.1 })
+made_cut limit command left faults taken taken' bad bad' none written calm =
+    run_memory limit command _ _ (λ _. (refl, refl)) (record { bytes = []; counted = counts_none limit left; ending = Whole; count = written.0; ended = λ some _. reading command some none; written = written.1 }) calm

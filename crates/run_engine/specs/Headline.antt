@@ -1,11 +1,11 @@
 -- What a run of the program does: its status, and what it reads and writes.
-use Rattle.std.specs.Prelude.{◌≡◌, ℕ, ◌<◌, ◌≤◌, ◌==◌, Bool, true, false, if◌then◌else◌, List, length, take, Option, IfSome, IfNone, IsNone, IsSomeAnd, ◌⊎◌}
+use Rattle.std.specs.Prelude.{◌≡◌, ℕ, ◌<◌, ◌≤◌, ◌==◌, true, false, if◌then◌else◌, List, length, take, Option, IfSome, IfNone, IsNone, IsSomeAnd, ◌⊎◌}
 use Rattle.std.specs.List.{concat}
 use Rattle.byte_ends.specs.Ends.{Rises, WritesAll, WritesFront}
 use Rattle.run_engine.specs.Closed.{closed}
 use Rattle.run_engine.specs.Command.{makes, reads, reads_input, usage_line}
 use Rattle.run_engine.specs.declared.command.Command.{Command}
-use Rattle.run_engine.specs.Reading.{Counted, EndsSo, ReadWhole, ReadTooMuch, reported}
+use Rattle.run_engine.specs.Reading.{Counted, EndsSo, ReadWhole, ReadToFault, ReadTooMuch, reported}
 use Rattle.run_engine.specs.declared.reading.Ending.{Ending}
 use Rattle.run_engine.specs.declared.reading.Ending.TheVariants.{Whole, Failed, TooLong}
 use Rattle.run_engine.specs.Report.{blocks, report, rejects}
@@ -31,12 +31,12 @@ pub record IsFinished (limit : ℕ) (command : Command) (status : ℕ) (old new 
   pub no_read_fault : new.read_faults ≡ old.read_faults
   pub no_write_fault : new.write_faults ≡ old.write_faults
 
--- a read failed: the report of the closed part of what was taken is written
+-- a read failed: the report of the closed part of what was taken, which is within the limit, is written
 pub record IsReadFault (limit : ℕ) (command : Command) (old new : Ends) : Type 0 where
   pub reads : reads_input command.mode ≡ true
   pub rises : Rises old.read_faults new.read_faults
   pub bytes : List ℕ
-  pub counted : Counted limit old.left new.left bytes
+  pub read : ReadToFault limit old.left new.left bytes
   pub written : WritesAll old.taken new.taken (report command (closed command.mode bytes))
 
 -- a write failed: a front of the report is written, that of all that was taken where the source was read to its end, and that
@@ -71,6 +71,10 @@ pub record IsMemoryShort (limit : ℕ) (command : Command) (old new : Ends) : Ty
 pub record IsRun (limit : ℕ) (asked : Option Command) (status : ℕ) (old new : Ends) : Type 0 where
   -- one of seven statuses
   pub known : status ≤ 6
+  -- a failed write is told: no write failed, or the status is 4
+  pub write_told : (new.write_faults ≡ old.write_faults) ⊎ (status ≡ 4)
+  -- a failed read is told: no read failed, or the status is 3, 4 or 6
+  pub read_told : (new.read_faults ≡ old.read_faults) ⊎ (status ≡ 3) ⊎ (status ≡ 4) ⊎ (status ≡ 6)
   -- 0 and 1: all was read and written; which of the two, by whether a spot or a hand was rejected
   pub finished : (status ≡ 0) ⊎ (status ≡ 1) → IsSomeAnd asked (λ command. IsFinished limit command status old new)
   -- 2: the words are in no form, and the usage line is written

@@ -3,8 +3,8 @@ use Rattle.std.specs.Prelude.{ℕ, ◌+◌, Bool, true, false, if◌then◌else�
 use Rattle.std.specs.List.{slice_range}
 use Rattle.history_text.specs.Headers.{is_header, hand_number}
 use Rattle.hand_audit.specs.Verdict.{audit_of}
-use Rattle.hand_audit.specs.declared.audit.HandAudit.{HandAudit}
-use Rattle.hand_audit.specs.declared.audit.HandAudit.TheVariants.{Rejected, Accepted}
+use Rattle.hand_audit.specs.declared.verdicts.HandAudit.{HandAudit}
+use Rattle.hand_audit.specs.declared.verdicts.HandAudit.TheVariants.{Rejected, Accepted}
 use Rattle.report_table.specs.HandEquities.{hand_block as audit_block}
 use Rattle.report_table.specs.declared.equity.Form.{Form}
 

@@ -2,7 +2,7 @@
 use Rattle.std.specs.Prelude.{ℕ, ◌+◌, ◌-◌, Bool, true, false, ◌&&◌, not, if◌then◌else◌, List, [], ◌∷◌, map, count_by}
 use Rattle.std.specs.List.{concat, filter_map}
 use Rattle.std.specs.Result.{is_err}
-use Rattle.hand_audit.specs.declared.audit.HandAudit.{HandAudit}
+use Rattle.hand_audit.specs.declared.verdicts.HandAudit.{HandAudit}
 use Rattle.line_text.specs.Lines.{lines}
 use Rattle.made_hands.specs.Made.{made_text}
 use Rattle.report_table.specs.Made.{made_block}

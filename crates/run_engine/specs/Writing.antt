@@ -3,7 +3,7 @@ use Rattle.std.specs.Prelude.{◌≡◌, ℕ, ◌+◌, ◌^◌, ◌<◌, ◌≤�
 use Rattle.std.specs.List.{concat, filter_map, slice_range}
 use Rattle.byte_ends.specs.Ends.{WritesAll}
 use Rattle.hand_audit.specs.Departs.{begins_hand}
-use Rattle.hand_audit.specs.declared.audit.HandAudit.{HandAudit}
+use Rattle.hand_audit.specs.declared.verdicts.HandAudit.{HandAudit}
 use Rattle.line_text.specs.Lines.{lines}
 use Rattle.report_table.specs.declared.equity.Form.{Form}
 use Rattle.run_engine.specs.Histories.{HandLines, up_to_header, hands_from, hand_block, is_rejected_hand, verdict_of}

@@ -13,8 +13,10 @@ mod reading;
 mod report;
 mod run;
 mod spots;
+mod sums;
 mod totals;
 mod words;
+mod write_fault;
 
 pub use closing::law_closed_blocks_stay;
 pub use command::{Command, Mode};

@@ -1,8 +1,8 @@
 //! The reading of the input.
 
-ghost use Rattle.std.specs.Prelude.{◌≡◌, ℕ, ◌≤◌, ◌<◌, IfOk, OnErr, List, vec_len};
+ghost use Rattle.std.specs.Prelude.{◌≡◌, ℕ, ◌+◌, ◌≤◌, ◌<◌, IfOk, OnErr, List, length, vec_len};
 ghost use Rattle.byte_ends.specs.Ends.{Rises};
-ghost use Rattle.run_engine.specs.Reading.{Takes, Counted, EndsSo};
+ghost use Rattle.run_engine.specs.Reading.{Takes, Counted, EndsSo, piece as piece_size};
 
 use crate::closing::closed_part;
 use crate::command::Mode;
@@ -39,7 +39,7 @@ pub(crate) struct Input {
 pub(crate) fn read_all<S: Source>(alloc: Global, source: &mut S) -> Result<Input, Memory>
     ensures counted { IfOk result (λ input. Counted INPUT_MAX (S.left source.old) (S.left source.new) input.bytes.items) }
     ensures ends { IfOk result (λ input. EndsSo INPUT_MAX (S.left source.old) (S.left source.new) (S.faults source.old) (S.faults source.new) input.bytes.items input.ending) }
-    ensures memory { OnErr result ((taken : List ℕ) × Takes (S.left source.old) (S.left source.new) taken) }
+    ensures memory { OnErr result ((taken : List ℕ) × Takes (S.left source.old) (S.left source.new) taken × (length taken ≤ INPUT_MAX + piece_size)) }
 {
     let mut bytes = Vec::new(alloc);
     let mut piece = [0u8; PIECE];

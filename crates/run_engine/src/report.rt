@@ -14,42 +14,12 @@ use crate::made::write_made;
 use crate::reading::INPUT_MAX;
 use crate::spots::next_spot;
 use crate::totals::write_totals;
-use byte_ends::{Failed, Sink, write_all};
+use crate::write_fault::WriteFault;
+use byte_ends::{Sink, write_all};
 use card_sets::Memory;
 use equity_job::Scratch;
 use report_table::Form;
 use std::alloc::Global;
-
-/// Why a report wasn't written whole.
-#[derive(Clone, Copy, Debug, PartialEq, Eq)]
-pub(crate) enum WriteFault {
-    /// A write failed.
-    Failed,
-    /// Want of memory.
-    Memory,
-}
-
-impl From<Failed> for WriteFault {
-    ghost use Rattle.std.specs.Prelude.{◌≡◌};
-    ghost use Rattle.run_engine.specs.declared.report.WriteFault.TheVariants.{Failed};
-
-    ghost from_gives = { λ _ e. e ≡ Failed };
-
-    fn from(_: Failed) -> WriteFault {
-        WriteFault::Failed
-    }
-}
-
-impl From<Memory> for WriteFault {
-    ghost use Rattle.std.specs.Prelude.{◌≡◌};
-    ghost use Rattle.run_engine.specs.declared.report.WriteFault.TheVariants.{Memory};
-
-    ghost from_gives = { λ _ e. e ≡ Memory };
-
-    fn from(_: Memory) -> WriteFault {
-        WriteFault::Memory
-    }
-}
 
 /// Makes the next block, goes on behind its lines, and answers whether its spot or hand is rejected; none
 /// where no block is left.
@@ -90,6 +60,7 @@ fn write_blocks<K: Sink>(
     ensures fault { IsErrOf result WriteFault.Failed → Rises (K.faults sink.old) (K.faults sink.new) }
     ensures front { IsErrOf result WriteFault.Failed → WritesFront (K.taken sink.old) (K.taken sink.new) (concat (all_blocks form listed bytes.now)) }
     ensures memory { IsErrOf result WriteFault.Memory → WritesBlocks (K.taken sink.old) (K.taken sink.new) (all_blocks form listed bytes.now) }
+    ensures calm { IsErrOf result WriteFault.Memory → K.faults sink.new ≡ K.faults sink.old }
 {
     let mut block = Vec::new(alloc);
     let mut cursor = Cursor::start();
@@ -131,6 +102,7 @@ pub(crate) fn write_report<K: Sink>(
     ensures fault { IsErrOf result WriteFault.Failed → Rises (K.faults sink.old) (K.faults sink.new) }
     ensures front { IsErrOf result WriteFault.Failed → WritesFront (K.taken sink.old) (K.taken sink.new) (report asked bytes.now) }
     ensures memory { IsErrOf result WriteFault.Memory → WritesBlocks (K.taken sink.old) (K.taken sink.new) (blocks asked bytes.now) }
+    ensures calm { IsErrOf result WriteFault.Memory → K.faults sink.new ≡ K.faults sink.old }
 {
     let form = asked.form;
     match asked.mode {

@@ -7,8 +7,9 @@ ghost use Rattle.run_engine.specs.Headline.{IsRun, written_status};
 
 use crate::command::Command;
 use crate::reading::{Ending, INPUT_MAX, read_all};
-use crate::report::{WriteFault, write_report};
+use crate::report::write_report;
 use crate::words::{WordFault, read_words};
+use crate::write_fault::WriteFault;
 use byte_ends::{Sink, Source, write_all};
 use equity_job::Scratch;
 use line_text::law_closed_lines;

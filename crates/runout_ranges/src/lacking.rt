@@ -1,36 +1,13 @@
 //! What a known state lacks.
 
 ghost use Rattle.std.specs.Prelude.{◌≡◌, ◌<◌, ◌+◌, ◌++◌, [], ◌↔◌, length, sum, IsNone, IfSome};
-ghost use Rattle.card_sets.specs.Games.{own_size, board_size};
 ghost use Rattle.card_sets.specs.State.{state_of};
 ghost use Rattle.runout_ranges.specs.Slots.{unseen, slots, slot_of, counts_of};
 ghost use Rattle.runout_ranges.specs.Shapes.{IsShapeOf};
 
 use crate::{Receiver, Shape, Slot};
-use card_sets::{CardSet, Game, Known};
+use card_sets::{CardSet, Known};
 use std::marker::Model;
-
-/// How many cards the board has when all is dealt.
-fn full_board(game: Game) -> u8
-    ensures { result ≡ board_size game }
-{
-    match game {
-        Game::Holdem | Game::Omaha8 => 5,
-        Game::Stud | Game::Razz | Game::Lowball27 => 0,
-    }
-}
-
-/// How many own cards a hand has when all is dealt.
-fn full_hand(game: Game) -> u8
-    ensures { result ≡ own_size game }
-{
-    match game {
-        Game::Holdem => 2,
-        Game::Omaha8 => 4,
-        Game::Stud | Game::Razz => 7,
-        Game::Lowball27 => 5,
-    }
-}
 
 /// The cards in no known set.
 fn unseen_cards(known: &Known) -> CardSet
@@ -103,15 +80,13 @@ fn lacking(known: &Known) -> SlotList
     ensures { result ≡ slots (state_of known.now) }
 {
     let mut lacking = SlotList::new();
-    let board = full_board(known.game).saturating_sub(known.board.count() as u8);
-    lacking.add(Receiver::Board, board);
-    let full = full_hand(known.game);
+    let board = known.game.board_size().saturating_sub(known.board.count());
+    lacking.add(Receiver::Board, board as u8);
+    let full = known.game.own_size();
     for number in 0..known.count {
         let hand = known.hands[number as usize];
-        lacking.add(
-            Receiver::Hand(number),
-            full.saturating_sub(hand.count() as u8),
-        );
+        let lacks = full.saturating_sub(hand.count());
+        lacking.add(Receiver::Hand(number), lacks as u8);
     }
     lacking
 }

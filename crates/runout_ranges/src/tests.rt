@@ -8,12 +8,14 @@ use crate::{Above, Receiver, Runout, Shape, advance, count_runouts, first_runout
 use card_sets::{Card, CardSet, Game, Known};
 use std::test::Fail;
 
-/// The card of a number.
-fn card(number: u8) -> Card
-    requires { number < 52 }
-    ensures { result ≡ number }
+/// A set of three cards.
+fn three(a: u8, b: u8, c: u8) -> CardSet
+    requires first { a < b }
+    requires second { b < c }
+    requires deck { c < 52 }
+    ensures { result ≡ a ∷ b ∷ c ∷ [] }
 {
-    Card::new(number / 4, number % 4).unwrap()
+    two(a, b).with(card(c))
 }
 
 /// A set of two cards.
@@ -25,14 +27,12 @@ fn two(a: u8, b: u8) -> CardSet
     CardSet::empty().with(card(a)).with(card(b))
 }
 
-/// A set of three cards.
-fn three(a: u8, b: u8, c: u8) -> CardSet
-    requires first { a < b }
-    requires second { b < c }
-    requires deck { c < 52 }
-    ensures { result ≡ a ∷ b ∷ c ∷ [] }
+/// The card of a number.
+fn card(number: u8) -> Card
+    requires { number < 52 }
+    ensures { result ≡ number }
 {
-    two(a, b).with(card(c))
+    Card::new(number / 4, number % 4).unwrap()
 }
 
 /// A set of four cards.

@@ -5,17 +5,17 @@ use Rattle.std.specs.Prelude.{nat_lt, count_by, is_some, not, slice_index, slice
 use Rattle.std.specs.List.{sum_by, list_all}
 use Rattle.std.proofs.Math.Nat.{pow-le-pow_right}
 use Rattle.std.proofs.lemmas.Bool.{cases_lt}
-use Rattle.card_sets.specs.Games.{has_side}
+use Rattle.card_sets.specs.Games.{has_side, only_side}
 use Rattle.card_sets.specs.declared.games.Game.{Game}
 use Rattle.card_sets.specs.declared.games.Game.TheVariants.{Holdem, Omaha8, Stud, Razz, Lowball27}
 use Rattle.card_sets.specs.declared.games.Side.{Side}
 use Rattle.card_sets.specs.declared.games.Side.TheVariants.{High, Low}
 use Rattle.showdown_tally.specs.Cells.{no_runout, is_side}
-use Rattle.showdown_tally.specs.Outcomes.{AreOutcomes, mask_of, only_side, outcome}
+use Rattle.showdown_tally.specs.Outcomes.{AreOutcomes, outcome}
+use Rattle.card_sets.specs.PlayerSets.{set_of_players, hands_below}
 use Rattle.showdown_tally.specs.SetShares.{sum_below, set_cell, set_units, cell_of_sets, units_of_sets, share_cells, share_units, pots_shares, pots_share_units}
 use Rattle.showdown_tally.specs.Settling.{ended}
 use Rattle.showdown_tally.specs.Showdown.{Showdown, eligible_in, has_two_sides, is_among, is_beaten_by, part_of, plays, ties, loses, units, units_by_sides, value_after, winners, wins}
-use Rattle.showdown_tally.specs.Tables.{hands_below}
 use Rattle.showdown_tally.specs.Tallies.{cell_over, units_over}
 use Rattle.showdown_tally.specs.declared.cells.Cell.{Cell}
 use Rattle.showdown_tally.proofs.Classes.{by_classes, below_same, by_same}
@@ -32,11 +32,11 @@ pub record IsCounted (deal : Showdown) (all : List (List (List ℕ))) (pot mask 
   pub counts : AreOutcomes deal pot all row
 
 -- the set that wins has the winners
-pub set_again : (deal : Showdown) (pot mask count : ℕ) (side : Side) (runout : List (List ℕ)) → eligible_in deal pot ≡ hands_below mask count → hands_below (mask_of (winners deal pot side runout)) count ≡ winners deal pot side runout
+pub set_again : (deal : Showdown) (pot mask count : ℕ) (side : Side) (runout : List (List ℕ)) → eligible_in deal pot ≡ hands_below mask count → hands_below (set_of_players (winners deal pot side runout)) count ≡ winners deal pot side runout
 unfolding winners
 set_again deal pot mask count side runout hands = rw hands (mask_hands (λ i. is_some (value_after side deal.state runout i) && list_all (λ j. not (is_beaten_by side (value_after side deal.state runout i) (value_after side deal.state runout j))) (hands_below mask count)) mask count)
 
-pub set_below : (deal : Showdown) (pot mask count : ℕ) (side : Side) (runout : List (List ℕ)) → eligible_in deal pot ≡ hands_below mask count → mask_of (winners deal pot side runout) < 2 ^ count
+pub set_below : (deal : Showdown) (pot mask count : ℕ) (side : Side) (runout : List (List ℕ)) → eligible_in deal pot ≡ hands_below mask count → set_of_players (winners deal pot side runout) < 2 ^ count
 unfolding winners
 set_below deal pot mask count side runout hands = rw hands (mask_below (λ i. is_some (value_after side deal.state runout i) && list_all (λ j. not (is_beaten_by side (value_after side deal.state runout i) (value_after side deal.state runout j))) (hands_below mask count)) mask count)
 

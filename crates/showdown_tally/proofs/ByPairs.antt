@@ -13,7 +13,7 @@ use Rattle.showdown_tally.specs.SetShares.{sum_below, set_cell}
 use Rattle.showdown_tally.specs.Settling.{ended}
 use Rattle.showdown_tally.specs.Showdown.{Showdown, eligible_in, has_two_sides, is_among, is_beaten_by, plays, ties, loses, units, units_by_sides, value_after, winners, wins}
 use Rattle.showdown_tally.specs.Sides.{AreBothOutcomes, both_outcomes, side_outcome}
-use Rattle.showdown_tally.specs.Tables.{hands_below}
+use Rattle.card_sets.specs.PlayerSets.{hands_below}
 use Rattle.showdown_tally.specs.Tallies.{cell_over, units_over}
 use Rattle.showdown_tally.specs.declared.cells.Cell.{Cell}
 use Rattle.showdown_tally.proofs.ByOutcome.{set_again, set_below, both_true, nothing}

@@ -1,37 +1,32 @@
 -- What a pair of sets of hands, which win the two sides of a pot, is to a hand.
-use Rattle.std.proofs.Common.{◌≡◌, ℕ, suc, ◌+◌, ◌*◌, ◌<◌, ◌≤◌, ◌^◌, ◌==◌, not, false, refl, sym, ap, ◌∙◌, inl, inr, arith, List, [], ◌∷◌, length}
-use Rattle.std.specs.Prelude.{count_ones, nat_lt, slice_index, slice_index_or}
-use Rattle.std.specs.Int.Count.{ones}
-use Rattle.std.proofs.lemmas.Bool.{cases_eq}
-use Rattle.std.proofs.lemmas.Nat.{zero_from_ones}
+use Rattle.std.proofs.Common.{◌≡◌, ℕ, suc, ◌+◌, ◌*◌, ◌<◌, ◌≤◌, ◌^◌, ◌==◌, not, false, refl, sym, ap, ◌∙◌, arith, List, [], ◌∷◌}
+use Rattle.std.specs.Prelude.{nat_lt, slice_index, slice_index_or}
+use Rattle.std.proofs.lemmas.List.Sums.{sum_by-append}
+use Rattle.std.proofs.lemmas.Nat.{pow_pos}
 use Rattle.card_sets.specs.declared.games.Side.{Side}
 use Rattle.showdown_tally.specs.Cells.{cell_of, cell_plus, no_runout}
 use Rattle.showdown_tally.specs.PairShares.{cell_of_pairs, cell_of_row, pair_cell, pair_cells, pair_shares, pair_units, pots_pair_cells, pots_pair_shares, row_sum, units_of_pairs}
 use Rattle.showdown_tally.specs.SetShares.{cell_times}
 use Rattle.showdown_tally.specs.Settling.{is_none}
-use Rattle.showdown_tally.specs.Tables.{hands_below}
+use Rattle.card_sets.specs.PlayerSets.{hands_below, set_of_players}
+use Rattle.card_sets.specs.PlayerSetLaws.{set_of_players-below}
 use Rattle.showdown_tally.specs.declared.cells.Cell.{Cell}
 use Rattle.showdown_tally.specs.declared.cells.Outcome.{Outcome}
 use Rattle.showdown_tally.specs.declared.cells.Outcome.TheVariants.{Win, Tie, Lose}
 use Rattle.showdown_tally.proofs.Grown.{plus_assoc}
 use Rattle.showdown_tally.proofs.SetFacts.{one_pot_more, one_pot_more_units}
-use Rattle.showdown_tally.proofs.SetMasks.{ones_length}
 use Rattle.showdown_tally.proofs.Tops.{and-false, plus_none}
-
-no_ones : count_ones 0 ≡ 0
-unfolding ones
-no_ones = refl
 
 -- a set has a hand where its number isn't 0
 pub some_hand : (set count : ℕ) → set < 2 ^ count → count ≤ 10 → nat_lt 0 set ≡ not (is_none (hands_below set count))
-some_hand set count small few = one (hands_below set count) (ones_length set count small few)
+some_hand set count small few = one (hands_below set count) (set_of_players-below set count small)
   where
-    one : (hands : List ℕ) → count_ones set ≡ length hands → nat_lt 0 set ≡ not (is_none hands)
-    one [] size = let z : set ≡ 0 = zero_from_ones set size in rw z refl
-    one (h ∷ hands) size = elim (cases_eq set 0) [
-      | inl z ↦ absurd (let e : 0 ≡ suc (length hands) = sym no_ones ∙ ap count_ones (sym z) ∙ size in omega arith)
-      | inr ne ↦ grind arith
-    ]
+    one : (hands : List ℕ) → set_of_players hands ≡ set → nat_lt 0 set ≡ not (is_none hands)
+    one [] none = rw (← none) refl
+    one (h ∷ hands) some =
+        let bit : 0 < 2 ^ h = pow_pos h in
+        let more : 0 < set = omega (arith, bit, sum_by-append (λ player. 2 ^ player) (h ∷ []) hands, some) in
+        grind arith
 
 -- one set more of the high
 row_step : (counts : List ℕ) (count hand : ℕ) (side : Side) (low n : ℕ)

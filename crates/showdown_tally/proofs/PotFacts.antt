@@ -12,7 +12,7 @@ use Rattle.card_sets.specs.declared.games.Game.TheVariants.{Holdem, Omaha8, Stud
 use Rattle.card_sets.specs.declared.games.Side.{Side}
 use Rattle.card_sets.specs.declared.games.Side.TheVariants.{High, Low}
 use Rattle.showdown_tally.specs.Cells.{no_runout}
-use Rattle.showdown_tally.specs.Tables.{hands_below, hands_of, all_within}
+use Rattle.card_sets.specs.PlayerSets.{hands_below, hands_of, all_within}
 use Rattle.showdown_tally.specs.Settling.{tops_of, cell_by, ended}
 use Rattle.showdown_tally.specs.Showdown.{best, is_beaten_by, Showdown, is_among, winners_of, winners, eligible_in, own_after, board_after, value_after, wins, ties, loses, units, units_by_sides, has_two_sides}
 use Rattle.showdown_tally.specs.Tallies.{cell_over}

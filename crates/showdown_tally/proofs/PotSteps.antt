@@ -1,15 +1,14 @@
 -- One pot more, and all of them.
-use Rattle.std.proofs.Common.{◌≡◌, ℕ, ◌+◌, ◌≤◌, ◌==◌, ◌&&◌, not, true, false, cond, refl, sym, ap, ◌∙◌, inl, inr, arith, List, [], ◌∷◌, add-zero, zero-add}
+use Rattle.std.proofs.Common.{◌≡◌, ℕ, ◌+◌, ◌≤◌, ◌==◌, ◌&&◌, not, true, false, cond, refl, sym, ap, ◌∙◌, inl, inr, arith, Bool, List, [], ◌∷◌, add-zero, zero-add}
 use Rattle.std.specs.Prelude.{nat_lt}
 use Rattle.std.proofs.lemmas.Bool.{cases_eq, cases_lt}
 use Rattle.card_sets.specs.Games.{has_side}
 use Rattle.card_sets.specs.declared.games.Game.{Game}
-use Rattle.card_sets.specs.declared.games.Game.TheVariants.{Holdem, Omaha8, Stud, Razz, Lowball27}
 use Rattle.card_sets.specs.declared.games.Side.{Side}
 use Rattle.card_sets.specs.declared.games.Side.TheVariants.{High, Low}
 use Rattle.showdown_tally.specs.Cells.{cell_plus, no_runout}
-use Rattle.showdown_tally.specs.Tables.{hands_below}
-use Rattle.showdown_tally.specs.Settling.{ended, side_units, game_cells, game_units, whole_of, is_none}
+use Rattle.card_sets.specs.PlayerSets.{hands_below}
+use Rattle.showdown_tally.specs.Settling.{ended, side_units, game_cells, game_units, cells_by_sides, shares_by_sides, whole_of, is_none}
 use Rattle.showdown_tally.specs.Showdown.{Showdown, is_among, winners, eligible_in, units, units_by_sides, has_two_sides, part_of}
 use Rattle.showdown_tally.specs.Tallies.{cell_over}
 use Rattle.showdown_tally.specs.Pots.{pots_cells, pots_units}
@@ -26,29 +25,34 @@ pub record IsPot (deal : Showdown) (runout : List (List ℕ)) (pot mask count : 
   pub no_high : (h : ℕ) → count ≤ h → is_among h highs ≡ false
   pub no_low : (h : ℕ) → count ≤ h → is_among h lows ≡ false
 
+-- whether a side is one of those that a pot is played for
+abbrev has_one : Bool → Bool → Side → Bool
+has_one high low High = high
+has_one high low Low = low
+
 -- what the pot that is settled gets
-pub game_here : (game : Game) (pot mask : ℕ) (highs lows : List ℕ) (n h : ℕ) (s : Side) → game_cells game pot mask highs lows n pot h s ≡ cond (has_side s game && (nat_lt h n && is_set mask h)) (ended (side_tops s highs lows) h) no_runout
-game_here game pot mask highs lows n h s = one game s (let t : (pot == pot) ≡ true = grind arith in t)
+pub game_here : (game : Game) (pot mask : ℕ) (highs lows : List ℕ) (n h : ℕ) (s : Side) → game_cells game pot mask highs lows n pot h s ≡ cond (has_one (has_side High game) (has_side Low game) s && (nat_lt h n && is_set mask h)) (ended (side_tops s highs lows) h) no_runout
+game_here game pot mask highs lows n h s = one (has_side High game) (has_side Low game) s (let t : (pot == pot) ≡ true = grind arith in t)
   where
-    one : (game : Game) (s : Side) → (pot == pot) ≡ true → game_cells game pot mask highs lows n pot h s ≡ cond (has_side s game && (nat_lt h n && is_set mask h)) (ended (side_tops s highs lows) h) no_runout
-    one Holdem High t = rw t refl
-    one Holdem Low t = rw t refl
-    one Omaha8 High t = rw t (plus_none (cond (nat_lt h n && is_set mask h) (ended highs h) no_runout))
-    one Omaha8 Low t = rw t (none_plus (cond (nat_lt h n && is_set mask h) (ended lows h) no_runout))
-    one Stud High t = rw t refl
-    one Stud Low t = rw t refl
-    one Razz High t = rw t refl
-    one Razz Low t = rw t refl
-    one Lowball27 High t = rw t refl
-    one Lowball27 Low t = rw t refl
+    one : (high low : Bool) (s : Side) → (pot == pot) ≡ true → cells_by_sides high low pot mask highs lows n pot h s ≡ cond (has_one high low s && (nat_lt h n && is_set mask h)) (ended (side_tops s highs lows) h) no_runout
+    one true true High t = rw t (plus_none (cond (nat_lt h n && is_set mask h) (ended highs h) no_runout))
+    one true true Low t = rw t (none_plus (cond (nat_lt h n && is_set mask h) (ended lows h) no_runout))
+    one true false High t = rw t refl
+    one true false Low t = rw t refl
+    one false true High t = rw t refl
+    one false true Low t = rw t refl
+    one false false High t = refl
+    one false false Low t = refl
 
 -- and what the others get
 game_elsewhere : (game : Game) (pot mask : ℕ) (highs lows : List ℕ) (n p h : ℕ) (s : Side) → (p == pot) ≡ false → game_cells game pot mask highs lows n p h s ≡ no_runout
-game_elsewhere Holdem pot mask highs lows n p h s f = rw f refl
-game_elsewhere Omaha8 pot mask highs lows n p h s f = rw f refl
-game_elsewhere Stud pot mask highs lows n p h s f = rw f refl
-game_elsewhere Razz pot mask highs lows n p h s f = rw f refl
-game_elsewhere Lowball27 pot mask highs lows n p h s f = rw f refl
+game_elsewhere game pot mask highs lows n p h s f = one (has_side High game) (has_side Low game)
+  where
+    one : (high low : Bool) → cells_by_sides high low pot mask highs lows n p h s ≡ no_runout
+    one true true = rw f refl
+    one true false = rw f refl
+    one false true = rw f refl
+    one false false = refl
 
 abbrev Beyond : List ℕ → ℕ → Type 0
 Beyond tops n = (h : ℕ) → n ≤ h → is_among h tops ≡ false
@@ -70,28 +74,29 @@ alone_low highs lows h none = sym (zero-add (part_of 5040 lows h)) ∙ ap (λ l.
 
 pub units_here : (game : Game) (pot : ℕ) (highs lows : List ℕ) (n h : ℕ) → Beyond highs n → Beyond lows n → (has_side High game ≡ false → highs ≡ []) → (has_side Low game ≡ false → lows ≡ [])
     → game_units game pot highs lows n pot h ≡ units_by_sides (has_two_sides game) highs lows h
-units_here game pot highs lows n h out_high out_low no_high no_low = one game (let t : (pot == pot) ≡ true = grind arith in t) no_high no_low
+units_here game pot highs lows n h out_high out_low no_high no_low = one (has_side High game) (has_side Low game) (let t : (pot == pot) ≡ true = grind arith in t) no_high no_low
   where
-    one : (game : Game) → (pot == pot) ≡ true → (has_side High game ≡ false → highs ≡ []) → (has_side Low game ≡ false → lows ≡ []) → game_units game pot highs lows n pot h ≡ units_by_sides (has_two_sides game) highs lows h
-    one Holdem t x y = part_here 5040 pot highs n h out_high t ∙ alone_high highs lows h (y refl)
-    one Omaha8 t x y = rw (part_here (whole_of (not (is_none lows))) pot highs n h out_high t, part_here 2520 pot lows n h out_low t) (sym (units-both highs lows h))
-    one Stud t x y = part_here 5040 pot highs n h out_high t ∙ alone_high highs lows h (y refl)
-    one Razz t x y = part_here 5040 pot lows n h out_low t ∙ alone_low highs lows h (x refl)
-    one Lowball27 t x y = part_here 5040 pot lows n h out_low t ∙ alone_low highs lows h (x refl)
+    one : (high low : Bool) → (pot == pot) ≡ true → (high ≡ false → highs ≡ []) → (low ≡ false → lows ≡ []) → shares_by_sides high low pot highs lows n pot h ≡ units_by_sides (high && low) highs lows h
+    one true true t x y = rw (part_here (whole_of (not (is_none lows))) pot highs n h out_high t, part_here 2520 pot lows n h out_low t) (sym (units-both highs lows h))
+    one true false t x y = part_here 5040 pot highs n h out_high t ∙ alone_high highs lows h (y refl)
+    one false true t x y = part_here 5040 pot lows n h out_low t ∙ alone_low highs lows h (x refl)
+    one false false t x y = rw (x refl, y refl) refl
 
 units_elsewhere : (game : Game) (pot : ℕ) (highs lows : List ℕ) (n p h : ℕ) → (p == pot) ≡ false → game_units game pot highs lows n p h ≡ 0
-units_elsewhere Holdem pot highs lows n p h f = rw f refl
-units_elsewhere Omaha8 pot highs lows n p h f = rw f refl
-units_elsewhere Stud pot highs lows n p h f = rw f refl
-units_elsewhere Razz pot highs lows n p h f = rw f refl
-units_elsewhere Lowball27 pot highs lows n p h f = rw f refl
+units_elsewhere game pot highs lows n p h f = one (has_side High game) (has_side Low game)
+  where
+    one : (high low : Bool) → shares_by_sides high low pot highs lows n p h ≡ 0
+    one true true = rw f refl
+    one true false = rw f refl
+    one false true = rw f refl
+    one false false = refl
 
 -- what a runout gives a hand in its pot
 pub cell_here : (deal : Showdown) (runout : List (List ℕ)) (pot mask count : ℕ) (highs lows : List ℕ) → IsPot deal runout pot mask count highs lows
     → (h : ℕ) (s : Side) → game_cells deal.state.game pot mask highs lows count pot h s ≡ cell_over deal (runout ∷ []) pot h s
 cell_here deal runout pot mask count highs lows scene h s = game_here deal.state.game pot mask highs lows count h s ∙ sym (one s)
   where
-    one : (s : Side) → cell_over deal (runout ∷ []) pot h s ≡ cond (has_side s deal.state.game && (nat_lt h count && is_set mask h)) (ended (side_tops s highs lows) h) no_runout
+    one : (s : Side) → cell_over deal (runout ∷ []) pot h s ≡ cond (has_one (has_side High deal.state.game) (has_side Low deal.state.game) s && (nat_lt h count && is_set mask h)) (ended (side_tops s highs lows) h) no_runout
     one High = pot_cell High deal pot h runout mask count highs scene.hands scene.high
     one Low = pot_cell Low deal pot h runout mask count lows scene.hands scene.low
 

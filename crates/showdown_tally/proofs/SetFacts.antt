@@ -6,7 +6,7 @@ use Rattle.card_sets.specs.declared.games.Side.{Side}
 use Rattle.showdown_tally.specs.Cells.{cell_of, cell_plus, no_runout}
 use Rattle.showdown_tally.specs.SetShares.{set_cell, share_cells, share_units, pots_shares, pots_share_units}
 use Rattle.showdown_tally.specs.Showdown.{is_among, part_of}
-use Rattle.showdown_tally.specs.Tables.{hands_below}
+use Rattle.card_sets.specs.PlayerSets.{hands_below}
 use Rattle.showdown_tally.specs.declared.cells.Cell.{Cell}
 use Rattle.showdown_tally.specs.declared.cells.Outcome.TheVariants.{Win, Tie, Lose}
 use Rattle.showdown_tally.proofs.PotFacts.{among_hands}

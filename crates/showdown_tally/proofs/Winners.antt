@@ -8,7 +8,7 @@ use Rattle.std.proofs.lemmas.List.Folds.{list_all-append}
 use Rattle.std.proofs.lemmas.List.Elements.{filter-append}
 use Rattle.std.proofs.lemmas.Nat.Bits.{bit_at_above}
 use mathlib.Core.Bool.{true≢false}
-use Rattle.showdown_tally.specs.Tables.{hands_below}
+use Rattle.card_sets.specs.PlayerSets.{hands_below}
 use Rattle.showdown_tally.specs.Settling.{tops_below, is_top, number_of}
 use Rattle.rank_high.proofs.Sets.{both}
 

@@ -1,32 +1,18 @@
 -- How a runout ends for a pot, as one number, in the games with one side.
-use Rattle.std.specs.Prelude.{◌≡◌, ℕ, ◌^◌, ◌<◌, ◌==◌, List, Option, length, slice_index}
-use Rattle.std.specs.List.{sum_by, count_by}
+use Rattle.std.specs.Prelude.{◌≡◌, ℕ, ◌<◌, ◌==◌, List, Option, length, slice_index}
+use Rattle.std.specs.List.{count_by}
 use Rattle.std.specs.Option.{option_map}
+use Rattle.card_sets.specs.Games.{only_side}
+use Rattle.card_sets.specs.PlayerSets.{set_of_players}
 use Rattle.card_sets.specs.State.{State}
-use Rattle.card_sets.specs.declared.games.Game.{Game}
-use Rattle.card_sets.specs.declared.games.Game.TheVariants.{Holdem, Omaha8, Stud, Razz, Lowball27}
-use Rattle.card_sets.specs.declared.games.Side.{Side}
-use Rattle.card_sets.specs.declared.games.Side.TheVariants.{High, Low}
 use Rattle.showdown_tally.specs.Laws.{IsFull}
 use Rattle.showdown_tally.specs.Numbers.{side_number}
 use Rattle.showdown_tally.specs.Settling.{number_of}
 use Rattle.showdown_tally.specs.Showdown.{Showdown, winners, value_after, own_after, board_after}
 
--- some hands as the number with their bits set
-abbrev pub mask_of : List ℕ → ℕ
-mask_of hands = sum_by (λ hand. 2 ^ hand) hands
-
--- the only side of a game with one; of Omaha Hi/Lo, which has two, the high
-abbrev pub only_side : Game → Side
-only_side Holdem = High
-only_side Omaha8 = High
-only_side Stud = High
-only_side Razz = Low
-only_side Lowball27 = Low
-
 -- who wins a pot after a runout, on the only side of the game
 abbrev pub outcome : Showdown → ℕ → List (List ℕ) → ℕ
-outcome deal pot runout = mask_of (winners deal pot (only_side deal.state.game) runout)
+outcome deal pot runout = set_of_players (winners deal pot (only_side deal.state.game) runout)
 
 -- how many of some runouts end so, for each set of hands
 abbrev pub AreOutcomes : Showdown → ℕ → List (List (List ℕ)) → List ℕ → Type 0

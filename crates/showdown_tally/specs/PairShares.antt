@@ -6,7 +6,7 @@ use Rattle.card_sets.specs.declared.games.Side.TheVariants.{High, Low}
 use Rattle.showdown_tally.specs.Cells.{no_runout}
 use Rattle.showdown_tally.specs.SetShares.{sum_below, set_cell}
 use Rattle.showdown_tally.specs.Showdown.{units_by_sides}
-use Rattle.showdown_tally.specs.Tables.{hands_below}
+use Rattle.card_sets.specs.PlayerSets.{hands_below}
 use Rattle.showdown_tally.specs.declared.cells.Cell.{Cell}
 
 -- what a runout is worth, by the sets that win the low and the high, summed over the sets below n for the high, and over

@@ -5,7 +5,7 @@ use Rattle.card_sets.specs.declared.games.Side.{Side}
 use Rattle.showdown_tally.specs.Cells.{no_runout, is_side}
 use Rattle.showdown_tally.specs.Settling.{ended}
 use Rattle.showdown_tally.specs.Showdown.{part_of}
-use Rattle.showdown_tally.specs.Tables.{hands_below}
+use Rattle.card_sets.specs.PlayerSets.{hands_below}
 use Rattle.showdown_tally.specs.declared.cells.Cell.{Cell}
 
 -- the sum of a function of the numbers below n

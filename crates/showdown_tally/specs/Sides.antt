@@ -7,13 +7,13 @@ use Rattle.card_sets.specs.declared.games.Side.{Side}
 use Rattle.card_sets.specs.declared.games.Side.TheVariants.{High, Low}
 use Rattle.showdown_tally.specs.Laws.{IsFull}
 use Rattle.showdown_tally.specs.Numbers.{side_number}
-use Rattle.showdown_tally.specs.Outcomes.{mask_of}
+use Rattle.card_sets.specs.PlayerSets.{set_of_players}
 use Rattle.showdown_tally.specs.Settling.{number_of}
 use Rattle.showdown_tally.specs.Showdown.{Showdown, winners, value_after, own_after, board_after}
 
 -- who wins a side of a pot after a runout, as the number with the bits of the winners
 abbrev pub side_outcome : Side → Showdown → ℕ → List (List ℕ) → ℕ
-side_outcome side deal pot runout = mask_of (winners deal pot side runout)
+side_outcome side deal pot runout = set_of_players (winners deal pot side runout)
 
 -- who wins both sides, as one number: that of the high, and 32 times that of the low
 abbrev pub both_outcomes : Showdown → ℕ → List (List ℕ) → ℕ

@@ -5,40 +5,35 @@ ghost use Rattle.std.specs.Int.{bit_at};
 ghost use Rattle.card_sets.specs.State.{state_of};
 ghost use Rattle.card_sets.specs.declared.games.Side.{Side};
 ghost use Rattle.showdown_tally.specs.Deals.{deal_of};
-ghost use Rattle.showdown_tally.specs.Outcomes.{mask_of, only_side, outcome, AreNumbersAfter};
+ghost use Rattle.showdown_tally.specs.Outcomes.{outcome, AreNumbersAfter};
+ghost use Rattle.card_sets.specs.PlayerSets.{set_of_players};
 ghost use Rattle.showdown_tally.specs.Settling.{is_top, tops_of};
 ghost use Rattle.showdown_tally.specs.Sides.{side_outcome, AreSideNumbersAfter};
 
 use crate::laws::law_values_keep_order;
 use crate::runout::ten_places;
-use crate::settle::{is_eligible, is_top, top_value};
+use crate::settle::{is_top, top_value};
 use crate::table::Table;
-use card_sets::{Game, Side};
+use card_sets::{PlayerSet, Side};
 
 /// Whether a hand is eligible and has the greatest value.
 #[inline]
-fn wins(value: Option<u32>, top: Option<u32>, hands: u16, hand: u8) -> bool
+fn wins(value: Option<u32>, top: Option<u32>, hands: PlayerSet, hand: u8) -> bool
     requires { hand < 10 }
     ensures { result ≡ ((bit_at hands hand == 1) && is_top value top) }
 {
-    is_eligible(hands, hand) && is_top(value, top)
+    hands.has(hand) && is_top(value, top)
 }
 
-/// The hands that have the greatest value, as the number with their bits.
+/// The hands that have the greatest value.
 #[inline]
-fn winner_set(values: &[Option<u32>; 10], hands: u16, count: u8) -> u16
+fn winner_set(values: &[Option<u32>; 10], hands: PlayerSet, count: u8) -> PlayerSet
     requires { count ≤ 10 }
-    ensures value { result ≡ mask_of (tops_of values.now hands count) }
+    ensures value { result ≡ set_of_players (tops_of values.now hands count) }
     ensures small { result < 2 ^ count }
 {
     let top = top_value(values, hands, count);
-    let mut set = 0u16;
-    for hand in 0..count {
-        if wins(values[hand as usize], top, hands, hand) {
-            set += 1 << hand;
-        }
-    }
-    set
+    PlayerSet::passing(count, |hand| wins(values[hand as usize], top, hands, hand))
 }
 
 /// Who wins a side of a pot after each runout that gives the hands these values on it: bit i is set
@@ -53,18 +48,8 @@ pub fn side_outcome(table: &Table, side: Side, values: &[Option<u32>; 10], pot: 
 {
     law_values_keep_order();
     ten_places(table);
-    winner_set(values, table.eligible[pot as usize], table.known.count)
-}
-
-/// The only side of a game with one; of Omaha Hi/Lo, which has two, the high.
-#[inline]
-pub(crate) fn only_side(game: Game) -> Side
-    ensures { result ≡ only_side game }
-{
-    match game {
-        Game::Holdem | Game::Omaha8 | Game::Stud => Side::High,
-        Game::Razz | Game::Lowball27 => Side::Low,
-    }
+    let hands = PlayerSet::of(table.eligible[pot as usize]);
+    winner_set(values, hands, table.known.count).bits()
 }
 
 /// Who wins a pot after each runout that gives the hands these values on the only side of the game:
@@ -76,5 +61,5 @@ pub fn pot_outcome(table: &Table, values: &[Option<u32>; 10], pot: u8) -> u16
         → result ≡ outcome (deal_of table.now) pot runout }
     ensures small { result < 1024 }
 {
-    side_outcome(table, only_side(table.known.game), values, pot)
+    side_outcome(table, table.known.game.only_side(), values, pot)
 }

@@ -17,8 +17,8 @@ use crate::laws::law_values_keep_order;
 use crate::settle::settle_pot;
 use crate::table::Table;
 use crate::tally::Tally;
-use crate::values::{flush_suit, has_side, value_beside};
-use card_sets::{CardSet, Game, Known, Side};
+use crate::values::{flush_suit, value_beside};
+use card_sets::{CardSet, Game, Known, PlayerSet, Side};
 use runout_ranges::{Receiver, Runout, Shape};
 use std::sync::ledger::Ledger;
 use step_count::Steps;
@@ -79,7 +79,7 @@ fn side_values(side: Side, game: Game, hands: &[CardSet], board: CardSet) -> [Op
         → number_of result h ≡ option_map (side_number side game) (best side game (slice_index_or hands.now h []) board) }
 {
     let mut values = [None; 10];
-    if hands.is_empty() || !has_side(side, game) {
+    if hands.is_empty() || !game.has_side(side) {
         return values;
     }
     let suit = flush_suit(board);
@@ -124,7 +124,7 @@ pub fn settle_runout<L: Ledger>(
     let highs = side_values(Side::High, game, hands, board);
     let lows = side_values(Side::Low, game, hands, board);
     for pot in 0..table.pots {
-        let eligible = table.eligible[pot as usize];
+        let eligible = PlayerSet::of(table.eligible[pot as usize]);
         settle_pot(game, &highs, &lows, eligible, known.count, pot, tally);
     }
     tally.end_runouts(1);

@@ -11,11 +11,10 @@ ghost use Rattle.showdown_tally.specs.Tallies.{Counts};
 
 use crate::cells::Cell;
 use crate::runout::ten_places;
-use crate::settle::is_eligible;
 use crate::table::Table;
 use crate::tally::Tally;
 use crate::totals::{add_times, ending, units_in};
-use card_sets::Side;
+use card_sets::{PlayerSet, Side};
 
 /// What a hand has of a pot with two sides over some runouts: how they end for it on each side, and
 /// its units.
@@ -75,9 +74,9 @@ fn share_of_pairs(counts: &[u32; 1024], count: u8, hand: u8) -> SidesShare
 }
 
 /// Counts how the runouts end for the hands of a pot on its two sides, and gives them their units, by
-/// how often each pair of sets of the first `count` hands wins them. A bit of `hands` is set for each
-/// hand that is eligible.
-fn give_sides(counts: &[u32; 1024], hands: u16, count: u8, pot: u8, tally: &mut Tally)
+/// how often each pair of sets of the first `count` hands wins them. `hands` are
+/// those that are eligible.
+fn give_sides(counts: &[u32; 1024], hands: PlayerSet, count: u8, pot: u8, tally: &mut Tally)
     requires few { count ≤ 5 }
     requires pot { pot < 10 }
     requires cells { (h : ℕ) (s : Side) → h < 10 → cell_at tally.old pot h s ≡ no_runout }
@@ -85,7 +84,7 @@ fn give_sides(counts: &[u32; 1024], hands: u16, count: u8, pot: u8, tally: &mut 
     ensures { Grows tally.old tally.new (pair_cells pot hands counts.now count count) (pair_shares pot hands counts.now count count) }
 {
     for hand in 0..count {
-        if is_eligible(hands, hand) {
+        if hands.has(hand) {
             let share = share_of_pairs(counts, count, hand);
             tally.add_cell(pot, hand, Side::High, share.high);
             tally.add_cell(pot, hand, Side::Low, share.low);
@@ -109,7 +108,7 @@ pub fn tally_of_sides(table: &Table, runouts: u64, counts: &[[u32; 1024]]) -> Ta
     ten_places(table);
     let mut tally = Tally::zero();
     for pot in 0..table.pots {
-        let hands = table.eligible[pot as usize];
+        let hands = PlayerSet::of(table.eligible[pot as usize]);
         let row = &counts[pot as usize];
         give_sides(row, hands, table.known.count, pot, &mut tally);
     }

@@ -4,20 +4,20 @@ ghost use Rattle.std.specs.Prelude.{◌≡◌, ℕ, ◌<◌, ◌≤◌, ◌^◌,
 ghost use Rattle.card_sets.specs.declared.games.Side.{Side};
 ghost use Rattle.showdown_tally.specs.Cells.{Grows, CellFits, cell_at, cell_of, cell_plus, no_runout, units_at};
 ghost use Rattle.showdown_tally.specs.Deals.{deal_of};
-ghost use Rattle.showdown_tally.specs.Outcomes.{only_side, AreOutcomes};
+ghost use Rattle.showdown_tally.specs.Outcomes.{AreOutcomes};
+ghost use Rattle.card_sets.specs.Games.{only_side};
 ghost use Rattle.showdown_tally.specs.SetShares.{cell_times, cell_of_sets, set_cell, share_cells, share_units, units_of_sets};
 ghost use Rattle.showdown_tally.specs.Settling.{whole_of};
 ghost use Rattle.showdown_tally.specs.Showdown.{has_two_sides, part_of};
-ghost use Rattle.showdown_tally.specs.Tables.{hands_below};
+ghost use Rattle.card_sets.specs.PlayerSets.{hands_below};
 ghost use Rattle.showdown_tally.specs.Tallies.{Counts};
 
 use crate::cells::{Cell, Outcome};
-use crate::outcomes::only_side;
 use crate::runout::ten_places;
-use crate::settle::{is_eligible, part};
+use crate::settle::part;
 use crate::table::Table;
 use crate::tally::Tally;
-use card_sets::Side;
+use card_sets::{PlayerSet, Side};
 
 /// What a hand has of a pot over some runouts: how they end for it, and its units.
 #[derive(Clone, Copy)]
@@ -34,9 +34,10 @@ pub(crate) fn ending(set: u16, count: u8, hand: u8) -> Outcome
     requires hand { hand < count }
     ensures { cell_of result ≡ set_cell count hand set }
 {
-    if !is_eligible(set, hand) {
+    let winners = PlayerSet::of(set);
+    if !winners.has(hand) {
         Outcome::Lose
-    } else if set.count_ones() == 1 {
+    } else if winners.count() == 1 {
         Outcome::Win
     } else {
         Outcome::Tie
@@ -52,8 +53,9 @@ pub(crate) fn units_in(halved: bool, set: u16, count: u8, hand: u8) -> u64
     ensures value { result ≡ part_of (whole_of halved) (hands_below set count) hand }
     ensures bound { result ≤ 5040 }
 {
-    if is_eligible(set, hand) {
-        part(halved, set.count_ones() as u8)
+    let winners = PlayerSet::of(set);
+    if winners.has(hand) {
+        part(halved, winners.count())
     } else {
         0
     }
@@ -99,8 +101,15 @@ fn share_of(counts: &[u32; 1024], count: u8, hand: u8) -> Share
 }
 
 /// Counts how the runouts end for the hands of a pot on a side, and gives them their units, by how often each set of the
-/// first `count` hands wins it. A bit of `hands` is set for each hand that is eligible.
-fn give_pot(counts: &[u32; 1024], hands: u16, count: u8, pot: u8, side: Side, tally: &mut Tally)
+/// first `count` hands wins it. `hands` are those that are eligible.
+fn give_pot(
+    counts: &[u32; 1024],
+    hands: PlayerSet,
+    count: u8,
+    pot: u8,
+    side: Side,
+    tally: &mut Tally,
+)
     requires few { count ≤ 10 }
     requires pot { pot < 10 }
     requires cells { (h : ℕ) → h < 10 → cell_at tally.old pot h side ≡ no_runout }
@@ -108,7 +117,7 @@ fn give_pot(counts: &[u32; 1024], hands: u16, count: u8, pot: u8, side: Side, ta
     ensures { Grows tally.old tally.new (share_cells pot side hands counts.now count count) (share_units pot hands counts.now count count) }
 {
     for hand in 0..count {
-        if is_eligible(hands, hand) {
+        if hands.has(hand) {
             let share = share_of(counts, count, hand);
             tally.add_cell(pot, hand, side, share.cell);
             tally.give(pot, hand, share.units);
@@ -127,10 +136,10 @@ pub fn tally_of_outcomes(table: &Table, runouts: u64, counts: &[[u32; 1024]]) ->
         → Counts (deal_of table.now) all result }
 {
     ten_places(table);
-    let side = only_side(table.known.game);
+    let side = table.known.game.only_side();
     let mut tally = Tally::zero();
     for pot in 0..table.pots {
-        let hands = table.eligible[pot as usize];
+        let hands = PlayerSet::of(table.eligible[pot as usize]);
         let row = &counts[pot as usize];
         give_pot(row, hands, table.known.count, pot, side, &mut tally);
     }

@@ -12,7 +12,8 @@ use Rattle.card_sets.specs.declared.games.Game.{Game}
 use Rattle.card_sets.specs.declared.games.Game.TheVariants.{Holdem, Omaha8, Stud, Razz, Lowball27}
 use Rattle.spot_text.specs.declared.faults.SpotFault.TheVariants.{BadCard, HandSize, BoardSize, PlayerCount, DeckShort}
 use Rattle.spot_text.specs.Parts.{is_slash, is_dashes, is_dash, hand_words, board_words, dead_words, all_cards, in_form, cards_of, set_of}
-use Rattle.spot_text.specs.Games.{word_of, game_named, hand_fits, board_fits}
+use Rattle.card_sets.specs.Games.{game_word}
+use Rattle.spot_text.specs.Games.{game_named, hand_fits, board_fits}
 use Rattle.spot_text.specs.Spot.{repeated_after, hands_fit, players_fit, state_of_words, is_short, unless_short, unless_repeated, spot_behind, spot_of_game, spot_of_words, spot_of}
 use Rattle.spot_text.specs.Written.{is_word, all_in_deck, texts, hands_text, spot_line, state_of_cards, MayBeWritten}
 use Rattle.spot_text.proofs.Apart.{and_left, and_right, and_both}
@@ -245,23 +246,23 @@ written_passes game first hands board dead h =
       enough = not_out (is_short (state_of_cards game (first ∷ hands) board dead)) h.enough;
     }
 
-game_word : (game : Game) → (is_word (word_of game) ≡ true) × (game_named (word_of game) ≡ Some game)
-game_word Holdem = (refl, refl)
-game_word Omaha8 = (refl, refl)
-game_word Stud = (refl, refl)
-game_word Razz = (refl, refl)
-game_word Lowball27 = (refl, refl)
+named_word : (game : Game) → (is_word (game_word game) ≡ true) × (game_named (game_word game) ≡ Some game)
+named_word Holdem = (refl, refl)
+named_word Omaha8 = (refl, refl)
+named_word Stud = (refl, refl)
+named_word Razz = (refl, refl)
+named_word Lowball27 = (refl, refl)
 
 pub written_is_read : (game : Game) (hands : List (List ℕ)) (board dead : List ℕ) → MayBeWritten game hands board dead →
     spot_of (spot_line game hands board dead) ≡ Ok (state_of_cards game hands board dead)
 written_is_read game [] board dead h = absurd (true≢false (sym h.players))
 written_is_read game (first ∷ hands) board dead h =
     let others = written (first ∷ hands) board dead in
-    let word = game_word game in
-    let all_words : list_all is_word (word_of game ∷ others) ≡ true =
-    and_both (is_word (word_of game)) (list_all is_word others) word.0
+    let word = named_word game in
+    let all_words : list_all is_word (game_word game ∷ others) ≡ true =
+    and_both (is_word (game_word game)) (list_all is_word others) word.0
     (words_append (hands_text (first ∷ hands)) (tail board dead) (hands_words (first ∷ hands) h.hands_in_deck)
     (words_append (texts board) (codes "/" ∷ texts dead) (texts_words board h.board_in_deck) (texts_words dead h.dead_in_deck))) in
-    ap spot_of_words (words-joined (word_of game ∷ others) all_words)
+    ap spot_of_words (words-joined (game_word game ∷ others) all_words)
     ∙ ap (λ o. spot_of_game o others) word.1
     ∙ passes_all game others (state_of_cards game (first ∷ hands) board dead) (written_passes game first hands board dead h)

@@ -1,35 +1,23 @@
--- The games on a spot line: their words, and how many cards a hand and the board may have.
-use Rattle.std.specs.Prelude.{ℕ, Bool, ◌==◌, ◌&&◌, ◌||◌, if◌then◌else◌, List, Option, Some, None, nat_le, codes}
+-- The games on a spot line: the game that a word names, and how many cards a hand and the board may have.
+use Rattle.std.specs.Prelude.{ℕ, Bool, ◌+◌, ◌==◌, ◌&&◌, ◌||◌, if◌then◌else◌, List, [], ◌∷◌, Option, Some, None, nat_le}
 use Rattle.std.specs.Str.{bytes_eq}
-use Rattle.card_sets.specs.Games.{own_size, board_size}
+use Rattle.card_sets.specs.Games.{all_games, game_word, own_size, board_size, has_draw}
+use Rattle.card_sets.specs.Streets.{dealt_on}
 use Rattle.card_sets.specs.declared.games.Game.{Game}
-use Rattle.card_sets.specs.declared.games.Game.TheVariants.{Holdem, Omaha8, Stud, Razz, Lowball27}
+use Rattle.card_sets.specs.declared.streets.Street.TheVariants.{First}
 
--- the word of a game
-abbrev pub word_of : Game → List ℕ
-word_of Holdem = codes "holdem"
-word_of Omaha8 = codes "omaha8"
-word_of Stud = codes "stud"
-word_of Razz = codes "razz"
-word_of Lowball27 = codes "lowball27"
+-- the first of some games that a word names
+abbrev pub named_among : List Game → List ℕ → Option Game
+named_among [] word = None
+named_among (game ∷ games) word = if bytes_eq word (game_word game) then Some game else named_among games word
 
 -- the game that a word names
 abbrev pub game_named : List ℕ → Option Game
-game_named word =
-    if bytes_eq word (word_of Holdem) then Some Holdem
-    else if bytes_eq word (word_of Omaha8) then Some Omaha8
-    else if bytes_eq word (word_of Stud) then Some Stud
-    else if bytes_eq word (word_of Razz) then Some Razz
-    else if bytes_eq word (word_of Lowball27) then Some Lowball27
-    else None
+game_named word = named_among all_games word
 
--- the fewest cards of a hand: all of it where it is dealt at once, three in a stud game, and any number that is kept in a draw
+-- the fewest cards of a hand: those of the first street, and any number that is kept in a draw
 abbrev pub least_own : Game → ℕ
-least_own Holdem = 2
-least_own Omaha8 = 4
-least_own Stud = 3
-least_own Razz = 3
-least_own Lowball27 = 0
+least_own game = if has_draw game then 0 else (dealt_on game First).down + (dealt_on game First).up
 
 -- whether a hand has so many cards
 abbrev pub hand_fits : Game → ℕ → Bool

@@ -7,7 +7,8 @@ use Rattle.card_sets.specs.CardText.{text_of_card}
 use Rattle.card_sets.specs.State.{State}
 use Rattle.spot_text.specs.Words.{is_gap}
 use Rattle.spot_text.specs.Parts.{set_of}
-use Rattle.spot_text.specs.Games.{word_of, hand_fits, board_fits}
+use Rattle.card_sets.specs.Games.{game_word}
+use Rattle.spot_text.specs.Games.{hand_fits, board_fits}
 use Rattle.spot_text.specs.Spot.{players_fit, is_short}
 
 -- some bytes, none of them a space or a tab
@@ -36,7 +37,7 @@ hands_text (hand ∷ next ∷ hands) = texts hand ++ codes "-" ∷ hands_text (n
 -- the line of a game, hands, a board and dead cards
 abbrev pub spot_line : Game → List (List ℕ) → List ℕ → List ℕ → List ℕ
 spot_line game hands board dead =
-    join_with_byte 32 (word_of game ∷ (hands_text hands ++ codes "--" ∷ (texts board ++ codes "/" ∷ texts dead)))
+    join_with_byte 32 (game_word game ∷ (hands_text hands ++ codes "--" ∷ (texts board ++ codes "/" ∷ texts dead)))
 
 -- their state
 abbrev pub state_of_cards : Game → List (List ℕ) → List ℕ → List ℕ → State

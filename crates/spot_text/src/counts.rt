@@ -6,7 +6,7 @@ ghost use Rattle.spot_text.specs.Parts.{hand_words, board_words};
 ghost use Rattle.spot_text.specs.Games.{board_fits};
 ghost use Rattle.spot_text.specs.Spot.{hands_fit, players_fit};
 
-use crate::games::{least_own, most_board, most_own};
+use crate::games::least_own;
 use crate::marks::{ends_hands, is_dash, is_dashes, is_slash};
 use crate::words::Words;
 use card_sets::Game;
@@ -16,8 +16,8 @@ pub(crate) fn hands_fit(game: Game, words: Words) -> bool
     ensures { result ≡ hands_fit game (hand_words (words_left words.entry)) }
 {
     let least = least_own(game);
-    let most = most_own(game);
-    let mut own = 0u8;
+    let most = game.own_size();
+    let mut own = 0u32;
     for word in words {
         if ends_hands(word) {
             return own >= least;
@@ -41,9 +41,9 @@ pub(crate) fn hands_fit(game: Game, words: Words) -> bool
 pub(crate) fn board_fits(game: Game, words: Words) -> bool
     ensures { result ≡ board_fits game (length (board_words (words_left words.entry))) }
 {
-    let most = most_board(game);
+    let most = game.board_size();
     let mut on_board = false;
-    let mut count = 0u8;
+    let mut count = 0u32;
     for word in words {
         if is_slash(word) {
             break;

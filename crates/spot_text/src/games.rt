@@ -1,72 +1,36 @@
-//! The games on a spot line: their words, and how many cards each place may have there.
+//! The games on a spot line: their words, and the fewest cards of a hand.
 
-ghost use Rattle.std.specs.Prelude.{◌≡◌, ◌≤◌};
-ghost use Rattle.card_sets.specs.Games.{own_size, board_size};
-ghost use Rattle.spot_text.specs.Games.{game_named, least_own};
+ghost use Rattle.std.specs.Prelude.{◌≡◌};
+ghost use Rattle.spot_text.specs.Games.{game_named, least_own, named_among};
 
-use card_sets::Game;
+use card_sets::{Game, Street};
 
-const HOLDEM: &[u8] = b"holdem";
-
-const OMAHA8: &[u8] = b"omaha8";
-
-const STUD: &[u8] = b"stud";
-
-const RAZZ: &[u8] = b"razz";
-
-const LOWBALL27: &[u8] = b"lowball27";
+/// The first of some games that a word names.
+fn named_among(games: &[Game], word: &[u8]) -> Option<Game>
+    ensures { result ≡ named_among games.now word.now }
+{
+    for game in games {
+        if word == game.word().as_bytes() {
+            return Some(*game);
+        }
+    }
+    None
+}
 
 /// The game that a word names.
 pub(crate) fn game_named(word: &[u8]) -> Option<Game>
     ensures { result ≡ game_named word.now }
 {
-    if word == HOLDEM {
-        Some(Game::Holdem)
-    } else if word == OMAHA8 {
-        Some(Game::Omaha8)
-    } else if word == STUD {
-        Some(Game::Stud)
-    } else if word == RAZZ {
-        Some(Game::Razz)
-    } else if word == LOWBALL27 {
-        Some(Game::Lowball27)
-    } else {
-        None
-    }
+    named_among(Game::all(), word)
 }
 
-/// The fewest cards that a hand may have.
-pub(crate) fn least_own(game: Game) -> u8
+/// The fewest cards that a hand may have: those of the first street, or in a draw none.
+pub(crate) fn least_own(game: Game) -> u32
     ensures { result ≡ least_own game }
 {
-    match game {
-        Game::Holdem => 2,
-        Game::Omaha8 => 4,
-        Game::Stud | Game::Razz => 3,
-        Game::Lowball27 => 0,
+    if game.has_draw() {
+        return 0;
     }
-}
-
-/// The most cards that a hand may have.
-pub(crate) fn most_own(game: Game) -> u8
-    ensures value { result ≡ own_size game }
-    ensures bound { result ≤ 7 }
-{
-    match game {
-        Game::Holdem => 2,
-        Game::Omaha8 => 4,
-        Game::Stud | Game::Razz => 7,
-        Game::Lowball27 => 5,
-    }
-}
-
-/// The most cards that the board may have.
-pub(crate) fn most_board(game: Game) -> u8
-    ensures value { result ≡ board_size game }
-    ensures bound { result ≤ 5 }
-{
-    match game {
-        Game::Holdem | Game::Omaha8 => 5,
-        Game::Stud | Game::Razz | Game::Lowball27 => 0,
-    }
+    let dealt = game.dealt_on(Street::First);
+    u32::from(dealt.down) + u32::from(dealt.up)
 }

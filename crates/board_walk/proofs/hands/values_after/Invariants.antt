@@ -3,7 +3,7 @@ use Rattle.std.specs.Option.{option_map}
 use Rattle.card_sets.specs.State.{state_of}
 use Rattle.showdown_tally.specs.Laws.{IsFull}
 use Rattle.showdown_tally.specs.Numbers.{side_number}
-use Rattle.showdown_tally.specs.Outcomes.{only_side}
+use Rattle.card_sets.specs.Games.{only_side}
 use Rattle.showdown_tally.specs.Settling.{number_of}
 use Rattle.showdown_tally.specs.Showdown.{own_after, board_after, value_after}
 use Rattle.board_walk.proofs.hands.values_after.Given as goal

@@ -10,7 +10,7 @@ use Rattle.runout_ranges.specs.Shapes.{slots_of}
 use Rattle.showdown_tally.proofs.Full.{hand_of}
 use Rattle.showdown_tally.specs.Deals.{deal_of}
 use Rattle.showdown_tally.specs.Outcomes.{outcome}
-use Rattle.showdown_tally.specs.Tables.{all_within}
+use Rattle.card_sets.specs.PlayerSets.{all_within}
 use Rattle.showdown_tally.specs.Tallies.{runouts_after}
 use Rattle.board_walk.proofs.Members.{in-range, length-range}
 use Rattle.draw_walk.specs.Draws.{has_no_board, are_two_draws}

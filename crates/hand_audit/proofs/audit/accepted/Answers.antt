@@ -2,8 +2,8 @@ use Rattle.std.proofs.Common.{◌≡◌, ℕ, List, sym, ap, ◌∙◌, refl}
 use Rattle.pot_layers.specs.declared.paid.Paid.{Paid}
 use Rattle.pot_layers.specs.Pots.{pots}
 use Rattle.betting_replay.specs.Table.{Table}
-use Rattle.hand_audit.specs.declared.audit.AllIn.{AllIn}
-use Rattle.hand_audit.specs.declared.audit.HandAudit.TheVariants.{Accepted}
+use Rattle.hand_audit.specs.declared.verdicts.AllIn.{AllIn}
+use Rattle.hand_audit.specs.declared.verdicts.HandAudit.TheVariants.{Accepted}
 use Rattle.hand_audit.specs.declared.settlement.Settlement.{Settlement}
 use Rattle.hand_audit.specs.AllIns.{eligible_in, all_in_by}
 use Rattle.hand_audit.specs.PotSeats.{eligible_of}

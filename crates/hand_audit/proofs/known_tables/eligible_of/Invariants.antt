@@ -1,5 +1,5 @@
 use Rattle.std.specs.Prelude.{◌≡◌, map, take}
-use Rattle.hand_audit.specs.Orders.{seats_in}
+use Rattle.card_sets.specs.PlayerSets.{seats_in}
 use Rattle.hand_audit.specs.KnownTables.{ten, places_in}
 use Rattle.hand_audit.proofs.known_tables.eligible_of.Given as goal
 

@@ -1,24 +1,29 @@
-use Rattle.std.proofs.Common.{◌≡◌, ◌==◌, ◌∙◌, ap, true, false, arith, set, map, refl, [], replicate}
+use Rattle.std.proofs.Common.{◌≡◌, ◌∷◌, [], ◌∙◌, ℕ, suc, List, sym, ap, subst, rules, arith, length, set, replicate}
+use Rattle.card_sets.specs.PlayerSetLaws.{AreBelow-seats_in}
+use Rattle.card_sets.specs.PlayerSets.{AreBelow, players_in, seats_in}
 use Rattle.hand_audit.specs.AllIns.{cards_or_none}
-use Rattle.std.specs.Int.{bit_at}
-use Rattle.hand_audit.specs.KnownTables.{ten}
-use Rattle.hand_audit.proofs.Tens.{count_none, count_some, fill_none, fill_some, all_before, ten_none}
+use Rattle.hand_audit.proofs.Seats.{few_seats}
+use Rattle.hand_audit.proofs.Tens.{further, fill_seat, ten_none}
 use Rattle.hand_audit.proofs.known_tables.hands_of.Goals as goal
 
 pub loop-seat-init : goal.loop-seat-init
-loop-seat-init c = record { count = refl; few = omega arith; all = ap (λ x. replicate 10 x) c.empty-all.ensures ∙ ten_none [] }
-
-pub loop-seat-preserved-then-not-is_in : goal.loop-seat-preserved-then-not-is_in
-loop-seat-preserved-then-not-is_in c =
-    let none : (bit_at c.args.seats c.loop-seat.seat == 1) ≡ false = grind (arith, c.is_in.ensures, c.if-not-is_in.true) in
-    let few = c.loop-seat.invariant.few in
-    record { count = count_none _ _ _ c.loop-seat.auto.seat none c.loop-seat.invariant.count; few = omega (arith, few); all = fill_none [] (cards_or_none c.args.cards.now) _ _ _ c.loop-seat.auto.seat none c.loop-seat.invariant.all }
+loop-seat-init c =
+    let rest : c.into_iter-seat-iterator.result.rest ≡ c.seats.result = search rules in
+    let all : players_in c.into_iter-seat-iterator.result.rest ≡ seats_in c.args.seats = ap players_in rest ∙ c.seats.ensures.seats in
+    let below : AreBelow 11 (players_in c.into_iter-seat-iterator.result.rest) = subst (λ (ps : List ℕ). AreBelow 11 ps) (sym all) (AreBelow-seats_in c.args.seats) in
+    record { left = sym all; few = (let long = ap length all in omega (arith, long, few_seats c.args.seats)); below = below; all = ap (λ x. replicate 10 x) c.empty-all.ensures ∙ ten_none [] }
 
 pub loop-seat-preserved : goal.loop-seat-preserved
 loop-seat-preserved c =
-    let some : (bit_at c.args.seats c.loop-seat.seat == 1) ≡ true = grind (arith, c.is_in.ensures, c.if-not-is_in.false) in
-    let few = c.loop-seat.invariant.few in
-    record { count = count_some _ _ _ c.loop-seat.auto.seat some c.loop-seat.invariant.count; few = omega (arith, few); all = ap (λ x. set c.loop-seat.all c.loop-seat.count x) c.cards_at.ensures ∙ fill_some [] (cards_or_none c.args.cards.now) _ _ _ _ c.loop-seat.auto.seat (omega arith) some c.loop-seat.invariant.count c.loop-seat.invariant.all }
-
-pub returns : goal.returns
-returns c = let end : c.loop-seat.seat ≡ 11 = omega arith in c.loop-seat.invariant.all ∙ ap (λ xs. ten [] (map (cards_or_none c.args.cards.now) xs)) (all_before c.args.seats c.loop-seat.seat end)
+    let inv = c.loop-seat.invariant in
+    let step : players_in c.loop-seat.seat-iterator.rest ≡ c.in-Some.seat ∷ players_in c.next.new.self.rest = c.in-Some.ensures.steps in
+    let below : AreBelow 11 (c.in-Some.seat ∷ players_in c.next.new.self.rest) = subst (λ (ps : List ℕ). AreBelow 11 ps) step inv.below in
+    let shorter : length (players_in c.loop-seat.seat-iterator.rest) ≡ suc (length (players_in c.next.new.self.rest)) = ap length step in
+    let few = inv.few in
+    let at = further (seats_in c.args.seats) c.loop-seat.count c.in-Some.seat (players_in c.next.new.self.rest) (inv.left ∙ step) in
+    record {
+      left = at.left;
+      few = omega (arith, shorter, few);
+      below = below.1;
+      all = ap (λ x. set c.loop-seat.all c.loop-seat.count x) c.cards_at.ensures ∙ fill_seat [] (cards_or_none c.args.cards.now) (seats_in c.args.seats) c.loop-seat.count c.in-Some.seat (players_in c.next.new.self.rest) c.loop-seat.all (few_seats c.args.seats) (inv.left ∙ step) inv.all;
+    }

@@ -1,12 +1,13 @@
-use Rattle.std.specs.Prelude.{◌≡◌, ◌<◌, [], length, map}
+use Rattle.std.specs.Prelude.{◌≡◌, ◌+◌, ◌≤◌, [], drop, length, map, take}
+use Rattle.card_sets.specs.PlayerSets.{AreBelow, players_in, seats_in}
 use Rattle.hand_audit.specs.AllIns.{cards_or_none}
 use Rattle.hand_audit.specs.KnownTables.{ten}
-use Rattle.hand_audit.proofs.Tens.{before}
 use Rattle.hand_audit.proofs.known_tables.hands_of.Given as goal
 
 abbrev pub invariant-loop-seat : goal.invariant-loop-seat
 invariant-loop-seat l = record {
-  count : l.count ≡ length (before l.seats l.seat);
-  few : l.count < l.seat;
-  all : l.all ≡ ten [] (map (cards_or_none l.cards) (before l.seats l.seat));
+  left : drop l.count (seats_in l.fn.seats) ≡ players_in l.seat-iterator.rest;
+  few : l.count + length (players_in l.seat-iterator.rest) ≤ 10;
+  below : AreBelow 11 (players_in l.seat-iterator.rest);
+  all : l.all ≡ ten [] (map (cards_or_none l.cards) (take l.count (seats_in l.fn.seats)));
 }

@@ -1,6 +1,7 @@
 use Rattle.std.proofs.Common.{ℕ, ◌-◌, ◌==◌, ◌++◌, ◌∙◌, sym, ap, arith, append_assoc}
 use Rattle.std.specs.Prelude.{filter, slice_index_or}
-use Rattle.hand_audit.specs.Orders.{seats_in, by_marks_below}
+use Rattle.card_sets.specs.PlayerSets.{seats_in}
+use Rattle.hand_audit.specs.Orders.{by_marks_below}
 use Rattle.hand_audit.proofs.Marked.{marks_step, room_first, room_then}
 use Rattle.hand_audit.proofs.orders.+add_marked.Goals as goal
 

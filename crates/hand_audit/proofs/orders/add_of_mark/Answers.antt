@@ -1,23 +1,23 @@
-use Rattle.std.proofs.Common.{◌≡◌, ◌+◌, ◌-◌, ◌∷◌, ◌++◌, [], ◌∙◌, sym, ap, true, false, arith, ◌==◌, ◌&&◌, append_assoc}
-use Rattle.std.specs.Prelude.{filter, slice_index_or}
-use Rattle.std.specs.Int.{bit_at}
-use Rattle.hand_audit.specs.Orders.{seats_from}
-use Rattle.hand_audit.proofs.Marked.{filter_skip, filter_take, room_left}
+use Rattle.std.proofs.Common.{◌≡◌, ◌∷◌, ◌++◌, ◌==◌, Bool, true, ◌∙◌, ℕ, List, sym, ap, subst, rules, arith}
+use Rattle.std.specs.Prelude.{filter, if◌then◌else◌, slice_index_or}
+use Rattle.card_sets.specs.PlayerSetLaws.{AreBelow-seats_in}
+use Rattle.card_sets.specs.PlayerSets.{AreBelow, players_in, seats_in}
+use Rattle.hand_audit.proofs.Marked.{room_left}
 use Rattle.hand_audit.proofs.orders.add_of_mark.Goals as goal
 
-pub loop-seat-preserved-then-not-is_marked : goal.loop-seat-preserved-then-not-is_marked
-loop-seat-preserved-then-not-is_marked c =
-    let none : ((bit_at c.args.winners c.loop-seat.seat == 1) && (slice_index_or c.args.marks.now c.loop-seat.seat 0 == c.args.mark)) ≡ false = grind (arith, c.is_marked.ensures, c.if-not-is_marked.true) in
-    ap (λ xs. c.loop-seat.order ++ xs) (sym (filter_skip (λ p. slice_index_or c.args.marks.now p 0 == c.args.mark) c.args.winners c.loop-seat.seat none c.loop-seat-test.true)) ∙ c.loop-seat.invariant
+pub loop-seat-init : goal.loop-seat-init
+loop-seat-init c =
+    let rest : c.into_iter-seat-iterator.result.rest ≡ c.seats.result = search rules in
+    let all : players_in c.into_iter-seat-iterator.result.rest ≡ seats_in c.args.winners = ap players_in rest ∙ c.seats.ensures.seats in
+    let below : AreBelow 11 (players_in c.into_iter-seat-iterator.result.rest) = subst (λ (ps : List ℕ). AreBelow 11 ps) (sym all) (AreBelow-seats_in c.args.winners) in
+    record { all = ap (λ ps. c.args.order.now ++ filter (λ p. slice_index_or c.args.marks.now p 0 == c.args.mark) ps) all; below = below }
 
 pub push-requires : goal.push-requires
 push-requires c =
-    let some : ((bit_at c.args.winners c.loop-seat.seat == 1) && (slice_index_or c.args.marks.now c.loop-seat.seat 0 == c.args.mark)) ≡ true = grind (arith, c.is_marked.ensures, c.if-not-is_marked.false) in
-    room_left _ _ _ _ _ (ap (λ xs. c.loop-seat.order ++ xs) (sym (filter_take (λ p. slice_index_or c.args.marks.now p 0 == c.args.mark) c.args.winners c.loop-seat.seat some c.loop-seat-test.true)) ∙ c.loop-seat.invariant) c.requires.room
-
-pub loop-seat-preserved : goal.loop-seat-preserved
-loop-seat-preserved c =
-    let some : ((bit_at c.args.winners c.loop-seat.seat == 1) && (slice_index_or c.args.marks.now c.loop-seat.seat 0 == c.args.mark)) ≡ true = grind (arith, c.is_marked.ensures, c.if-not-is_marked.false) in
-    let rest = filter (λ p. slice_index_or c.args.marks.now p 0 == c.args.mark) (seats_from c.args.winners (c.loop-seat.seat + 1) (11 - (c.loop-seat.seat + 1))) in
-    ap (λ xs. xs ++ rest) c.push.ensures ∙ append_assoc c.loop-seat.order (c.loop-seat.seat ∷ []) rest
-    ∙ ap (λ xs. c.loop-seat.order ++ xs) (sym (filter_take (λ p. slice_index_or c.args.marks.now p 0 == c.args.mark) c.args.winners c.loop-seat.seat some c.loop-seat-test.true)) ∙ c.loop-seat.invariant
+    let f : ℕ → Bool = λ p. slice_index_or c.args.marks.now p 0 == c.args.mark in
+    let step : players_in c.loop-seat.seat-iterator.rest ≡ c.in-Some.seat ∷ players_in c.next.new.self.rest = c.in-Some.ensures.steps in
+    let passes : f c.in-Some.seat ≡ true = (let is = c.if-marks-seat.false in grind (arith, is)) in
+    let here : c.loop-seat.order ++ c.in-Some.seat ∷ filter f (players_in c.next.new.self.rest) ≡ c.args.order.now ++ filter f (seats_in c.args.winners)
+    = ap (λ b. c.loop-seat.order ++ (if b then c.in-Some.seat ∷ filter f (players_in c.next.new.self.rest) else filter f (players_in c.next.new.self.rest))) (sym passes)
+    ∙ ap (λ ps. c.loop-seat.order ++ filter f ps) (sym step) ∙ c.loop-seat.invariant.all in
+    room_left _ _ _ _ _ here c.requires.room

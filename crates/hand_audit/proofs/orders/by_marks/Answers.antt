@@ -1,6 +1,7 @@
 use Rattle.std.proofs.Common.{◌≡◌, ◌++◌, ◌∙◌, ap, arith, length}
 use Rattle.std.specs.Prelude.{slice_index_or}
-use Rattle.hand_audit.specs.Orders.{seats_in, by_marks_below}
+use Rattle.card_sets.specs.PlayerSets.{seats_in}
+use Rattle.hand_audit.specs.Orders.{by_marks_below}
 use Rattle.hand_audit.proofs.Marked.{few_marked, by_marks_is}
 use Rattle.hand_audit.proofs.orders.by_marks.Goals as goal
 

@@ -1,9 +1,16 @@
-use Rattle.std.proofs.Common.{◌≡◌, ◌∙◌, ap}
+use Rattle.std.proofs.Common.{◌≡◌, ℕ, ◌∙◌, ap, sym, subst, arith}
+use Rattle.pot_layers.specs.Split.{given_in_all}
 use Rattle.hand_audit.specs.Collections.{got_from}
 use Rattle.hand_audit.specs.PotNames.{counts_from}
-use Rattle.hand_audit.specs.Settle.{payment, payments_from, beyond_from, sides_of_seat}
+use Rattle.hand_audit.specs.Settle.{parts_of, is_checked, shares_if, payment, payments_from, beyond_from, sides_of_seat}
+use Rattle.hand_audit.specs.Winning.{IsDecided}
 use Rattle.hand_audit.proofs.Settled.{one_pot}
 use Rattle.hand_audit.proofs.settling.settle_pot.Goals as goal
+
+pub beyond-beyond-requires-clause-given : goal.beyond-beyond-requires-clause-given
+beyond-beyond-requires-clause-given c =
+    let given : given_in_all c.items-2.result.now ≡ given_in_all c.in_ok-shares.shares = ap given_in_all c.items-2.ensures in
+    omega (arith, given, c.in_ok-shares.ensures.few, c.taken_from-net.ensures.value, c.requires.taken)
 
 pub returns : goal.returns
 returns c s t d same =
@@ -11,8 +18,12 @@ returns c s t d same =
     let source = c.args.source in
     let all = c.args.all.now in
     let shares = c.in_ok-shares.shares in
+    let set : c.of-eligible.result ≡ c.args.pot.eligible = c.of-eligible.ensures in
+    let known : checked ≡ is_checked s c.args.pot.eligible = c.is_checked-checked.ensures s t ∙ ap (is_checked s) set in
+    let decided = subst (λ (n : ℕ). IsDecided s n) (sym set) d in
     let items : c.items.result.now ≡ shares = c.items.ensures in
     let items-2 : c.items-2.result.now ≡ shares = c.items-2.ensures in
-    one_pot s source c.args.pot checked c.taken_from-net.result shares c.of.result c.beyond-beyond.result all same (c.is_checked-checked.ensures s t) c.taken_from-net.ensures.value (c.in_ok-shares.ensures s t d (c.is_checked-checked.ensures s t))
+    one_pot s source c.args.pot checked c.taken_from-net.result shares c.of.result c.beyond-beyond.result all same known c.taken_from-net.ensures.value
+    (c.in_ok-shares.ensures.value s t decided (c.is_checked-checked.ensures s t) ∙ ap (λ n. shares_if checked s n (parts_of s c.taken_from-net.result)) set)
     (c.of.ensures ∙ c.in_ok-paid.ensures ∙ ap (λ xs. payments_from (λ p. payment checked (got_from (counts_from source) p all) xs p) 1 10) items)
     (c.beyond-beyond.ensures ∙ ap (λ xs. beyond_from (λ p. payment checked (got_from (counts_from source) p all) xs p) (λ p. sides_of_seat p xs) 1 10) items-2)

@@ -1,7 +1,7 @@
-use Rattle.std.proofs.Common.{◌≡◌, ℕ, List, Option, false, ◌∙◌, sym, ap, refl, subst, arith}
-use Rattle.pot_layers.specs.Pots.{seats_below}
+use Rattle.std.proofs.Common.{◌≡◌, ℕ, List, sym, refl, subst, rules}
+use Rattle.std.specs.Prelude.{Option, false}
 use Rattle.hand_audit.specs.Orders.{OfSeats}
-use Rattle.hand_audit.specs.Winning.{wins}
+use Rattle.hand_audit.specs.Winning.{wins, winners_by}
 use Rattle.hand_audit.proofs.Seats.{of_seats}
 use Rattle.hand_audit.proofs.winners.winners.Goals as goal
 
@@ -9,7 +9,10 @@ none_at_zero : (values : List (Option ℕ)) (seats : ℕ) → wins values seats 
 unfolding wins
 none_at_zero values seats = refl
 
+pub returns-clause-value : goal.returns-clause-value
+unfolding winners_by
+returns-clause-value c = c.passing.ensures (wins c.args.values.now c.args.seats) (λ p pass inside post. search rules)
+
 pub returns-clause-seats : goal.returns-clause-seats
 returns-clause-seats c =
-    let end : c.loop-seat.seat ≡ 11 = omega arith in
-    subst OfSeats (sym (c.loop-seat.invariant.is ∙ ap (seats_below (wins c.args.values.now c.args.seats)) end)) (of_seats (wins c.args.values.now c.args.seats) (none_at_zero c.args.values.now c.args.seats))
+    subst OfSeats (sym (c.passing.ensures (wins c.args.values.now c.args.seats) (λ p pass inside post. search rules))) (of_seats (wins c.args.values.now c.args.seats) (none_at_zero c.args.values.now c.args.seats))

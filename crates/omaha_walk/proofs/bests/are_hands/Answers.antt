@@ -3,9 +3,9 @@ use Rattle.std.specs.Prelude.{slice_index_or}
 use Rattle.std.proofs.lemmas.List.{length-take}
 use Rattle.showdown_tally.specs.Deals.{deal_of}
 use Rattle.showdown_tally.specs.Showdown.{eligible_in}
-use Rattle.showdown_tally.specs.Tables.{hands_below}
+use Rattle.card_sets.specs.PlayerSets.{hands_below}
 use Rattle.showdown_tally.proofs.PotFacts.{eligible_pot}
-use Rattle.omaha_walk.specs.Bests.{AreBelow}
+use Rattle.card_sets.specs.PlayerSets.{AreBelow}
 use Rattle.omaha_walk.proofs.BestHands.{below_hands}
 use Rattle.omaha_walk.proofs.bests.are_hands.Goals as goal
 

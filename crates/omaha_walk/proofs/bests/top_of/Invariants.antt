@@ -1,6 +1,6 @@
 use Rattle.std.proofs.Common.{◌≡◌}
 use Rattle.std.specs.Prelude.{slice_index}
-use Rattle.showdown_tally.specs.Tables.{hands_below}
+use Rattle.card_sets.specs.PlayerSets.{hands_below}
 use Rattle.omaha_walk.specs.Bests.{best_value}
 use Rattle.omaha_walk.proofs.bests.top_of.Given as goal
 

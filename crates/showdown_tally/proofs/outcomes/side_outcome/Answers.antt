@@ -5,10 +5,9 @@ use Rattle.std.proofs.lemmas.List.{length-take}
 use Rattle.card_sets.specs.State.{state_of}
 use Rattle.showdown_tally.specs.Deals.{deal_of}
 use Rattle.showdown_tally.specs.Numbers.{side_number}
-use Rattle.showdown_tally.specs.Outcomes.{mask_of}
+use Rattle.card_sets.specs.PlayerSets.{set_of_players, hands_below}
 use Rattle.showdown_tally.specs.Settling.{tops_of}
 use Rattle.showdown_tally.specs.Showdown.{eligible_in, own_after, board_after, value_after, winners}
-use Rattle.showdown_tally.specs.Tables.{hands_below}
 use Rattle.showdown_tally.proofs.SideWinners.{KeptSide, kept_side}
 use Rattle.showdown_tally.proofs.PotFacts.{eligible_pot, pot_winners}
 use Rattle.showdown_tally.proofs.outcomes.side_outcome.Goals as goal
@@ -29,16 +28,18 @@ returns-clause-value c = λ runout after.
     (λ h l. after.numbers h (omega arith))
     (λ i j x y l m e f. c.law_values_keep_order.ensures side game (own_after st runout i) (board_after st runout) x (own_after st runout j) (board_after st runout) y (after.full i (omega arith)) e (after.full j (omega arith)) f) in
     let win : winners (deal_of c.args.table.now) c.args.pot side runout ≡ tops_of c.args.values.now mask count = pot_winners side (deal_of c.args.table.now) c.args.pot runout c.args.values.now mask count hands kept in
-    c.winner_set.ensures.value ∙ ap mask_of (sym win)
+    c.bits.ensures ∙ c.winner_set.ensures.value ∙ rw c.of-hands.ensures (ap set_of_players (sym win))
 
 pub returns-clause-small : goal.returns-clause-small
 returns-clause-small c =
     let power : 2 ^ c.args.table.now.known.count ≤ 2 ^ 10 = pow-le-pow_right (let z : 0 < 2 = omega arith in z) c.args.table.now.known.few in
     let small = c.winner_set.ensures.small in
+    let bits = c.bits.ensures in
     omega arith
 
 pub returns-clause-few : goal.returns-clause-few
 returns-clause-few c = λ few.
     let power : 2 ^ c.args.table.now.known.count ≤ 2 ^ 5 = pow-le-pow_right (let z : 0 < 2 = omega arith in z) few in
     let small = c.winner_set.ensures.small in
+    let bits = c.bits.ensures in
     omega arith

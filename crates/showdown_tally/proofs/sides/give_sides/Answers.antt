@@ -12,8 +12,8 @@ add_cell-requires-clause-fits c =
     ∙ ap (λ x. cell_plus (cell_at c.args.tally.now c.args.pot c.loop-hand.hand High) x) (pair_cells_next c.args.pot c.args.hands c.args.counts.now c.args.count c.loop-hand.hand c.args.pot High) ∙ plus_none _ ∙ c.requires.cells c.loop-hand.hand High (omega arith) in
     rw none (omega arith, omega arith, omega arith)
 
-pub add_cell-requires-then-is_eligible-clause-fits : goal.add_cell-requires-then-is_eligible-clause-fits
-add_cell-requires-then-is_eligible-clause-fits c =
+pub add_cell-requires-then-has-clause-fits : goal.add_cell-requires-then-has-clause-fits
+add_cell-requires-then-has-clause-fits c =
     let before : cell_at c.loop-hand.tally c.args.pot c.loop-hand.hand Low ≡ no_runout =
     c.loop-hand.invariant.cells c.args.pot c.loop-hand.hand Low c.requires.pot (omega arith)
     ∙ ap (λ x. cell_plus (cell_at c.args.tally.now c.args.pot c.loop-hand.hand Low) x) (pair_cells_next c.args.pot c.args.hands c.args.counts.now c.args.count c.loop-hand.hand c.args.pot Low) ∙ plus_none _ ∙ c.requires.cells c.loop-hand.hand Low (omega arith) in

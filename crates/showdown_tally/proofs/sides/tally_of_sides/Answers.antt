@@ -13,11 +13,11 @@ pub loop-pot-preserved : goal.loop-pot-preserved
 loop-pot-preserved c = record {
   runouts = c.give_sides.ensures.runouts ∙ c.loop-pot.invariant.runouts;
   cells = λ p h s l m. c.give_sides.ensures.cells p h s l m
-      ∙ ap (λ x. cell_plus x (pair_cells c.loop-pot.pot (slice_index_or c.args.table.now.eligible c.loop-pot.pot 0) (slice_index_or c.args.counts.now c.loop-pot.pot []) c.args.table.now.known.count c.args.table.now.known.count p h s)) (c.loop-pot.invariant.cells p h s l m)
-      ∙ pair_cells_step c.args.table.now.eligible c.args.counts.now c.args.table.now.known.count c.loop-pot.pot p h s;
+      ∙ ap (λ x. cell_plus x (pair_cells c.loop-pot.pot c.of-hands.result (slice_index_or c.args.counts.now c.loop-pot.pot []) c.args.table.now.known.count c.args.table.now.known.count p h s)) (c.loop-pot.invariant.cells p h s l m)
+      ∙ rw c.of-hands.ensures (pair_cells_step c.args.table.now.eligible c.args.counts.now c.args.table.now.known.count c.loop-pot.pot p h s);
   units = λ p h l m. c.give_sides.ensures.units p h l m
-      ∙ ap (λ x. x + pair_shares c.loop-pot.pot (slice_index_or c.args.table.now.eligible c.loop-pot.pot 0) (slice_index_or c.args.counts.now c.loop-pot.pot []) c.args.table.now.known.count c.args.table.now.known.count p h) (c.loop-pot.invariant.units p h l m)
-      ∙ pair_shares_step c.args.table.now.eligible c.args.counts.now c.args.table.now.known.count c.loop-pot.pot p h;
+      ∙ ap (λ x. x + pair_shares c.loop-pot.pot c.of-hands.result (slice_index_or c.args.counts.now c.loop-pot.pot []) c.args.table.now.known.count c.args.table.now.known.count p h) (c.loop-pot.invariant.units p h l m)
+      ∙ rw c.of-hands.ensures (pair_shares_step c.args.table.now.eligible c.args.counts.now c.args.table.now.known.count c.loop-pot.pot p h);
 }
 
 pub returns : goal.returns

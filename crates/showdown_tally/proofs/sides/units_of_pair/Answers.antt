@@ -2,7 +2,7 @@ use Rattle.std.proofs.Common.{◌≡◌, not, ap, sym, ◌∙◌}
 use Rattle.std.specs.Prelude.{nat_lt}
 use Rattle.showdown_tally.specs.Settling.{is_none, whole_of}
 use Rattle.showdown_tally.specs.Showdown.{part_of}
-use Rattle.showdown_tally.specs.Tables.{hands_below}
+use Rattle.card_sets.specs.PlayerSets.{hands_below}
 use Rattle.showdown_tally.proofs.BothSides.{units-both}
 use Rattle.showdown_tally.proofs.PairFacts.{some_hand}
 use Rattle.showdown_tally.proofs.sides.units_of_pair.Goals as goal

@@ -16,11 +16,11 @@ loop-pot-preserved c =
     record {
       runouts = c.give_pot.ensures.runouts ∙ c.loop-pot.invariant.runouts;
       cells = λ p h s l m. c.give_pot.ensures.cells p h s l m
-          ∙ ap (λ x. cell_plus x (share_cells c.loop-pot.pot c.only_side-side.result (slice_index_or c.args.table.now.eligible c.loop-pot.pot 0) (slice_index_or c.args.counts.now c.loop-pot.pot []) c.args.table.now.known.count c.args.table.now.known.count p h s)) (c.loop-pot.invariant.cells p h s l m)
-          ∙ shares_step c.args.table.now.eligible c.args.counts.now c.only_side-side.result c.args.table.now.known.count c.loop-pot.pot p h s;
+          ∙ ap (λ x. cell_plus x (share_cells c.loop-pot.pot c.only_side-side.result c.of-hands.result (slice_index_or c.args.counts.now c.loop-pot.pot []) c.args.table.now.known.count c.args.table.now.known.count p h s)) (c.loop-pot.invariant.cells p h s l m)
+          ∙ rw c.of-hands.ensures (shares_step c.args.table.now.eligible c.args.counts.now c.only_side-side.result c.args.table.now.known.count c.loop-pot.pot p h s);
       units = λ p h l m. c.give_pot.ensures.units p h l m
-          ∙ ap (λ x. x + share_units c.loop-pot.pot (slice_index_or c.args.table.now.eligible c.loop-pot.pot 0) (slice_index_or c.args.counts.now c.loop-pot.pot []) c.args.table.now.known.count c.args.table.now.known.count p h) (c.loop-pot.invariant.units p h l m)
-          ∙ share_units_step c.args.table.now.eligible c.args.counts.now c.args.table.now.known.count c.loop-pot.pot p h;
+          ∙ ap (λ x. x + share_units c.loop-pot.pot c.of-hands.result (slice_index_or c.args.counts.now c.loop-pot.pot []) c.args.table.now.known.count c.args.table.now.known.count p h) (c.loop-pot.invariant.units p h l m)
+          ∙ rw c.of-hands.ensures (share_units_step c.args.table.now.eligible c.args.counts.now c.args.table.now.known.count c.loop-pot.pot p h);
     }
 
 pub returns : goal.returns

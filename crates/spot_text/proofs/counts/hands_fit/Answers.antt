@@ -28,13 +28,13 @@ loop-word-preserved-then-is_dash c = record {
 pub returns-then-own-most : goal.returns-then-own-most
 returns-then-own-most c =
     fit_not_card c.args.game _ _ _ _ _ c.loop-word.invariant.fit c.in-Some.ensures.steps (sym c.ends_hands.ensures ∙ c.if-ends_hands.false)
-    (sym c.is_dash.ensures ∙ c.if-is_dash.false) (omega (arith, c.most_own-most.ensures.value))
+    (sym c.is_dash.ensures ∙ c.if-is_dash.false) (omega (arith, c.own_size-most.ensures.value))
 
 pub loop-word-preserved : goal.loop-word-preserved
 loop-word-preserved c = record {
   more = tt;
   ends = tt;
-  few = omega (arith, c.most_own-most.ensures.value, c.loop-word.invariant.few);
+  few = omega (arith, c.own_size-most.ensures.value, c.loop-word.invariant.few);
   fit = fit_card c.args.game _ _ _ _ _ c.loop-word.invariant.fit c.in-Some.ensures.steps (sym c.ends_hands.ensures ∙ c.if-ends_hands.false)
       (sym c.is_dash.ensures ∙ c.if-is_dash.false);
 }

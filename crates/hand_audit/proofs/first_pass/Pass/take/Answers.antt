@@ -20,6 +20,6 @@ pub returns : goal.returns
 returns c = record {
   took = λ so_far seats k. took_event c.args.self.now _ c.args.header.now so_far seats c.args.line.now c.in-Ok.e k
       (sym (c.is_again.ensures seats (seat_at c.args.self.now.part c.args.line.now) c.seat_at-seat.ensures k.seats) ∙ c.if-is_again.false)
-      (c.in_ok-note_seat.ensures seats (seat_at c.args.self.now.part c.args.line.now) c.seat_at-seat.ensures k.seats) c.in_ok-seat_name.ensures c.part_after-self.ensures c.note_player.ensures
+      (c.in_ok-note_seat.ensures seats (seat_at c.args.self.now.part c.args.line.now) c.seat_at-seat.ensures k.seats) c.in_ok-seat_name.ensures c.part_after-self.ensures c.with_player_of-self.ensures
       c.in-Ok.ensures.fits.seats (sym c.read.ensures.value ∙ c.in-Ok.is);
 }

@@ -32,10 +32,10 @@ returns c =
     ] in
     record {
       sound = sound_more _ c.args.self.now c.in-Ok.e _ c.requires.sound c.in-Ok.ensures.part c.in-Ok.ensures.fits (sym c.total_cause-amiss.ensures ∙ c.in_default-amiss.is)
-          c.button_by-self.ensures c.part_after-self.ensures c.in_ok-collect.ensures total;
+          c.button_after-self.ensures c.part_after-self.ensures c.in_ok-collect.ensures total;
       goes = λ players so_far k.
           goes_on _ c.args.self.now c.args.header.now players so_far c.args.line.now c.in-Ok.e _ k (sym c.read.ensures.value ∙ c.in-Ok.is)
           (sym (c.step.ensures.verdict c.args.header.now players so_far.events k.stands) ∙ c.in_default.is) (sym c.total_cause-amiss.ensures ∙ c.in_default-amiss.is)
           c.in-Ok.ensures.fits c.in-Ok.ensures.cards (c.in_default.ensures.ok c.args.header.now players so_far.events k.stands) c.in_ok-seat_name.ensures c.part_after-self.ensures c.in_ok-collect.ensures
-          c.button_by-self.ensures c.rake_by-self.ensures total;
+          c.button_after-self.ensures c.rake_by-self.ensures total;
     }

@@ -1,0 +1,79 @@
+-- What goes by the family of a game.
+use Rattle.std.proofs.Common.{◌≡◌, refl, true, false}
+use Rattle.std.specs.Prelude.{Option, Some, None, slice_get}
+use Rattle.card_sets.specs.declared.games.Game.{Game}
+use Rattle.card_sets.specs.declared.games.Game.TheVariants.{Holdem, Omaha8, Stud, Razz, Lowball27}
+use Rattle.card_sets.specs.declared.games.Family.{Family}
+use Rattle.card_sets.specs.declared.games.Family.TheVariants as family
+use Rattle.card_sets.specs.Games.{family_of, is_board, is_draw, has_board, has_draw, own_size, board_size_by}
+use Rattle.card_sets.specs.declared.streets.Street.{Street as StreetName}
+use Rattle.card_sets.specs.declared.streets.Street.TheVariants.{First, Flop, Turn, Fourth, Fifth, Sixth, River, Draw}
+use Rattle.card_sets.specs.Streets.{streets_by, street_after, next_street}
+use Rattle.betting_replay.specs.Streets.{same_street, begun_by_drawing}
+
+-- the family of the games with a board
+pub board_family : (f : Family) → is_board f ≡ true → f ≡ family.Board
+board_family family.Board b = refl
+board_family family.Stud b = cc
+board_family family.Draw b = cc
+
+board_draws_not : (f : Family) → is_board f ≡ true → is_draw f ≡ false
+board_draws_not family.Board b = refl
+board_draws_not family.Stud b = refl
+board_draws_not family.Draw b = cc
+
+pub no_draw : (game : Game) → has_board game ≡ true → has_draw game ≡ false
+no_draw game b = board_draws_not (family_of game) b
+
+pub no_board : (f : Family) → is_board f ≡ false → board_size_by f ≡ 0
+no_board family.Board b = cc
+no_board family.Stud b = refl
+no_board family.Draw b = refl
+
+-- how many cards a player of stud, and of a draw, has of his own
+pub seven_own : (game : Game) → family_of game ≡ family.Stud → own_size game ≡ 7
+seven_own Holdem e = cc
+seven_own Omaha8 e = cc
+seven_own Stud e = refl
+seven_own Razz e = refl
+seven_own Lowball27 e = cc
+
+pub five_own : (game : Game) → family_of game ≡ family.Draw → own_size game ≡ 5
+five_own Holdem e = cc
+five_own Omaha8 e = cc
+five_own Stud e = cc
+five_own Razz e = cc
+five_own Lowball27 e = refl
+
+-- in a game with no draw none comes next
+not_in_board : (s : StreetName) → same_street Draw (street_after s (streets_by family.Board)) ≡ false
+not_in_board First = refl
+not_in_board Flop = refl
+not_in_board Turn = refl
+not_in_board River = refl
+not_in_board _ = refl
+
+not_in_stud : (s : StreetName) → same_street Draw (street_after s (streets_by family.Stud)) ≡ false
+not_in_stud First = refl
+not_in_stud Fourth = refl
+not_in_stud Fifth = refl
+not_in_stud Sixth = refl
+not_in_stud River = refl
+not_in_stud _ = refl
+
+never_first : (f : Family) → is_draw f ≡ false → same_street Draw (slice_get (streets_by f) 0) ≡ false
+never_first family.Board b = refl
+never_first family.Stud b = refl
+never_first family.Draw b = cc
+
+never_after : (f : Family) (s : StreetName) → is_draw f ≡ false → same_street Draw (street_after s (streets_by f)) ≡ false
+never_after family.Board s b = not_in_board s
+never_after family.Stud s b = not_in_stud s
+never_after family.Draw s b = cc
+
+pub never_next : (game : Game) (o : Option StreetName) → has_draw game ≡ false → same_street Draw (next_street game o) ≡ false
+never_next game None b = never_first (family_of game) b
+never_next game (Some s) b = never_after (family_of game) s b
+
+pub none_begun : (game : Game) (o : Option StreetName) → has_draw game ≡ false → begun_by_drawing game o ≡ None
+none_begun game o b = rw (never_next game o b) refl

@@ -1,0 +1,201 @@
+//! Sets of players, by the numbers of their seats or of their hands.
+
+ghost use Rattle.std.specs.Prelude.{◌≡◌, ◌≤◌, ◌<◌, ◌%◌, ◌^◌, ◌&&◌, Bool, ℕ, nat_lt, length, slice_get, IfSome};
+ghost use Rattle.std.specs.Iterator.{YieldsFirst, item_count};
+ghost use Rattle.card_sets.specs.PlayerSets.{has_player, players_where, with_player, without_player, players_in, seats_in, hands_below};
+
+use std::marker::Model;
+
+/// A set of players, each by the number of his seat at the table, 1 to 10, or by that of the hand that
+/// he holds in a deal, 0 to 9. Clauses see it as the number with the bits of its players.
+#[derive(Clone, Copy, Debug, PartialEq, Eq)]
+pub struct PlayerSet {
+    bits: u16,
+}
+
+impl Model for PlayerSet {
+    ghost use Rattle.std.specs.Prelude.{ℕ, ◌<◌, ◌^◌};
+
+    ghost Value = { ℕ };
+
+    ghost view = { λ s. s.bits };
+
+    ghost invariant = { λ s. s.bits < 2 ^ 16 };
+
+    ghost inverse = { λ n. record { bits = n } };
+}
+
+impl PlayerSet {
+    /// The set of nobody.
+    #[inline]
+    pub fn empty() -> PlayerSet
+        ensures { result ≡ 0 }
+    {
+        PlayerSet { bits: 0 }
+    }
+
+    /// The set of a number: bit p for player p.
+    #[inline]
+    pub fn of(bits: u16) -> PlayerSet
+        ensures { result ≡ bits }
+    {
+        PlayerSet { bits }
+    }
+
+    /// The number of the set: bit p for player p.
+    #[inline]
+    pub fn bits(self) -> u16
+        ensures { result ≡ self }
+    {
+        self.bits
+    }
+
+    /// Whether the player is in the set.
+    #[inline]
+    pub fn has(self, player: u8) -> bool
+        requires { player < 16 }
+        ensures { result ≡ has_player self player }
+    {
+        (self.bits >> player) & 1 == 1
+    }
+
+    /// The set with the player too.
+    #[inline]
+    pub fn with(self, player: u8) -> PlayerSet
+        requires { player < 16 }
+        ensures { result ≡ with_player self player }
+    {
+        PlayerSet {
+            bits: self.bits | (1 << player),
+        }
+    }
+
+    /// The set without the player.
+    #[inline]
+    pub fn without(self, player: u8) -> PlayerSet
+        requires { player < 16 }
+        ensures { result ≡ without_player self player }
+    {
+        PlayerSet {
+            bits: self.bits & !(1 << player),
+        }
+    }
+
+    /// The first player. None exactly where there is nobody.
+    #[inline]
+    pub fn first(self) -> Option<u8>
+        ensures value { result ≡ slice_get (players_in self) 0 }
+        ensures bound { IfSome result (λ player. player < 16) }
+        ensures set { self < 2 ^ 16 }
+    {
+        if self.bits == 0 {
+            return None;
+        }
+        Some(self.bits.trailing_zeros() as u8)
+    }
+
+    /// How many players there are.
+    #[inline]
+    pub fn count(self) -> u8
+        ensures value { result ≡ length (players_in self) }
+        ensures bound { result ≤ 16 }
+    {
+        self.bits.count_ones() as u8
+    }
+
+    /// Those who sit at the table: the seats 1 to 10 of the set.
+    #[inline]
+    pub fn seats(self) -> PlayerSet
+        ensures value { result ≡ players_where (λ p. nat_lt 0 p && has_player self p) 11 }
+        ensures seats { players_in result ≡ seats_in self }
+    {
+        PlayerSet {
+            bits: self.bits & 0x7fe,
+        }
+    }
+
+    /// Those whose numbers are below one: the hands of a deal that has so many.
+    #[inline]
+    pub fn below(self, count: u8) -> PlayerSet
+        requires { count < 16 }
+        ensures value { result ≡ self % 2 ^ count }
+        ensures hands { players_in result ≡ hands_below self count }
+    {
+        PlayerSet {
+            bits: self.bits & ((1 << count) - 1),
+        }
+    }
+
+    /// The set of the players below a number that pass a test.
+    #[inline]
+    pub fn passing<F: Fn(u8) -> bool>(end: u8, test: F) -> PlayerSet
+        requires few { end ≤ 16 }
+        requires callable { (p : ℕ) → p < end → F.pre test p }
+        ensures { (passes : ℕ → Bool) → ((p : ℕ) (pass : Bool) → p < end → F.post test p pass → pass ≡ passes p)
+            → result ≡ players_where passes end }
+    {
+        let mut set = PlayerSet::empty();
+        for player in 0..end {
+            if !test(player) {
+                continue;
+            }
+            set = set.with(player);
+        }
+        set
+    }
+
+    /// The players, rising.
+    #[inline]
+    pub fn each(self) -> Players
+        ensures { result.rest ≡ self }
+    {
+        Players { rest: self }
+    }
+}
+
+/// The players of a set, rising.
+#[derive(Drop)]
+pub struct Players {
+    rest: PlayerSet,
+}
+
+impl Iterator for Players {
+    type Item = u8;
+
+    ghost next_gives = { YieldsFirst (λ s. players_in s.rest) };
+
+    ghost remaining = { item_count (λ s. players_in s.rest) };
+
+    #[inline]
+    fn next(&mut self) -> Option<u8> {
+        let player = self.rest.first()?;
+        self.rest = self.rest.without(player);
+        Some(player)
+    }
+}
+
+#[cfg(test)]
+mod tests {
+    use super::*;
+    use std::test::Fail;
+
+    #[test]
+    fn a_set_gives_its_players_rising(rt: HostRuntime) -> Result<(), Fail> {
+        let set = PlayerSet::empty().with(9).with(2).with(14).with(0).with(2);
+        assert_eq!(rt; set.bits(), 0b100_0010_0000_0101);
+        assert_eq!(rt; set.count(), 4);
+        assert!(rt; set.has(9) && !set.without(9).has(9) && !set.has(3));
+        assert_eq!(rt; set.seats(), PlayerSet::of(0b10_0000_0100));
+        assert_eq!(rt; set.below(9), PlayerSet::of(0b101));
+        assert_eq!(rt;
+            PlayerSet::passing(5, |p| p % 2 == 1),
+            PlayerSet::of(0b1010)
+        );
+        let mut players = Vec::new(rt.alloc());
+        for player in set.each() {
+            players.push(player)?;
+        }
+        assert_eq!(rt; players.as_slice(), [0, 2, 9, 14].as_slice());
+        Ok(())
+    }
+}

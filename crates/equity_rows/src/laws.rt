@@ -1,0 +1,24 @@
+//! The laws that a crate above may want to call, called from one.
+
+#[test]
+fn the_laws_of_cards_and_pots_can_be_called() {
+    card_sets::law_text_is_read();
+    pot_layers::law_two_sides_share_a_pot();
+    pot_layers::law_winners_of_a_side_get_the_same_or_one_more();
+}
+
+#[test]
+fn the_laws_of_a_replay_can_be_called() {
+    betting_replay::law_chips_stay();
+    betting_replay::law_nobody_is_passed_over();
+    betting_replay::law_stud_cards_are_all_that_were_dealt();
+    betting_replay::law_kept_cards_are_held();
+}
+
+#[test]
+fn the_laws_of_a_verdict_can_be_called() {
+    hand_audit::law_chips_are_kept();
+    hand_audit::law_pots_add_up();
+    hand_audit::law_a_table_has_the_pots_of_the_hand();
+    hand_audit::law_a_mark_is_a_card_of_its_player();
+}

@@ -1,0 +1,117 @@
+-- The pots of an accepted hand add up.
+use Rattle.std.proofs.Common.{◌≡◌, ℕ, zero, suc, ◌+◌, ◌-◌, ◌<◌, ◌≤◌, List, [], ◌∷◌, refl, sym, ap, ◌∙◌, subst, Bool, true, false, length, arith}
+use Rattle.std.specs.Prelude.{Some, All, slice_get, slice_index_or}
+use Rattle.std.proofs.lemmas.Option.{slice_get-get_or}
+use Rattle.card_sets.specs.PlayerSets.{seats_in}
+use Rattle.history_text.specs.declared.events.Header.{Header}
+use Rattle.history_text.specs.declared.events.Event.{Event}
+use Rattle.pot_layers.specs.declared.paid.Pot.{Pot}
+use Rattle.pot_layers.specs.declared.paid.Share.{Share}
+use Rattle.pot_layers.specs.Pots.{pots, put_in_all}
+use Rattle.pot_layers.specs.Split.{OrdersItsSeats}
+use Rattle.betting_replay.specs.Accepted.{IsAccepted}
+use Rattle.betting_replay.specs.Sums.{button}
+use Rattle.betting_replay.specs.Tables.{table_of}
+use Rattle.hand_audit.specs.declared.pot_names.Source.{Source}
+use Rattle.hand_audit.specs.declared.pot_names.Source.TheVariants.{Numbered}
+use Rattle.hand_audit.specs.Chips.{IsBalanced, over_seats}
+use Rattle.hand_audit.specs.Collections.{collections, taken, got_from}
+use Rattle.hand_audit.specs.Departs.{put_in_by, collected}
+use Rattle.hand_audit.specs.MarkLaws.{MarksAreCards}
+use Rattle.hand_audit.specs.PotNames.{counts_from, fits}
+use Rattle.hand_audit.specs.PotSums.{IsPaidOut, PotsAddUp}
+use Rattle.hand_audit.specs.Settle.{Showing, is_checked, first_winners, net_of, parts_of, shares_if, shares_of_pot, due_of_seat, payment, pay_of, pot_line, pot_lines, settled, settled_of}
+use Rattle.hand_audit.specs.Showings.{rake, showing_at, showing_of}
+use Rattle.hand_audit.specs.Splits.{IsWonBySomebody}
+use Rattle.hand_audit.specs.Verdict.{settlement_by}
+use Rattle.hand_audit.specs.Winning.{AreDecided}
+use Rattle.hand_audit.proofs.Dues.{IsGiven, SmallMarks, parts_given, small_marks}
+use Rattle.hand_audit.proofs.OpenPots.{IsOpen, AreOpen, open_in, pots_open}
+use Rattle.hand_audit.proofs.Paying.{got_by_all, due_by_all, due_is_given}
+use Rattle.hand_audit.proofs.Rakes.{net_within, rakes_add_up}
+use Rattle.hand_audit.proofs.Settled.{each_of_fits}
+use Rattle.hand_audit.proofs.Sound.{button_few}
+use Rattle.hand_audit.proofs.Sums.{AreSeats, got_is_taken_from}
+use Rattle.hand_audit.proofs.Tables.{paid_shown}
+use Rattle.hand_audit.proofs.WonPots.{decided_at}
+
+-- all seats are due what was taken: by the shares where it is known who wins, and else because they got it
+due_by : (b : Bool) (got : ℕ → ℕ) (all : List Share) (net : ℕ) → over_seats got ≡ net → (b ≡ true → over_seats (λ p. due_of_seat p all) ≡ net) → over_seats (λ p. (payment b (got p) all p).due) ≡ net
+due_by true got all net is given = given refl
+due_by false got all net is given = is
+
+shares_known : (s : Showing) (source : Source) (pot : Pot) (units : ℕ) → is_checked s pot.eligible ≡ true → IsGiven (shares_if true s pot.eligible (parts_of s (net_of s source))) units → IsGiven (shares_of_pot s source pot) units
+unfolding shares_of_pot
+shares_known s source pot units known given = subst (λ (b : Bool). IsGiven (shares_if b s pot.eligible (parts_of s (net_of s source))) units) (sym known) given
+
+paid_out : OrdersItsSeats → (s : Showing) (source : Source) (pot : Pot) → AreSeats s.collections → IsOpen pot.eligible → s.button ≤ 10
+    → (is_checked s pot.eligible ≡ true → 2 ≤ length (seats_in pot.eligible) → SmallMarks s × (0 < first_winners s s.board pot.eligible))
+    → net_of s source + (pot.units - net_of s source) ≡ pot.units → IsPaidOut (pot_line s source pot)
+paid_out law s source pot seats some button won rest =
+    let got : over_seats (λ p. got_from (counts_from source) p s.collections) ≡ net_of s source = got_is_taken_from (counts_from source) s.collections seats in
+    let given : is_checked s pot.eligible ≡ true → over_seats (λ p. due_of_seat p (shares_of_pot s source pot)) ≡ net_of s source
+    = (λ known. let all = shares_known s source pot (net_of s source) known (parts_given law s pot.eligible (net_of s source) some button (won known)) in due_is_given (shares_of_pot s source pot) all.table ∙ all.whole) in
+    let all_got = got_by_all (pay_of s source pot) 1 10 ∙ got in
+    let all_due = due_by_all (pay_of s source pot) 1 10 ∙ due_by (is_checked s pot.eligible) (λ p. got_from (counts_from source) p s.collections) (shares_of_pot s source pot) (net_of s source) got given in
+    record { collected = omega (arith, all_got, rest); due = all_due ∙ sym all_got }
+
+-- so of each of some pots
+each_out : (s : Showing) (count k : ℕ) (all : List Pot) → ((i : ℕ) (d : Pot) → i < length all → IsPaidOut (pot_line s (Numbered count (k + i)) (slice_index_or all i d))) → All IsPaidOut (pot_lines s count k all)
+each_out s count k [] each i d l = absurd (omega arith)
+each_out s count k (pot ∷ all) each zero d l = let same : k + 0 ≡ k = omega arith in subst (λ (n : ℕ). IsPaidOut (pot_line s (Numbered count n) pot)) same (each 0 pot (omega arith))
+each_out s count k (pot ∷ all) each (suc i) d l =
+    each_out s count (k + 1) all (λ j e m. let same : k + suc j ≡ (k + 1) + j = omega arith in subst (λ (n : ℕ). IsPaidOut (pot_line s (Numbered count n) (slice_index_or all j e))) same (each (suc j) e (omega (arith, m)))) i d (omega (arith, l))
+
+lines_long : (s : Showing) (count k : ℕ) (all : List Pot) → length (pot_lines s count k all) ≡ length all
+lines_long s count k [] = refl
+lines_long s count k (pot ∷ all) = ap suc (lines_long s count (k + 1) all)
+
+-- the button is a seat or none
+button_small : (g : Header) (players : ℕ) (h : List Event) → IsAccepted g players h → button h ≤ 10
+button_small g players [] ok = omega arith
+button_small g players (e ∷ h) ok = button_few e (button h) ok.0 (button_small g players h ok.2)
+
+button_shown : (g : Header) (players : ℕ) (h : List Event) → (showing_of g players h).button ≡ button h
+unfolding showing_of showing_at
+button_shown g players h = refl
+
+all_shown : (g : Header) (players : ℕ) (h : List Event) → (showing_of g players h).collections ≡ collections h
+unfolding showing_of showing_at
+all_shown g players h = refl
+
+put_shown : (g : Header) (players : ℕ) (h : List Event) → put_in_all (showing_of g players h).paid ≡ put_in_by g players h
+unfolding put_in_by
+put_shown g players h = ap put_in_all (paid_shown g players h)
+
+taken_shown : (g : Header) (players : ℕ) (h : List Event) → collected h ≡ taken (showing_of g players h).collections
+unfolding collected
+taken_shown g players h = ap taken (sym (all_shown g players h))
+
+settled_fits : (s : Showing) → fits (pots s.paid) s.collections ≡ true → settled_of true s (pots s.paid) ≡ settled s
+unfolding settled
+settled_fits s fit = ap (λ b. settled_of b s (pots s.paid)) (sym fit)
+
+pub add_up : OrdersItsSeats → (g : Header) (players : ℕ) (h : List Event) → IsAccepted g players h → AreSeats (collections h) → IsBalanced g players h
+    → AreDecided (showing_of g players h) (pots (showing_of g players h).paid) → IsWonBySomebody (showing_of g players h) → MarksAreCards (showing_of g players h)
+    → fits (pots (showing_of g players h).paid) (showing_of g players h).collections ≡ true → PotsAddUp (settlement_by g (rake h) (settled (showing_of g players h)))
+add_up law g players h ok seats balanced decided won marks fit =
+    let s = showing_of g players h in
+    let all = pots s.paid in
+    let count = length all in
+    let collectors : AreSeats s.collections = subst AreSeats (sym (all_shown g players h)) seats in
+    let opened : AreOpen all = subst (λ (ps : _). AreOpen (pots ps)) (sym (paid_shown g players h)) (pots_open (table_of g players h)) in
+    let few : s.button ≤ 10 = subst (λ (n : ℕ). n ≤ 10) (sym (button_shown g players h)) (button_small g players h ok) in
+    let put : put_in_all s.paid ≡ taken s.collections + rake h = put_shown g players h ∙ balanced.whole ∙ ap (λ n. n + rake h) (taken_shown g players h) in
+    let each : (i : ℕ) (d : Pot) → i < count → IsPaidOut (pot_line s (Numbered count (0 + i)) (slice_index_or all i d))
+    = (λ i d l.
+    let pot = slice_index_or all i d in
+    let at : slice_get all i ≡ Some pot = slice_get-get_or all i d l in
+    let same : 0 + i ≡ i = omega arith in
+    paid_out law s (Numbered count (0 + i)) pot collectors (open_in all i d opened l) few
+    (λ known more. (small_marks s i pot marks at more (decided_at s all i pot decided at more), won i pot at known more 0 (record { units = 0; board = s.board }) (omega arith)))
+    (net_within s count 0 all i d (each_of_fits all s.collections fit) l)) in
+    subst (λ (x : _). PotsAddUp (settlement_by g (rake h) x)) (settled_fits s fit)
+    (record {
+      each = each_out s count 0 all each;
+      rakes = λ some. rakes_add_up s (rake h) fit put (let long = lines_long s count 0 all in omega (arith, some, long));
+    })

@@ -1,6 +1,0 @@
-use Rattle.std.specs.Prelude.{◌≡◌, ◌<◌, length}
-use Rattle.hand_audit.proofs.Tens.{before}
-use Rattle.hand_audit.proofs.seat_sets.count_seats.Given as goal
-
-abbrev pub invariant-loop-seat : goal.invariant-loop-seat
-invariant-loop-seat l = record { count : l.count ≡ length (before l.seats l.seat); few : l.count < l.seat }

@@ -1,7 +1,0 @@
-use Rattle.std.specs.Prelude.{◌≡◌, ◌<◌, length, map}
-use Rattle.hand_audit.specs.KnownTables.{ten}
-use Rattle.hand_audit.proofs.Tens.{before}
-use Rattle.hand_audit.proofs.seat_sets.seats_of.Given as goal
-
-abbrev pub invariant-loop-seat : goal.invariant-loop-seat
-invariant-loop-seat l = record { count : l.count ≡ length (before l.seats l.seat); few : l.count < l.seat; all : l.all ≡ ten 0 (map (λ p. p) (before l.seats l.seat)) }

@@ -1,0 +1,22 @@
+//! Laws of the reading of lines: each function is empty, and its clauses are the laws.
+
+ghost use Rattle.history_text.specs.Written.{ActsAreRead, CollectionsAreRead, PostsAreRead, ReturnsAreRead, SeatsAreRead};
+
+/// A law: a line that is written in its form is read as what was meant, whatever the names of the
+/// hand, if its player's name is no other seat's and:
+///
+/// - where a line begins with the name, no longer name of the hand begins it with the same words
+///   behind;
+/// - before the first street the line is neither a seat line nor that of the button;
+/// - a return or a collection begins with no name and a colon, and a collection neither as a deal nor
+///   as a return;
+/// - behind the chips of a seat line ` in chips` doesn't come again.
+///
+/// Amounts are written as [`line_text::law_written_amounts_are_read`] says.
+pub fn law_written_lines_are_read()
+    ensures acts { ActsAreRead }
+    ensures posts { PostsAreRead }
+    ensures returned { ReturnsAreRead }
+    ensures collected { CollectionsAreRead }
+    ensures seats { SeatsAreRead }
+{}

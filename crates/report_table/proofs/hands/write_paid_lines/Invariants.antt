@@ -1,9 +1,0 @@
-use Rattle.std.proofs.Common.{◌≡◌, ◌++◌, take}
-use Rattle.std.specs.List.{flat_map}
-use Rattle.report_table.specs.Hands.{paid_line}
-use Rattle.report_table.specs.Lines.{line_in}
-use Rattle.report_table.proofs.hands.write_paid_lines.Given as goal
-
-abbrev pub invariant-loop-pay : goal.invariant-loop-pay
-invariant-loop-pay l =
-    l.out.items ≡ l.fn.out.items ++ flat_map (λ pay. line_in l.form (paid_line l.hundredths l.names l.checked pay)) (take l.pay-index l.payments)

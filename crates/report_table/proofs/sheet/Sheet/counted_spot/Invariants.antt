@@ -1,0 +1,14 @@
+use Rattle.std.proofs.Common.{◌≡◌, ◌++◌}
+use Rattle.std.specs.List.{flat_map}
+use Rattle.report_table.specs.Lines.{line_in}
+use Rattle.report_table.specs.Sheets.{with_lines}
+use Rattle.report_table.specs.Spots.{counted_line, every_hand, hand_lines}
+use Rattle.showdown_tally.specs.Cells.{cell_at, units_at}
+use Rattle.report_table.proofs.sheet.Sheet.counted_spot.Given as goal
+
+abbrev pub invariant-loop-hand : goal.invariant-loop-hand
+invariant-loop-hand l =
+    l.self
+    ≡ with_lines l.fn.self
+    (line_in l.fn.self.form (counted_line l.place l.known.game l.tally.runouts)
+    ++ flat_map (hand_lines l.fn.self.form l.known.game l.tally.runouts (cell_at l.tally 0) (units_at l.tally 0)) (every_hand l.hand))

@@ -1,0 +1,10 @@
+use Rattle.report_table.specs.Spots.{refused_words}
+use Rattle.report_table.proofs.SheetFacts.{then_words, words_more}
+use Rattle.report_table.proofs.sheet.Sheet.refused.Goals as goal
+
+pub returns : goal.returns
+unfolding refused_words
+returns c =
+    let two = then_words _ _ _ _ _ c.in_ok-text.ensures c.in_ok-text-2.ensures in
+    let three = then_words _ _ _ _ _ two c.in_ok-text-3.ensures in
+    rw (three, words_more) at c.text-4.ensures
