@@ -21,7 +21,7 @@ take-more (suc a) b [] = none (suc a + b) ∙ sym (none b)
     none (suc n) = refl
 take-more (suc a) b (x ∷ xs) = let e : suc a + b ≡ suc (a + b) = omega arith in rw e (ap (λ l. x ∷ l) (take-more a b xs))
 
-take-whole : {X : Type 0} (n : ℕ) (xs : List X) → length xs ≤ n → take n xs ≡ xs
+pub take-whole : {X : Type 0} (n : ℕ) (xs : List X) → length xs ≤ n → take n xs ≡ xs
 take-whole zero [] h = refl
 take-whole zero (x ∷ xs) h = absurd (omega arith)
 take-whole (suc n) [] h = refl
@@ -30,27 +30,27 @@ take-whole (suc n) (x ∷ xs) h = ap (λ l. x ∷ l) (take-whole n xs (omega ari
 pub below-take : {X : Type 0} (all : List X) (blocks : ℕ) → blocks_below all blocks ≡ take (blocks * BLOCK) all
 below-take all zero = refl
 below-take all (suc blocks) =
-    let size : blocks * 4096 + 4096 - blocks * 4096 ≡ 4096 = omega arith in
-    let more : suc blocks * 4096 ≡ blocks * 4096 + 4096 = omega arith in
-    rw (size, more) (ap (λ l. l ++ take 4096 (drop (blocks * 4096) all)) (below-take all blocks) ∙ sym (take-more (blocks * 4096) 4096 all))
+    let size : blocks * BLOCK + BLOCK - blocks * BLOCK ≡ BLOCK = omega arith in
+    let more : suc blocks * BLOCK ≡ blocks * BLOCK + BLOCK = omega arith in
+    rw (size, more) (ap (λ l. l ++ take BLOCK (drop (blocks * BLOCK) all)) (below-take all blocks) ∙ sym (take-more (blocks * BLOCK) BLOCK all))
 
 pub blocks-all : (all : List (List (List ℕ))) (blocks : ℕ) → length all ≤ blocks * BLOCK → blocks_below all blocks ≡ all
 blocks-all all blocks h = below-take all blocks ∙ take-whole (blocks * BLOCK) all h
 
 -- a block ends with the listing where that ends first
 pub block_to : {X : Type 0} (all : List X) (block end : ℕ) → end ≡ min (block * BLOCK + BLOCK) (length all) → slice_range all (block * BLOCK) end ≡ block_of all block
-block_to all block end e = elim (cases_lt (length all) (block * 4096 + 4096)) [
+block_to all block end e = elim (cases_lt (length all) (block * BLOCK + BLOCK)) [
   | inl short ↦
       let last : end ≡ length all = omega arith in
-      let few : length (drop (block * 4096) all) ≤ end - block * 4096 = omega (arith, length-drop (block * 4096) all) in
-      let less : length (drop (block * 4096) all) ≤ block * 4096 + 4096 - block * 4096 = omega (arith, length-drop (block * 4096) all) in
-      take-whole (end - block * 4096) (drop (block * 4096) all) few ∙ sym (take-whole (block * 4096 + 4096 - block * 4096) (drop (block * 4096) all) less)
-  | inr whole ↦ let same : end ≡ block * 4096 + 4096 = omega arith in ap (λ n. take (n - block * 4096) (drop (block * 4096) all)) same
+      let few : length (drop (block * BLOCK) all) ≤ end - block * BLOCK = omega (arith, length-drop (block * BLOCK) all) in
+      let less : length (drop (block * BLOCK) all) ≤ block * BLOCK + BLOCK - block * BLOCK = omega (arith, length-drop (block * BLOCK) all) in
+      take-whole (end - block * BLOCK) (drop (block * BLOCK) all) few ∙ sym (take-whole (block * BLOCK + BLOCK - block * BLOCK) (drop (block * BLOCK) all) less)
+  | inr whole ↦ let same : end ≡ block * BLOCK + BLOCK = omega arith in ap (λ n. take (n - block * BLOCK) (drop (block * BLOCK) all)) same
 ]
 
 -- and has as many members as there are up to its end
 pub length-block_to : {X : Type 0} (all : List X) (block end : ℕ) → end ≡ min (block * BLOCK + BLOCK) (length all) → length (block_of all block) ≡ end - block * BLOCK
-length-block_to all block end e = omega (arith, length-take (block * 4096 + 4096 - block * 4096) (drop (block * 4096) all), length-drop (block * 4096) all)
+length-block_to all block end e = omega (arith, length-take (block * BLOCK + BLOCK - block * BLOCK) (drop (block * BLOCK) all), length-drop (block * BLOCK) all)
 
 pub Counts-join : (deal : Showdown) (some more : List (List (List ℕ))) (old other new : Sums) → Counts deal some old → Counts deal more other → IsSum old other new → Counts deal (some ++ more) new
 Counts-join deal some more old other new a b sum = record {

@@ -9,7 +9,7 @@ use Rattle.showdown_tally.specs.CountLaws.{units_small}
 use Rattle.showdown_tally.specs.Showdown.{Showdown, wins, ties, loses, units}
 use Rattle.showdown_tally.specs.Tallies.{Counts}
 use Rattle.equity_job.specs.Blocks.{block_of, blocks_below}
-use Rattle.equity_job.specs.declared.limits.TheConstants.{BLOCK}
+use Rattle.equity_job.specs.declared.limits.TheConstants.{BLOCK, RUNOUT_MAX}
 use Rattle.equity_job.proofs.BlockLists.{Counts-join, below-take}
 
 sum_small : {X : Type 0} (f : X → ℕ) (xs : List X) → ((x : X) → f x ≤ 10080) → sum_by f xs ≤ 10080 * length xs
@@ -34,10 +34,10 @@ units_fit deal some more old other a b few pot hand p h =
     omega (arith, sum_small (units deal pot hand) some (units_small deal pot hand), sum_small (units deal pot hand) more (units_small deal pot hand))
 
 -- neither the blocks so far nor the next are longer than the listing
-pub parts_few : (all : List (List (List ℕ))) (block : ℕ) → length all ≤ 10000000 → 10080 * (length (blocks_below all block) + length (block_of all block)) < 2 ^ 64
+pub parts_few : (all : List (List (List ℕ))) (block : ℕ) → length all ≤ RUNOUT_MAX → 10080 * (length (blocks_below all block) + length (block_of all block)) < 2 ^ 64
 parts_few all block few =
-    let size : block * 4096 + 4096 - block * 4096 ≡ 4096 = omega arith in
-    let here : length (block_of all block) ≤ 4096 = rw size (omega (arith, length-take 4096 (drop (block * 4096) all))) in
+    let size : block * BLOCK + BLOCK - block * BLOCK ≡ BLOCK = omega arith in
+    let here : length (block_of all block) ≤ BLOCK = rw size (omega (arith, length-take BLOCK (drop (block * BLOCK) all))) in
     omega (arith, here, ap length (below-take all block), length-take (block * BLOCK) all)
 
 pub more_blocks : (deal : Showdown) (all : List (List (List ℕ))) (block : ℕ) (old other new : Sums) → Counts deal (blocks_below all block) old → Counts deal (block_of all block) other → IsSum old other new → Counts deal (blocks_below all (block + 1)) new

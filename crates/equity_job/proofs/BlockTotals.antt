@@ -14,7 +14,7 @@ use Rattle.showdown_tally.specs.Tallies.{Counts, cell_over, runouts_after}
 use Rattle.equity_job.specs.Blocks.{block_of, blocks_of, blocks_below, sum_below, IsTotal}
 use Rattle.equity_job.specs.declared.limits.TheConstants.{BLOCK}
 use Rattle.equity_job.proofs.BlockLists.{blocks-all}
-use Rattle.equity_job.proofs.Walked.{of_state}
+use Rattle.equity_job.proofs.OnlyRunout.{of_state}
 
 pub enough_blocks : (runouts : ℕ) → runouts ≤ blocks_of runouts * BLOCK
 enough_blocks runouts = omega arith

@@ -1,5 +1,4 @@
-pub mod Walked
 pub mod BlockLists
-pub mod BlockWalks
+pub mod OnlyRunout
 pub mod BlockSums
 pub mod BlockTotals

@@ -1,30 +1,30 @@
 //! The count of a block of a job's runouts.
 
-ghost use Rattle.std.specs.Prelude.{◌≡◌, ◌+◌, ◌-◌, ◌<◌, ◌≤◌, length, IsTrue};
+ghost use Rattle.std.specs.Prelude.{◌≡◌, ◌+◌, ◌-◌, ◌<◌, ◌≤◌, false, length, IsTrue};
 ghost use Rattle.std.specs.List.{slice_range};
-ghost use Rattle.board_walk.specs.Boards.{is_walked};
-ghost use Rattle.draw_walk.specs.Draws.{is_drawn};
-ghost use Rattle.omaha_walk.specs.Walked.{is_omaha_walked};
 ghost use Rattle.card_sets.specs.State.{state_of};
+ghost use Rattle.runout_ranges.specs.Slots.{slots};
 ghost use Rattle.showdown_tally.specs.Deals.{deal_of};
+ghost use Rattle.showdown_tally.specs.SideCounts.{AreSideCounts};
 ghost use Rattle.showdown_tally.specs.Tallies.{Counts, runouts_after};
+ghost use Rattle.runout_walk.specs.Listing.{last_count};
 ghost use Rattle.equity_job.specs.Blocks.{block_of, blocks_of};
 
 use crate::{BLOCK, Job};
-use board_walk::{Walk, count_boards, is_walked};
-use draw_walk::{Draws, count_draws, is_drawn};
-use omaha_walk::{OmahaWalk, count_omaha, is_omaha_walked};
-use runout_ranges::{Runout, advance, runout_at};
-use showdown_tally::{Tally, settle_runout, tally_of_outcomes, tally_of_sides};
+use runout_ranges::{Runout, first_runout};
+use runout_walk::{
+    Boards, Draws, Leaf, Plain, are_boards, are_draws, clear_counts, count_runouts_of,
+};
+use showdown_tally::{Tally, settle_runout, tally_of_counts};
 use std::sync::ledger::Ledger;
 use step_count::Steps;
 
-/// The room that a count works in, about 660 kB. It is made once and lent to each count; what it
+/// The room that a count works in, about 1 MB. It is made once and lent to each count; what it
 /// held before makes no difference.
 #[derive(Debug, Drop)]
 pub struct Scratch {
-    walk: Walk,
-    omaha: OmahaWalk,
+    counts: [[u32; 2048]; 20],
+    boards: Boards,
     draws: Draws,
 }
 
@@ -32,8 +32,8 @@ impl Scratch {
     /// An empty room.
     pub fn new() -> Scratch {
         Scratch {
-            walk: Walk::new(),
-            omaha: OmahaWalk::new(),
+            counts: [[0; 2048]; 20],
+            boards: Boards::new(),
             draws: Draws::new(),
         }
     }
@@ -51,15 +51,34 @@ pub fn count_block<L: Ledger>(
     ensures counts { Counts (deal_of job.now.table) (block_of (runouts_after (state_of job.now.table.known)) block) result }
     ensures steps { steps.new ≡ steps.old + length (block_of (runouts_after (state_of job.now.table.known)) block) }
 {
-    if is_walked(&job.table, &job.shape) {
-        count_boards_of(job, block, &mut scratch.walk, steps)
-    } else if is_omaha_walked(&job.table, &job.shape) {
-        count_omaha_of(job, block, &mut scratch.omaha, steps)
-    } else if is_drawn(&job.table, &job.shape) {
-        count_draws_of(job, block, &mut scratch.draws, steps)
-    } else {
-        count_one_by_one(job, block, steps)
+    if is_full(job) {
+        return settle_known(job, block, steps);
     }
+    let span = span_of(job, block);
+    let counts = &mut scratch.counts;
+    if are_boards(&job.table, &job.shape) {
+        let boards = &mut scratch.boards;
+        boards.serve(&job.table, &job.shape);
+        count_span(boards, job, span, counts, steps);
+    } else if are_draws(&job.table, &job.shape) {
+        let draws = &mut scratch.draws;
+        draws.serve(&job.table, &job.shape);
+        count_span(draws, job, span, counts, steps);
+    } else {
+        let mut plain = Plain::of(&job.table, &job.shape);
+        count_span(&mut plain, job, span, counts, steps);
+    }
+    tally_of_counts(&job.table, span.end - span.first, &scratch.counts)
+}
+
+/// Whether nobody lacks cards.
+#[inline]
+fn is_full(job: &Job) -> bool
+    ensures full { IsTrue result → job.now.shape.used ≡ 0 }
+    ensures lacking { result ≡ false → 0 < length (slots (state_of job.now.table.known)) }
+{
+    let slots = &job.shape.slots[..usize::from(job.shape.used)];
+    slots.is_empty()
 }
 
 /// Where a block stands in the listing of runouts.
@@ -85,73 +104,40 @@ fn span_of(job: &Job, block: u32) -> Span
     Span { first, end }
 }
 
-/// The same by how often each set of hands wins, of a table whose boards are walked.
+/// Counts the runouts of a span of a job, whatever the counts were. It takes a step a runout.
 #[inline(never)]
-fn count_boards_of<L: Ledger>(job: &Job, block: u32, walk: &mut Walk, steps: &mut Steps<L>) -> Tally
-    requires walked { IsTrue (is_walked job.now.table job.now.shape) }
-    requires block { block < blocks_of (length (runouts_after (state_of job.now.table.known))) }
-    ensures counts { Counts (deal_of job.now.table) (block_of (runouts_after (state_of job.now.table.known)) block) result }
-    ensures steps { steps.new ≡ steps.old + length (block_of (runouts_after (state_of job.now.table.known)) block) }
-{
-    let span = span_of(job, block);
-    count_boards(walk, &job.table, &job.shape, span.first, span.end, steps);
-    tally_of_outcomes(&job.table, span.end - span.first, &walk.counts)
-}
-
-/// The same by how often each two sets of hands win the two sides, of a table of Omaha whose boards are
-/// walked.
-#[inline(never)]
-fn count_omaha_of<L: Ledger>(
+fn count_span<F: Leaf, L: Ledger>(
+    leaf: &mut F,
     job: &Job,
-    block: u32,
-    walk: &mut OmahaWalk,
+    span: Span,
+    counts: &mut [[u32; 2048]],
     steps: &mut Steps<L>,
-) -> Tally
-    requires walked { IsTrue (is_omaha_walked job.now.table job.now.shape) }
-    requires block { block < blocks_of (length (runouts_after (state_of job.now.table.known))) }
-    ensures counts { Counts (deal_of job.now.table) (block_of (runouts_after (state_of job.now.table.known)) block) result }
-    ensures steps { steps.new ≡ steps.old + length (block_of (runouts_after (state_of job.now.table.known)) block) }
+)
+    requires deal { F.deal leaf.old ≡ deal_of job.now.table }
+    requires some { 0 < length (slots (state_of job.now.table.known)) }
+    requires deep { F.depth (deal_of job.now.table) ≤ last_count (slots (state_of job.now.table.known)) }
+    requires order { span.first ≤ span.end }
+    requires inside { span.end ≤ length (runouts_after (state_of job.now.table.known)) }
+    requires few { span.end - span.first ≤ BLOCK }
+    requires places { length counts.old ≡ 20 }
+    ensures counts { AreSideCounts (deal_of job.now.table) (slice_range (runouts_after (state_of job.now.table.known)) span.first span.end) counts.new }
+    ensures steps { steps.new ≡ steps.old + (span.end - span.first) }
 {
-    let span = span_of(job, block);
-    count_omaha(walk, &job.table, &job.shape, span.first, span.end, steps);
-    tally_of_sides(&job.table, span.end - span.first, &walk.counts)
+    clear_counts(counts, &job.table);
+    count_runouts_of(leaf, counts, &job.shape, span.first, span.end, steps);
 }
 
-/// The same by how often each set of hands wins, of a table whose runouts are two draws.
+/// The tally of the only runout of a job in which nobody lacks cards. It takes one step.
 #[inline(never)]
-fn count_draws_of<L: Ledger>(
-    job: &Job,
-    block: u32,
-    draws: &mut Draws,
-    steps: &mut Steps<L>,
-) -> Tally
-    requires drawn { IsTrue (is_drawn job.now.table job.now.shape) }
+fn settle_known<L: Ledger>(job: &Job, block: u32, steps: &mut Steps<L>) -> Tally
+    requires none { job.now.shape.used ≡ 0 }
     requires block { block < blocks_of (length (runouts_after (state_of job.now.table.known))) }
-    ensures counts { Counts (deal_of job.now.table) (block_of (runouts_after (state_of job.now.table.known)) block) result }
-    ensures steps { steps.new ≡ steps.old + length (block_of (runouts_after (state_of job.now.table.known)) block) }
-{
-    let span = span_of(job, block);
-    count_draws(draws, &job.table, &job.shape, span.first, span.end, steps);
-    tally_of_outcomes(&job.table, span.end - span.first, &draws.counts)
-}
-
-/// The same, one runout after another, of any table.
-#[inline(never)]
-fn count_one_by_one<L: Ledger>(job: &Job, block: u32, steps: &mut Steps<L>) -> Tally
-    requires { block < blocks_of (length (runouts_after (state_of job.now.table.known))) }
     ensures counts { Counts (deal_of job.now.table) (block_of (runouts_after (state_of job.now.table.known)) block) result }
     ensures steps { steps.new ≡ steps.old + length (block_of (runouts_after (state_of job.now.table.known)) block) }
 {
     let mut tally = Tally::zero();
     let mut runout = Runout::new();
-    runout_at(&job.shape, u64::from(block) * BLOCK, &mut runout);
-    loop {
-        settle_runout(&job.table, &job.shape, &runout, &mut tally, steps);
-        if tally.runouts() == BLOCK {
-            return tally;
-        }
-        if !advance(&job.shape, &mut runout) {
-            return tally;
-        }
-    }
+    first_runout(&job.shape, &mut runout);
+    settle_runout(&job.table, &job.shape, &runout, &mut tally, steps);
+    tally
 }

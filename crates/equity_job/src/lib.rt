@@ -10,10 +10,6 @@ mod counting;
 mod jobs;
 mod laws;
 mod limits;
-#[cfg(test)]
-mod plain;
-#[cfg(test)]
-mod tests;
 
 pub use blocks::{Scratch, count_block};
 pub use counting::count_job;

@@ -8,6 +8,8 @@ mod bytes;
 #[cfg(test)]
 mod checks;
 #[cfg(test)]
+mod counts;
+#[cfg(test)]
 mod faults;
 #[cfg(test)]
 mod games;
@@ -19,6 +21,8 @@ mod laws;
 mod mixed;
 #[cfg(test)]
 mod other_games;
+#[cfg(test)]
+mod plain;
 #[cfg(test)]
 mod refusals;
 #[cfg(test)]

@@ -12,7 +12,7 @@ pub fn law_deals_are_whole()
     ensures whole { (x : ℕ) → IsWhole (deal_of x) }
 {}
 
-/// Up to 10,000 made hands have at most 1000 bytes each.
+/// Up to 10,000 made hands are at most 1000 times as many bytes.
 pub fn law_made_text_is_short()
     ensures { (seed hands : ℕ) → hands ≤ 10000 → length (made_text seed hands) ≤ 1000 * hands }
 {}

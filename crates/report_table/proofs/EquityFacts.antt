@@ -22,7 +22,8 @@ use Rattle.report_table.specs.Equities.{IsFull}
 use Rattle.report_table.specs.HandEquities.{Figures, above_line, counted_all_in, every_pot, full_figures, given_to, gross_of, hand_expect, known_all_in, player_lines, player_name, pot_equity, pot_hand_lines, short_line, tally_figures}
 use Rattle.report_table.specs.Hands.{Seated}
 use Rattle.report_table.specs.Lines.{line_in}
-use Rattle.report_table.specs.Spots.{every_hand, runout_limit}
+use Rattle.equity_job.specs.declared.limits.TheConstants.{RUNOUT_MAX}
+use Rattle.report_table.specs.Spots.{every_hand}
 use Rattle.report_table.specs.declared.equity.Form.{Form}
 use Rattle.report_table.proofs.Listed.{every_same, hands_same, sums_same}
 use Rattle.report_table.proofs.SpotFacts.{some_runout}
@@ -149,7 +150,7 @@ pub all_in_above : (form : Form) (s : Settlement) (names : Seated) (seats : List
 unfolding known_all_in
 all_in_above form s names seats street deal enough above =
     let no_short : nat_lt (length (unseen deal.state)) (sum (counts_of (slots deal.state))) ≡ false = grind arith in
-    let yes : nat_lt runout_limit (length (runouts_after deal.state)) ≡ true = grind arith in
+    let yes : nat_lt RUNOUT_MAX (length (runouts_after deal.state)) ≡ true = grind arith in
     rw (no_short, yes) refl
 
 -- and else it is counted
@@ -161,6 +162,6 @@ all_in_counted form s names seats street deal sums full some = elim (cases_lt (l
   | inr enough ↦
       let no_short : nat_lt (length (unseen deal.state)) (sum (counts_of (slots deal.state))) ≡ false = grind arith in
       let few = full.few in
-      let within : nat_lt runout_limit (length (runouts_after deal.state)) ≡ false = grind arith in
+      let within : nat_lt RUNOUT_MAX (length (runouts_after deal.state)) ≡ false = grind arith in
       rw (no_short, within) refl
 ]

@@ -13,7 +13,7 @@ use Rattle.share_fractions.specs.Round.{round}
 use Rattle.report_table.specs.Equities.{IsFull, IsRefused}
 use Rattle.report_table.specs.HandEquities.{expected_units, full_figures, given_to, tally_figures}
 use Rattle.report_table.specs.Totals.{expected_by, hand_all_in, hand_alone, hand_at, is_counted, known_sums}
-use Rattle.report_table.specs.Spots.{runout_limit}
+use Rattle.equity_job.specs.declared.limits.TheConstants.{RUNOUT_MAX}
 use Rattle.report_table.proofs.EquityFacts.{Agree-full, given_same, no_runout_left}
 use Rattle.report_table.proofs.SpotFacts.{some_runout}
 use Rattle.showdown_tally.specs.Cells.{Sums}
@@ -33,7 +33,7 @@ counted_some deal sums full some = elim (cases_lt (length (unseen deal.state)) (
   | inr enough ↦
       let no_short : nat_lt (length (unseen deal.state)) (sum (counts_of (slots deal.state))) ≡ false = grind arith in
       let few = full.few in
-      let within : nat_lt runout_limit (length (runouts_after deal.state)) ≡ false = grind arith in
+      let within : nat_lt RUNOUT_MAX (length (runouts_after deal.state)) ≡ false = grind arith in
       rw (no_short, within) refl
 ]
 
@@ -52,7 +52,7 @@ counted_none deal sums full none = elim (cases_lt (length (unseen deal.state)) (
 pub counted_above : (deal : Showdown) → ¬ IsDeckShort deal.state → IsAboveLimit deal.state → is_counted deal ≡ false
 counted_above deal enough above =
     let no_short : nat_lt (length (unseen deal.state)) (sum (counts_of (slots deal.state))) ≡ false = grind arith in
-    let yes : nat_lt runout_limit (length (runouts_after deal.state)) ≡ true = grind arith in
+    let yes : nat_lt RUNOUT_MAX (length (runouts_after deal.state)) ≡ true = grind arith in
     rw (no_short, yes) refl
 
 pub counted_refused : (deal : Showdown) (fault : JobFault) → IsRefused deal fault → is_counted deal ≡ false

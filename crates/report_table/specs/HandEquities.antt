@@ -22,7 +22,8 @@ use Rattle.showdown_tally.specs.Tallies.{cell_over, units_over, runouts_after}
 use Rattle.showdown_tally.specs.declared.cells.Cell.{Cell}
 use Rattle.report_table.specs.Hands.{Seated, name_text, verdict_block}
 use Rattle.report_table.specs.Lines.{Line, plain, named, line_in}
-use Rattle.report_table.specs.Spots.{every_hand, expected, refused_words, runout_limit, side_columns}
+use Rattle.equity_job.specs.declared.limits.TheConstants.{RUNOUT_MAX}
+use Rattle.report_table.specs.Spots.{every_hand, expected, refused_words, side_columns}
 use Rattle.report_table.specs.Words.{money, street_word}
 use Rattle.report_table.specs.declared.equity.Form.{Form}
 
@@ -125,7 +126,7 @@ above_line = plain (codes "all-in" ∷ [] ++ refused_words)
 unfoldable pub known_all_in : Form → Settlement → Seated → List ℕ → Street → Showdown → List ℕ
 known_all_in form s names seats street deal =
     if nat_lt (length (unseen deal.state)) (sum (counts_of (slots deal.state))) then line_in form short_line
-    else (if nat_lt runout_limit (length (runouts_after deal.state)) then line_in form above_line
+    else (if nat_lt RUNOUT_MAX (length (runouts_after deal.state)) then line_in form above_line
     else counted_all_in form s names seats street deal (full_figures deal))
 
 -- the all-in of a hand in which no line departs

@@ -8,6 +8,7 @@ use Rattle.card_sets.specs.State.{State, state_of}
 use Rattle.card_sets.specs.declared.known_cards.Known.{Known}
 use Rattle.card_sets.specs.declared.games.Game.{Game}
 use Rattle.card_sets.specs.declared.games.Side.{Side}
+use Rattle.equity_job.specs.declared.limits.TheConstants.{RUNOUT_MAX}
 use Rattle.share_fractions.specs.Round.{round, fixed_text}
 use Rattle.showdown_tally.specs.Showdown.{Showdown}
 use Rattle.showdown_tally.specs.Tallies.{cell_over, units_over, runouts_after}
@@ -82,7 +83,7 @@ counted_block form place state =
 
 -- that there are more runouts than are counted
 unfoldable pub refused_words : List (List ℕ)
-refused_words = codes "refused" ∷ codes "above" ∷ codes "10000000" ∷ codes "runouts" ∷ []
+refused_words = codes "refused" ∷ codes "above" ∷ decimal RUNOUT_MAX ∷ codes "runouts" ∷ []
 
 -- a spot that has too many runouts to be counted, as `spot 1 stud refused above 10000000 runouts`
 unfoldable pub refused_line : ℕ → Game → Line
@@ -102,14 +103,10 @@ abbrev pub seen_spot : Result Known SpotFault → Result State SpotFault
 seen_spot (Ok known) = Ok (state_of known)
 seen_spot (Err fault) = Err fault
 
--- the most runouts of a spot that are counted
-abbrev pub runout_limit : ℕ
-runout_limit = 10000000
-
 -- the block of a spot: it is rejected for its fault, refused where it has too many runouts, or counted; given are its place
 -- among the spots and the number of its line
 unfoldable pub spot_block : Form → ℕ → ℕ → Result State SpotFault → List ℕ
 spot_block form place number (Err fault) = line_in form (rejected_line place number fault)
 spot_block form place number (Ok state) =
-    if nat_lt runout_limit (length (runouts_after state)) then line_in form (refused_line place state.game)
+    if nat_lt RUNOUT_MAX (length (runouts_after state)) then line_in form (refused_line place state.game)
     else counted_block form place state

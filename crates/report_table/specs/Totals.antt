@@ -21,7 +21,7 @@ use Rattle.showdown_tally.specs.Tallies.{runouts_after}
 use Rattle.report_table.specs.HandEquities.{every_pot, expected_units, full_figures, given_to}
 use Rattle.report_table.specs.Hands.{Seated}
 use Rattle.report_table.specs.Lines.{Line, plain, named, line_in}
-use Rattle.report_table.specs.Spots.{runout_limit}
+use Rattle.equity_job.specs.declared.limits.TheConstants.{RUNOUT_MAX}
 use Rattle.report_table.specs.Words.{money}
 use Rattle.report_table.specs.declared.equity.Form.{Form}
 use Rattle.report_table.specs.declared.player_sums.PlayerSums.{PlayerSums}
@@ -56,7 +56,7 @@ all_players hands = each_once (flat_map players_in hands)
 abbrev pub is_counted : Showdown → Bool
 is_counted deal =
     not (nat_lt (length (unseen deal.state)) (sum (counts_of (slots deal.state))))
-    && not (nat_lt runout_limit (length (runouts_after deal.state)))
+    && not (nat_lt RUNOUT_MAX (length (runouts_after deal.state)))
 
 -- what a seat got, by payments by rising seat, of which it has at most one
 abbrev pub got_by : List Payment → ℕ → ℕ

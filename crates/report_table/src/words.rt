@@ -7,6 +7,7 @@ ghost use Rattle.report_table.specs.Words.{fault_words, first_word, side_word, s
 
 use crate::sheet::Sheet;
 use card_sets::{Family, Game, Side};
+use equity_job::RUNOUT_MAX;
 use history_text::Street;
 use spot_text::SpotFault;
 use std::alloc::AllocError;
@@ -82,7 +83,7 @@ impl Sheet {
     {
         self.text("refused")?;
         self.text("above")?;
-        self.text("10000000")?;
+        self.number(RUNOUT_MAX)?;
         self.text("runouts")
     }
 }

@@ -16,6 +16,6 @@ pub mod OnlySuits
 pub mod SetMasks
 pub mod Classes
 pub mod SetFacts
-pub mod ByOutcome
-pub mod PairFacts
-pub mod ByPairs
+pub mod CountSums
+pub mod CountSteps
+pub mod ByCounts

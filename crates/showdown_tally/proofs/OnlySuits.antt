@@ -126,4 +126,4 @@ two_suits f a (suc (suc (suc (suc n)))) all l m ne e = absurd (omega arith)
 
 -- five cards have three or more of one suit at most
 pub only-suit : (board : List ℕ) (only : ℕ) → length board ≤ 5 → only < 4 → 2 < length (of_suit board only) → IsOnlySuit board (Some only)
-only-suit board only five l many = (l, λ suit m ne. omega (arith, two_suits (λ k. length (of_suit board k)) suit only (length board) m l ne (all_suits board)))
+only-suit board only five l many = (l, (λ suit m ne. omega (arith, two_suits (λ k. length (of_suit board k)) suit only (length board) m l ne (all_suits board))), many)

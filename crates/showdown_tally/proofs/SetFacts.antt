@@ -1,10 +1,10 @@
 -- What a set of hands that wins is to a hand.
 use Rattle.std.proofs.Common.{◌≡◌, ℕ, zero, suc, ◌+◌, ◌/◌, ◌<◌, ◌≤◌, ◌==◌, true, false, cond, refl, ◌∙◌, inl, inr, arith, List, [], ◌∷◌, length, length-append}
-use Rattle.std.specs.Prelude.{nat_lt, slice_index_or}
+use Rattle.std.specs.Prelude.{nat_lt}
 use Rattle.std.proofs.lemmas.Bool.{cases_eq, cases_lt}
 use Rattle.card_sets.specs.declared.games.Side.{Side}
 use Rattle.showdown_tally.specs.Cells.{cell_of, cell_plus, no_runout}
-use Rattle.showdown_tally.specs.SetShares.{set_cell, share_cells, share_units, pots_shares, pots_share_units}
+use Rattle.showdown_tally.specs.SetShares.{set_cell}
 use Rattle.showdown_tally.specs.Showdown.{is_among, part_of}
 use Rattle.card_sets.specs.PlayerSets.{hands_below}
 use Rattle.showdown_tally.specs.declared.cells.Cell.{Cell}
@@ -76,15 +76,6 @@ one_pot_more_units own n p h elsewhere = elim (cases_lt p n) [
         rw (f, f', elsewhere g) refl
   ]
 ]
-
--- the pots below n by the sets that win them, and one more
-pub shares_step : (masks : List ℕ) (rows : List (List ℕ)) (side : Side) (count n p h : ℕ) (s : Side)
-    → cell_plus (pots_shares masks rows side count n p h s) (share_cells n side (slice_index_or masks n 0) (slice_index_or rows n []) count count p h s) ≡ pots_shares masks rows side count (n + 1) p h s
-shares_step masks rows side count n p h s = one_pot_more (λ pot. share_cells pot side (slice_index_or masks pot 0) (slice_index_or rows pot []) count count) n p h s (λ e. rw e refl)
-
-pub share_units_step : (masks : List ℕ) (rows : List (List ℕ)) (count n p h : ℕ)
-    → pots_share_units masks rows count n p h + share_units n (slice_index_or masks n 0) (slice_index_or rows n []) count count p h ≡ pots_share_units masks rows count (n + 1) p h
-share_units_step masks rows count n p h = one_pot_more_units (λ pot. share_units pot (slice_index_or masks pot 0) (slice_index_or rows pot []) count count) n p h (λ e. rw e refl)
 
 -- below n there are at most n hands
 pub length_few : (set n : ℕ) → length (hands_below set n) ≤ n

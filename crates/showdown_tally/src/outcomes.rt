@@ -5,7 +5,6 @@ ghost use Rattle.std.specs.Int.{bit_at};
 ghost use Rattle.card_sets.specs.State.{state_of};
 ghost use Rattle.card_sets.specs.declared.games.Side.{Side};
 ghost use Rattle.showdown_tally.specs.Deals.{deal_of};
-ghost use Rattle.showdown_tally.specs.Outcomes.{outcome, AreNumbersAfter};
 ghost use Rattle.card_sets.specs.PlayerSets.{set_of_players};
 ghost use Rattle.showdown_tally.specs.Settling.{is_top, tops_of};
 ghost use Rattle.showdown_tally.specs.Sides.{side_outcome, AreSideNumbersAfter};
@@ -50,16 +49,4 @@ pub fn side_outcome(table: &Table, side: Side, values: &[Option<u32>; 10], pot: 
     ten_places(table);
     let hands = PlayerSet::of(table.eligible[pot as usize]);
     winner_set(values, hands, table.known.count).bits()
-}
-
-/// Who wins a pot after each runout that gives the hands these values on the only side of the game:
-/// bit i is set where hand i does. Of Omaha Hi/Lo, which has two sides, it is the high.
-#[inline]
-pub fn pot_outcome(table: &Table, values: &[Option<u32>; 10], pot: u8) -> u16
-    requires { pot < table.now.pots }
-    ensures value { (runout : List (List ℕ)) → AreNumbersAfter (state_of table.now.known) runout values.now
-        → result ≡ outcome (deal_of table.now) pot runout }
-    ensures small { result < 1024 }
-{
-    side_outcome(table, table.known.game.only_side(), values, pot)
 }

@@ -25,7 +25,7 @@ use step_count::Steps;
 
 /// Whether two receivers are the same.
 #[inline]
-fn same_receiver(a: Receiver, b: Receiver) -> bool
+pub(crate) fn same_receiver(a: Receiver, b: Receiver) -> bool
     ensures { result ≡ same_receiver a b }
 {
     match (a, b) {
@@ -72,7 +72,12 @@ fn full_hands(known: &Known, shape: &Shape, r: &Runout) -> [CardSet; 10]
 
 /// What each of up to ten full hands is worth on a side.
 #[inline]
-fn side_values(side: Side, game: Game, hands: &[CardSet], board: CardSet) -> [Option<u32>; 10]
+pub(crate) fn side_values(
+    side: Side,
+    game: Game,
+    hands: &[CardSet],
+    board: CardSet,
+) -> [Option<u32>; 10]
     requires few { length hands.now ≤ 10 }
     requires full { (h : ℕ) → h < length hands.now → IsFull game (slice_index_or hands.now h []) board }
     ensures { (h : ℕ) → h < length hands.now

@@ -1,9 +1,0 @@
-use Rattle.std.proofs.Common.{◌<◌, ap, arith, length}
-use Rattle.rank_high.specs.Parts.{of_suit}
-use Rattle.showdown_tally.proofs.OnlySuits.{only-suit}
-use Rattle.board_walk.proofs.board.flush_suit.Goals as goal
-
-pub returns-then-count-gt2 : goal.returns-then-count-gt2
-returns-then-count-gt2 c =
-    let many : 2 < length (of_suit c.args.board c.loop-suit.suit) = omega (arith, ap length c.of_suit.ensures, c.count.ensures.value, c.if-count-gt2.true) in
-    only-suit c.args.board c.loop-suit.suit c.requires (omega arith) many

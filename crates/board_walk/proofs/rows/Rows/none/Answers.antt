@@ -1,9 +1,0 @@
-use Rattle.board_walk.proofs.FirstRanks.{zeros}
-use Rattle.board_walk.proofs.RowSets.{none_live}
-use Rattle.board_walk.proofs.rows.Rows.none.Goals as goal
-
-pub invariant_of-row : goal.invariant_of-row
-invariant_of-row c = record { few = λ place. zeros 169 place }
-
-pub invariant_of-result : goal.invariant_of-result
-invariant_of-result c = record { right = λ i row on at. absurd (none_live 64 i on) }

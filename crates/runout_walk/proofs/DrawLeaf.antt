@@ -1,0 +1,152 @@
+-- The runouts of a leaf of draws: each gives the last hand a draw, and the others what they have.
+use Rattle.std.proofs.Common.{◌≡◌, ℕ, suc, ◌<◌, ◌≤◌, ◌==◌, ◌&&◌, not, true, false, List, [], ◌∷◌, ◌++◌, length, length-append, map, take, refl, sym, ap, ◌∙◌, arith, subst, inl, inr}
+use Rattle.std.specs.Prelude.{slice_index, nat_le, nat_lt}
+use Rattle.std.specs.List.{count_by, slice_range}
+use Rattle.std.proofs.lemmas.Bool.{cases_eq, cases_lt}
+use mathlib.Core.Bool.{true≢false}
+use Rattle.card_sets.specs.Cards.{union, IsCardSet}
+use Rattle.card_sets.specs.Choose.{choose}
+use Rattle.card_sets.specs.Disjoint.{all_apart}
+use Rattle.card_sets.specs.Games.{own_size, board_size, all_fit, has_board, has_side}
+use Rattle.card_sets.specs.PlayerSets.{AreBelow}
+use Rattle.card_sets.specs.Rising.{IsRising-cards_where}
+use Rattle.card_sets.specs.State.{State}
+use Rattle.card_sets.specs.declared.games.Game.{Game}
+use Rattle.card_sets.specs.declared.games.Game.TheVariants.{Holdem, Omaha8, Stud, Razz, Lowball27}
+use Rattle.rank_high.proofs.Sets.{both}
+use Rattle.card_sets.specs.declared.games.Side.{Side}
+use Rattle.runout_ranges.proofs.NextChoice.{choose_length}
+use Rattle.runout_ranges.specs.Runouts.{HasMember}
+use Rattle.runout_ranges.specs.Slots.{counts_of, dealt, slots, unseen}
+use Rattle.runout_ranges.specs.declared.shapes.Receiver.TheVariants.{Hand}
+use Rattle.runout_ranges.specs.declared.shapes.Slot.{Slot}
+use Rattle.showdown_tally.proofs.Dealt.{Deals, runout_deals}
+use Rattle.showdown_tally.proofs.Full.{hand_of, hand_IsFull}
+use Rattle.showdown_tally.specs.Laws.{IsFull}
+use Rattle.showdown_tally.specs.Showdown.{Showdown, own_after, board_after, eligible_in}
+use Rattle.showdown_tally.specs.SideCounts.{count_place}
+use Rattle.showdown_tally.specs.Tallies.{runouts_after}
+use Rattle.runout_walk.specs.Bests.{best_set}
+use Rattle.runout_walk.specs.Draws.{last_hand}
+use Rattle.runout_walk.specs.Listing.{last_count}
+use Rattle.runout_walk.specs.Rivals.{value_with}
+use Rattle.runout_walk.specs.Worth.{IsDraw, AreNumbers, full_worth, number_of, worth, worth_after}
+use Rattle.runout_walk.proofs.DrawLists.{count_map, count_same, in_range, map_same, some_member}
+use Rattle.runout_walk.proofs.DrawSlots.{IsLastOf, last_deal, last_of_hands, last_set, no_board_slots, other_set}
+use Rattle.runout_walk.proofs.DrawWinners.{outcome_is, set_same}
+
+-- what is asked of draws
+no_board_size : (game : Game) → not (has_board game) ≡ true → board_size game ≡ 0
+no_board_size Holdem e = absurd (true≢false (sym e))
+no_board_size Omaha8 e = absurd (true≢false (sym e))
+no_board_size Stud e = refl
+no_board_size Razz e = refl
+no_board_size Lowball27 e = refl
+
+pub draws_parts : (game : Game) (count : ℕ) → (not (has_board game) && nat_lt 0 count && nat_le count 3) ≡ true → (board_size game ≡ 0) × (0 < count) × (count ≤ 3)
+draws_parts game count e =
+    let two = both (not (has_board game) && nat_lt 0 count) (nat_le count 3) e in
+    let one = both (not (has_board game)) (nat_lt 0 count) two.0 in
+    (no_board_size game one.0, some count one.1, few count two.1)
+  where
+    some : (n : ℕ) → nat_lt 0 n ≡ true → 0 < n
+    some n h = elim (cases_lt 0 n) [ inl l ↦ l | inr ge ↦ (let f : nat_lt 0 n ≡ false = grind arith in absurd (true≢false (sym h ∙ f))) ]
+
+    few : (n : ℕ) → nat_le n 3 ≡ true → n ≤ 3
+    few n h = elim (cases_lt 3 n) [ inl l ↦ (let f : nat_le n 3 ≡ false = grind arith in absurd (true≢false (sym h ∙ f))) | inr ge ↦ ge ]
+
+-- the last slot is that of a hand that lacks cards
+pub last_inside : (st : State) → board_size st.game ≡ 0 → 0 < length (slots st) → (last_hand (slots st) < length st.hands) × (0 < last_count (slots st))
+last_inside st none some =
+    let e = no_board_slots st none in
+    let is : IsLastOf (own_size st.game) 0 st.hands = last_of_hands (own_size st.game) 0 st.hands (let l = ap length e in omega arith) in
+    let P : List Slot → Type 0 = λ l. (last_hand l < length st.hands) × (0 < last_count l) in
+    subst P (sym e) ((let i = is.inside in omega arith), is.some)
+
+-- a runout by what it deals before the last slot, and the last draw
+pub record IsLeafDraw (st : State) (front : List (List ℕ)) (draw : List ℕ) : Type 0 where
+  pub full : (h : ℕ) → h < length st.hands → IsFull st.game (own_after st (front ++ draw ∷ []) h) (board_after st (front ++ draw ∷ []))
+  pub size : length draw ≡ last_count (slots st)
+  pub last : own_after st (front ++ draw ∷ []) (last_hand (slots st)) ≡ union (hand_of st (last_hand (slots st))) draw
+  pub others : (h : ℕ) → (h ≡ last_hand (slots st) → ⊥) → own_after st (front ++ draw ∷ []) h ≡ union (hand_of st h) (dealt (slots st) front (Hand h))
+  pub is_draw : IsDraw st.game (hand_of st (last_hand (slots st))) draw
+
+pub leaf_draw : (game : Game) (count : ℕ) (hands : List (List ℕ)) (board dead : List ℕ) (front : List (List ℕ)) (draw : List ℕ) → all_apart (board ∷ dead ∷ hands) ≡ true → all_fit game board hands ≡ true → board_size game ≡ 0
+    → (let st : State = record { game = game; hands = take count hands; board = board; dead = dead } in
+    ((h : ℕ) → h < length st.hands → IsCardSet (hand_of st h)) → IsCardSet board → suc (length front) ≡ length (slots st) → HasMember (runouts_after st) (front ++ draw ∷ []) → IsLeafDraw st front draw)
+leaf_draw game count hands board dead front draw disjoint fits none sets board_set size member =
+    let st : State = record { game = game; hands = take count hands; board = board; dead = dead } in
+    let runout = front ++ draw ∷ [] in
+    let deals : Deals (unseen st) (counts_of (slots st)) runout = runout_deals (unseen st) (counts_of (slots st)) runout (IsRising-cards_where _) member in
+    let dealt_last = last_deal (slots st) (unseen st) front draw deals size in
+    let inside = last_inside st none (omega arith) in
+    let e = no_board_slots st none in
+    let P : List Slot → Type 0 = λ l. dealt l (front ++ draw ∷ []) (Hand (last_hand l)) ≡ draw in
+    let there : dealt (slots st) (front ++ draw ∷ []) (Hand (last_hand (slots st))) ≡ draw = subst P (sym e) (last_set (own_size game) 0 st.hands front draw (size ∙ ap length e)) in
+    let full : (h : ℕ) → h < length st.hands → IsFull game (own_after st runout h) (board_after st runout) = (λ h l. hand_IsFull game count hands board dead runout h disjoint fits member l (sets h l) board_set) in
+    let last : own_after st runout (last_hand (slots st)) ≡ union (hand_of st (last_hand (slots st))) draw = ap (union (hand_of st (last_hand (slots st)))) there in
+    record {
+      full = full;
+      size = dealt_last.0;
+      last = last;
+      others = λ h ne. ap (union (hand_of st h)) (other_set (slots st) front draw h size ne);
+      is_draw = record { rising = dealt_last.1; full = ap length (sym last) ∙ (full (last_hand (slots st)) inside.0).own_size };
+    }
+
+-- the last slot has no card before its draw
+pub taken_none : (taken rest : List ℕ) (left depth lo hi : ℕ) → left ≡ depth → lo < hi → hi ≤ length (choose left rest) → ((more : List ℕ) → HasMember (choose left rest) more → length (taken ++ more) ≡ depth) → taken ≡ []
+taken_none [] rest left depth lo hi e l h all = refl
+taken_none (card ∷ taken) rest left depth lo hi e l h all =
+    let m = some_member (choose left rest) (omega arith) in
+    let size : length m.0 ≡ left = choose_length left rest m.0 m.1.0 m.1.1 m.1.2 in
+    absurd (omega (arith, all m.0 m.1, length-append taken m.0))
+
+-- what the others have, as numbers
+abbrev pub AreOthers : State → List (List ℕ) → List ℕ → Type 0
+AreOthers st front numbers = (h : ℕ) → h < length st.hands → length (union (hand_of st h) (dealt (slots st) front (Hand h))) ≡ own_size st.game
+    → slice_index numbers h ≡ full_worth st.game (union (hand_of st h) (dealt (slots st) front (Hand h)))
+
+-- with the number of the last draw they are those of all hands
+numbers_agree : (st : State) (front : List (List ℕ)) (draw numbers : List ℕ) (last h : ℕ) → last ≡ last_hand (slots st) → IsLeafDraw st front draw → AreOthers st front numbers → h < length st.hands
+    → value_with numbers last (worth st.game (hand_of st last) draw) h ≡ worth_after st (front ++ draw ∷ []) h
+numbers_agree st front draw numbers last h at is others l = elim (cases_eq h last) [
+  | inl same ↦
+      let t : (h == last) ≡ true = grind arith in
+      rw t (ap (λ k. worth st.game (hand_of st k) draw) at ∙ ap (full_worth st.game) (sym is.last) ∙ ap (λ k. worth_after st (front ++ draw ∷ []) k) (sym (same ∙ at)))
+  | inr ne ↦
+      let f : (h == last) ≡ false = grind arith in
+      let own = is.others h (λ e. ne (e ∙ sym at)) in
+      rw f (others h l (ap length (sym own) ∙ (is.full h l).own_size) ∙ ap (full_worth st.game) (sym own))
+]
+
+-- how often each set wins a pot, by the numbers of the last hand
+pub leaf_counts : (side : Side) (deal : Showdown) (pot set last : ℕ) (front : List (List ℕ)) (taken numbers values : List ℕ) (range : List (List ℕ)) → board_size deal.state.game ≡ 0 → has_side side deal.state.game ≡ true
+    → AreBelow (length deal.state.hands) (eligible_in deal pot) → last ≡ last_hand (slots deal.state) → taken ≡ [] → AreOthers deal.state front numbers
+    → ((more : List ℕ) → HasMember range more → IsLeafDraw deal.state front (taken ++ more)) → values ≡ map (worth deal.state.game (hand_of deal.state last)) range
+    → count_by (λ value. best_set (value_with numbers last value) (eligible_in deal pot) == set) values ≡ count_by (λ runout. count_place deal pot side runout == set) (map (λ more. front ++ (taken ++ more) ∷ []) range)
+leaf_counts side deal pot set last front taken numbers values range none has below at empty others all is =
+    let st : State = deal.state in
+    ap (count_by (λ value. best_set (value_with numbers last value) (eligible_in deal pot) == set)) is
+    ∙ count_map (λ value. best_set (value_with numbers last value) (eligible_in deal pot) == set) (worth st.game (hand_of st last)) range
+    ∙ count_same (λ more. best_set (value_with numbers last (worth st.game (hand_of st last) more)) (eligible_in deal pot) == set) (λ more. count_place deal pot side (front ++ (taken ++ more) ∷ []) == set) range
+    (λ more m.
+    let draw : taken ++ more ≡ more = ap (λ l. l ++ more) empty in
+    let leaf = all more m in
+    ap (λ k. k == set) (
+    ap (λ d. best_set (value_with numbers last (worth st.game (hand_of st last) d)) (eligible_in deal pot)) (sym draw)
+    ∙ set_same (value_with numbers last (worth st.game (hand_of st last) (taken ++ more))) (worth_after st (front ++ (taken ++ more) ∷ [])) (length st.hands) (eligible_in deal pot) below
+    (λ h l. numbers_agree st front (taken ++ more) numbers last h at leaf others l)
+    ∙ sym (outcome_is side deal pot (front ++ (taken ++ more) ∷ []) none has leaf.full below)))
+    ∙ sym (count_map (λ runout. count_place deal pot side runout == set) (λ more. front ++ (taken ++ more) ∷ []) range)
+
+-- the numbers of a range of draws are what the last hand is worth with them
+pub leaf_values : (st : State) (front rows : List (List ℕ)) (planes : List (List ℕ)) (taken rest : List ℕ) (count last lo hi : ℕ) → count ≡ last_count (slots st) → last ≡ last_hand (slots st) → 0 < count → AreNumbers count st.game (hand_of st last) rows planes → taken ≡ []
+    → ((more : List ℕ) → HasMember (choose count rest) more → IsLeafDraw st front (taken ++ more))
+    → map (number_of rows planes) (slice_range (choose count rest) lo hi) ≡ map (worth st.game (hand_of st last)) (slice_range (choose count rest) lo hi)
+leaf_values st front rows planes taken rest count last lo hi size at some right empty all =
+    map_same (number_of rows planes) (worth st.game (hand_of st last)) (slice_range (choose count rest) lo hi) (λ more m.
+    let leaf = all more (in_range (choose count rest) lo hi more m) in
+    let draw : taken ++ more ≡ more = ap (λ l. l ++ more) empty in
+    let P : List ℕ → Type 0 = λ d. IsDraw st.game (hand_of st (last_hand (slots st))) d in
+    let Q : ℕ → Type 0 = λ k. IsDraw st.game (hand_of st k) more in
+    right more some (ap length (sym draw) ∙ leaf.size ∙ sym size) (subst Q (sym at) (subst P draw leaf.is_draw)))

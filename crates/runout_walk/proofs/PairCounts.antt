@@ -1,0 +1,240 @@
+-- Counts of first cards with some pairs.
+use Rattle.std.proofs.Common.{◌≡◌, ℕ, zero, suc, ◌+◌, ◌*◌, ◌^◌, ◌<◌, ◌≤◌, ◌==◌, List, [], ◌∷◌, ◌++◌, length, map, take, refl, sym, ap, ◌∙◌, arith, Bool, true, false, cond, Some, inl, inr, subst}
+use Rattle.std.specs.Prelude.{slice_get, slice_index, slice_index_or}
+use Rattle.std.specs.List.{count_by, slice_range}
+use Rattle.std.proofs.lemmas.Bool.{cases_eq}
+use Rattle.std.proofs.lemmas.List.{length-take}
+use Rattle.std.proofs.lemmas.List.Sums.{count_by-le-length, sum_by-append, sum_by-cons}
+use mathlib.Core.Bool.{true≢false}
+use Rattle.card_sets.specs.Choose.{choose}
+use Rattle.card_sets.specs.Games.{has_board, has_side}
+use Rattle.card_sets.specs.declared.games.Game.{Game}
+use Rattle.card_sets.specs.declared.games.Game.TheVariants.{Holdem, Omaha8, Stud, Razz, Lowball27}
+use Rattle.card_sets.specs.declared.games.Side.{Side}
+use Rattle.card_sets.specs.declared.games.Side.TheVariants.{High, Low}
+use Rattle.showdown_tally.specs.Showdown.{Showdown}
+use Rattle.showdown_tally.specs.SideCounts.{CountsFit, CountsGrow, count_at, count_place}
+use Rattle.runout_walk.specs.KeptRows.{CellsGrow, HasNoFlush, IsRowFor, PairsGrow, PairsWait, WaitsFit, pair_place, row_place, so_many, waiting}
+use Rattle.runout_walk.specs.Pairs.{cards_of_pair}
+use Rattle.card_sets.specs.Cards.{rank_of}
+use Rattle.card_sets.specs.PlayerSets.{AreBelow}
+use Rattle.showdown_tally.specs.Showdown.{eligible_in}
+use Rattle.runout_walk.specs.declared.pair.Pair.{Pair}
+use Rattle.runout_walk.specs.declared.row.Row.{Row}
+use Rattle.runout_walk.proofs.BestHands.{Keeps}
+use Rattle.runout_walk.proofs.BoardDealt.{IsScene, plain_main, row_there}
+use Rattle.runout_walk.proofs.BoardRunouts.{sum-map}
+
+-- how many of one pass
+pub count_one : {X : Type 0} (test : X → Bool) (x : X) → count_by test (x ∷ []) ≡ cond (test x) 1 0
+count_one test x = let c : count_by test (x ∷ []) ≡ cond (test x) 1 0 + count_by test [] = sum_by-cons (λ y. cond (test y) 1 0) x [] in omega (arith, c)
+
+-- one more from the front
+pub take_next : {X : Type 0} (xs : List X) (i : ℕ) (x : X) → slice_get xs i ≡ Some x → take (suc i) xs ≡ take i xs ++ x ∷ []
+take_next [] i x e = cc
+take_next (y ∷ xs) zero x e = let same : y ≡ x = cc in ap (λ v. v ∷ []) same
+take_next (y ∷ xs) (suc i) x e = ap (λ l. y ∷ l) (take_next xs i x e)
+
+pub count_next : {X : Type 0} (test : X → Bool) (xs : List X) (i : ℕ) (x : X) → slice_get xs i ≡ Some x → count_by test (take (suc i) xs) ≡ count_by test (take i xs) + count_by test (x ∷ [])
+count_next test xs i x e = ap (count_by test) (take_next xs i x e) ∙ sum_by-append (λ y. cond (test y) 1 0) (take i xs) (x ∷ [])
+
+pub count_few : {X : Type 0} (test : X → Bool) (xs : List X) (i : ℕ) → count_by test (take i xs) ≤ i
+count_few test xs i = omega (arith, count_by-le-length test (take i xs), length-take i xs)
+
+-- the pots below one are counted, and the others aren't yet
+pub record IsCounted (deal : Showdown) (taken : List ℕ) (pair : Pair) (pots : ℕ) (old now : List (List ℕ)) : Type 0 where
+  pub done : (p place : ℕ) (side : Side) → p < pots → has_side side deal.state.game ≡ true → count_at now p side place ≡ count_at old p side place + count_by (λ q. pair_place deal taken p side q == place) (pair ∷ [])
+  pub later : (p place : ℕ) (side : Side) → pots ≤ p → has_side side deal.state.game ≡ true → count_at now p side place ≡ count_at old p side place
+
+more_other : (times pot main low p place : ℕ) (side : Side) → (p ≡ pot → ⊥) → so_many times pot main low p side place ≡ 0
+more_other times pot main low p place High ne = let f : (p == pot) ≡ false = grind arith in rw f refl
+more_other times pot main low p place Low ne = let f : (p == pot) ≡ false = grind arith in rw f refl
+
+more_high : (times pot main low place : ℕ) → so_many times pot main low pot High place ≡ cond (main == place) times 0
+more_high times pot main low place = let t : (pot == pot) ≡ true = grind arith in rw t refl
+
+more_low : (times pot main low place : ℕ) → so_many times pot main low pot Low place ≡ cond (low == place) times 0
+more_low times pot main low place = let t : (pot == pot) ≡ true = grind arith in rw t refl
+
+-- what a pot adds, on either side
+abbrev pub AddsPot : Showdown → ℕ → ℕ → ℕ → ℕ → List (List ℕ) → List (List ℕ) → Type 0
+AddsPot deal times pot main low mid new = (p place : ℕ) (side : Side) → has_side side deal.state.game ≡ true → count_at new p side place ≡ count_at mid p side place + so_many times pot main low p side place
+
+pub adds_pot : (deal : Showdown) (times pot main low : ℕ) (mid new : List (List ℕ)) → ((p k : ℕ) → count_at new p High k ≡ count_at mid p High k + so_many times pot main low p High k)
+    → ((p k : ℕ) → has_side Low deal.state.game ≡ true → count_at new p Low k ≡ count_at mid p Low k + so_many times pot main low p Low k) → AddsPot deal times pot main low mid new
+adds_pot deal times pot main low mid new high lows p place High has = high p place
+adds_pot deal times pot main low mid new high lows p place Low has = lows p place has
+
+here_is : (deal : Showdown) (taken : List ℕ) (pair : Pair) (pot main low place : ℕ) (side : Side) → main ≡ pair_place deal taken pot High pair → low ≡ pair_place deal taken pot Low pair
+    → so_many 1 pot main low pot side place ≡ count_by (λ q. pair_place deal taken pot side q == place) (pair ∷ [])
+here_is deal taken pair pot main low place High m l = more_high 1 pot main low place ∙ ap (λ n. cond (n == place) 1 0) m ∙ sym (count_one (λ q. pair_place deal taken pot High q == place) pair)
+here_is deal taken pair pot main low place Low m l = more_low 1 pot main low place ∙ ap (λ n. cond (n == place) 1 0) l ∙ sym (count_one (λ q. pair_place deal taken pot Low q == place) pair)
+
+-- one pot more is counted
+pub count_pot : (deal : Showdown) (taken : List ℕ) (pair : Pair) (pot next main low : ℕ) (old mid new : List (List ℕ)) → next ≡ suc pot → main ≡ pair_place deal taken pot High pair → low ≡ pair_place deal taken pot Low pair
+    → AddsPot deal 1 pot main low mid new → IsCounted deal taken pair pot old mid → IsCounted deal taken pair next old new
+count_pot deal taken pair pot next main low old mid new n m l adds was = record {
+  done = λ p place side lt has. elim (cases_eq p pot) [
+    | inl same ↦
+        let P : ℕ → Type 0 = λ x. count_at new x side place ≡ count_at old x side place + count_by (λ q. pair_place deal taken x side q == place) (pair ∷ []) in
+        let there : P pot = omega (arith, adds pot place side has, was.later pot place side (omega arith) has, here_is deal taken pair pot main low place side m l) in
+        subst P (sym same) there
+    | inr ne ↦ let less : p < pot = omega arith in omega (arith, adds p place side has, was.done p place side less has, more_other 1 pot main low p place side ne)
+  ];
+  later = λ p place side ge has. let ne : p ≡ pot → ⊥ = λ e. omega arith in omega (arith, adds p place side has, was.later p place side (omega arith) has, more_other 1 pot main low p place side ne);
+}
+
+-- a game with a board is played for the high
+pub board_high : (game : Game) → has_board game ≡ true → has_side High game ≡ true
+board_high Holdem is = refl
+board_high Omaha8 is = refl
+board_high Stud is = refl
+board_high Razz is = absurd (true≢false (sym is))
+board_high Lowball27 is = absurd (true≢false (sym is))
+
+-- there is room for it
+pub room_for : (deal : Showdown) (taken : List ℕ) (pair : Pair) (pot place : ℕ) (side : Side) (old mid : List (List ℕ)) → CountsFit deal old 1 → pot < length deal.pots → has_side side deal.state.game ≡ true → place < 2048 → IsCounted deal taken pair pot old mid → count_at mid pot side place + 1 < 2 ^ 32
+room_for deal taken pair pot place side old mid fits p has l was = let f = fits pot place side p has l in omega (arith, was.later pot place side (omega arith) has)
+
+-- the same of runouts that wait
+pub record IsPut (deal : Showdown) (rows : List Row) (at times pots : ℕ) (old now : List (List ℕ)) : Type 0 where
+  pub done : (p number : ℕ) (side : Side) (row : Row) → p < pots → has_side side deal.state.game ≡ true → slice_get rows p ≡ Some row → count_at now p side number ≡ count_at old p side number + waiting row side at times number
+  pub later : (p number : ℕ) (side : Side) → pots ≤ p → has_side side deal.state.game ≡ true → count_at now p side number ≡ count_at old p side number
+
+waits_here : (row : Row) (at times pot number : ℕ) (side : Side) → so_many times pot (row_place row High at) (row_place row Low at) pot side number ≡ waiting row side at times number
+waits_here row at times pot number High = more_high times pot (row_place row High at) (row_place row Low at) number
+waits_here row at times pot number Low = more_low times pot (row_place row High at) (row_place row Low at) number
+
+row_same : (a b : Row) → Some a ≡ Some b → a ≡ b
+row_same a b e = cc
+
+pub put_pot : (deal : Showdown) (rows : List Row) (at times pot next : ℕ) (row : Row) (old mid new : List (List ℕ)) → next ≡ suc pot → slice_get rows pot ≡ Some row
+    → AddsPot deal times pot (row_place row High at) (row_place row Low at) mid new → IsPut deal rows at times pot old mid → IsPut deal rows at times next old new
+put_pot deal rows at times pot next row old mid new n here adds was = record {
+  done = λ p number side other lt has found. elim (cases_eq p pot) [
+    | inl same ↦
+        let it : row ≡ other = row_same row other (sym here ∙ ap (slice_get rows) (sym same) ∙ found) in
+        let P : ℕ → Type 0 = λ x. count_at new x side number ≡ count_at old x side number + waiting other side at times number in
+        let W : Row → Type 0 = λ r. so_many times pot (row_place row High at) (row_place row Low at) pot side number ≡ waiting r side at times number in
+        let there : P pot = omega (arith, adds pot number side has, was.later pot number side (omega arith) has, subst W it (waits_here row at times pot number side)) in
+        subst P (sym same) there
+    | inr ne ↦ let less : p < pot = omega arith in omega (arith, adds p number side has, was.done p number side other less has found, more_other times pot (row_place row High at) (row_place row Low at) p number side ne)
+  ];
+  later = λ p number side ge has. let ne : p ≡ pot → ⊥ = λ e. omega arith in omega (arith, adds p number side has, was.later p number side (omega arith) has, more_other times pot (row_place row High at) (row_place row Low at) p number side ne);
+}
+
+waits_all : (row : Row) (at times : ℕ) (side : Side) → waiting row side at times (row_place row side at) ≡ times
+waits_all row at times side = let t : (row_place row side at == row_place row side at) ≡ true = grind arith in rw t refl
+
+pub room_for_wait : (deal : Showdown) (rows : List Row) (at times pot : ℕ) (side : Side) (row : Row) (old mid : List (List ℕ)) → WaitsFit deal rows at times old 0 → pot < length deal.pots → has_side side deal.state.game ≡ true → row_place row side at < 2048 → slice_get rows pot ≡ Some row
+    → IsPut deal rows at times pot old mid → count_at mid pot side (row_place row side at) + times < 2 ^ 32
+room_for_wait deal rows at times pot side row old mid fits p has l here was =
+    let f = fits pot (row_place row side at) side row p has l here in
+    omega (arith, f, was.later pot (row_place row side at) side (omega arith) has, waits_all row at times side)
+
+-- a pair that makes nobody a flush is counted where the rows say
+pub row_pair : (deal : Showdown) (pot : ℕ) (taken : List ℕ) (pair : Pair) (place : ℕ) (row : Row) (side : Side) → Keeps → IsScene deal.state (taken ++ cards_of_pair pair) → AreBelow (length deal.state.hands) (eligible_in deal pot) → IsRowFor deal pot taken row → place ≡ 13 * rank_of pair.low + rank_of pair.high
+    → HasNoFlush deal.state ((taken ++ cards_of_pair pair) ∷ []) → row_place row side place ≡ pair_place deal taken pot side pair
+row_pair deal pot taken pair place row High keeps scene below of_row at plain = plain_main deal pot (taken ++ cards_of_pair pair) _ _ _ keeps scene below (row_there deal pot taken pair.low pair.high place row scene of_row at) plain
+row_pair deal pot taken pair place row Low keeps scene below of_row at plain = (row_there deal pot taken pair.low pair.high place row scene of_row at).low_set
+
+more_times : (b : Bool) (times : ℕ) → cond b (times + 1) 0 ≡ cond b times 0 + cond b 1 0
+more_times true times = refl
+more_times false times = refl
+
+-- the pair waits at the same place
+pub waits_too : (deal : Showdown) (taken : List ℕ) (rows : List Row) (pair : Pair) (at times : ℕ) (counts : List (List ℕ)) → ((pot : ℕ) (side : Side) (row : Row) → pot < length deal.pots → slice_get rows pot ≡ Some row → row_place row side at ≡ pair_place deal taken pot side pair)
+    → PairsWait deal taken rows (pair ∷ []) at times at (times + 1) counts counts
+waits_too deal taken rows pair at times counts is pot number side row p has l found =
+    let test : Pair → Bool = λ q. pair_place deal taken pot side q == number in
+    omega (arith, more_times (row_place row side at == number) times, count_one test pair, ap {B = ℕ} (λ (n : ℕ). cond (n == number) 1 0) (is pot side row p found))
+
+-- or at another one, where the others were counted
+pub waits_next : (deal : Showdown) (taken : List ℕ) (rows : List Row) (pair : Pair) (was_at was at : ℕ) (old new : List (List ℕ)) → ((pot : ℕ) (side : Side) (row : Row) → pot < length deal.pots → slice_get rows pot ≡ Some row → row_place row side at ≡ pair_place deal taken pot side pair)
+    → ((pot number : ℕ) (side : Side) (row : Row) → pot < length deal.pots → has_side side deal.state.game ≡ true → slice_get rows pot ≡ Some row → count_at new pot side number ≡ count_at old pot side number + waiting row side was_at was number)
+    → PairsWait deal taken rows (pair ∷ []) was_at was at 1 old new
+waits_next deal taken rows pair was_at was at old new is put pot number side row p has l found =
+    let test : Pair → Bool = λ q. pair_place deal taken pot side q == number in
+    omega (arith, put pot number side row p has found, count_one test pair, ap {B = ℕ} (λ (n : ℕ). cond (n == number) 1 0) (is pot side row p found))
+
+-- or is counted at once
+pub counted_at_once : (deal : Showdown) (taken : List ℕ) (rows : List Row) (pair : Pair) (at times : ℕ) (old new : List (List ℕ)) → PairsGrow deal taken (pair ∷ []) old new → PairsWait deal taken rows (pair ∷ []) at times at times old new
+counted_at_once deal taken rows pair at times old new grow pot number side row p has l found = omega (arith, grow pot number side p has l)
+
+pub fits_at_once : (deal : Showdown) (rows : List Row) (at times : ℕ) (counts : List (List ℕ)) → length rows ≡ length deal.pots → WaitsFit deal rows at times counts 1 → CountsFit deal counts 1
+fits_at_once deal rows at times counts same fits pot number side p has l =
+    let row = some_row rows pot (omega arith) in
+    let f = fits pot number side row.0 p has l row.1 in
+    omega arith
+  where
+    some_row : (rows : List Row) (i : ℕ) → i < length rows → (row : Row) × (slice_get rows i ≡ Some row)
+    some_row [] i l = absurd (omega arith)
+    some_row (row ∷ rows) zero l = (row, refl)
+    some_row (row ∷ rows) (suc i) l = some_row rows i (omega arith)
+
+-- one pair more
+pub wait_next : (deal : Showdown) (taken : List ℕ) (rows : List Row) (pairs : List Pair) (i next : ℕ) (pair : Pair) (at times to more : ℕ) (old mid new : List (List ℕ)) → next ≡ suc i → slice_get pairs i ≡ Some pair
+    → PairsWait deal taken rows (take i pairs) 0 0 at times old mid → PairsWait deal taken rows (pair ∷ []) at times to more mid new → PairsWait deal taken rows (take next pairs) 0 0 to more old new
+wait_next deal taken rows pairs i next pair at times to more old mid new n found was one pot number side row p has l here =
+    let e : count_by (λ q. pair_place deal taken pot side q == number) (take next pairs) ≡ count_by (λ q. pair_place deal taken pot side q == number) (take i pairs) + count_by (λ q. pair_place deal taken pot side q == number) (pair ∷ []) =
+    ap (λ k. count_by (λ q. pair_place deal taken pot side q == number) (take k pairs)) n ∙ count_next (λ q. pair_place deal taken pot side q == number) pairs i pair found in
+    omega (arith, was pot number side row p has l here, one pot number side row p has l here, e)
+
+none_waits : (row : Row) (side : Side) (at number : ℕ) → waiting row side at 0 number ≡ 0
+none_waits row side at number = both (row_place row side at == number)
+  where
+    both : (b : Bool) → ◌≡◌ {A = ℕ} (cond b 0 0) 0
+    both true = refl
+    both false = refl
+
+pub none_yet : (deal : Showdown) (taken : List ℕ) (rows : List Row) (pairs : List Pair) (counts : List (List ℕ)) → PairsWait deal taken rows (take 0 pairs) 0 0 0 0 counts counts
+none_yet deal taken rows pairs counts pot number side row p has l found = omega (arith, none_waits row side 0 number)
+
+pub fit_wait : (deal : Showdown) (taken : List ℕ) (rows : List Row) (pairs : List Pair) (i at times more : ℕ) (old mid : List (List ℕ)) → CountsFit deal old (length pairs) → i + more ≤ length pairs → PairsWait deal taken rows (take i pairs) 0 0 at times old mid → WaitsFit deal rows at times mid more
+fit_wait deal taken rows pairs i at times more old mid fits inside was pot number side row p has l found =
+    let f = fits pot number side p has l in
+    omega (arith, was pot number side row p has l found, none_waits row side 0 number, count_few (λ q. pair_place deal taken pot side q == number) pairs i)
+
+-- when those that wait are counted too
+pub all_put : (deal : Showdown) (taken : List ℕ) (rows : List Row) (pairs : List Pair) (n at times : ℕ) (old mid new : List (List ℕ)) → n ≡ length pairs → length rows ≡ length deal.pots → PairsWait deal taken rows (take n pairs) 0 0 at times old mid
+    → ((pot number : ℕ) (side : Side) (row : Row) → pot < length deal.pots → has_side side deal.state.game ≡ true → slice_get rows pot ≡ Some row → count_at new pot side number ≡ count_at mid pot side number + waiting row side at times number) → PairsGrow deal taken pairs old new
+all_put deal taken rows pairs n at times old mid new e same was put pot number side p has l =
+    let row = some_row rows pot (omega arith) in
+    let all : take n pairs ≡ pairs = ap (λ k. take k pairs) e ∙ take_all pairs in
+    omega (arith, was pot number side row.0 p has l row.1, put pot number side row.0 p has row.1, none_waits row.0 side 0 number, ap (count_by (λ q. pair_place deal taken pot side q == number)) all)
+  where
+    some_row : (rows : List Row) (i : ℕ) → i < length rows → (row : Row) × (slice_get rows i ≡ Some row)
+    some_row [] i l = absurd (omega arith)
+    some_row (row ∷ rows) zero l = (row, refl)
+    some_row (row ∷ rows) (suc i) l = some_row rows i (omega arith)
+
+    take_all : (xs : List Pair) → take (length xs) xs ≡ xs
+    take_all [] = refl
+    take_all (x ∷ xs) = ap (λ l. x ∷ l) (take_all xs)
+
+-- the same of the counts of the only pot
+pub cells_next : (deal : Showdown) (taken : List ℕ) (pairs : List Pair) (i next : ℕ) (pair : Pair) (old mid new : List ℕ) → next ≡ suc i → slice_get pairs i ≡ Some pair → CellsGrow deal taken 0 High (take i pairs) old mid
+    → ((place : ℕ) → place < 2048 → slice_index new place ≡ slice_index mid place + cond (pair_place deal taken 0 High pair == place) 1 0) → CellsGrow deal taken 0 High (take next pairs) old new
+cells_next deal taken pairs i next pair old mid new n at was more place l =
+    let e : count_by (λ q. pair_place deal taken 0 High q == place) (take next pairs) ≡ count_by (λ q. pair_place deal taken 0 High q == place) (take i pairs) + count_by (λ q. pair_place deal taken 0 High q == place) (pair ∷ []) =
+    ap (λ k. count_by (λ q. pair_place deal taken 0 High q == place) (take k pairs)) n ∙ count_next (λ q. pair_place deal taken 0 High q == place) pairs i pair at in
+    omega (arith, was place l, more place l, e, count_one (λ q. pair_place deal taken 0 High q == place) pair)
+
+pub only_pot : (deal : Showdown) (taken : List ℕ) (pairs : List Pair) (old new : List (List ℕ)) → length deal.pots ≡ 1 → has_side Low deal.state.game ≡ false → CellsGrow deal taken 0 High pairs (slice_index_or old 0 []) (slice_index_or new 0 []) → PairsGrow deal taken pairs old new
+only_pot deal taken pairs old new one no_low cells pot place High p has l =
+    let zero_pot : pot ≡ 0 = omega arith in
+    let P : ℕ → Type 0 = λ x. count_at new x High place ≡ count_at old x High place + count_by (λ q. pair_place deal taken x High q == place) pairs in
+    subst P (sym zero_pot) (cells place l)
+only_pot deal taken pairs old new one no_low cells pot place Low p has l = absurd (true≢false (sym has ∙ no_low))
+
+-- pairs of a stretch are the last cards of runouts
+pub grow_of : (deal : Showdown) (front : List (List ℕ)) (taken rest : List ℕ) (lo hi : ℕ) (stretch : List Pair) (old new : List (List ℕ)) → front ≡ [] → map cards_of_pair stretch ≡ slice_range (choose 2 rest) lo hi → PairsGrow deal taken stretch old new
+    → CountsGrow deal (map (λ more. front ++ (taken ++ more) ∷ []) (slice_range (choose 2 rest) lo hi)) old new
+grow_of deal front taken rest lo hi stretch old new none pairs grow pot place side p has l =
+    let test : List (List ℕ) → Bool = λ runout. count_place deal pot side runout == place in
+    let same : count_by test (map (λ more. front ++ (taken ++ more) ∷ []) (slice_range (choose 2 rest) lo hi)) ≡ count_by (λ q. pair_place deal taken pot side q == place) stretch =
+    ap (λ f. count_by test (map (λ more. f ++ (taken ++ more) ∷ []) (slice_range (choose 2 rest) lo hi))) none
+    ∙ sum-map (λ runout. cond (test runout) 1 0) (λ more. (taken ++ more) ∷ []) (slice_range (choose 2 rest) lo hi)
+    ∙ ap (λ all. count_by (λ more. test ((taken ++ more) ∷ [])) all) (sym pairs)
+    ∙ sum-map (λ more. cond (test ((taken ++ more) ∷ [])) 1 0) cards_of_pair stretch in
+    omega (arith, grow pot place side p has l, same)

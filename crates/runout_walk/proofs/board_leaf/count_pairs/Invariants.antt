@@ -1,0 +1,14 @@
+use Rattle.std.proofs.Common.{◌≡◌, ◌+◌, ◌<◌, ◌≤◌, length, take}
+use Rattle.showdown_tally.specs.Deals.{deal_of}
+use Rattle.runout_walk.specs.KeptRows.{AreFlushes, PairsWait}
+use Rattle.runout_walk.proofs.board_leaf.count_pairs.Given as goal
+
+abbrev pub invariant-loop-pair : goal.invariant-loop-pair
+invariant-loop-pair g l = record {
+  grown : PairsWait (deal_of l.spot.table) l.front.taken l.rows (take l.pair-index l.pairs) 0 0 l.wait.ranks l.wait.times l.fn.counts l.counts;
+  inside : l.wait.ranks < 169;
+  few : l.wait.times ≤ l.pair-index;
+  same : length l.counts ≡ length l.fn.counts;
+  flushes : AreFlushes (deal_of l.spot.table) l.flushes.list;
+  steps : l.steps ≡ l.fn.steps + l.pair-index;
+}

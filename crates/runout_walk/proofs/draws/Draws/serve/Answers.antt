@@ -1,0 +1,20 @@
+use Rattle.std.proofs.Common.{◌≡◌, ◌<◌, length, ap, ◌∙◌, arith}
+use Rattle.card_sets.specs.State.{State, state_of}
+use Rattle.runout_ranges.specs.Shapes.{slots_of}
+use Rattle.runout_ranges.specs.Slots.{slots}
+use Rattle.runout_walk.specs.Draws.{last_hand}
+use Rattle.runout_walk.specs.Listing.{last_count}
+use Rattle.runout_walk.proofs.DrawLeaf.{draws_parts, last_inside}
+use Rattle.runout_walk.proofs.DrawSlots.{some_slots}
+use Rattle.runout_walk.proofs.draws.Draws.serve.Goals as goal
+
+pub hand_of-own-requires : goal.hand_of-own-requires
+hand_of-own-requires c =
+    let known = c.args.table.now.known in
+    let st : State = state_of known in
+    let lacking : slots_of c.args.shape.now ≡ slots st = c.requires.shape.lacking in
+    let parts = draws_parts known.game (last_count (slots_of c.args.shape.now)) c.requires.draws in
+    let some : 0 < length (slots st) = some_slots (slots st) (let e = ap last_count lacking in omega (arith, parts.1, e)) in
+    let inside = last_inside st parts.0 some in
+    let hand : c.last_slot-last.result.hand ≡ last_hand (slots st) = c.last_slot-last.ensures.hand ∙ ap last_hand lacking in
+    omega (arith, inside.0, hand)

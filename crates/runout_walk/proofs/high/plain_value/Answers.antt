@@ -1,0 +1,20 @@
+use Rattle.std.proofs.Common.{◌∙◌, ap, sym, arith, length}
+use Rattle.rank_high.specs.High.{value_of}
+use Rattle.rank_high.specs.Parts.{best_plain}
+use Rattle.omaha_ranks.specs.Omaha.{ArePlaced}
+use Rattle.runout_walk.proofs.HighCalls.{any_plain, not_omaha, together}
+use Rattle.runout_walk.proofs.HighLaws.{omaha_plain_is}
+use Rattle.runout_walk.proofs.high.plain_value.Goals as goal
+
+pub high_by_ranks-requires : goal.high_by_ranks-requires
+high_by_ranks-requires c =
+    let placed : ArePlaced c.args.own c.args.board = record { own_cards = c.rising.ensures.set; board_cards = c.rising-2.ensures.set; apart = c.requires.apart } in
+    omega (arith, ap length c.union.ensures, together c.args.own c.args.board placed, c.requires.board)
+
+pub returns-in-Omaha8 : goal.returns-in-Omaha8
+returns-in-Omaha8 c = rw c.in-Omaha8.is (c.omaha_plain_value.ensures ∙ sym (omaha_plain_is c.args.own c.args.board))
+
+pub returns-in-Holdem : goal.returns-in-Holdem
+returns-in-Holdem c =
+    c.number.ensures ∙ c.high_by_ranks.ensures ∙ ap (λ l. value_of (best_plain l)) c.union.ensures
+    ∙ sym (any_plain c.args.game c.args.own c.args.board c.requires.game (not_omaha c.args.game c.in-Holdem.is))

@@ -1,0 +1,18 @@
+use Rattle.std.proofs.Common.{◌++◌, ◌∷◌, [], ℕ, List, sym, subst}
+use Rattle.runout_ranges.specs.Runouts.{HasMember}
+use Rattle.showdown_tally.specs.Deals.{deal_of}
+use Rattle.showdown_tally.specs.SideCounts.{CountsGrow}
+use Rattle.showdown_tally.specs.Tallies.{runouts_after}
+use Rattle.runout_walk.proofs.Singles.{only_grown, only_member}
+use Rattle.runout_walk.proofs.plain.PlainLeaf.count.Goals as goal
+
+pub count_one-requires-clause-runout : goal.count_one-requires-clause-runout
+count_one-requires-clause-runout g c =
+    let P : List (List ℕ) → Type 0 = λ r. HasMember (runouts_after (deal_of c.args.self.now.table).state) r in
+    let M : List ℕ → Type 0 = λ cards. HasMember (runouts_after (deal_of c.args.self.now.table).state) (c.args.front.now ++ cards ∷ []) in
+    subst P (sym c.put_sets.ensures.written) (only_member M c.args.tail.taken c.args.tail.rest c.args.tail.left c.requires.deep c.requires.members)
+
+pub returns-clause-counts : goal.returns-clause-counts
+returns-clause-counts g c =
+    let P : List (List ℕ) → Type 0 = λ r. CountsGrow (deal_of c.args.self.now.table) (r ∷ []) c.args.counts.now c.count_one.new.counts in
+    only_grown (deal_of c.args.self.now.table) c.args.front.now c.args.tail.taken c.args.tail.rest c.args.tail.left c.args.lo c.args.hi c.args.counts.now c.count_one.new.counts c.requires.deep c.requires.order c.requires.inside (subst P c.put_sets.ensures.written c.count_one.ensures.counts)

@@ -1,0 +1,46 @@
+use Rattle.std.proofs.Common.{◌≡◌, ◌<◌, ◌+◌, ◌*◌, ◌==◌, [], ℕ, List, length, set, sym, ap, ◌∙◌, arith, subst, inl, inr}
+use Rattle.std.specs.Prelude.{slice_index, slice_index_or}
+use Rattle.std.specs.List.{count_by}
+use Rattle.std.proofs.Math.ListN.{length-set}
+use Rattle.std.proofs.lemmas.Bool.{cases_lt}
+use Rattle.std.proofs.lemmas.List.{get_or-set_other, get_or-set_same}
+use Rattle.showdown_tally.specs.Deals.{deal_of}
+use Rattle.showdown_tally.specs.Showdown.{eligible_in}
+use Rattle.runout_walk.specs.Bests.{best_set}
+use Rattle.runout_walk.specs.Rivals.{value_with, winner_by}
+use Rattle.runout_walk.proofs.DrawLists.{count_same}
+use Rattle.runout_walk.proofs.rivals.count_pots.Goals as goal
+
+other_row : (rows : List (List ℕ)) (i j place : ℕ) (new : List ℕ) → (j ≡ i → ⊥) → slice_index (slice_index_or (set rows i new) j []) place ≡ slice_index (slice_index_or rows j []) place
+other_row rows i j place new ne = ap (λ row. slice_index row place) (get_or-set_other rows i j new [] ne)
+
+same_row : (rows : List (List ℕ)) (i place : ℕ) (new : List ℕ) → i < length rows → slice_index (slice_index_or (set rows i new) i []) place ≡ slice_index new place
+same_row rows i place new l = ap (λ row. slice_index row place) (get_or-set_same rows i new [] l)
+
+pub loop-pot-preserved : goal.loop-pot-preserved
+loop-pot-preserved c =
+    let was = c.loop-pot.invariant in
+    let table = c.args.table.now in
+    let values : List ℕ = c.args.values.now in
+    let row : ℕ = c.args.row in
+    let p : ℕ = c.loop-pot.pot in
+    let r = c.rivals_of-rivals.result in
+    let counts : List (List ℕ) = c.loop-pot.counts in
+    let new : List ℕ = c.count_values.new.row in
+    let inside : 2 * p + row < length counts = (let t = c.loop-pot-test.true in let q = c.requires.places in let e = was.places in let s = c.requires.row in omega arith) in
+    record {
+      done = λ pot place l m. elim (cases_lt pot p) [
+        | inl lt ↦ other_row counts (2 * p + row) (2 * pot + row) place new (λ e. omega arith) ∙ was.done pot place lt m
+        | inr ge ↦
+            let here : pot ≡ p = omega arith in
+            let P : ℕ → Type 0 = λ k. slice_index (slice_index_or (set counts (2 * p + row) new) (2 * k + row) []) place ≡ slice_index (slice_index_or c.args.counts.now (2 * k + row) []) place
+            + count_by (λ value. best_set (value_with c.args.numbers.now c.args.last value) (eligible_in (deal_of table) k) == place) values in
+            let old : slice_index (slice_index_or counts (2 * p + row) []) place ≡ slice_index (slice_index_or c.args.counts.now (2 * p + row) []) place = was.later p place (omega arith) in
+            let won : count_by (λ value. winner_by r.top r.below r.equal r.above value == place) values ≡ count_by (λ value. best_set (value_with c.args.numbers.now c.args.last value) (eligible_in (deal_of table) p) == place) values =
+            count_same (λ value. winner_by r.top r.below r.equal r.above value == place) (λ value. best_set (value_with c.args.numbers.now c.args.last value) (eligible_in (deal_of table) p) == place) values (λ value m. ap (λ k. k == place) (c.rivals_of-rivals.ensures.winner value)) in
+            subst P (sym here) (same_row counts (2 * p + row) place new inside ∙ c.count_values.ensures.counts place ∙ ap (λ n. n + count_by (λ value. winner_by r.top r.below r.equal r.above value == place) values) old
+            ∙ ap (λ n. slice_index (slice_index_or c.args.counts.now (2 * p + row) []) place + n) won)
+      ];
+      later = λ pot place l. other_row counts (2 * p + row) (2 * pot + row) place new (λ e. omega arith) ∙ was.later pot place (omega arith);
+      places = length-set counts (2 * p + row) new ∙ was.places;
+    }

@@ -1,0 +1,101 @@
+//! The best of some hands by numbers.
+
+ghost use Rattle.std.specs.Prelude.{◌≡◌, ℕ, ◌<◌, ◌≤◌, if◌then◌else◌, length, slice_index};
+ghost use Rattle.card_sets.specs.State.{state_of};
+ghost use Rattle.card_sets.specs.PlayerSets.{AreBelow, has_player, hands_below};
+ghost use Rattle.showdown_tally.specs.Deals.{deal_of};
+ghost use Rattle.showdown_tally.specs.Showdown.{eligible_in};
+ghost use Rattle.runout_walk.specs.Bests.{best_set, best_value};
+
+use card_sets::{CardSet, PlayerSet};
+use showdown_tally::Table;
+
+/// The greatest number of some hands, and those that have it, as the number with their bits.
+#[derive(Clone, Copy, Debug)]
+pub(crate) struct Best {
+    /// The number, 0 for no hands.
+    pub(crate) top: u32,
+    /// The hands.
+    pub(crate) set: u16,
+}
+
+/// The number of a hand of a set, and else 0.
+#[inline]
+fn value_at(values: &[u32; 10], hands: u16, hand: u8) -> u32
+    requires { hand < 10 }
+    ensures { result ≡ (if has_player hands hand then slice_index values.now hand else 0) }
+{
+    if PlayerSet::of(hands).has(hand) {
+        values[usize::from(hand)]
+    } else {
+        0
+    }
+}
+
+/// The greatest number of the first `count` hands that are in a set.
+#[inline]
+fn top_of(values: &[u32; 10], hands: u16, count: u8) -> u32
+    requires { count ≤ 10 }
+    ensures { result ≡ best_value (slice_index values.now) (hands_below hands count) }
+{
+    let mut top: u32 = 0;
+    for hand in 0..count {
+        top = top.max(value_at(values, hands, hand));
+    }
+    top
+}
+
+/// The best of the first `count` hands that are in a set.
+fn best_of(values: &[u32; 10], hands: u16, count: u8) -> Best
+    requires { count ≤ 10 }
+    ensures top { result.top ≡ best_value (slice_index values.now) (hands_below hands count) }
+    ensures set { result.set ≡ best_set (slice_index values.now) (hands_below hands count) }
+    ensures small { result.set < 1024 }
+{
+    let top = top_of(values, hands, count);
+    let mut set: u16 = 0;
+    for hand in 0..count {
+        if PlayerSet::of(hands).has(hand) && values[usize::from(hand)] == top {
+            set += 1 << hand;
+        }
+    }
+    Best { top, set }
+}
+
+/// There are ten places for hands and for pots.
+#[inline]
+pub(crate) fn ten_places(table: &Table)
+    ensures hands { length table.now.known.hands ≡ 10 }
+    ensures pots { length table.now.eligible ≡ 10 }
+{
+    let _hands: &[CardSet] = &table.known.hands;
+    let _pots: &[u16] = &table.eligible;
+}
+
+/// The eligible hands of a pot are among the hands.
+#[inline]
+pub(crate) fn are_hands(table: &Table, pot: u8)
+    requires { pot < table.now.pots }
+    ensures { AreBelow (length (state_of table.now.known).hands) (eligible_in (deal_of table.now) pot) }
+{
+    ten_places(table);
+}
+
+/// The same of each pot.
+#[inline]
+pub(crate) fn all_are_hands(table: &Table)
+    ensures { (pot : ℕ) → pot < table.now.pots → AreBelow (length (state_of table.now.known).hands) (eligible_in (deal_of table.now) pot) }
+{
+    ten_places(table);
+}
+
+/// The best of the hands that are eligible in a pot, by numbers of the hands.
+pub(crate) fn pot_best(table: &Table, pot: u8, values: &[u32; 10]) -> Best
+    requires { pot < table.now.pots }
+    ensures best { (value : ℕ → ℕ) → ((h : ℕ) → h < length (state_of table.now.known).hands → slice_index values.now h ≡ value h)
+        → (result.top ≡ best_value value (eligible_in (deal_of table.now) pot)) × (result.set ≡ best_set value (eligible_in (deal_of table.now) pot)) }
+    ensures small { result.set < 1024 }
+{
+    ten_places(table);
+    best_of(values, table.eligible[pot as usize], table.known.count)
+}

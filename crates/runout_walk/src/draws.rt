@@ -1,0 +1,259 @@
+//! The leaf of draws: the last slot is a hand's, and all its draws are counted at once.
+
+ghost use Rattle.std.specs.Prelude.{◌≡◌, ℕ, ◌+◌, ◌<◌, ◌≤◌, [], length, if◌then◌else◌, nat_lt, slice_index, slice_index_or, IsTrue};
+ghost use Rattle.card_sets.specs.Cards.{IsCardSet, union};
+ghost use Rattle.card_sets.specs.Games.{board_size, own_size};
+ghost use Rattle.card_sets.specs.State.{state_of};
+ghost use Rattle.runout_ranges.specs.Shapes.{IsShapeOf, slots_of};
+ghost use Rattle.runout_ranges.specs.Slots.{dealt, slots};
+ghost use Rattle.runout_ranges.specs.declared.shapes.Receiver.TheVariants.{Hand};
+ghost use Rattle.showdown_tally.specs.Cells.{side_place};
+ghost use Rattle.showdown_tally.specs.Deals.{deal_of};
+ghost use Rattle.runout_walk.specs.Draws.{are_draws, hand_at, last_hand};
+ghost use Rattle.runout_walk.specs.Listing.{last_count};
+ghost use Rattle.runout_walk.specs.Worth.{AreNumbers, full_worth};
+
+use crate::card_list::CardList;
+use crate::last::{DRAWS, Range, put_draws};
+use crate::leaf::{Leaf, Tail};
+use crate::numbers::{Numbers, full_worth};
+use crate::rivals::count_pots;
+use card_sets::{CardSet, Game, Known, Side};
+use runout_ranges::{Receiver, Shape, Slot};
+use showdown_tally::Table;
+use std::sync::ledger::Ledger;
+use step_count::Steps;
+
+/// The hand that gets cards, and 0 for the board.
+#[inline]
+fn hand_at(receiver: Receiver) -> u8
+    ensures { result ≡ hand_at receiver }
+{
+    match receiver {
+        Receiver::Board => 0,
+        Receiver::Hand(hand) => hand,
+    }
+}
+
+/// Whose the last slot is, and how many cards it takes.
+#[derive(Clone, Copy, Debug)]
+struct Last {
+    /// The hand.
+    hand: u8,
+    /// How many cards, 0 where there is no slot.
+    count: u8,
+}
+
+/// The last of some slots.
+#[inline]
+fn last_of(slots: &[Slot]) -> Last
+    ensures hand { result.hand ≡ last_hand slots.now }
+    ensures count { result.count ≡ last_count slots.now }
+{
+    if slots.is_empty() {
+        return Last { hand: 0, count: 0 };
+    }
+    let slot = slots[slots.len() - 1];
+    Last {
+        hand: hand_at(slot.receiver),
+        count: slot.count,
+    }
+}
+
+/// The last of the slots of a shape.
+#[inline]
+fn last_slot(shape: &Shape) -> Last
+    ensures hand { result.hand ≡ last_hand (slots_of shape.now) }
+    ensures count { result.count ≡ last_count (slots_of shape.now) }
+{
+    last_of(&shape.slots[..shape.used as usize])
+}
+
+/// Whether the runouts of a table end with a draw that can be counted at once: a game without a board, in which somebody lacks cards, and
+/// the last hand that does lacks one to three.
+pub fn are_draws(table: &Table, shape: &Shape) -> bool
+    ensures { result ≡ are_draws table.now shape.now }
+{
+    let last = last_slot(shape);
+    !table.known.game.has_board() && 0 < last.count && last.count <= 3
+}
+
+/// The leaf of draws, about 380 kB. It is made once and lent to each walk, and keeps what the next walk of the same hands can use; what
+/// it held before makes no other difference.
+#[derive(Debug, Drop)]
+pub struct Draws {
+    /// The table.
+    table: Table,
+    /// The hand of the last slot.
+    last: u8,
+    /// What it is worth with each draw.
+    numbers: Numbers,
+    /// Room for the numbers of the draws of a leaf.
+    values: [u32; DRAWS],
+    /// The game has no board.
+    ghost no_board: { board_size table.known.game ≡ 0 },
+    /// The hand is that of the last slot.
+    ghost last_is: { last ≡ last_hand (slots (state_of table.known)) },
+    /// It draws so many cards.
+    ghost deep: { numbers.count ≡ last_count (slots (state_of table.known)) },
+    /// These are few.
+    ghost few: { numbers.count ≤ 3 },
+    /// The numbers are those of that hand.
+    ghost right: { AreNumbers numbers.count table.known.game (slice_index_or (state_of table.known).hands last []) numbers.rows numbers.planes },
+}
+
+/// A table with nobody at it.
+fn no_table() -> Table
+    ensures nobody { result.known.count ≡ 0 }
+    ensures no_board { board_size result.known.game ≡ 0 }
+{
+    let none = CardSet::empty();
+    let known = Known {
+        game: Game::Stud,
+        count: 0,
+        hands: [none, none, none, none, none, none, none, none, none, none],
+        board: none,
+        dead: none,
+    };
+    Table {
+        known,
+        pots: 0,
+        eligible: [0, 0, 0, 0, 0, 0, 0, 0, 0, 0],
+    }
+}
+
+/// The known cards of a hand.
+#[inline]
+fn hand_of(known: &Known, hand: usize) -> CardSet
+    requires { hand < length (state_of known.now).hands }
+    ensures { result ≡ slice_index_or (state_of known.now).hands hand [] }
+{
+    let hands = &known.hands[..known.count as usize];
+    hands[hand]
+}
+
+impl Draws {
+    /// An empty leaf, which counts nothing before it serves a table.
+    pub fn new() -> Draws {
+        Draws {
+            table: no_table(),
+            last: 0,
+            numbers: Numbers::none(),
+            values: [0; DRAWS],
+        }
+    }
+
+    /// Makes it the leaf of a table. What the last hand is worth with each draw is filled in where it isn't kept.
+    pub fn serve(&mut self, table: &Table, shape: &Shape)
+        requires shape { IsShapeOf (state_of table.now.known) shape.now }
+        requires draws { IsTrue (are_draws table.now shape.now) }
+        ensures deal { deal_of self.new.table ≡ deal_of table.now }
+    {
+        let last = last_slot(shape);
+        let own = hand_of(&table.known, usize::from(last.hand));
+        self.numbers.serve(table.known.game, own, last.count);
+        self.table = *table;
+        self.last = last.hand;
+    }
+}
+
+/// What a hand is dealt, where the sets go one after the other to the hands that lack cards.
+#[inline]
+fn set_for(own: CardSet, size: u32, sets: &[CardSet], place: usize) -> CardSet
+    ensures { result ≡ (if nat_lt (length own) size then slice_index_or sets.now place [] else []) }
+{
+    if own.count() < size && place < sets.len() {
+        sets[place]
+    } else {
+        CardSet::empty()
+    }
+}
+
+/// What each hand is worth with the set that it is dealt.
+#[inline]
+fn numbers_with(known: &Known, sets: &[CardSet]) -> [u32; 10]
+    requires { board_size known.now.game ≡ 0 }
+    ensures numbers { (h : ℕ) → h < length (state_of known.now).hands
+        → length (union (slice_index_or (state_of known.now).hands h []) (dealt (slots (state_of known.now)) sets.now (Hand h))) ≡ own_size known.now.game
+        → slice_index result h ≡ full_worth known.now.game (union (slice_index_or (state_of known.now).hands h []) (dealt (slots (state_of known.now)) sets.now (Hand h))) }
+    ensures cards { (h : ℕ) → h < length (state_of known.now).hands → IsCardSet (slice_index_or (state_of known.now).hands h []) }
+    ensures board { IsCardSet (state_of known.now).board }
+{
+    let mut numbers = [0; 10];
+    known.board.rising();
+    let size = known.game.own_size();
+    let mut place = 0;
+    let hands = &known.hands[..known.count as usize];
+    for (hand, own) in hands.iter().enumerate() {
+        let own = *own;
+        own.rising();
+        let set = set_for(own, size, sets, place);
+        numbers[hand] = full_worth(known.game, own.union(set));
+        place += usize::from(own.count() < size);
+    }
+    numbers
+}
+
+/// The place of a side among the two of a pot.
+#[inline]
+fn side_row(side: Side) -> usize
+    ensures value { result ≡ side_place side }
+    ensures bound { result < 2 }
+{
+    match side {
+        Side::High => 0,
+        Side::Low => 1,
+    }
+}
+
+/// There are ten places for hands and for pots.
+#[inline]
+fn ten_places(table: &Table)
+    ensures hands { length table.now.known.hands ≡ 10 }
+    ensures pots { length table.now.eligible ≡ 10 }
+{
+    let _hands: &[CardSet] = &table.known.hands;
+    let _pots: &[u16] = &table.eligible;
+}
+
+/// There is room for all draws of three cards.
+#[inline]
+fn draws_room(values: &[u32; DRAWS])
+    ensures { length values.now ≡ 22100 }
+{
+    let _values: &[u32] = values;
+}
+
+impl Leaf for Draws {
+    ghost deal = { λ d. deal_of d.table };
+
+    ghost depth = { λ deal. last_count (slots deal.state) };
+
+    fn depth(&self) -> u32 {
+        u32::from(self.numbers.count)
+    }
+
+    fn count<L: Ledger>(
+        &mut self,
+        counts: &mut [[u32; 2048]],
+        front: &[CardSet],
+        tail: Tail,
+        lo: u64,
+        hi: u64,
+        steps: &mut Steps<L>,
+    ) {
+        ten_places(&self.table);
+        draws_room(&self.values);
+        let numbers = numbers_with(&self.table.known, front);
+        let range = Range {
+            lo: lo as usize,
+            hi: hi as usize,
+        };
+        let cards = CardList::of(tail.rest);
+        let values = &mut self.values;
+        put_draws(&self.numbers, cards.as_slice(), range, values, steps);
+        let row = side_row(self.table.known.game.only_side());
+        let values = &self.values[..range.hi - range.lo];
+        count_pots(&self.table, row, self.last, &numbers, values, counts);
+    }
+}

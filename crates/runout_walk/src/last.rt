@@ -1,0 +1,193 @@
+//! The numbers of the last hand's draws, one behind the other.
+
+ghost use Rattle.std.specs.Prelude.{◌≡◌, ℕ, ◌+◌, ◌-◌, ◌<◌, ◌≤◌, ◌++◌, length, map, take, slice_index};
+ghost use Rattle.std.specs.List.{slice_range};
+ghost use Rattle.card_sets.specs.Choose.{choose};
+ghost use Rattle.runout_walk.specs.Worth.{number_at, number_of};
+
+use crate::card_list::DECK;
+use crate::numbers::{Numbers, plane_base};
+use card_sets::Card;
+use runout_ranges::count_choices;
+use std::sync::ledger::Ledger;
+use step_count::Steps;
+
+/// How many draws of three cards there are of a whole deck.
+pub(crate) const DRAWS: usize = 22100;
+
+/// From one place of a listing to another.
+#[derive(Clone, Copy, Debug)]
+pub(crate) struct Range {
+    /// The first place.
+    pub(crate) lo: usize,
+    /// The place behind the last.
+    pub(crate) hi: usize,
+}
+
+/// Puts the numbers that a row has for some cards behind the first `used`. It takes a step a card.
+#[inline]
+fn put_row<L: Ledger>(
+    row: &[u32],
+    cards: &[Card],
+    values: &mut [u32],
+    used: usize,
+    steps: &mut Steps<L>,
+)
+    requires places { length row.now ≡ 52 }
+    requires room { used + length cards.now ≤ length values.old }
+    ensures numbers { take (used + length cards.now) values.new ≡ take used values.old ++ map (slice_index row.now) cards.now }
+    ensures room { length values.new ≡ length values.old }
+    ensures steps { steps.new ≡ steps.old + length cards.now }
+{
+    for (place, card) in cards.iter().enumerate() {
+        steps.tick();
+        values[used + place] = row[usize::from(card.number())];
+    }
+}
+
+/// Puts the numbers of the draws of two of some rising cards behind the first `used`, from one place of the listing of these draws to
+/// another, where the rows of their table begin at one. It takes a step a draw.
+fn put_pairs<L: Ledger>(
+    rows: &[[u32; DECK]],
+    base: usize,
+    cards: &[Card],
+    range: Range,
+    values: &mut [u32],
+    used: usize,
+    steps: &mut Steps<L>,
+)
+    requires places { base + 52 ≤ length rows.now }
+    requires order { range.lo ≤ range.hi }
+    requires inside { range.hi ≤ length (choose 2 cards.now) }
+    requires room { used + (range.hi - range.lo) ≤ length values.old }
+    ensures numbers { take (used + (range.hi - range.lo)) values.new ≡ take used values.old ++ map (number_at rows.now base) (slice_range (choose 2 cards.now) range.lo range.hi) }
+    ensures room { length values.new ≡ length values.old }
+    ensures steps { steps.new ≡ steps.old + (range.hi - range.lo) }
+{
+    let mut rest = cards;
+    let mut lo = range.lo;
+    let mut hi = range.hi;
+    let mut used = used;
+    while let [low, highs @ ..] = rest {
+        let count = highs.len();
+        let start = lo.min(count);
+        let end = hi.min(count);
+        let row = &rows[base + usize::from(low.number())];
+        put_row(row, &highs[start..end], values, used, steps);
+        used += end - start;
+        lo = lo.saturating_sub(count);
+        hi = hi.saturating_sub(count);
+        rest = highs;
+    }
+}
+
+/// The same of draws of one card, at the front.
+fn put_singles<L: Ledger>(
+    numbers: &Numbers,
+    cards: &[Card],
+    range: Range,
+    values: &mut [u32],
+    steps: &mut Steps<L>,
+)
+    requires order { range.lo ≤ range.hi }
+    requires inside { range.hi ≤ length cards.now }
+    requires room { range.hi - range.lo ≤ length values.old }
+    ensures numbers { take (range.hi - range.lo) values.new ≡ map (number_of numbers.now.rows numbers.now.planes) (slice_range (choose 1 cards.now) range.lo range.hi) }
+    ensures steps { steps.new ≡ steps.old + (range.hi - range.lo) }
+{
+    let row = &numbers.rows[0];
+    put_row(row, &cards[range.lo..range.hi], values, 0, steps);
+}
+
+/// The same of draws of two cards.
+fn put_twos<L: Ledger>(
+    numbers: &Numbers,
+    cards: &[Card],
+    range: Range,
+    values: &mut [u32],
+    steps: &mut Steps<L>,
+)
+    requires order { range.lo ≤ range.hi }
+    requires inside { range.hi ≤ length (choose 2 cards.now) }
+    requires room { range.hi - range.lo ≤ length values.old }
+    ensures numbers { take (range.hi - range.lo) values.new ≡ map (number_of numbers.now.rows numbers.now.planes) (slice_range (choose 2 cards.now) range.lo range.hi) }
+    ensures steps { steps.new ≡ steps.old + (range.hi - range.lo) }
+{
+    put_pairs(&numbers.rows, 0, cards, range, values, 0, steps);
+}
+
+/// How many draws of two of some cards there are.
+#[inline]
+#[tactic(auto, using(crate::proofs::DrawLists::no_pairs))]
+fn count_pairs(cards: &[Card]) -> usize
+    requires { length cards.now ≤ 52 }
+    ensures { result ≡ length (choose 2 cards.now) }
+{
+    if cards.len() < 2 {
+        return 0;
+    }
+    count_choices(cards.len() as u32, 2) as usize
+}
+
+/// The same of draws of three cards.
+fn put_triples<L: Ledger>(
+    numbers: &Numbers,
+    cards: &[Card],
+    range: Range,
+    values: &mut [u32],
+    steps: &mut Steps<L>,
+)
+    requires few { length cards.now ≤ 52 }
+    requires order { range.lo ≤ range.hi }
+    requires inside { range.hi ≤ length (choose 3 cards.now) }
+    requires room { range.hi - range.lo ≤ length values.old }
+    ensures numbers { take (range.hi - range.lo) values.new ≡ map (number_of numbers.now.rows numbers.now.planes) (slice_range (choose 3 cards.now) range.lo range.hi) }
+    ensures steps { steps.new ≡ steps.old + (range.hi - range.lo) }
+{
+    let mut rest = cards;
+    let mut lo = range.lo;
+    let mut hi = range.hi;
+    let mut used = 0;
+    let mut pairs = count_pairs(cards);
+    while let [low, others @ ..] = rest {
+        let count = pairs - others.len();
+        let start = lo.min(count);
+        let end = hi.min(count);
+        let part = Range { lo: start, hi: end };
+        let base = plane_base(*low);
+        put_pairs(&numbers.planes, base, others, part, values, used, steps);
+        used += end - start;
+        lo = lo.saturating_sub(count);
+        hi = hi.saturating_sub(count);
+        pairs = count;
+        rest = others;
+    }
+}
+
+/// Puts the numbers of the draws of one to three of some rising cards at the front, from one place of the listing of these draws to
+/// another. It takes a step a draw.
+#[tactic(auto, using(crate::proofs::DrawLists::one_length))]
+pub(crate) fn put_draws<L: Ledger>(
+    numbers: &Numbers,
+    cards: &[Card],
+    range: Range,
+    values: &mut [u32],
+    steps: &mut Steps<L>,
+)
+    requires some { 1 ≤ numbers.now.count }
+    requires few { numbers.now.count ≤ 3 }
+    requires short { length cards.now ≤ 52 }
+    requires order { range.lo ≤ range.hi }
+    requires inside { range.hi ≤ length (choose numbers.now.count cards.now) }
+    requires room { range.hi - range.lo ≤ length values.old }
+    ensures numbers { take (range.hi - range.lo) values.new ≡ map (number_of numbers.now.rows numbers.now.planes) (slice_range (choose numbers.now.count cards.now) range.lo range.hi) }
+    ensures steps { steps.new ≡ steps.old + (range.hi - range.lo) }
+{
+    if numbers.count == 1 {
+        put_singles(numbers, cards, range, values, steps);
+    } else if numbers.count == 2 {
+        put_twos(numbers, cards, range, values, steps);
+    } else {
+        put_triples(numbers, cards, range, values, steps);
+    }
+}

@@ -1,0 +1,65 @@
+//! The last cards of a runout, which are counted at once.
+
+ghost use Rattle.std.specs.Prelude.{◌≡◌, ℕ, suc, ◌+◌, ◌-◌, ◌*◌, ◌<◌, ◌≤◌, ◌++◌, [], ◌∷◌, List, length, map};
+ghost use Rattle.std.specs.List.{slice_range};
+ghost use Rattle.card_sets.specs.Cards.{IsCardSet, IsRising};
+ghost use Rattle.card_sets.specs.Choose.{choose};
+ghost use Rattle.runout_ranges.specs.Runouts.{HasMember};
+ghost use Rattle.runout_ranges.specs.Slots.{slots, unseen};
+ghost use Rattle.showdown_tally.specs.Showdown.{Showdown};
+ghost use Rattle.showdown_tally.specs.SideCounts.{CountsFit, CountsGrow};
+ghost use Rattle.showdown_tally.specs.Tallies.{runouts_after};
+ghost use Rattle.runout_walk.specs.Listing.{IsEndOf, left_after};
+
+use card_sets::CardSet;
+use std::sync::ledger::Ledger;
+use step_count::Steps;
+
+/// A slot that has some cards, and gets so many more of the rest.
+#[derive(Clone, Copy, Debug)]
+pub struct Tail {
+    /// The cards that it has.
+    pub taken: CardSet,
+    /// The cards that may come to them, which lie above them.
+    pub rest: CardSet,
+    /// How many it gets.
+    pub left: u32,
+}
+
+/// Counts the runouts that differ in their last cards alone.
+pub trait Leaf {
+    /// The deal whose runouts are counted.
+    ghost deal: { Self → Showdown };
+
+    /// How many cards of the last slot are dealt at once.
+    ghost depth: { Showdown → ℕ };
+
+    /// How many cards of the last slot are dealt at once.
+    fn depth(&self) -> u32
+        ensures { result ≡ depth (deal self.now) };
+
+    /// Counts the runouts in which the slots before the last have these sets, and the last one has some cards and gets so many of the
+    /// rest, from one place of the listing of these to another: for each pot, on each side. It takes a step a runout.
+    fn count<L: Ledger>(
+        &mut self,
+        counts: &mut [[u32; 2048]],
+        front: &[CardSet],
+        tail: Tail,
+        lo: u64,
+        hi: u64,
+        steps: &mut Steps<L>,
+    )
+        requires last { suc (length front.now) ≡ length (slots (deal self.old).state) }
+        requires deep { tail.left ≡ depth (deal self.old) }
+        requires above { IsCardSet tail.rest → IsRising (tail.taken ++ tail.rest) }
+        requires end { IsEndOf tail.rest (left_after (unseen (deal self.old).state) front.now) }
+        requires members { (more : List ℕ) → HasMember (choose tail.left tail.rest) more → HasMember (runouts_after (deal self.old).state) (front.now ++ (tail.taken ++ more) ∷ []) }
+        requires order { lo < hi }
+        requires inside { hi ≤ length (choose tail.left tail.rest) }
+        requires places { 2 * length (deal self.old).pots ≤ length counts.old }
+        requires fits { CountsFit (deal self.old) counts.old (hi - lo) }
+        ensures counts { CountsGrow (deal self.old) (map (λ more. front.now ++ (tail.taken ++ more) ∷ []) (slice_range (choose tail.left tail.rest) lo hi)) counts.old counts.new }
+        ensures places { length counts.new ≡ length counts.old }
+        ensures steps { steps.new ≡ steps.old + (hi - lo) }
+        ensures deal { deal self.new ≡ deal self.old };
+}

@@ -1,0 +1,186 @@
+//! What a hand is worth with each draw of one to three cards.
+
+ghost use Rattle.std.specs.Prelude.{◌≡◌, ℕ, ◌+◌, ◌<◌, ◌≤◌, [], List, length, slice_index, slice_index_or};
+ghost use Rattle.card_sets.specs.Cards.{with_card};
+ghost use Rattle.card_sets.specs.Games.{own_size, board_size};
+ghost use Rattle.runout_walk.specs.Worth.{AreNumbers, ArePairsFrom, full_worth, plane_base};
+
+use crate::card_list::DECK;
+use card_sets::{Card, CardSet, Game};
+use showdown_tally::side_value;
+
+/// How many rows the tables of three cards have: those of two cards above each lowest card, one behind the other.
+const PLANES: usize = 1327;
+
+/// What a hand is worth with each draw of so many cards, as numbers that are greater for better.
+#[derive(Debug, Drop)]
+pub(crate) struct Numbers {
+    /// The game.
+    pub(crate) game: Game,
+    /// The hand.
+    pub(crate) own: CardSet,
+    /// How many cards it draws: one to three, and 0 where there are no numbers.
+    pub(crate) count: u8,
+    /// The numbers of two cards, by the lower card and then the higher one. Those of one card alone stand in the first row.
+    pub(crate) rows: [[u32; DECK]; DECK],
+    /// Those of three cards: for each lowest card a table as of two, of which the rows of the cards above it stand here.
+    pub(crate) planes: [[u32; DECK]; PLANES],
+    /// They are right.
+    pub(crate) ghost right: { AreNumbers count game own rows planes },
+}
+
+/// The card of a number.
+#[inline]
+fn card_of(number: usize) -> Card
+    requires { number < 52 }
+    ensures { result ≡ number }
+{
+    let number = number as u8;
+    let Some(card) = Card::new(number / 4, number % 4) else {
+        unreachable!();
+    };
+    card
+}
+
+/// What a hand is worth, if it is full.
+#[inline]
+pub(crate) fn full_worth(game: Game, full: CardSet) -> u32
+    requires { board_size game ≡ 0 }
+    ensures { length full ≡ own_size game → result ≡ full_worth game full }
+{
+    if full.count() != game.own_size() {
+        return 0;
+    }
+    let none = CardSet::empty();
+    match side_value(game.only_side(), game, full, none) {
+        Some(number) => number,
+        None => 0,
+    }
+}
+
+/// Fills in what a hand is worth with each card from one on.
+fn fill_row(row: &mut [u32], game: Game, own: CardSet, least: u8)
+    requires places { length row.old ≡ 52 }
+    requires no_board { board_size game ≡ 0 }
+    ensures { (card : ℕ) → least ≤ card → card < 52 → length (with_card own card) ≡ own_size game
+        → slice_index row.new card ≡ full_worth game (with_card own card) }
+{
+    for (number, place) in row.iter_mut().enumerate() {
+        let card = card_of(number);
+        if least <= card.number() {
+            *place = full_worth(game, own.with(card));
+        }
+    }
+}
+
+/// Fills in what a hand is worth with each card.
+fn fill_singles(rows: &mut [[u32; DECK]], game: Game, own: CardSet)
+    requires places { length rows.old ≡ 52 }
+    requires no_board { board_size game ≡ 0 }
+    ensures { (planes : List (List ℕ)) → AreNumbers 1 game own rows.new planes }
+{
+    fill_row(&mut rows[0], game, own, 0);
+}
+
+/// Fills in what a hand is worth with each two cards, of which the lower isn't below one, into the rows from one on.
+fn fill_pairs(rows: &mut [[u32; DECK]], base: usize, game: Game, own: CardSet, least: u8)
+    requires places { base + 52 ≤ length rows.old }
+    requires no_board { board_size game ≡ 0 }
+    ensures pairs { ArePairsFrom least game own rows.new base }
+    ensures before { (row : ℕ) → row < base + least → slice_index_or rows.new row [] ≡ slice_index_or rows.old row [] }
+    ensures places { length rows.new ≡ length rows.old }
+{
+    for number in usize::from(least)..DECK {
+        let low = card_of(number);
+        fill_row(
+            &mut rows[base + number],
+            game,
+            own.with(low),
+            low.number() + 1,
+        );
+    }
+}
+
+/// The same for all two cards.
+fn fill_twos(rows: &mut [[u32; DECK]], game: Game, own: CardSet)
+    requires places { length rows.old ≡ 52 }
+    requires no_board { board_size game ≡ 0 }
+    ensures { (planes : List (List ℕ)) → AreNumbers 2 game own rows.new planes }
+{
+    fill_pairs(rows, 0, game, own, 0);
+}
+
+/// Where the table of a lowest card begins among those of three cards.
+#[inline]
+pub(crate) fn plane_base(low: Card) -> usize
+    ensures value { result ≡ plane_base low }
+    ensures bound { result ≤ 1275 }
+{
+    let mut base = 0;
+    for below in 0..low.number() {
+        base += 50 - usize::from(below);
+    }
+    base
+}
+
+/// The same for all three cards.
+fn fill_planes(planes: &mut [[u32; DECK]], game: Game, own: CardSet)
+    requires places { length planes.old ≡ 1327 }
+    requires no_board { board_size game ≡ 0 }
+    ensures { (rows : List (List ℕ)) → AreNumbers 3 game own rows planes.new }
+{
+    for number in 0..DECK {
+        let low = card_of(number);
+        let base = plane_base(low);
+        fill_pairs(planes, base, game, own.with(low), low.number() + 1);
+    }
+}
+
+/// Fills in what a hand is worth with each draw of so many cards.
+fn fill(rows: &mut [[u32; DECK]], planes: &mut [[u32; DECK]], game: Game, own: CardSet, count: u8)
+    requires rows { length rows.old ≡ 52 }
+    requires planes { length planes.old ≡ 1327 }
+    requires no_board { board_size game ≡ 0 }
+    requires few { count ≤ 3 }
+    ensures { AreNumbers count game own rows.new planes.new }
+{
+    match count {
+        1 => fill_singles(rows, game, own),
+        2 => fill_twos(rows, game, own),
+        3 => fill_planes(planes, game, own),
+        _ => {}
+    }
+}
+
+impl Numbers {
+    /// No numbers.
+    pub(crate) fn none() -> Numbers
+        ensures { result.count ≡ 0 }
+    {
+        Numbers {
+            game: Game::Stud,
+            own: CardSet::empty(),
+            count: 0,
+            rows: [[0; DECK]; DECK],
+            planes: [[0; DECK]; PLANES],
+        }
+    }
+
+    /// Makes them the numbers of a hand, which are filled in where they aren't kept.
+    pub(crate) fn serve(&mut self, game: Game, own: CardSet, count: u8)
+        requires no_board { board_size game ≡ 0 }
+        requires few { count ≤ 3 }
+        ensures game { self.new.game ≡ game }
+        ensures own { self.new.own ≡ own }
+        ensures count { self.new.count ≡ count }
+    {
+        if self.count == count && self.game == game && self.own == own {
+            return;
+        }
+        self.count = 0;
+        fill(&mut self.rows, &mut self.planes, game, own, count);
+        self.game = game;
+        self.own = own;
+        self.count = count;
+    }
+}

@@ -1,0 +1,104 @@
+//! How often each of three sets wins a pot, by how some numbers stand to another.
+
+ghost use Rattle.std.specs.Prelude.{◌≡◌, ℕ, ◌+◌, ◌<◌, ◌==◌, ◌^◌, length, nat_lt, slice_index};
+ghost use Rattle.std.specs.List.{count_by};
+ghost use Rattle.runout_walk.specs.Rivals.{times_at, winner_by};
+
+/// Who wins a pot, by how the number of the last hand stands to the greatest of the others: a set of hands each, as the number with
+/// their bits.
+#[derive(Clone, Copy, Debug)]
+pub(crate) struct Rivals {
+    /// The greatest number of the others.
+    pub(crate) top: u32,
+    /// Who wins where the number of the last hand is below it.
+    pub(crate) below: u16,
+    /// Where it is the same.
+    pub(crate) equal: u16,
+    /// Where it is above.
+    pub(crate) above: u16,
+}
+
+/// How often the number of the last hand is below another, the same, and above.
+#[derive(Clone, Copy, Debug)]
+pub(crate) struct Orders {
+    /// How often it is below.
+    pub(crate) below: u32,
+    /// How often it is the same.
+    pub(crate) equal: u32,
+    /// How often it is above.
+    pub(crate) above: u32,
+}
+
+/// Counts how some numbers stand to another.
+#[inline]
+fn compare(values: &[u32], top: u32) -> Orders
+    requires { length values.now < 2 ^ 32 }
+    ensures below { result.below ≡ count_by (λ value. nat_lt value top) values.now }
+    ensures equal { result.equal ≡ count_by (λ value. value == top) values.now }
+    ensures all { result.below + result.equal + result.above ≡ length values.now }
+{
+    let mut below = 0u32;
+    let mut equal = 0u32;
+    for value in values {
+        below += u32::from(*value < top);
+        equal += u32::from(*value == top);
+    }
+    let above = values.len() as u32 - below - equal;
+    Orders {
+        below,
+        equal,
+        above,
+    }
+}
+
+/// How often the last hand is below, the same and above, where its numbers are these. Where the same set wins in any case, all count as
+/// below.
+#[inline]
+fn orders_of(rivals: &Rivals, values: &[u32]) -> Orders
+    requires { length values.now < 2 ^ 32 }
+    ensures times { (set : ℕ) → times_at rivals.now.below result.below set + times_at rivals.now.equal result.equal set + times_at rivals.now.above result.above set
+        ≡ count_by (λ value. winner_by rivals.now.top rivals.now.below rivals.now.equal rivals.now.above value == set) values.now }
+    ensures all { result.below + result.equal + result.above ≡ length values.now }
+{
+    if rivals.below == rivals.equal && rivals.equal == rivals.above {
+        return Orders {
+            below: values.len() as u32,
+            equal: 0,
+            above: 0,
+        };
+    }
+    compare(values, rivals.top)
+}
+
+/// Adds how often each set wins.
+#[inline]
+fn add_orders(row: &mut [u32], rivals: &Rivals, orders: Orders)
+    requires places { length row.old ≡ 2048 }
+    requires below { rivals.now.below < 2048 }
+    requires equal { rivals.now.equal < 2048 }
+    requires above { rivals.now.above < 2048 }
+    requires fits { (set : ℕ) → set < 2048 → slice_index row.old set + (orders.below + orders.equal + orders.above) < 2 ^ 32 }
+    ensures counts { (set : ℕ) → slice_index row.new set ≡ slice_index row.old set
+        + (times_at rivals.now.below orders.below set + times_at rivals.now.equal orders.equal set + times_at rivals.now.above orders.above set) }
+    ensures places { length row.new ≡ length row.old }
+{
+    row[usize::from(rivals.below)] += orders.below;
+    row[usize::from(rivals.equal)] += orders.equal;
+    row[usize::from(rivals.above)] += orders.above;
+}
+
+/// Counts who wins a pot where the last hand has each of some numbers.
+pub(crate) fn count_values(row: &mut [u32], rivals: &Rivals, values: &[u32])
+    requires places { length row.old ≡ 2048 }
+    requires below { rivals.now.below < 2048 }
+    requires equal { rivals.now.equal < 2048 }
+    requires above { rivals.now.above < 2048 }
+    requires few { length values.now < 2 ^ 32 }
+    requires fits { (set : ℕ) → set < 2048 → slice_index row.old set + length values.now < 2 ^ 32 }
+    ensures counts { (set : ℕ) → slice_index row.new set ≡ slice_index row.old set
+        + count_by (λ value. winner_by rivals.now.top rivals.now.below rivals.now.equal rivals.now.above value == set) values.now }
+    ensures places { length row.new ≡ length row.old }
+{
+    let orders = orders_of(rivals, values);
+    add_orders(row, rivals, orders);
+}

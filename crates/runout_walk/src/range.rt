@@ -1,0 +1,159 @@
+//! A range of the listing of runouts, slot after slot.
+
+ghost use Rattle.std.specs.Prelude.{◌≡◌, ℕ, ◌+◌, ◌-◌, ◌*◌, ◌<◌, ◌≤◌, ◌^◌, ◌==◌, ◌++◌, ◌&&◌, List, length, map, sum, take};
+ghost use Rattle.std.specs.List.{slice_range};
+ghost use Rattle.runout_ranges.specs.Slots.{counts_of};
+ghost use Rattle.runout_ranges.specs.Ways.{binomial, ways};
+ghost use Rattle.showdown_tally.specs.SideCounts.{CountsFit, CountsGrow};
+ghost use Rattle.runout_walk.specs.Branches.{IsAt};
+ghost use Rattle.runout_walk.specs.Listing.{going_on};
+
+use crate::branch::Branch;
+use crate::leaf::{Leaf, Tail};
+use card_sets::CardSet;
+use runout_ranges::{Slot, count_choices};
+use std::sync::ledger::Ledger;
+use step_count::Steps;
+
+/// How many ways there are to fill the slots from so many cards, which are known to fit 64 bits.
+pub(crate) fn count_ways(left: u32, slots: &[Slot]) -> u64
+    requires deck { left ≤ 52 }
+    requires enough { sum (counts_of slots.now) ≤ left }
+    requires fits { ways left (counts_of slots.now) < 2 ^ 64 }
+    ensures { result ≡ ways left (counts_of slots.now) }
+{
+    let [slot, later @ ..] = slots else {
+        return 1;
+    };
+    let count = u32::from(slot.count);
+    count_choices(left, count) * count_ways(left - count, later)
+}
+
+/// How many choices of so many cards have the first of them, where so many others are left. With a number for k no division is left.
+#[inline]
+fn count_with(others: u32, left: u32) -> u64
+    requires deck { others ≤ 52 }
+    requires some { 1 ≤ left }
+    requires within { left - 1 ≤ others }
+    ensures { result ≡ binomial others (left - 1) }
+{
+    match left {
+        1 => count_choices(others, 0),
+        2 => count_choices(others, 1),
+        3 => count_choices(others, 2),
+        4 => count_choices(others, 3),
+        5 => count_choices(others, 4),
+        _ => count_choices(others, left - 1),
+    }
+}
+
+/// How many runouts have the first card of the rest, where so many others are left and the later slots can be filled in so many ways.
+#[inline]
+fn count_first(others: u32, left: u32, each: u64) -> u64
+    requires deck { others ≤ 52 }
+    requires some { 1 ≤ left }
+    requires within { left - 1 ≤ others }
+    requires fits { binomial others (left - 1) * each < 2 ^ 64 }
+    ensures { result ≡ binomial others (left - 1) * each }
+{
+    count_with(others, left) * each
+}
+
+/// Whether no slot is left behind one, and it gets as many cards as are dealt at once.
+#[inline]
+fn is_last(later: &[Slot], left: u32, depth: u32) -> bool
+    ensures { result ≡ ((length later.now == 0) && (left == depth)) }
+{
+    later.is_empty() && left == depth
+}
+
+/// Counts the runouts that go on from a branch, from one place of the listing of these to another: for each pot, on each side. The sets
+/// of the slots before it are the first ones, and those behind them are overwritten. It takes a step a runout.
+pub(crate) fn count_range<F: Leaf, L: Ledger>(
+    leaf: &mut F,
+    counts: &mut [[u32; 2048]],
+    sets: &mut [CardSet],
+    branch: &Branch<'_>,
+    lo: u64,
+    hi: u64,
+    steps: &mut Steps<L>,
+)
+    requires at { IsAt (F.deal leaf.old) (F.depth (F.deal leaf.old)) (take branch.now.slot sets.old) branch.now.unseen branch.now.tail.taken branch.now.tail.rest branch.now.tail.left branch.now.later.now branch.now.each }
+    requires room { branch.now.slot + length branch.now.later.now ≤ length sets.old }
+    requires order { lo < hi }
+    requires inside { hi ≤ length (going_on branch.now.unseen branch.now.tail.taken branch.now.tail.rest branch.now.tail.left (counts_of branch.now.later.now)) }
+    requires places { 2 * length (F.deal leaf.old).pots ≤ length counts.old }
+    requires fits { CountsFit (F.deal leaf.old) counts.old (hi - lo) }
+    ensures counts { CountsGrow (F.deal leaf.old)
+        (map (λ more. take branch.now.slot sets.old ++ more) (slice_range (going_on branch.now.unseen branch.now.tail.taken branch.now.tail.rest branch.now.tail.left (counts_of branch.now.later.now)) lo hi))
+        counts.old counts.new }
+    ensures places { length counts.new ≡ length counts.old }
+    ensures front { take branch.now.slot sets.new ≡ take branch.now.slot sets.old }
+    ensures room { length sets.new ≡ length sets.old }
+    ensures steps { steps.new ≡ steps.old + (hi - lo) }
+    ensures deal { F.deal leaf.new ≡ F.deal leaf.old }
+{
+    branch.unseen.rising();
+    let tail = branch.tail;
+    if is_last(branch.later, tail.left, leaf.depth()) {
+        let front = &sets[..branch.slot];
+        leaf.count(counts, front, tail, lo, hi, steps);
+        return;
+    }
+    if tail.left == 0 {
+        let [next, last @ ..] = branch.later else {
+            unreachable!();
+        };
+        sets[branch.slot] = tail.taken;
+        let cards = branch.unseen.minus(tail.taken);
+        let count = u32::from(next.count);
+        let inner = Branch {
+            slot: branch.slot + 1,
+            later: last,
+            each: count_ways(cards.count() - count, last),
+            unseen: cards,
+            tail: Tail {
+                taken: CardSet::empty(),
+                rest: cards,
+                left: count,
+            },
+        };
+        count_range(leaf, counts, sets, &inner, lo, hi, steps);
+        return;
+    }
+    let Some(card) = tail.rest.first() else {
+        unreachable!();
+    };
+    let others = tail.rest.without(card);
+    let more = tail.taken.with(card);
+    let with_card = count_first(others.count(), tail.left, branch.each);
+    let with = Branch {
+        tail: Tail {
+            taken: more,
+            rest: others,
+            left: tail.left - 1,
+        },
+        ..*branch
+    };
+    if hi <= with_card {
+        count_range(leaf, counts, sets, &with, lo, hi, steps);
+        return;
+    }
+    let without = Branch {
+        tail: Tail {
+            taken: tail.taken,
+            rest: others,
+            left: tail.left,
+        },
+        ..*branch
+    };
+    if with_card <= lo {
+        let start = lo - with_card;
+        let end = hi - with_card;
+        count_range(leaf, counts, sets, &without, start, end, steps);
+        return;
+    }
+    count_range(leaf, counts, sets, &with, lo, with_card, steps);
+    let end = hi - with_card;
+    count_range(leaf, counts, sets, &without, 0, end, steps);
+}

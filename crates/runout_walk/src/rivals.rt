@@ -1,0 +1,149 @@
+//! Who wins a pot, by the best of all hands but one and by the number of that one.
+
+ghost use Rattle.std.specs.Prelude.{◌≡◌, ℕ, ◌+◌, ◌*◌, ◌<◌, ◌≤◌, ◌==◌, ◌^◌, [], if◌then◌else◌, length, slice_index, slice_index_or};
+ghost use Rattle.std.specs.List.{count_by};
+ghost use Rattle.card_sets.specs.PlayerSets.{has_player, hands_below};
+ghost use Rattle.showdown_tally.specs.Deals.{deal_of};
+ghost use Rattle.showdown_tally.specs.Showdown.{eligible_in};
+ghost use Rattle.runout_walk.specs.Bests.{best_set, best_value};
+ghost use Rattle.runout_walk.specs.Rivals.{value_with, winner_by};
+
+use crate::orders::{Rivals, count_values};
+use card_sets::{CardSet, PlayerSet};
+use showdown_tally::Table;
+
+/// The greatest number of some hands, and those that have it, as the number with their bits.
+#[derive(Clone, Copy, Debug)]
+struct Top {
+    /// The number, 0 for no hands.
+    number: u32,
+    /// The hands.
+    set: u16,
+}
+
+/// The number of a hand of a set, and else 0.
+#[inline]
+fn value_at(values: &[u32; 10], hands: PlayerSet, hand: u8) -> u32
+    requires { hand < 10 }
+    ensures { result ≡ (if has_player hands hand then slice_index values.now hand else 0) }
+{
+    if hands.has(hand) {
+        values[usize::from(hand)]
+    } else {
+        0
+    }
+}
+
+/// The greatest number of the first `count` hands that are in a set.
+#[inline]
+fn top_of(values: &[u32; 10], hands: PlayerSet, count: u8) -> u32
+    requires { count ≤ 10 }
+    ensures { result ≡ best_value (slice_index values.now) (hands_below hands count) }
+{
+    let mut top: u32 = 0;
+    for hand in 0..count {
+        top = top.max(value_at(values, hands, hand));
+    }
+    top
+}
+
+/// The best of the first `count` hands that are in a set.
+#[inline]
+fn best_of(values: &[u32; 10], hands: PlayerSet, count: u8) -> Top
+    requires { count ≤ 10 }
+    ensures number { result.number ≡ best_value (slice_index values.now) (hands_below hands count) }
+    ensures set { result.set ≡ best_set (slice_index values.now) (hands_below hands count) }
+    ensures small { result.set < 2 ^ count }
+{
+    let number = top_of(values, hands, count);
+    let mut set: u16 = 0;
+    for hand in 0..count {
+        if hands.has(hand) && values[usize::from(hand)] == number {
+            set += 1 << hand;
+        }
+    }
+    Top { number, set }
+}
+
+/// There are ten places for hands and for pots.
+#[inline]
+fn ten_places(table: &Table)
+    ensures hands { length table.now.known.hands ≡ 10 }
+    ensures pots { length table.now.eligible ≡ 10 }
+{
+    let _hands: &[CardSet] = &table.known.hands;
+    let _pots: &[u16] = &table.eligible;
+}
+
+/// The three sets that win a pot, where the best of the others is known and the last hand is eligible, or isn't.
+#[inline]
+fn sets_of(best: Top, last: u8, plays: bool) -> Rivals
+    requires last { last < 10 }
+    requires room { 2 ^ last ≤ 512 }
+    requires small { best.set < 1024 }
+    ensures top { result.top ≡ best.number }
+    ensures below { result.below ≡ best.set }
+    ensures equal { result.equal ≡ best.set + (if plays then 2 ^ last else 0) }
+    ensures above { result.above ≡ (if plays then 2 ^ last else best.set) }
+    ensures below_small { result.below < 2048 }
+    ensures equal_small { result.equal < 2048 }
+    ensures above_small { result.above < 2048 }
+{
+    let bit = 1u16 << last;
+    if plays {
+        Rivals {
+            top: best.number,
+            below: best.set,
+            equal: best.set + bit,
+            above: bit,
+        }
+    } else {
+        Rivals {
+            top: best.number,
+            below: best.set,
+            equal: best.set,
+            above: best.set,
+        }
+    }
+}
+
+/// Who wins a pot, by the number of the last hand.
+#[inline]
+fn rivals_of(table: &Table, pot: u8, last: u8, values: &[u32; 10]) -> Rivals
+    requires inside { pot < table.now.pots }
+    requires last { last < table.now.known.count }
+    ensures winner { (value : ℕ) → winner_by result.top result.below result.equal result.above value ≡ best_set (value_with values.now last value) (eligible_in (deal_of table.now) pot) }
+    ensures below { result.below < 2048 }
+    ensures equal { result.equal < 2048 }
+    ensures above { result.above < 2048 }
+{
+    ten_places(table);
+    let hands = PlayerSet::of(table.eligible[pot as usize]);
+    let best = best_of(values, hands.without(last), table.known.count);
+    sets_of(best, last, hands.has(last))
+}
+
+/// Counts who wins each pot where the last hand has each of some numbers and the others have theirs, in the row of a side.
+pub(crate) fn count_pots(
+    table: &Table,
+    row: usize,
+    last: u8,
+    numbers: &[u32; 10],
+    values: &[u32],
+    counts: &mut [[u32; 2048]],
+)
+    requires row { row < 2 }
+    requires last { last < table.now.known.count }
+    requires few { length values.now < 2 ^ 32 }
+    requires places { 2 * table.now.pots ≤ length counts.old }
+    requires fits { (pot set : ℕ) → pot < table.now.pots → set < 2048 → slice_index (slice_index_or counts.old (2 * pot + row) []) set + length values.now < 2 ^ 32 }
+    ensures counts { (pot set : ℕ) → pot < table.now.pots → set < 2048
+        → slice_index (slice_index_or counts.new (2 * pot + row) []) set ≡ slice_index (slice_index_or counts.old (2 * pot + row) []) set
+        + count_by (λ value. best_set (value_with numbers.now last value) (eligible_in (deal_of table.now) pot) == set) values.now }
+    ensures places { length counts.new ≡ length counts.old }
+{
+    for pot in 0..table.pots {
+        let rivals = rivals_of(table, pot, last, numbers);
+        count_values(&mut counts[2 * (pot as usize) + row], &rivals, values);
+    }
+}

@@ -1,0 +1,42 @@
+//! What a hand is worth with a board and two cards more, by the ranks of the two.
+
+ghost use Rattle.std.specs.Prelude.{◌≡◌, ◌<◌, length, IsTrue};
+ghost use Rattle.card_sets.specs.Disjoint.{apart};
+ghost use Rattle.card_sets.specs.Games.{has_board, own_size};
+ghost use Rattle.runout_walk.specs.BoardWith.{AreWorthWith};
+
+use crate::board::board_with;
+use crate::high::plain_value;
+use card_sets::{CardSet, Game, Side};
+use showdown_tally::side_value;
+
+/// What own cards are worth on both sides, each as a number that is greater for better.
+#[derive(Clone, Copy, Debug)]
+pub(crate) struct Worth {
+    /// As a high by ranks alone.
+    pub(crate) high: u32,
+    /// As a low, where there is one.
+    pub(crate) low: Option<u32>,
+}
+
+/// What full own cards are worth with three cards of the board and one card of each of two ranks more, whichever cards these are: as a
+/// high, if there were no flushes, and as a low. Where there are no such cards the answer says nothing.
+pub(crate) fn worth_with(game: Game, own: CardSet, board: CardSet, low: u8, high: u8) -> Worth
+    requires game { IsTrue (has_board game) }
+    requires own { length own ≡ own_size game }
+    requires board { length board ≡ 3 }
+    requires apart { IsTrue (apart own board) }
+    requires low { low < 13 }
+    requires high { high < 13 }
+    ensures { AreWorthWith game own board low high result.high result.low }
+{
+    own.rising();
+    board.rising();
+    let Some(full) = board_with(own, board, low, high) else {
+        return Worth { high: 0, low: None };
+    };
+    Worth {
+        high: plain_value(game, own, full),
+        low: side_value(Side::Low, game, own, full),
+    }
+}
