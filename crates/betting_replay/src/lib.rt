@@ -33,8 +33,6 @@ mod returns;
 mod seats;
 mod step;
 mod streets;
-#[cfg(test)]
-mod tests;
 mod turns;
 
 pub use faults::BetFault;

@@ -1,18 +1,18 @@
 //! Where bytes come from and where they go: sources and sinks, with a count of what failed.
 //!
-//! A source or a sink may tell its bytes to contracts, as those over memory do, or tell nothing,
-//! as those over std's readers and writers.
+//! A source or a sink may tell its bytes to contracts, as those over memory and the source of one line
+//! do, or tell nothing, as those over std's readers and writers.
 #![tactic(auto)]
 
 ghost use Rattle.std.specs.Prelude.{◌≡◌, ℕ, ◌<◌, ◌≤◌, length, List, Option, IfOk, OnOk, OnErr};
 ghost use Rattle.byte_ends.specs.Ends.{Rises, Reads, Takes, WritesAll, WritesFront};
 
 mod memory;
+mod repeat;
 mod standard;
-#[cfg(test)]
-mod tests;
 
 pub use memory::{MemorySink, MemorySource};
+pub use repeat::RepeatSource;
 pub use standard::{StdSink, StdSource};
 
 /// A read or a write that failed.

@@ -173,29 +173,3 @@ impl Iterator for Players {
         Some(player)
     }
 }
-
-#[cfg(test)]
-mod tests {
-    use super::*;
-    use std::test::Fail;
-
-    #[test]
-    fn a_set_gives_its_players_rising(rt: HostRuntime) -> Result<(), Fail> {
-        let set = PlayerSet::empty().with(9).with(2).with(14).with(0).with(2);
-        assert_eq!(rt; set.bits(), 0b100_0010_0000_0101);
-        assert_eq!(rt; set.count(), 4);
-        assert!(rt; set.has(9) && !set.without(9).has(9) && !set.has(3));
-        assert_eq!(rt; set.seats(), PlayerSet::of(0b10_0000_0100));
-        assert_eq!(rt; set.below(9), PlayerSet::of(0b101));
-        assert_eq!(rt;
-            PlayerSet::passing(5, |p| p % 2 == 1),
-            PlayerSet::of(0b1010)
-        );
-        let mut players = Vec::new(rt.alloc());
-        for player in set.each() {
-            players.push(player)?;
-        }
-        assert_eq!(rt; players.as_slice(), [0, 2, 9, 14].as_slice());
-        Ok(())
-    }
-}

@@ -1,5 +1,5 @@
 -- The sums of two parts of a listing fit, and so do those of one block more.
-use Rattle.std.proofs.Common.{◌≡◌, ℕ, suc, ◌+◌, ◌*◌, ◌<◌, ◌≤◌, ◌-◌, ◌^◌, List, [], ◌∷◌, length, length-append, drop, ap, arith}
+use Rattle.std.proofs.Common.{◌≡◌, ℕ, suc, ◌+◌, ◌*◌, ◌<◌, ◌≤◌, ◌-◌, ◌^◌, List, [], ◌∷◌, length, length-append, take, drop, arith}
 use Rattle.std.specs.List.{sum_by}
 use Rattle.std.proofs.lemmas.List.{length-take}
 use Rattle.std.proofs.lemmas.List.Sums.{sum_by-cons, count_by-le-length}
@@ -33,12 +33,22 @@ units_fit deal some more old other a b few pot hand p h =
     let f = b.units pot hand p h in
     omega (arith, sum_small (units deal pot hand) some (units_small deal pot hand), sum_small (units deal pot hand) more (units_small deal pot hand))
 
+-- the first so many of a list are no more than that, and no more than all
+take_few : {X : Type 0} (n : ℕ) (xs : List X) → length (take n xs) ≤ n
+take_few n xs = omega (arith, length-take n xs)
+
+take_some : {X : Type 0} (n : ℕ) (xs : List X) → length (take n xs) ≤ length xs
+take_some n xs = omega (arith, length-take n xs)
+
 -- neither the blocks so far nor the next are longer than the listing
 pub parts_few : (all : List (List (List ℕ))) (block : ℕ) → length all ≤ RUNOUT_MAX → 10080 * (length (blocks_below all block) + length (block_of all block)) < 2 ^ 64
-parts_few all block few =
-    let size : block * BLOCK + BLOCK - block * BLOCK ≡ BLOCK = omega arith in
-    let here : length (block_of all block) ≤ BLOCK = rw size (omega (arith, length-take BLOCK (drop (block * BLOCK) all))) in
-    omega (arith, here, ap length (below-take all block), length-take (block * BLOCK) all)
+parts_few all block few = small (length (blocks_below all block)) (length (block_of all block)) (rw (below-take all block) (take_some (block * BLOCK) all)) (rw size (take_few BLOCK (drop (block * BLOCK) all)))
+  where
+    size : block * BLOCK + BLOCK - block * BLOCK ≡ BLOCK
+    size = omega arith
+
+    small : (before here : ℕ) → before ≤ length all → here ≤ BLOCK → 10080 * (before + here) < 2 ^ 64
+    small before here b h = omega arith
 
 pub more_blocks : (deal : Showdown) (all : List (List (List ℕ))) (block : ℕ) (old other new : Sums) → Counts deal (blocks_below all block) old → Counts deal (block_of all block) other → IsSum old other new → Counts deal (blocks_below all (block + 1)) new
 more_blocks deal all block old other new a b sum =

@@ -19,6 +19,10 @@ use Rattle.equity_job.proofs.OnlyRunout.{of_state}
 pub enough_blocks : (runouts : ℕ) → runouts ≤ blocks_of runouts * BLOCK
 enough_blocks runouts = omega arith
 
+-- so many blocks as there are hold all
+pub enough_below : (runouts block blocks : ℕ) → blocks ≡ blocks_of runouts → blocks ≤ block → runouts ≤ block * BLOCK
+enough_below runouts block blocks e l = omega (arith, enough_blocks runouts)
+
 -- a sum over the blocks put together
 sum-blocks : {X : Type 0} (f : X → ℕ) (all : List X) (n : ℕ) → sum_by f (blocks_below all n) ≡ sum_below (λ b. sum_by f (block_of all b)) n
 sum-blocks f all zero = refl

@@ -1,47 +1,66 @@
 //! The count of a job.
 
-ghost use Rattle.std.specs.Prelude.{◌≡◌, ◌+◌, ◌<◌, length};
+ghost use Rattle.std.specs.Prelude.{◌≡◌, ◌+◌, ◌<◌, ◌≤◌, length};
 ghost use Rattle.card_sets.specs.State.{state_of};
 ghost use Rattle.showdown_tally.specs.Deals.{deal_of};
 ghost use Rattle.showdown_tally.specs.Tallies.{Counts, runouts_after};
+ghost use Rattle.equity_job.specs.Blocks.{blocks_below};
 
-use crate::{Job, Scratch, count_block};
+use crate::{Job, Scratch, fill_block};
 use showdown_tally::Tally;
 use std::marker::Brand;
 use std::sync::ledger::{Blank, Ledger};
 use step_count::Steps;
 
-/// The tally of all runouts of a job, one block after another. It takes one step a runout.
-fn count_blocks<L: Ledger>(job: &Job, scratch: &mut Scratch, steps: &mut Steps<L>) -> Tally
-    ensures counts { Counts (deal_of job.now.table) (runouts_after (state_of job.now.table.known)) result }
-    ensures some { 0 < result.runouts }
+/// Adds to a tally of the first block of a job those of all others, one after another.
+#[inline(never)]
+fn add_others<L: Ledger>(job: &Job, scratch: &mut Scratch, total: &mut Tally, steps: &mut Steps<L>)
+    requires first { Counts (deal_of job.now.table) (blocks_below (runouts_after (state_of job.now.table.known)) 1) total.old }
+    ensures counts { Counts (deal_of job.now.table) (runouts_after (state_of job.now.table.known)) total.new }
+    ensures steps { steps.new + length (blocks_below (runouts_after (state_of job.now.table.known)) 1) ≡ steps.old + length (runouts_after (state_of job.now.table.known)) }
+{
+    let mut tally = Tally::zero();
+    for block in 1..job.blocks() {
+        fill_block(job, block, scratch, &mut tally, steps);
+        total.add(&tally);
+    }
+}
+
+/// Makes a tally that of all runouts of a job, one block after another. It takes one step a runout.
+fn count_blocks<L: Ledger>(
+    job: &Job,
+    scratch: &mut Scratch,
+    total: &mut Tally,
+    steps: &mut Steps<L>,
+)
+    ensures counts { Counts (deal_of job.now.table) (runouts_after (state_of job.now.table.known)) total.new }
+    ensures some { 0 < total.new.runouts }
     ensures steps { steps.new ≡ steps.old + length (runouts_after (state_of job.now.table.known)) }
 {
     job.shape.unseen.rising();
-    let mut total = count_block(job, 0, scratch, steps);
-    for block in 1..job.blocks() {
-        let tally = count_block(job, block, scratch, steps);
-        total.add(&tally);
+    fill_block(job, 0, scratch, total, steps);
+    if job.blocks() == 1 {
+        return;
     }
-    total
+    add_others(job, scratch, total, steps);
 }
 
 /// The same with a counter of its own, which begins at 0.
-fn count_on<L: Ledger>(job: &Job, scratch: &mut Scratch, blank: Blank) -> Tally
+fn count_on<L: Ledger>(job: &Job, scratch: &mut Scratch, total: &mut Tally, blank: Blank)
     requires name { blank.name ≡ L.name }
     requires parts { blank.parts ≡ L.parts }
     requires some { 0 < blank.parts }
-    ensures counts { Counts (deal_of job.now.table) (runouts_after (state_of job.now.table.known)) result }
-    ensures some { 0 < result.runouts }
+    ensures counts { Counts (deal_of job.now.table) (runouts_after (state_of job.now.table.known)) total.new }
+    ensures some { 0 < total.new.runouts }
 {
     let mut steps = Steps::<L>::new(blank);
-    count_blocks(job, scratch, &mut steps)
+    count_blocks(job, scratch, total, &mut steps);
 }
 
-/// The tally of all runouts of a job, for a caller that counts no steps.
-pub fn count_job(job: &Job, scratch: &mut Scratch) -> Tally
-    ensures counts { Counts (deal_of job.now.table) (runouts_after (state_of job.now.table.known)) result }
-    ensures some { 0 < result.runouts }
+/// Makes a tally that of all runouts of a job, whatever it held, for a caller that counts no steps.
+pub fn count_job(job: &Job, scratch: &mut Scratch, total: &mut Tally)
+    ensures counts { Counts (deal_of job.now.table) (runouts_after (state_of job.now.table.known)) total.new }
+    ensures some { 0 < total.new.runouts }
 {
-    count_on::<Brand>(job, scratch, Blank::new(1))
+    count_on::<Brand>(job, scratch, total, Blank::new(1));
 }

@@ -11,7 +11,7 @@ mod jobs;
 mod laws;
 mod limits;
 
-pub use blocks::{Scratch, count_block};
+pub use blocks::{Scratch, count_block, fill_block};
 pub use counting::count_job;
 pub use jobs::{Job, JobFault};
 pub use laws::{law_block_sums_add, law_blocks_add_up, law_blocks_are_all};

@@ -4,9 +4,7 @@
 use crate::histories::{
     HEADS_UP, SIDE_POTS, SIX_SEATS, as_typed, first_lines, with_line, with_mucked_hand,
 };
-use crate::runs::{AMPLE, run};
-use std::alloc::Global;
-use std::process::Abort;
+use crate::runs::reports;
 use std::test::Fail;
 
 /// Of 42 rivers `5s` gives carl a full house, and `Js` four of a kind; the other seven spades are dora's.
@@ -22,7 +20,8 @@ expect 100.83 carl\n\
 expect 20.17 dora\n";
 
 /// What a expects of both pots is rounded once: 928.57 and 1285.71 are 2214.29.
-const SIDE_POTS_REPORT: &str = "hand 88 accepted holdem rake 0\n\
+const SIDE_POTS_REPORT: &str = "hand 88 rejected line 12 Unfinished\n\
+hand 88 accepted holdem rake 0\n\
 pot 0 gross 1500 rake 0 checked\n\
 paid 1500 a\n\
 pot 1 gross 2000 rake 0 checked\n\
@@ -42,56 +41,37 @@ expect 2214 a\n\
 expect 36 b\n\
 expect 1250 c\n";
 
-/// The audit of the input has this report, and the run ends with this status.
-fn audits(
-    rt: &impl Abort,
-    alloc: Global,
-    input: &[u8],
-    status: u8,
-    report: &str,
-) -> Result<(), Fail> {
-    let ran = run(alloc, &["audit"], input, AMPLE)?;
-    assert_eq!(rt; ran.written.as_slice(), report.as_bytes(), "{report}");
-    assert_eq!(rt; ran.status, status, "{report}");
-    Ok(())
-}
-
 /// A cash hand and a hand with side pots, and behind a hand that is cut off.
 #[test]
 fn a_known_all_in_has_its_equity(rt: HostRuntime) -> Result<(), Fail> {
     let alloc = rt.alloc();
     let input = as_typed(alloc, SIX_SEATS)?;
-    audits(&rt, alloc, &input, 0, SIX_SEATS_REPORT)?;
+    reports(&rt, alloc, &["audit"], &input, 0, SIX_SEATS_REPORT)?;
     let mut input = first_lines(alloc, SIDE_POTS, 12)?;
     input.extend_from_slice(SIDE_POTS.as_bytes())?;
-    let report = format!(in alloc; "hand 88 rejected line 12 Unfinished\n{SIDE_POTS_REPORT}")?;
-    audits(&rt, alloc, &input, 1, report.as_str())
+    reports(&rt, alloc, &["audit"], &input, 1, SIDE_POTS_REPORT)
 }
 
-/// A hand with no all-in, one with cards that nobody saw, one that is rejected, and no hand.
-#[test]
-fn other_hands_have_none(rt: HostRuntime) -> Result<(), Fail> {
-    let alloc = rt.alloc();
-    let checked_down = "hand 2 accepted holdem rake 0.00\n\
+const NO_ALL_IN: &str = "hand 2 accepted holdem rake 0.00\n\
 pot 0 gross 6.00 rake 0.00 checked\n\
 paid 6.00 x\n\
 all-in none\n";
-    audits(&rt, alloc, HEADS_UP.as_bytes(), 0, checked_down)?;
-    let input = with_mucked_hand(alloc)?;
-    let mucked = "hand 88 accepted holdem rake 0\n\
+
+const UNKNOWN_ALL_IN: &str = "hand 88 accepted holdem rake 0\n\
 pot 0 gross 1500 rake 0 unseen\n\
 paid 1500 a\n\
 pot 1 gross 2000 rake 0 checked\n\
 paid 2000 a\n\
 all-in unknown\n";
-    audits(&rt, alloc, &input, 0, mucked)?;
+
+/// A hand with no all-in, one with cards that nobody saw, and one that is rejected.
+#[test]
+fn other_hands_have_none(rt: HostRuntime) -> Result<(), Fail> {
+    let alloc = rt.alloc();
+    reports(&rt, alloc, &["audit"], HEADS_UP.as_bytes(), 0, NO_ALL_IN)?;
+    let input = with_mucked_hand(alloc)?;
+    reports(&rt, alloc, &["audit"], &input, 0, UNKNOWN_ALL_IN)?;
     let input = with_line(alloc, SIDE_POTS, 21, "*** RIVER *** [7h 8h 2c Qs] [As]\n")?;
-    audits(
-        &rt,
-        alloc,
-        &input,
-        1,
-        "hand 88 rejected line 23 CardTwice As\n",
-    )?;
-    audits(&rt, alloc, b"holdem As Ah - Ks Kh\n", 0, "")
+    let rejected = "hand 88 rejected line 23 CardTwice As\n";
+    reports(&rt, alloc, &["audit"], &input, 1, rejected)
 }

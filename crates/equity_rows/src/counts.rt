@@ -1,275 +1,24 @@
-//! Spots of each game with the block that a run writes of them, and their count by blocks beside the plain one.
-//!
-//! The counts are those of a listing of all runouts by some lines of Python that compare fives by their groups and ranks, and try
-//! every five of a hand.
+//! The spots of a listing: what a run writes of them, and their count by blocks beside the plain one.
 
 ghost use Rattle.std.specs.Prelude.{◌≡◌, ◌<◌};
 
+use crate::listed::SPOTS;
 use crate::plain::count_plain;
-use crate::runs::{AMPLE, run};
-use card_sets::Side;
+use crate::runs::reports;
+use card_sets::{Known, Side};
 use equity_job::{Job, Scratch, count_job};
 use report_table::table_alone;
-use showdown_tally::Tally;
+use showdown_tally::{Table, Tally};
 use spot_text::read_spot;
 use std::marker::Brand;
 use std::sync::ledger::{Blank, Ledger};
 use std::test::Fail;
 use step_count::Steps;
 
-/// Spot lines, each with its block.
-const ROWS: &[(&[u8], &[u8])] = &[
-    (
-        b"holdem Qd Qh - 8s 9s -- 2h 7s Ts",
-        b"spot 1 holdem runouts 990
-hand 1 high win 433 43.74 tie 0 0.00 lose 557 56.26
-hand 1 ev 0.437
-hand 2 high win 557 56.26 tie 0 0.00 lose 433 43.74
-hand 2 ev 0.563
-",
-    ),
-    (
-        b"holdem Kd As - Kc Ah - 7c 7d -- Th Js Qs",
-        b"spot 1 holdem runouts 903
-hand 1 high win 44 4.87 tie 831 92.03 lose 28 3.10
-hand 1 ev 0.508
-hand 2 high win 0 0.00 tie 831 92.03 lose 72 7.97
-hand 2 ev 0.459
-hand 3 high win 28 3.10 tie 4 0.44 lose 871 96.46
-hand 3 ev 0.032
-",
-    ),
-    (
-        b"holdem 2c 7d - 2d 7h - 3c 8d - 3d 8h - 4c 9d - 4d 9h - 5c Td - 5d Th - 6c Jd - 6d Jh -- As Ks Qc",
-        b"spot 1 holdem runouts 406
-hand 1 high win 0 0.00 tie 98 24.14 lose 308 75.86
-hand 1 ev 0.081
-hand 2 high win 0 0.00 tie 98 24.14 lose 308 75.86
-hand 2 ev 0.081
-hand 3 high win 0 0.00 tie 106 26.11 lose 300 73.89
-hand 3 ev 0.091
-hand 4 high win 0 0.00 tie 106 26.11 lose 300 73.89
-hand 4 ev 0.091
-hand 5 high win 0 0.00 tie 114 28.08 lose 292 71.92
-hand 5 ev 0.101
-hand 6 high win 0 0.00 tie 114 28.08 lose 292 71.92
-hand 6 ev 0.101
-hand 7 high win 0 0.00 tie 122 30.05 lose 284 69.95
-hand 7 ev 0.111
-hand 8 high win 0 0.00 tie 122 30.05 lose 284 69.95
-hand 8 ev 0.111
-hand 9 high win 0 0.00 tie 126 31.03 lose 280 68.97
-hand 9 ev 0.116
-hand 10 high win 0 0.00 tie 126 31.03 lose 280 68.97
-hand 10 ev 0.116
-",
-    ),
-    (
-        b"holdem As Kd - Qc Qh -- Qs Js Ts 2d",
-        b"spot 1 holdem runouts 44
-hand 1 high win 34 77.27 tie 0 0.00 lose 10 22.73
-hand 1 ev 0.773
-hand 2 high win 10 22.73 tie 0 0.00 lose 34 77.27
-hand 2 ev 0.227
-",
-    ),
-    (
-        b"holdem Ac Ad - Kc Kd -- 2c 3c 4c 5c 6c",
-        b"spot 1 holdem runouts 1
-hand 1 high win 0 0.00 tie 1 100.00 lose 0 0.00
-hand 1 ev 0.500
-hand 2 high win 0 0.00 tie 1 100.00 lose 0 0.00
-hand 2 ev 0.500
-",
-    ),
-    (
-        b"omaha8 As 2d Kh Qh - 3c 4d 9s 9h -- 5s 6h Js",
-        b"spot 1 omaha8 runouts 820
-hand 1 high win 289 35.24 tie 0 0.00 lose 531 64.76
-hand 1 low win 421 51.34 tie 0 0.00 lose 399 48.66
-hand 1 ev 0.496
-hand 2 high win 531 64.76 tie 0 0.00 lose 289 35.24
-hand 2 low win 189 23.05 tie 0 0.00 lose 631 76.95
-hand 2 ev 0.504
-",
-    ),
-    (
-        b"omaha8 As 2s Kd Kh - Ad 3d Qc Qs - 4c 5c 6d 7d - Ah 8h 9c Tc - Ts Js Jd 9d - 2h 3h 4h 6h -- 5s 7s Kc",
-        b"spot 1 omaha8 runouts 300
-hand 1 high win 214 71.33 tie 0 0.00 lose 86 28.67
-hand 1 low win 153 51.00 tie 0 0.00 lose 147 49.00
-hand 1 ev 0.708
-hand 2 high win 5 1.67 tie 0 0.00 lose 295 98.33
-hand 2 low win 41 13.67 tie 0 0.00 lose 259 86.33
-hand 2 ev 0.085
-hand 3 high win 2 0.67 tie 19 6.33 lose 279 93.00
-hand 3 low win 0 0.00 tie 4 1.33 lose 296 98.67
-hand 3 ev 0.026
-hand 4 high win 29 9.67 tie 4 1.33 lose 267 89.00
-hand 4 low win 0 0.00 tie 0 0.00 lose 300 100.00
-hand 4 ev 0.062
-hand 5 high win 16 5.33 tie 4 1.33 lose 280 93.33
-hand 5 low win 0 0.00 tie 0 0.00 lose 300 100.00
-hand 5 ev 0.042
-hand 6 high win 11 3.67 tie 19 6.33 lose 270 90.00
-hand 6 low win 24 8.00 tie 4 1.33 lose 272 90.67
-hand 6 ev 0.078
-",
-    ),
-    (
-        b"omaha8 As 2s Kd Kh - Qc Qd Jc Jd -- 3h 4c 8s 9h",
-        b"spot 1 omaha8 runouts 40
-hand 1 high win 32 80.00 tie 0 0.00 lose 8 20.00
-hand 1 low win 40 100.00 tie 0 0.00 lose 0 0.00
-hand 1 ev 0.900
-hand 2 high win 8 20.00 tie 0 0.00 lose 32 80.00
-hand 2 low win 0 0.00 tie 0 0.00 lose 40 100.00
-hand 2 ev 0.100
-",
-    ),
-    (
-        b"omaha8 Ac 2c 3c 4c - Ad 2d Kd Kh -- 5h 6h 7s 8s 9s",
-        b"spot 1 omaha8 runouts 1
-hand 1 high win 1 100.00 tie 0 0.00 lose 0 0.00
-hand 1 low win 0 0.00 tie 1 100.00 lose 0 0.00
-hand 1 ev 0.750
-hand 2 high win 0 0.00 tie 0 0.00 lose 1 100.00
-hand 2 low win 0 0.00 tie 1 100.00 lose 0 0.00
-hand 2 ev 0.250
-",
-    ),
-    (
-        b"stud As Ks Qs 2d 3h 4c - Ad Kd Qd 2c 3s 4h",
-        b"spot 1 stud runouts 1560
-hand 1 high win 732 46.92 tie 96 6.15 lose 732 46.92
-hand 1 ev 0.500
-hand 2 high win 732 46.92 tie 96 6.15 lose 732 46.92
-hand 2 ev 0.500
-",
-    ),
-    (
-        b"stud 9c 9d 8h 8s 7c 2d - Ac Kc Qc Jc 2h - Ad Kd 5d 5h 5s 3c 2s / 2c 3d 3h 3s 4c 4d 4h 4s 5c 6c 6d 6h 6s 7d",
-        b"spot 1 stud runouts 3420
-hand 1 high win 612 17.89 tie 0 0.00 lose 2808 82.11
-hand 1 ev 0.179
-hand 2 high win 1408 41.17 tie 0 0.00 lose 2012 58.83
-hand 2 ev 0.412
-hand 3 high win 1400 40.94 tie 0 0.00 lose 2020 59.06
-hand 3 ev 0.409
-",
-    ),
-    (
-        b"stud Ac Ad 2c 3d 4h 5s - Kc Kd 6c 7d 8h 9s - Qc Qd Jc 2h 9d 8s / 2d 2s 3c 3h 3s 4c 4d 4s 5c 5d 5h 6d 6h 6s 7c 7h 7s 8c 8d Ts Th Ah",
-        b"spot 1 stud runouts 1320
-hand 1 high win 900 68.18 tie 0 0.00 lose 420 31.82
-hand 1 ev 0.682
-hand 2 high win 200 15.15 tie 0 0.00 lose 1120 84.85
-hand 2 ev 0.152
-hand 3 high win 220 16.67 tie 0 0.00 lose 1100 83.33
-hand 3 ev 0.167
-",
-    ),
-    (
-        b"stud 9h 9s 5h 5d 8s 2s 3s - As Ks Qs / 2c 2d 2h 3c 3d 3h 4c 4d 4h 4s 5c 5s 6c 6d 6h 6s 7c 7d 7h 7s 8c 8d 8h 9c 9d Tc Td Js Jc Qc",
-        b"spot 1 stud runouts 495
-hand 1 high win 0 0.00 tie 0 0.00 lose 495 100.00
-hand 1 ev 0.000
-hand 2 high win 495 100.00 tie 0 0.00 lose 0 0.00
-hand 2 ev 1.000
-",
-    ),
-    (
-        b"razz As 2d 3h 4c 5s 6d - 8c 8d Kc Kd Qc Qd",
-        b"spot 1 razz runouts 1560
-hand 1 low win 1560 100.00 tie 0 0.00 lose 0 0.00
-hand 1 ev 1.000
-hand 2 low win 0 0.00 tie 0 0.00 lose 1560 100.00
-hand 2 ev 0.000
-",
-    ),
-    (
-        b"razz As 2s 3s Ks Kd - Ad 2d 4d 4h 9c 9d 6s / 2c 2h 3c 3d 3h 4c 4s 5c 5d 5h",
-        b"spot 1 razz runouts 435
-hand 1 low win 59 13.56 tie 0 0.00 lose 376 86.44
-hand 1 ev 0.136
-hand 2 low win 376 86.44 tie 0 0.00 lose 59 13.56
-hand 2 ev 0.864
-",
-    ),
-    (
-        b"razz As 4s 6s 8s Ks Kd - Ad 2d 7d 9d Kc Qd - Ah 3h 5h 9h 9s Kh / 2c 2h 2s 3c 3d 3s 4c 4d 4h 5c 5d 5s 6c 6d Tc Td Th Ts Jc Jd Jh Js",
-        b"spot 1 razz runouts 1320
-hand 1 low win 438 33.18 tie 0 0.00 lose 882 66.82
-hand 1 ev 0.332
-hand 2 low win 211 15.98 tie 0 0.00 lose 1109 84.02
-hand 2 ev 0.160
-hand 3 low win 671 50.83 tie 0 0.00 lose 649 49.17
-hand 3 ev 0.508
-",
-    ),
-    (
-        b"razz As 2s 3s 8s Ks Kd Qd - Ad 2d 3d / 2c 2h 3c 3h 4c 4d 4h 5c 5h 5s 6c 6h 6s 7c 7h 7s 8c 8d 8h 9c Tc Td Th Ts Jc Jd Js Jh Qs Qh",
-        b"spot 1 razz runouts 495
-hand 1 low win 86 17.37 tie 0 0.00 lose 409 82.63
-hand 1 ev 0.174
-hand 2 low win 409 82.63 tie 0 0.00 lose 86 17.37
-hand 2 ev 0.826
-",
-    ),
-    (
-        b"lowball27 7c 5d 4h 3s - 8d 6h 5s 4c",
-        b"spot 1 lowball27 runouts 1892
-hand 1 low win 1011 53.44 tie 0 0.00 lose 881 46.56
-hand 1 ev 0.534
-hand 2 low win 881 46.56 tie 0 0.00 lose 1011 53.44
-hand 2 ev 0.466
-",
-    ),
-    (
-        b"lowball27 7c 5d 4h - 8d 6h 5s / 2d 2h 2s 3c 3d 4c 4d 4s 5c 5h 6c 6d 6s 7d 7h 7s 8c 8h 8s 9c 9d 9h 9s Tc Td Th Ts Jc Jd Jh Js Qc Qd Qh Qs Kc",
-        b"spot 1 lowball27 runouts 1260
-hand 1 low win 723 57.38 tie 0 0.00 lose 537 42.62
-hand 1 ev 0.574
-hand 2 low win 537 42.62 tie 0 0.00 lose 723 57.38
-hand 2 ev 0.426
-",
-    ),
-    (
-        b"lowball27 9c 5d 4h - 8d 6h 5s 3s - 7c 4s 3c 2d / 2h 2s 3d 4c 4d 5c 5h 6c 6d 6s 7d 7h 7s 8c 8h 8s 9d 9h Tc Td Th Ts Jc Jd Jh Js Qc Qd Qh",
-        b"spot 1 lowball27 runouts 5940
-hand 1 low win 490 8.25 tie 0 0.00 lose 5450 91.75
-hand 1 ev 0.082
-hand 2 low win 2735 46.04 tie 0 0.00 lose 3205 53.96
-hand 2 ev 0.460
-hand 3 low win 2715 45.71 tie 0 0.00 lose 3225 54.29
-hand 3 ev 0.457
-",
-    ),
-    (
-        b"lowball27 7c 5d 4h 3s 2c - 7d 5h 4s 3c",
-        b"spot 1 lowball27 runouts 43
-hand 1 low win 40 93.02 tie 3 6.98 lose 0 0.00
-hand 1 ev 0.965
-hand 2 low win 0 0.00 tie 3 6.98 lose 40 93.02
-hand 2 ev 0.035
-",
-    ),
-    (
-        b"lowball27 Kc Qd 9h 8s 2c - 7d / 2d 2h 2s 3c 3d 4c 5c 5h 5s 6c 6h 6s 7h 7s 8d 8h 9d 9s Tc Td Th Ts Jc Jd Jh Js Qc Ac Ad Kd",
-        b"spot 1 lowball27 runouts 1820
-hand 1 low win 1417 77.86 tie 0 0.00 lose 403 22.14
-hand 1 ev 0.779
-hand 2 low win 403 22.14 tie 0 0.00 lose 1417 77.86
-hand 2 ev 0.221
-",
-    ),
-];
-
 #[test]
 fn spots_have_the_counts_of_the_listing(rt: HostRuntime) -> Result<(), Fail> {
-    for (line, block) in ROWS {
-        let ran = run(rt.alloc(), &["spots"], line, AMPLE)?;
-        assert_eq!(rt; ran.written.as_slice(), *block);
+    for (line, block) in SPOTS {
+        reports(&rt, rt.alloc(), &["spots"], line, 0, block)?;
     }
     Ok(())
 }
@@ -308,28 +57,51 @@ fn is_same(a: &Tally, b: &Tally) -> bool {
     a.runouts() == b.runouts()
 }
 
-/// Whether the runouts of a spot line are counted by blocks as in one walk.
-fn is_counted_alike(line: &[u8], scratch: &mut Scratch) -> bool {
+/// Whether the runouts of a table are counted by blocks as in one walk.
+fn is_counted_alike(table: &Table, scratch: &mut Scratch) -> bool {
+    let Ok(job) = Job::make(table) else {
+        return false;
+    };
+    let mut blocks = Tally::zero();
+    count_job(&job, scratch, &mut blocks);
+    let walk = in_one_walk::<Brand>(&job, Blank::new(1));
+    is_same(&blocks, &walk)
+}
+
+/// Three hands with a main pot and two side pots: one of the last two, and one of the first and the last.
+fn three_pots(known: &Known) -> Option<Table> {
+    if known.count != 3 {
+        return None;
+    }
+    Some(Table {
+        known: *known,
+        pots: 3,
+        eligible: [0b111, 0b110, 0b101, 0, 0, 0, 0, 0, 0, 0],
+    })
+}
+
+/// Whether the runouts of a spot line are, with one pot, and of three hands with side pots too.
+fn is_spot_counted_alike(line: &[u8], scratch: &mut Scratch) -> bool {
     let Ok(known) = read_spot(line) else {
         return false;
     };
-    let Ok(job) = Job::make(&table_alone(known)) else {
-        return false;
-    };
-    let blocks = count_job(&job, scratch);
-    let walk = in_one_walk::<Brand>(&job, Blank::new(1));
-    is_same(&blocks, &walk)
+    if let Some(table) = three_pots(&known) {
+        if !is_counted_alike(&table, scratch) {
+            return false;
+        }
+    }
+    is_counted_alike(&table_alone(known), scratch)
 }
 
 #[test]
 fn blocks_count_what_one_walk_counts(rt: HostRuntime) {
     let mut scratch = Scratch::new();
-    for (line, _) in ROWS {
-        assert!(rt; is_counted_alike(line, &mut scratch));
+    for (line, _) in SPOTS {
+        assert!(rt; is_spot_counted_alike(line, &mut scratch));
     }
-    for (line, _) in ROWS.iter().rev() {
+    for (line, _) in SPOTS.iter().rev() {
         assert!(rt;
-            is_counted_alike(line, &mut scratch),
+            is_spot_counted_alike(line, &mut scratch),
             "whatever the room held before"
         );
     }

@@ -1,18 +1,18 @@
 //! Spots of the games beside Hold'em, with counts made by hand or by a listing outside this repository.
 
-use crate::runs::{AMPLE, run};
+use crate::runs::reports;
 use std::test::Fail;
 
 const SPOTS: &[u8] = b"omaha8 As 2s Kd Kh - Qc Qd Jc Jd -- 3h 4c 8s 9h
 lowball27 7c 5d 4h 3s 2c - 7d 5h 4s 3c
 razz As 2d 3h 4c 5s 6d - 8c 8d Kc Kd Qc Qd
 stud As Ad Ah - Ks Kd Kh
-stud As Ad Ah Ac - Ks Kd Kh Kc
+stud As Ad Ah Ac 2c - Ks Kd Kh Kc 2d - Qs Qd Qh Qc 2h
 lowball27 7c 5d 4h 3s 2c - 8d 6h 5s 4c 2d
 stud 2c 2d 2h - 2s 3c 3d - 3h 3s 4c - 4d 4h 4s - 5c 5d 5h - 5s 6c 6d - 6h 6s 7c - 7d 7h 7s
 ";
 
-const REPORT: &[u8] = b"spot 1 omaha8 runouts 40
+const REPORT: &str = "spot 1 omaha8 runouts 40
 hand 1 high win 32 80.00 tie 0 0.00 lose 8 20.00
 hand 1 low win 40 100.00 tie 0 0.00 lose 0 0.00
 hand 1 ev 0.900
@@ -29,8 +29,8 @@ hand 1 low win 1560 100.00 tie 0 0.00 lose 0 0.00
 hand 1 ev 1.000
 hand 2 low win 0 0.00 tie 0 0.00 lose 1560 100.00
 hand 2 ev 0.000
-spot 4 stud refused above 10000000 runouts
-spot 5 stud refused above 10000000 runouts
+spot 4 stud refused above 200000000 runouts
+spot 5 stud refused above 200000000 runouts
 spot 6 lowball27 runouts 1
 hand 1 low win 1 100.00 tie 0 0.00 lose 0 0.00
 hand 1 ev 1.000
@@ -43,8 +43,5 @@ spot 7 rejected line 7 DeckShort
 /// short.
 #[test]
 fn each_game_has_its_spots(rt: HostRuntime) -> Result<(), Fail> {
-    let ran = run(rt.alloc(), &["spots"], SPOTS, AMPLE)?;
-    assert_eq!(rt; ran.written.as_slice(), REPORT);
-    assert_eq!(rt; ran.status, 1);
-    Ok(())
+    reports(&rt, rt.alloc(), &["spots"], SPOTS, 1, REPORT)
 }

@@ -82,7 +82,7 @@ Seat 1: a (button) showed [As Ad] and won (3500) with a pair of Aces\n\
 Seat 2: b (small blind) showed [Kc Kd] and lost with a pair of Kings\n\
 Seat 3: c (big blind) showed [9h Th] and lost with high card Queen\n";
 
-/// A pot of 100 chips for three winners, with the button behind them.
+/// A pot of 100 chips for three winners, with the button behind them; their collections are to stand in line 23.
 pub(crate) const ODD_CHIPS: &str = "\
 PokerStars Hand #15: Tournament #7, $1+$0.10 USD Hold'em No Limit - Level I (5/10)\n\
 Table '7 2' 9-max Seat #4 is the button\n\
@@ -106,9 +106,7 @@ p4: folds\n\
 p1: shows [2c 3c]\n\
 p2: shows [2d 3d]\n\
 p3: shows [2h 3h]\n\
-p1 collected 34 from pot\n\
-p2 collected 33 from pot\n\
-p3 collected 33 from pot\n\
+the winners collect\n\
 *** SUMMARY ***\n\
 Total pot 100 | Rake 0\n\
 Board [Ts Js Qs Ks As]\n\

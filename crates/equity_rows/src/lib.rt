@@ -18,6 +18,10 @@ mod histories;
 #[cfg(test)]
 mod laws;
 #[cfg(test)]
+mod limits;
+#[cfg(test)]
+mod listed;
+#[cfg(test)]
 mod mixed;
 #[cfg(test)]
 mod other_games;

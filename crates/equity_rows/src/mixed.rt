@@ -1,8 +1,8 @@
 //! A hand of each game beside Hold'em, each with an all-in: on the turn with a high and a low, on the sixth
-//! and on the fifth street, and before a draw. The verdicts were worked out by hand, the counts by a listing
-//! outside this repository.
+//! and on the fifth street, and before a draw; and one on the third street, which isn't counted. The verdicts
+//! were worked out by hand, the counts by a listing outside this repository.
 
-use crate::runs::{AMPLE, run};
+use crate::runs::reports;
 use std::test::Fail;
 
 const HANDS: &[u8] =
@@ -153,9 +153,41 @@ Total pot $92 | Rake $3
 Seat 2: kit (button) showed [7c 6h 5s 3h 2c] and won ($89) with Lo: 7,6,5,3,2
 Seat 4: lea (small blind) showed [9h 8c 6d 4s 2d] and lost with Lo: 9,8,6,4,2
 Seat 5: moe (big blind) folded before the Draw
+
+PokerStars Hand #7500000005: 7 Card Stud Limit ($2/$4 USD) - 2026/06/06 20:31:07 ET
+Table 'Ceres' 8-max
+Seat 1: hal ($3 in chips)
+Seat 3: ivy ($50 in chips)
+hal: posts the ante $0.25
+ivy: posts the ante $0.25
+*** 3rd STREET ***
+Dealt to hal [Ad Ac 9h]
+Dealt to ivy [Qs]
+ivy: brings in for $1
+hal: raises $1.75 to $2.75 and is all-in
+ivy: calls $1.75
+*** 4th STREET ***
+Dealt to hal [Ad Ac 9h] [5s]
+Dealt to ivy [Qs] [Qd]
+*** 5th STREET ***
+Dealt to hal [Ad Ac 9h 5s] [5d]
+Dealt to ivy [Qs Qd] [8h]
+*** 6th STREET ***
+Dealt to hal [Ad Ac 9h 5s 5d] [2c]
+Dealt to ivy [Qs Qd 8h] [Jh]
+*** RIVER ***
+Dealt to hal [Ad Ac 9h 5s 5d 2c] [7s]
+*** SHOW DOWN ***
+hal: shows [Ad Ac 9h 5s 5d 2c 7s] (two pair, Aces and Fives)
+ivy: shows [Jc 8d Qs Qd 8h Jh 4s] (two pair, Queens and Jacks)
+hal collected $6 from pot
+*** SUMMARY ***
+Total pot $6 | Rake $0
+Seat 1: hal showed [Ad Ac 9h 5s 5d 2c 7s] and won ($6) with two pair, Aces and Fives
+Seat 3: ivy showed [Jc 8d Qs Qd 8h Jh 4s] and lost with two pair, Queens and Jacks
 ";
 
-const REPORT: &[u8] = b"hand 7500000001 accepted omaha8 rake 4.00
+const REPORT: &str = "hand 7500000001 accepted omaha8 rake 4.00
 pot 0 gross 130.00 rake 4.00 checked
 paid 63.00 eva
 paid 63.00 finn
@@ -198,14 +230,15 @@ pot 0 low win 31 73.81 tie 0 0.00 lose 11 26.19 lea
 pot 0 ev 0.738 lea
 expect 24.10 kit
 expect 67.90 lea
+hand 7500000005 accepted stud rake 0.00
+pot 0 gross 6.00 rake 0.00 checked
+paid 6.00 hal
+all-in refused above 200000000 runouts
 ";
 
 /// Cards that were folded or thrown away face up are dead, those of stud that lie face down are known from
 /// what was shown at the end, and streets and sides are those of the game.
 #[test]
 fn each_game_has_its_all_ins(rt: HostRuntime) -> Result<(), Fail> {
-    let ran = run(rt.alloc(), &["audit"], HANDS, AMPLE)?;
-    assert_eq!(rt; ran.written.as_slice(), REPORT);
-    assert_eq!(rt; ran.status, 0);
-    Ok(())
+    reports(&rt, rt.alloc(), &["audit"], HANDS, 0, REPORT)
 }

@@ -2,9 +2,7 @@
 //! hand: the board of neither hand can change who wins.
 
 use crate::histories::{SIDE_POTS, with_line};
-use crate::runs::{AMPLE, run};
-use std::alloc::Global;
-use std::process::Abort;
+use crate::runs::{Change, Row, each_change_reports, each_reports, reports};
 use std::test::Fail;
 
 const RAZZ: &str =
@@ -90,161 +88,151 @@ pot 0 ev 0.000 y\n\
 expect 200 x\n\
 expect 0 y\n";
 
-/// The audit of the input has this report, and the run ends with this status.
-fn audits(
-    rt: &impl Abort,
-    alloc: Global,
-    input: &[u8],
-    status: u8,
-    report: &str,
-) -> Result<(), Fail> {
-    let ran = run(alloc, &["audit"], input, AMPLE)?;
-    assert_eq!(rt; ran.written.as_slice(), report.as_bytes(), "{report}");
-    assert_eq!(rt; ran.status, status, "{report}");
-    Ok(())
+const HANDS: &[Row] = &[
+    // An all-in on the fifth street, the face-down cards of one player known from what the summary gives.
+    (RAZZ, 0, RAZZ_REPORT),
+    (DRAW, 0, DRAW_REPORT),
+];
+
+#[test]
+fn all_ins_of_razz_and_single_draw(rt: HostRuntime) -> Result<(), Fail> {
+    each_reports(&rt, rt.alloc(), &["audit"], HANDS)
 }
 
-/// An all-in on the fifth street, the face-down cards of one player known from what the summary gives.
-#[test]
-fn an_all_in_of_razz(rt: HostRuntime) -> Result<(), Fail> {
-    audits(&rt, rt.alloc(), RAZZ.as_bytes(), 0, RAZZ_REPORT)
-}
-
-/// The line that begins the draw may stand or be missing, and a discard that nobody saw leaves the all-in
-/// unknown.
-#[test]
-fn an_all_in_before_the_draw(rt: HostRuntime) -> Result<(), Fail> {
-    let alloc = rt.alloc();
-    audits(&rt, alloc, DRAW.as_bytes(), 0, DRAW_REPORT)?;
-    let call = "y: calls 80 and is all-in\n*** DRAW ***\n";
-    let input = with_line(alloc, DRAW, 10, call)?;
-    audits(&rt, alloc, &input, 0, DRAW_REPORT)?;
-    let input = with_line(alloc, DRAW, 12, "y: discards 1 card\n")?;
-    let unknown = "hand 91 accepted lowball27 rake 0\n\
+const UNKNOWN_DRAW: &str = "hand 91 accepted lowball27 rake 0\n\
 pot 0 gross 200 rake 0 checked\n\
 paid 200 x\n\
 all-in unknown\n";
-    audits(&rt, alloc, &input, 0, unknown)
+
+/// The line that begins the draw may stand, and a discard that nobody saw leaves the all-in unknown.
+#[test]
+fn an_all_in_before_the_draw(rt: HostRuntime) -> Result<(), Fail> {
+    let alloc = rt.alloc();
+    let call = "y: calls 80 and is all-in\n*** DRAW ***\n";
+    let input = with_line(alloc, DRAW, 10, call)?;
+    reports(&rt, alloc, &["audit"], &input, 0, DRAW_REPORT)?;
+    let input = with_line(alloc, DRAW, 12, "y: discards 1 card\n")?;
+    reports(&rt, alloc, &["audit"], &input, 0, UNKNOWN_DRAW)
 }
+
+/// Lines that stud refuses.
+const RAZZ_CHANGES: &[Change] = &[
+    (
+        8,
+        "Dealt to x [As 2d]\n",
+        "hand 90 rejected line 8 BadCards\n",
+    ),
+    (
+        14,
+        "Dealt to x [As 2d 3h] [4c 5c]\n",
+        "hand 90 rejected line 14 BadCards\n",
+    ),
+    (
+        17,
+        "y: discards 1 card\n",
+        "hand 90 rejected line 17 BadAction\n",
+    ),
+    (
+        18,
+        "*** 6th STREET ***\n",
+        "hand 90 rejected line 18 StreetOrder\n",
+    ),
+    (
+        23,
+        "*** FLOP *** [2c 7d 9h]\n",
+        "hand 90 rejected line 23 BadMarker\n",
+    ),
+    (
+        28,
+        "Dealt to x [As 2d 3h 4c 5s 6d Th] [9s]\n",
+        "hand 90 rejected line 28 TooManyCards seat 1\n",
+    ),
+];
+
+/// Lines that single draw refuses.
+const DRAW_CHANGES: &[Change] = &[
+    (
+        8,
+        "Dealt to x [7c 5d 4h 3s]\n",
+        "hand 91 rejected line 8 BadCards\n",
+    ),
+    (
+        9,
+        "x: brings in for 3\n",
+        "hand 91 rejected line 9 BadAction\n",
+    ),
+    (10, "", "hand 91 rejected line 10 StreetEarly seat 2\n"),
+    (
+        11,
+        "x: discards 2 cards [7c]\n",
+        "hand 91 rejected line 11 BadCards\n",
+    ),
+    (
+        12,
+        "*** DRAW ***\n",
+        "hand 91 rejected line 12 StreetOrder\n",
+    ),
+    (
+        14,
+        "x: discards 1 card\n",
+        "hand 91 rejected line 14 StreetOrder\n",
+    ),
+];
+
+/// Lines that all games but stud and draw refuse.
+const BOARD_CHANGES: &[Change] = &[
+    (
+        6,
+        "b: brings in for 50\n",
+        "hand 88 rejected line 6 BadAction\n",
+    ),
+    (
+        14,
+        "c: stands pat\n",
+        "hand 88 rejected line 14 BadAction\n",
+    ),
+];
 
 /// Lines that these games alone refuse, or that all games but these do.
 #[test]
 fn refusals_of_stud_and_draw(rt: HostRuntime) -> Result<(), Fail> {
     let alloc = rt.alloc();
-    for (hand, number, line, report) in [
-        (
-            RAZZ,
-            8,
-            "Dealt to x [As 2d]\n",
-            "hand 90 rejected line 8 BadCards\n",
-        ),
-        (
-            RAZZ,
-            14,
-            "Dealt to x [As 2d 3h] [4c 5c]\n",
-            "hand 90 rejected line 14 BadCards\n",
-        ),
-        (
-            RAZZ,
-            17,
-            "y: discards 1 card\n",
-            "hand 90 rejected line 17 BadAction\n",
-        ),
-        (
-            RAZZ,
-            18,
-            "*** 6th STREET ***\n",
-            "hand 90 rejected line 18 StreetOrder\n",
-        ),
-        (
-            RAZZ,
-            23,
-            "*** FLOP *** [2c 7d 9h]\n",
-            "hand 90 rejected line 23 BadMarker\n",
-        ),
-        (
-            RAZZ,
-            28,
-            "Dealt to x [As 2d 3h 4c 5s 6d Th] [9s]\n",
-            "hand 90 rejected line 28 TooManyCards seat 1\n",
-        ),
-        (
-            DRAW,
-            8,
-            "Dealt to x [7c 5d 4h 3s]\n",
-            "hand 91 rejected line 8 BadCards\n",
-        ),
-        (
-            DRAW,
-            9,
-            "x: brings in for 3\n",
-            "hand 91 rejected line 9 BadAction\n",
-        ),
-        (
-            DRAW,
-            10,
-            "",
-            "hand 91 rejected line 10 StreetEarly seat 2\n",
-        ),
-        (
-            DRAW,
-            11,
-            "x: discards 2 cards [7c]\n",
-            "hand 91 rejected line 11 BadCards\n",
-        ),
-        (
-            DRAW,
-            12,
-            "*** DRAW ***\n",
-            "hand 91 rejected line 12 StreetOrder\n",
-        ),
-        (
-            DRAW,
-            14,
-            "x: discards 1 card\n",
-            "hand 91 rejected line 14 StreetOrder\n",
-        ),
-        (
-            SIDE_POTS,
-            6,
-            "b: brings in for 50\n",
-            "hand 88 rejected line 6 BadAction\n",
-        ),
-        (
-            SIDE_POTS,
-            14,
-            "c: stands pat\n",
-            "hand 88 rejected line 14 BadAction\n",
-        ),
-    ] {
-        let input = with_line(alloc, hand, number, line)?;
-        audits(&rt, alloc, &input, 1, report)?;
-    }
-    Ok(())
+    each_change_reports(&rt, alloc, "audit", RAZZ, RAZZ_CHANGES)?;
+    each_change_reports(&rt, alloc, "audit", DRAW, DRAW_CHANGES)?;
+    each_change_reports(&rt, alloc, "audit", SIDE_POTS, BOARD_CHANGES)
 }
+
+/// A hand with a seat number of twenty digits.
+const LONG_SEATS: &str = "PokerStars Hand #5: Hold'em No Limit ($1/$2 USD)
+Seat 1: a ($50 in chips)
+a collected $5 from pot
+Seat 18446744073709551616: b ($50 in chips)
+Seat 2: c ($50 in chips)
+a: posts small blind $1
+";
+
+/// Other numbers in its fifth line.
+const SEAT_CHANGES: &[Change] = &[
+    (
+        5,
+        "Seat 18446744073709551617: c ($50 in chips)\n",
+        "hand 5 rejected line 4 BadHeader\n",
+    ),
+    (
+        5,
+        "Seat 18446744073709551616: c ($50 in chips)\n",
+        "hand 5 rejected line 3 NotInHand\n",
+    ),
+    (
+        5,
+        "Seat 0018446744073709551616: c ($50 in chips)\n",
+        "hand 5 rejected line 3 NotInHand\n",
+    ),
+];
 
 /// Seat numbers of any length are told apart: a second line of one number ends the search for players, and
 /// so a is none, whose post stands behind it.
 #[test]
 fn seat_numbers_may_be_long(rt: HostRuntime) -> Result<(), Fail> {
-    let alloc = rt.alloc();
-    for (second, report) in [
-        ("18446744073709551617", "hand 5 rejected line 4 BadHeader\n"),
-        ("18446744073709551616", "hand 5 rejected line 3 NotInHand\n"),
-        (
-            "0018446744073709551616",
-            "hand 5 rejected line 3 NotInHand\n",
-        ),
-    ] {
-        let input = format!(in alloc;
-            "PokerStars Hand #5: Hold'em No Limit ($1/$2 USD)\n\
-Seat 1: a ($50 in chips)\n\
-a collected $5 from pot\n\
-Seat 18446744073709551616: b ($50 in chips)\n\
-Seat {second}: c ($50 in chips)\n\
-a: posts small blind $1\n"
-        )?;
-        audits(&rt, alloc, input.as_bytes(), 1, report)?;
-    }
-    Ok(())
+    each_change_reports(&rt, rt.alloc(), "audit", LONG_SEATS, SEAT_CHANGES)
 }

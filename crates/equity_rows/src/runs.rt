@@ -1,11 +1,13 @@
-//! A run over memory.
+//! Runs over memory, and what they must do.
 
 ghost use Rattle.std.specs.Prelude.{◌<◌, IfOk};
 ghost use Rattle.std.specs.List.Sorted.{IsStrictlyIncreasing};
 
+use crate::histories::with_line;
 use byte_ends::{MemorySink, MemorySource};
 use run_engine::run_alone;
 use std::alloc::{AllocError, Global};
+use std::process::Abort;
 use std::test::Fail;
 
 /// What a run did.
@@ -60,4 +62,84 @@ pub(crate) fn run(alloc: Global, words: &[&str], input: &[u8], edges: Edges) -> 
         status,
         written: sink.bytes().to_vec(alloc)?,
     })
+}
+
+/// The run of these words over this input, between these ends, ends with this status and writes this.
+pub(crate) fn ends(
+    rt: &impl Abort,
+    alloc: Global,
+    words: &[&str],
+    input: &[u8],
+    edges: Edges,
+    status: u8,
+    written: &[u8],
+) -> Result<(), Fail> {
+    let ran = run(alloc, words, input, edges)?;
+    assert_eq!(rt; ran.written.as_slice(), written);
+    assert_eq!(rt; ran.status, status);
+    Ok(())
+}
+
+/// The run of these words over this input ends with this status and writes this report.
+pub(crate) fn reports(
+    rt: &impl Abort,
+    alloc: Global,
+    words: &[&str],
+    input: &[u8],
+    status: u8,
+    report: &str,
+) -> Result<(), Fail> {
+    let ran = run(alloc, words, input, AMPLE)?;
+    assert_eq!(rt; ran.written.as_slice(), report.as_bytes(), "{report}");
+    assert_eq!(rt; ran.status, status, "{report}");
+    Ok(())
+}
+
+/// An input, the status that a run over it ends with, and what it writes.
+pub(crate) type Row = (&'static str, u8, &'static str);
+
+/// Each run of these words over an input of the table does what stands there.
+pub(crate) fn each_reports(
+    rt: &impl Abort,
+    alloc: Global,
+    words: &[&str],
+    rows: &[Row],
+) -> Result<(), Fail> {
+    for (input, status, report) in rows {
+        reports(rt, alloc, words, input.as_bytes(), *status, report)?;
+    }
+    Ok(())
+}
+
+/// The run of each of these words over this input ends with this status and writes this report.
+pub(crate) fn all_report(
+    rt: &impl Abort,
+    alloc: Global,
+    forms: &[&[&str]],
+    input: &[u8],
+    status: u8,
+    report: &str,
+) -> Result<(), Fail> {
+    for words in forms {
+        reports(rt, alloc, words, input, status, report)?;
+    }
+    Ok(())
+}
+
+/// A line of a hand by its number from 1, another line in its place, and for what the hand is rejected then.
+pub(crate) type Change = (usize, &'static str, &'static str);
+
+/// Each change of a hand of this text makes a run of the mode write its report, and end with status 1.
+pub(crate) fn each_change_reports(
+    rt: &impl Abort,
+    alloc: Global,
+    mode: &str,
+    text: &str,
+    changes: &[Change],
+) -> Result<(), Fail> {
+    for (number, line, report) in changes {
+        let input = with_line(alloc, text, *number, line)?;
+        reports(rt, alloc, &[mode], &input, 1, report)?;
+    }
+    Ok(())
 }

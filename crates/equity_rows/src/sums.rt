@@ -2,7 +2,7 @@
 //! listed by hand; the units of made hands are those of a program outside this repository that lists runouts.
 
 use crate::histories::{SIDE_POTS, SIX_SEATS, as_typed, first_lines};
-use crate::runs::{AMPLE, Edges, run};
+use crate::runs::{AMPLE, Edges, ends, reports};
 use std::test::Fail;
 
 /// Over a cash hand and a tournament hand. Those who folded before the all-in have no share of it.
@@ -29,24 +29,35 @@ total,chips,hands,1,allins,1,collected,3500,expected,2214,,,a\n\
 total,chips,hands,1,allins,1,collected,0,expected,36,,,b\n\
 total,chips,hands,1,allins,1,collected,0,expected,1250,,,c\n";
 
-/// A hand in which a name has a comma and quotes, and its totals as records.
+/// A hand in which names have a comma, quotes, a blank and a letter beyond ASCII, and its totals in both forms.
 const QUOTED: &str = "\
 PokerStars Hand #4: Hold'em No Limit ($0.50/$1.00 USD)\n\
-Table 'T' 2-max Seat #1 is the button\n\
-Seat 1: say \"gl\", ok ($50 in chips)\n\
-Seat 2: x ($50 in chips)\n\
-say \"gl\", ok: posts small blind $0.50\n\
-x: posts big blind $1\n\
+Table 'T' 3-max Seat #1 is the button\n\
+Seat 1: say \"gl\" ($50 in chips)\n\
+Seat 2: a,b ($50 in chips)\n\
+Seat 3: zoë b ($50 in chips)\n\
+a,b: posts small blind $0.50\n\
+zoë b: posts big blind $1\n\
 *** HOLE CARDS ***\n\
-say \"gl\", ok: folds\n\
-Uncalled bet ($0.50) returned to x\n\
-x collected $1 from pot\n\
+say \"gl\": folds\n\
+a,b: folds\n\
+Uncalled bet ($0.50) returned to zoë b\n\
+zoë b collected $1 from pot\n\
 *** SUMMARY ***\n\
 Total pot $1 | Rake $0\n";
 
+const QUOTED_TOTALS: &str = "totals hands 1 accepted 1 rejected 0\n\
+total hundredths hands 1 allins 0 collected 0.00 expected 0.00 say \"gl\"\n\
+total hundredths hands 1 allins 0 collected 0.00 expected 0.00 a,b\n\
+total hundredths hands 1 allins 0 collected 0.00 expected 0.00 zoë b\n";
+
 const QUOTED_RECORDS: &str = "totals,hands,1,accepted,1,rejected,0,,,,,,\n\
-total,hundredths,hands,1,allins,0,collected,0.00,expected,0.00,,,\"say \"\"gl\"\", ok\"\n\
-total,hundredths,hands,1,allins,0,collected,0.00,expected,0.00,,,x\n";
+total,hundredths,hands,1,allins,0,collected,0.00,expected,0.00,,,\"say \"\"gl\"\"\"\n\
+total,hundredths,hands,1,allins,0,collected,0.00,expected,0.00,,,\"a,b\"\n\
+total,hundredths,hands,1,allins,0,collected,0.00,expected,0.00,,,zoë b\n";
+
+/// Of no hand.
+const NONE: &str = "totals hands 0 accepted 0 rejected 0\n";
 
 /// Of three made hands with seed 1, and of forty with seed 9.
 const THREE: &str = "made hands 3 accepted 3 runouts 2970 first 4309200 second 10659600\n";
@@ -60,25 +71,15 @@ fn totals_of_hands_in_two_units(rt: HostRuntime) -> Result<(), Fail> {
     let mut input = as_typed(alloc, SIX_SEATS)?;
     input.extend_from_slice(SIDE_POTS.as_bytes())?;
     input.extend_from_slice(&first_lines(alloc, SIDE_POTS, 12)?)?;
-    let ran = run(alloc, &["totals"], &input, AMPLE)?;
-    assert_eq!(rt; ran.written.as_slice(), BOTH.as_bytes());
-    assert_eq!(rt; ran.status, 1);
-    let records = run(
-        alloc,
-        &["totals", "--format=csv"],
-        SIDE_POTS.as_bytes(),
-        AMPLE,
-    )?;
-    assert_eq!(rt; records.written.as_slice(), RECORDS.as_bytes());
-    assert_eq!(rt; records.status, 0);
-    let quoted = run(alloc, &["totals", "--format=csv"], QUOTED.as_bytes(), AMPLE)?;
-    assert_eq!(rt; quoted.written.as_slice(), QUOTED_RECORDS.as_bytes());
-    let none = run(alloc, &["totals"], b"", AMPLE)?;
-    assert_eq!(rt;
-        none.written.as_slice(),
-        b"totals hands 0 accepted 0 rejected 0\n".as_slice()
-    );
-    assert_eq!(rt; none.status, 0);
+    for (form, input, status, report) in [
+        ("--format=text", input.as_slice(), 1, BOTH),
+        ("--format=csv", SIDE_POTS.as_bytes(), 0, RECORDS),
+        ("--format=text", QUOTED.as_bytes(), 0, QUOTED_TOTALS),
+        ("--format=csv", QUOTED.as_bytes(), 0, QUOTED_RECORDS),
+        ("--format=text", b"", 0, NONE),
+    ] {
+        reports(&rt, alloc, &["totals", form], input, status, report)?;
+    }
     Ok(())
 }
 
@@ -92,17 +93,13 @@ fn totals_of_closed_hands(rt: HostRuntime) -> Result<(), Fail> {
         read_fault: Some(1),
         ..AMPLE
     };
-    let ran = run(alloc, &["totals"], &input, failing)?;
-    assert_eq!(rt; ran.written.as_slice(), ALONE.as_bytes());
-    assert_eq!(rt; ran.status, 3);
+    let alone = ALONE.as_bytes();
+    ends(&rt, alloc, &["totals"], &input, failing, 3, alone)?;
     let failing = Edges {
         write_fault: Some(0),
         ..AMPLE
     };
-    let ran = run(alloc, &["totals"], &input, failing)?;
-    assert_eq!(rt; ran.written.as_slice(), b"".as_slice());
-    assert_eq!(rt; ran.status, 4);
-    Ok(())
+    ends(&rt, alloc, &["totals"], &input, failing, 4, b"")
 }
 
 /// Hands that are made are audited, whatever the input is, and with how many workers.
@@ -120,9 +117,8 @@ fn made_hands_come_to_a_line(rt: HostRuntime) -> Result<(), Fail> {
         (&["made", "--seed=9", "--hands=40"], FORTY),
         (&["made", "--hands=0"], nothing),
     ] {
-        let ran = run(alloc, words, b"holdem As Ah\n", failing)?;
-        assert_eq!(rt; ran.written.as_slice(), line.as_bytes(), "{line}");
-        assert_eq!(rt; ran.status, 0, "{line}");
+        let input = b"holdem As Ah\n";
+        ends(&rt, alloc, words, input, failing, 0, line.as_bytes())?;
     }
     Ok(())
 }

@@ -20,8 +20,6 @@ mod settlement;
 mod settling;
 mod shares;
 mod standings;
-#[cfg(test)]
-mod tests;
 mod verdicts;
 mod winners;
 mod worths;

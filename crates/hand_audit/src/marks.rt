@@ -132,35 +132,3 @@ pub(crate) fn marks(
     }
     marks
 }
-
-#[cfg(test)]
-mod tests {
-    use super::*;
-    use crate::worths::full_with;
-    use std::test::Fail;
-
-    /// The mark of a hand of seven on a side, where it is one.
-    fn mark(game: Game, side: Side, texts: &[[u8; 2]]) -> Option<u8> {
-        let mut own = CardSet::empty();
-        for text in texts {
-            own = own.with(Card::read(*text)?);
-        }
-        let own = full_with(game, CardSet::empty(), Some(own))?;
-        Some(mark_of(Some(side), game, CardSet::empty(), Some(own)))
-    }
-
-    #[test]
-    fn marks_are_the_highest_cards_of_the_best_fives(rt: HostRuntime) -> Result<(), Fail> {
-        // kings full of sevens: the king of spades; the ace isn't in it
-        let full = [*b"Kc", *b"Kd", *b"Ks", *b"7h", *b"7d", *b"2c", *b"As"];
-        assert_eq!(rt; mark(Game::Stud, Side::High, &full), Some(47));
-        // nine high straight, with either nine: the nine of spades
-        let straight = [*b"9c", *b"9s", *b"8d", *b"7h", *b"6c", *b"5d", *b"2c"];
-        assert_eq!(rt; mark(Game::Stud, Side::High, &straight), Some(31));
-        // six low: the six of spades, above each ace
-        let six = [*b"As", *b"Ac", *b"2d", *b"3h", *b"4c", *b"6s", *b"Kd"];
-        assert_eq!(rt; mark(Game::Razz, Side::Low, &six), Some(23));
-        assert_eq!(rt; mark(Game::Stud, Side::High, &[*b"Kc"]), None);
-        Ok(())
-    }
-}

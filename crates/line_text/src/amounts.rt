@@ -179,36 +179,3 @@ pub fn law_written_amounts_are_read()
     ensures hundredths { HundredthsAreRead }
     ensures whole_money { WholeMoneyIsRead }
 {}
-
-/// The text of an example, read at its front.
-#[cfg(test)]
-mod tests {
-    use super::*;
-
-    fn reads(text: &[u8], hundredths: bool) -> Option<(u64, usize)> {
-        let amount = read_amount(text, 0, hundredths).ok()?;
-        Some((amount.units, amount.next))
-    }
-
-    #[test]
-    fn amounts_are_read(rt: HostRuntime) {
-        assert_eq!(rt; reads(b"$0.50", true), Some((50, 5)));
-        assert_eq!(rt; reads(b"$1 USD", true), Some((100, 2)));
-        assert_eq!(rt; reads(b"4000 in chips", false), Some((4000, 4)));
-        assert_eq!(rt; reads("€2.05)".as_bytes(), true), Some((205, 7)));
-        assert_eq!(rt; reads(b"999999999999999", false), Some((GREATEST, 15)));
-        assert_eq!(rt;
-            read_amount(b"1000000000000000", 0, false),
-            Err(AmountFault::TooLarge)
-        );
-        assert_eq!(rt;
-            read_amount(b"99999999999999999999999999", 0, true),
-            Err(AmountFault::TooLarge)
-        );
-        for text in [b"".as_slice(), b"$", b"x", b"1.", b"1.5", b"1.505", b"-1"] {
-            assert_eq!(rt; read_amount(text, 0, true), Err(AmountFault::NotAmount));
-        }
-        assert_eq!(rt; read_amount(b"1.50", 0, false), Err(AmountFault::NotAmount));
-        assert_eq!(rt; read_amount(b"1", 2, false), Err(AmountFault::NotAmount));
-    }
-}

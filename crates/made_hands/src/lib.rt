@@ -10,8 +10,6 @@ mod hands;
 mod laws;
 mod lines;
 mod pieces;
-#[cfg(test)]
-mod tests;
 
 pub use hands::made_input;
 pub use laws::{law_deals_are_whole, law_made_text_is_short};

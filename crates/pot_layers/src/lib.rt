@@ -15,8 +15,6 @@ mod orders;
 mod paid;
 mod returns;
 mod splits;
-#[cfg(test)]
-mod tests;
 
 pub use by_level::{Pots, layers};
 pub use laws::{

@@ -9,8 +9,6 @@ mod by_ranks;
 mod five_cards;
 mod laws;
 mod rank_groups;
-#[cfg(test)]
-mod tests;
 mod values;
 
 pub use best_five::{high_by_ranks, high_of_set, high_of_suit};

@@ -9,8 +9,6 @@ mod best_five;
 mod five_cards;
 mod laws;
 mod low_ranks;
-#[cfg(test)]
-mod tests;
 mod values;
 
 pub use best_five::{ace_five, deuce_seven, eight_or_better};

@@ -1,10 +1,12 @@
 -- The lines of an all-in from a tally of all its runouts.
-use Rattle.std.proofs.Common.{◌≡◌, ℕ, ◌+◌, ◌-◌, ◌*◌, ◌^◌, ◌<◌, ◌≤◌, true, false, cond, List, [], ◌∷◌, length, map, sum, inl, inr, refl, ap, ◌∙◌, arith}
+use Rattle.std.proofs.Common.{◌≡◌, ℕ, ◌+◌, ◌-◌, ◌*◌, ◌/◌, ◌<◌, ◌≤◌, ◌&&◌, Bool, true, false, cond, List, [], ◌∷◌, length, map, sum, inl, inr, refl, ap, ◌∙◌, arith}
 use Rattle.std.specs.Prelude.{nat_lt, slice_index, slice_index_or}
 use Rattle.std.specs.List.{flat_map, sum_by}
 use Rattle.std.proofs.lemmas.Bool.{cases_lt}
 use Rattle.std.proofs.lemmas.List.{get_or-map, length-map}
 use Rattle.std.proofs.lemmas.List.Sums.{sum_by-le, sum_by-cons}
+use Rattle.std.proofs.Math.Nat.{div-le_self}
+use Rattle.card_sets.specs.Games.{has_side}
 use Rattle.card_sets.specs.Rising.{IsRising-cards_where}
 use Rattle.card_sets.specs.State.{State}
 use Rattle.card_sets.specs.declared.games.Game.{Game}
@@ -28,10 +30,10 @@ use Rattle.report_table.specs.declared.equity.Form.{Form}
 use Rattle.report_table.proofs.Listed.{every_same, hands_same, sums_same}
 use Rattle.report_table.proofs.SpotFacts.{some_runout}
 use Rattle.showdown_tally.specs.Cells.{Sums, units_at}
-use Rattle.showdown_tally.specs.CountLaws.{units_small}
-use Rattle.showdown_tally.specs.Showdown.{Showdown, eligible_in, units}
+use Rattle.showdown_tally.specs.Showdown.{Showdown, eligible_in, is_among, part_of, units, units_by_sides, winners}
 use Rattle.card_sets.specs.PlayerSets.{hands_of}
 use Rattle.showdown_tally.specs.Tallies.{Counts, runouts_after}
+use Rattle.showdown_tally.proofs.PotFacts.{no_side}
 
 -- the eligible hands of a pot are those of its mask
 pub eligible_by_mask : (masks : List ℕ) (k : ℕ) → k < length masks → slice_index_or (map hands_of masks) k [] ≡ hands_of (slice_index masks k)
@@ -105,11 +107,27 @@ all_in_same form s names seats street state masks a b few hands same =
     (λ hand below. rw (same.all, given_same s.pots a b hand (length deal.pots) same (omega arith) (omega arith)) refl) in
     rw (pot_lines, expects, same.all) refl
 
--- the units of a hand in a pot are few, since the runouts are
-pub few_units : (deal : Showdown) (sums : Sums) (k hand : ℕ) → IsFull deal sums → k < 10 → hand < 10 → units_at sums k hand ≤ 2 ^ 37
+-- a part of a whole is no more than it
+part_small : (whole hand : ℕ) (hands : List ℕ) → part_of whole hands hand ≤ whole
+part_small whole hand hands = elim (is_among hand hands) as (λ b. cond b (whole / length hands) 0 ≤ whole) [ true ↦ div-le_self whole (length hands) | false ↦ omega arith ]
+
+-- nor are the parts on both sides, where nobody wins a side that the game hasn't
+sides_small : (high low : Bool) (highs lows : List ℕ) (hand : ℕ) → (high ≡ false → highs ≡ []) → (low ≡ false → lows ≡ []) → units_by_sides (high && low) highs lows hand ≤ 5040
+sides_small true true highs [] hand no_high no_low = part_small 5040 hand highs
+sides_small true true highs (w ∷ lows) hand no_high no_low = omega (arith, part_small 2520 hand highs, part_small 2520 hand (w ∷ lows))
+sides_small true false highs lows hand no_high no_low = rw (no_low refl) (omega (arith, part_small 5040 hand highs))
+sides_small false low highs lows hand no_high no_low = rw (no_high refl) (omega (arith, part_small 5040 hand lows))
+
+-- a runout gives a hand no more than the whole pot
+units_whole : (deal : Showdown) (k hand : ℕ) (runout : List (List ℕ)) → units deal k hand runout ≤ 5040
+units_whole deal k hand runout =
+    sides_small (has_side High deal.state.game) (has_side Low deal.state.game) (winners deal k High runout) (winners deal k Low runout) hand (no_side High deal k runout) (no_side Low deal k runout)
+
+-- and so all runouts give it no more than that for each of the most that are counted
+pub few_units : (deal : Showdown) (sums : Sums) (k hand : ℕ) → IsFull deal sums → k < 10 → hand < 10 → units_at sums k hand ≤ 5040 * RUNOUT_MAX
 few_units deal sums k hand full p h =
-    let one : sum_by (units deal k hand) (runouts_after deal.state) ≤ length (runouts_after deal.state) * 10080 =
-    sum_by-le (units deal k hand) 10080 (runouts_after deal.state) (λ i d below. units_small deal k hand (slice_index_or (runouts_after deal.state) i d)) in
+    let one : sum_by (units deal k hand) (runouts_after deal.state) ≤ length (runouts_after deal.state) * 5040 =
+    sum_by-le (units deal k hand) 5040 (runouts_after deal.state) (λ i d below. units_whole deal k hand (slice_index_or (runouts_after deal.state) i d)) in
     let counted = full.counts.units k hand p h in
     let few = full.few in
     omega arith

@@ -21,7 +21,7 @@ use Rattle.showdown_tally.specs.Showdown.{Showdown}
 use Rattle.showdown_tally.specs.Tallies.{runouts_after}
 
 -- what is rounded is small
-pub round_small : (given part : ℕ) → 5040 ≤ part → given ≤ 10 ^ 32 → round given part 0 ≤ 2 ^ 95
+pub round_small : (given part : ℕ) → 5040 ≤ part → given ≤ 10 * (2 ^ 64 * (5040 * RUNOUT_MAX)) → round given part 0 ≤ 2 ^ 95
 unfolding round
 round_small given part some few =
     div-le_of_le-mul (2 * part) {m = 2 * given * 10 ^ 0 + part} {n = 2 ^ 95} (omega arith)

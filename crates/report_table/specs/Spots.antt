@@ -85,7 +85,7 @@ counted_block form place state =
 unfoldable pub refused_words : List (List ℕ)
 refused_words = codes "refused" ∷ codes "above" ∷ decimal RUNOUT_MAX ∷ codes "runouts" ∷ []
 
--- a spot that has too many runouts to be counted, as `spot 1 stud refused above 10000000 runouts`
+-- a spot that has too many runouts to be counted, as `spot 1 stud refused above 200000000 runouts`
 unfoldable pub refused_line : ℕ → Game → Line
 refused_line place game = plain (spot_name place ++ game_word game ∷ [] ++ refused_words)
 

@@ -1,8 +1,5 @@
 //! The words for why a hand is rejected.
 
-#[cfg(test)]
-mod tests;
-
 ghost use Rattle.std.specs.Prelude.{◌≡◌, OnOk};
 ghost use Rattle.report_table.specs.Causes.{bet_words, cause_words, chips_words, split_words, text_words, with_money, with_seat};
 ghost use Rattle.report_table.specs.Sheets.{with_words};

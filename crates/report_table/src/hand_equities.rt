@@ -4,6 +4,7 @@
 ghost use Rattle.std.specs.Prelude.{◌≡◌, ℕ, ◌*◌, ◌<◌, ◌≤◌, ◌^◌, [], OnOk, length, unwrap_or};
 ghost use Rattle.card_sets.specs.PlayerSets.{AreBelow, players_in};
 ghost use Rattle.std.specs.List.{flat_map};
+ghost use Rattle.equity_job.specs.declared.limits.TheConstants.{RUNOUT_MAX};
 ghost use Rattle.report_table.specs.Equities.{IsEquityOf, IsFull};
 ghost use Rattle.report_table.specs.HandEquities.{all_in_line, counted_all_in, every_pot, expect_line, expected_units, given_to, gross_of, hand_expect, known_all_in, player_name, pot_equity, pot_ev_line, pot_hand_lines, pot_name, pot_side_line, above_line, short_line, tally_figures};
 ghost use Rattle.report_table.specs.Sheets.{IsBetweenLines, with_line, with_lines, with_words};
@@ -82,9 +83,9 @@ fn given_by(gross: u64, units: u64) -> u128
 fn given_to(pots: &[PotLine], tally: &Tally, hand: u8, count: u8) -> u128
     requires hand { hand < 10 }
     requires few { count ≤ 10 }
-    requires small { (k : ℕ) → k < 10 → units_at tally.now k hand ≤ 2 ^ 37 }
+    requires small { (k : ℕ) → k < 10 → units_at tally.now k hand ≤ 5040 * RUNOUT_MAX }
     ensures value { result ≡ given_to pots.now (tally_figures tally.now) hand count }
-    ensures bound { result ≤ 10 ^ 32 }
+    ensures bound { result ≤ 10 * (2 ^ 64 * (5040 * RUNOUT_MAX)) }
 {
     let mut given = 0;
     for k in 0..count {
@@ -97,7 +98,7 @@ fn given_to(pots: &[PotLine], tally: &Tally, hand: u8, count: u8) -> u128
 pub(crate) fn expected_by(pots: &[PotLine], table: &Table, tally: &Tally, hand: u8) -> u128
     requires some { 0 < tally.now.runouts }
     requires hand { hand < 10 }
-    requires small { (k : ℕ) → k < 10 → units_at tally.now k hand ≤ 2 ^ 37 }
+    requires small { (k : ℕ) → k < 10 → units_at tally.now k hand ≤ 5040 * RUNOUT_MAX }
     ensures value { result ≡ expected_units tally.now.runouts (given_to pots.now (tally_figures tally.now) hand (length (deal_of table.now).pots)) }
     ensures bound { result ≤ 2 ^ 95 }
 {
@@ -219,7 +220,7 @@ impl Sheet {
         requires between { IsBetweenLines self.old }
         requires some { 0 < tally.now.runouts }
         requires hand { hand < 10 }
-        requires small { (k : ℕ) → k < 10 → units_at tally.now k hand ≤ 2 ^ 37 }
+        requires small { (k : ℕ) → k < 10 → units_at tally.now k hand ≤ 5040 * RUNOUT_MAX }
         ensures { OnOk result (self.new ≡ with_lines self.old
             (hand_expect self.old.form shown.now.settlement.now shown.now.names.now shown.now.seats.now (deal_of shown.now.table.now) (tally_figures tally.now) hand)) }
     {
@@ -257,7 +258,7 @@ impl Sheet {
     fn expects(&mut self, shown: &Shown, tally: &Tally) -> Result<(), AllocError>
         requires between { IsBetweenLines self.old }
         requires some { 0 < tally.now.runouts }
-        requires small { (k hand : ℕ) → k < 10 → hand < 10 → units_at tally.now k hand ≤ 2 ^ 37 }
+        requires small { (k hand : ℕ) → k < 10 → hand < 10 → units_at tally.now k hand ≤ 5040 * RUNOUT_MAX }
         ensures { OnOk result (self.new ≡ with_lines self.old
             (flat_map (hand_expect self.old.form shown.now.settlement.now shown.now.names.now shown.now.seats.now (deal_of shown.now.table.now) (tally_figures tally.now)) (every_hand (length (deal_of shown.now.table.now).state.hands)))) }
     {
@@ -277,7 +278,7 @@ impl Sheet {
     ) -> Result<(), AllocError>
         requires between { IsBetweenLines self.old }
         requires some { 0 < tally.now.runouts }
-        requires small { (k hand : ℕ) → k < 10 → hand < 10 → units_at tally.now k hand ≤ 2 ^ 37 }
+        requires small { (k hand : ℕ) → k < 10 → hand < 10 → units_at tally.now k hand ≤ 5040 * RUNOUT_MAX }
         ensures { OnOk result (self.new ≡ with_lines self.old
             (counted_all_in self.old.form shown.now.settlement.now shown.now.names.now shown.now.seats.now street (deal_of shown.now.table.now) (tally_figures tally.now))) }
     {

@@ -1,6 +1,6 @@
 //! The numbers of the report, each as one word.
 
-ghost use Rattle.std.specs.Prelude.{◌≡◌, ◌<◌, ◌≤◌, ◌^◌, [], ◌∷◌, OnOk, decimal};
+ghost use Rattle.std.specs.Prelude.{◌≡◌, ◌*◌, ◌<◌, ◌≤◌, ◌^◌, [], ◌∷◌, OnOk, decimal};
 ghost use Rattle.report_table.specs.Sheets.{with_words};
 ghost use Rattle.report_table.specs.Spots.{expected, percent, share};
 ghost use Rattle.report_table.specs.Words.{money};
@@ -28,7 +28,7 @@ impl Sheet {
         places: u32,
     ) -> Result<(), AllocError>
         requires some { 0 < denominator }
-        requires small { numerator ≤ 10 ^ 32 }
+        requires small { numerator ≤ 2 * 10 ^ 32 }
         requires small_too { denominator ≤ 10 ^ 32 }
         requires few { places ≤ 4 }
         ensures { OnOk result (self.new

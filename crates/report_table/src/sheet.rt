@@ -2,9 +2,6 @@
 //! straight into the bytes; the fields of a record are gathered until it ends, since a record has
 //! thirteen of them and the name is the last. Where memory is refused, a part may have been appended.
 
-#[cfg(test)]
-mod tests;
-
 ghost use Rattle.std.specs.Prelude.{◌≡◌, ◌-◌, [], ◌∷◌, ◌++◌, false, codes, length, replicate, IfOk, OnOk};
 ghost use Rattle.csv.specs.Writing.{default_writer, row_text};
 ghost use Rattle.report_table.specs.Lines.{thirteen};

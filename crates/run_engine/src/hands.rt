@@ -7,11 +7,10 @@ ghost use Rattle.run_engine.specs.Histories.{HandLines, hand_block, is_rejected_
 ghost use Rattle.run_engine.specs.Writing.{Cuts, IsInside, Reaches, StepsTo};
 ghost use Rattle.run_engine.specs.declared.listed.Listed.TheVariants.{Hands};
 
+use crate::counter::{Counter, Desk};
 use crate::cursor::Cursor;
-use crate::equities::equity_of_hand;
 use crate::reading::INPUT_MAX;
 use card_sets::Memory;
-use equity_job::Scratch;
 use hand_audit::{HandAudit, audit_hand};
 use history_text::{hand_number, is_header};
 use line_text::next_line;
@@ -74,13 +73,13 @@ fn is_rejection(audit: &HandAudit) -> bool
 
 /// Appends the block of a hand, and answers whether the hand is rejected. The bytes are the lines of the
 /// hand, its header line first, which has the number `first`. Its equity is counted where it is asked for.
-fn write_lines(
+fn write_lines<C: Counter>(
     alloc: Global,
     form: Form,
     asked: bool,
     bytes: &[u8],
     first: u32,
-    scratch: &mut Scratch,
+    desk: &mut Desk<C>,
     block: &mut Vec<u8>,
 ) -> Result<bool, Memory>
     requires header { IsTrue (begins_hand (lines bytes.now)) }
@@ -89,8 +88,8 @@ fn write_lines(
     ensures rejected { IfOk result (λ rejected. rejected ≡ is_rejected_hand (record { first = first; lines = lines bytes.now })) }
 {
     let audit = audit_hand(alloc, bytes, first)?;
-    let equity = equity_of_hand(asked, &audit, scratch);
-    write_hand(block, number_text(bytes), &audit, &equity, form)?;
+    desk.ask_hand(asked, &audit)?;
+    write_hand(block, number_text(bytes), &audit, &desk.equity, form)?;
     Ok(is_rejection(&audit))
 }
 
@@ -127,13 +126,13 @@ pub(crate) fn cut_hand(bytes: &[u8], cursor: &mut Cursor) -> Option<HandPlace>
 
 /// Makes the block of the next hand, goes on behind its lines, and answers whether the hand is rejected;
 /// none where no hand is left. Equities are counted where they are asked for.
-pub(crate) fn next_hand(
+pub(crate) fn next_hand<C: Counter>(
     alloc: Global,
     form: Form,
     asked: bool,
     bytes: &[u8],
     cursor: &mut Cursor,
-    scratch: &mut Scratch,
+    desk: &mut Desk<C>,
     block: &mut Vec<u8>,
 ) -> Result<Option<bool>, Memory>
     requires small { length bytes.now ≤ INPUT_MAX }
@@ -145,6 +144,6 @@ pub(crate) fn next_hand(
         return Ok(None);
     };
     let hand = &bytes[place.start..place.end];
-    let rejected = write_lines(alloc, form, asked, hand, place.line, scratch, block)?;
+    let rejected = write_lines(alloc, form, asked, hand, place.line, desk, block)?;
     Ok(Some(rejected))
 }

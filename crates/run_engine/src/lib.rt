@@ -4,8 +4,8 @@
 
 mod closing;
 mod command;
+mod counter;
 mod cursor;
-mod equities;
 mod hands;
 mod listed;
 mod made;

@@ -8,20 +8,20 @@ ghost use Rattle.run_engine.specs.Writing.{WritesBlocks};
 ghost use Rattle.run_engine.specs.declared.command.Mode.TheVariants.{Made};
 
 use crate::command::Command;
+use crate::counter::{Counter, Desk};
 use crate::sums::add_hands;
 use crate::write_fault::WriteFault;
 use byte_ends::{Sink, write_all};
-use equity_job::Scratch;
 use made_hands::{law_made_text_is_short, made_input};
 use report_table::MadeSums;
 use std::alloc::Global;
 
 /// Makes the hands that a command asks for, audits them, and writes what they come to as one block. Answers
 /// how many of them aren't accepted.
-pub(crate) fn write_made<K: Sink>(
+pub(crate) fn write_made<C: Counter, K: Sink>(
     alloc: Global,
     asked: Command,
-    scratch: &mut Scratch,
+    desk: &mut Desk<C>,
     sink: &mut K,
 ) -> Result<u64, WriteFault>
     requires { asked.hands ≤ 10000 }
@@ -36,7 +36,7 @@ pub(crate) fn write_made<K: Sink>(
     law_made_text_is_short();
     let text = made_input(alloc, asked.seed, asked.hands)?;
     let mut sums = MadeSums::new();
-    add_hands(alloc, &text, scratch, &mut sums)?;
+    add_hands(alloc, &text, desk, &mut sums)?;
     let mut block = Vec::new(alloc);
     sums.write(&mut block, u64::from(asked.hands), asked.form)?;
     write_all(sink, &block)?;

@@ -7,6 +7,7 @@ ghost use Rattle.run_engine.specs.Report.{blocks, report, rejects};
 ghost use Rattle.run_engine.specs.Writing.{IsInside, StepsTo, WritesBlocks, all_blocks, all_rejects};
 
 use crate::command::{Command, Mode};
+use crate::counter::{Counter, Desk};
 use crate::cursor::Cursor;
 use crate::hands::next_hand;
 use crate::listed::Listed;
@@ -17,19 +18,18 @@ use crate::totals::write_totals;
 use crate::write_fault::WriteFault;
 use byte_ends::{Sink, write_all};
 use card_sets::Memory;
-use equity_job::Scratch;
 use report_table::Form;
 use std::alloc::Global;
 
 /// Makes the next block, goes on behind its lines, and answers whether its spot or hand is rejected; none
 /// where no block is left.
-fn next_block(
+fn next_block<C: Counter>(
     alloc: Global,
     form: Form,
     listed: Listed,
     bytes: &[u8],
     cursor: &mut Cursor,
-    scratch: &mut Scratch,
+    desk: &mut Desk<C>,
     block: &mut Vec<u8>,
 ) -> Result<Option<bool>, Memory>
     requires small { length bytes.now ≤ INPUT_MAX }
@@ -38,19 +38,19 @@ fn next_block(
     ensures { IfOk result (λ next. StepsTo form listed bytes.now block.new.items cursor.old cursor.new next) }
 {
     match listed {
-        Listed::Spots => next_spot(form, bytes, cursor, scratch, block),
-        Listed::Hands { asked } => next_hand(alloc, form, asked, bytes, cursor, scratch, block),
+        Listed::Spots => next_spot(form, bytes, cursor, desk, block),
+        Listed::Hands { asked } => next_hand(alloc, form, asked, bytes, cursor, desk, block),
     }
 }
 
 /// Writes the blocks of the bytes, one after the other, each made whole before any of it is written.
 /// Answers how many spots or hands are rejected.
-fn write_blocks<K: Sink>(
+fn write_blocks<C: Counter, K: Sink>(
     alloc: Global,
     form: Form,
     listed: Listed,
     bytes: &[u8],
-    scratch: &mut Scratch,
+    desk: &mut Desk<C>,
     sink: &mut K,
 ) -> Result<u64, WriteFault>
     requires { length bytes.now ≤ INPUT_MAX }
@@ -67,15 +67,7 @@ fn write_blocks<K: Sink>(
     let mut rejects = 0;
     'each: loop {
         block.clear();
-        let Some(rejected) = next_block(
-            alloc,
-            form,
-            listed,
-            bytes,
-            &mut cursor,
-            scratch,
-            &mut block,
-        )?
+        let Some(rejected) = next_block(alloc, form, listed, bytes, &mut cursor, desk, &mut block)?
         else {
             return Ok(rejects);
         };
@@ -87,11 +79,11 @@ fn write_blocks<K: Sink>(
 /// Writes the report of a command on the bytes, which a command for made hands doesn't look at. Answers how
 /// many spots or hands are rejected.
 #[tactic(auto, unfolding(crate::specs::Report::report, crate::specs::Report::rejects))]
-pub(crate) fn write_report<K: Sink>(
+pub(crate) fn write_report<C: Counter, K: Sink>(
     alloc: Global,
     asked: Command,
     bytes: &[u8],
-    scratch: &mut Scratch,
+    desk: &mut Desk<C>,
     sink: &mut K,
 ) -> Result<u64, WriteFault>
     requires small { length bytes.now ≤ INPUT_MAX }
@@ -106,13 +98,13 @@ pub(crate) fn write_report<K: Sink>(
 {
     let form = asked.form;
     match asked.mode {
-        Mode::Spots => write_blocks(alloc, form, Listed::Spots, bytes, scratch, sink),
+        Mode::Spots => write_blocks(alloc, form, Listed::Spots, bytes, desk, sink),
         Mode::Check => write_blocks(
             alloc,
             form,
             Listed::Hands { asked: false },
             bytes,
-            scratch,
+            desk,
             sink,
         ),
         Mode::Audit => write_blocks(
@@ -120,10 +112,10 @@ pub(crate) fn write_report<K: Sink>(
             form,
             Listed::Hands { asked: true },
             bytes,
-            scratch,
+            desk,
             sink,
         ),
-        Mode::Totals => write_totals(alloc, asked, bytes, scratch, sink),
-        Mode::Made => write_made(alloc, asked, scratch, sink),
+        Mode::Totals => write_totals(alloc, asked, bytes, desk, sink),
+        Mode::Made => write_made(alloc, asked, desk, sink),
     }
 }

@@ -6,13 +6,14 @@ ghost use Rattle.run_engine.specs.Command.{command, reads_input, usage_line};
 ghost use Rattle.run_engine.specs.Headline.{IsRun, written_status};
 
 use crate::command::Command;
+use crate::counter::{Alone, Counter, Desk};
 use crate::reading::{Ending, INPUT_MAX, read_all};
 use crate::report::write_report;
 use crate::words::{WordFault, read_words};
 use crate::write_fault::WriteFault;
 use byte_ends::{Sink, Source, write_all};
-use equity_job::Scratch;
 use line_text::law_closed_lines;
+use report_table::Equity;
 use std::alloc::Global;
 
 /// The line that says how the program is called.
@@ -33,24 +34,44 @@ pub fn run_alone<S: Source, K: Sink>(
         (record { left = S.left source.old; read_faults = S.faults source.old; taken = K.taken sink.old; write_faults = K.faults sink.old })
         (record { left = S.left source.new; read_faults = S.faults source.new; taken = K.taken sink.new; write_faults = K.faults sink.new }) }
 {
+    let mut desk = Desk {
+        counter: Alone { scratch: None },
+        workers: 1,
+        equity: Equity::NotAsked,
+    };
+    run_at(alloc, words, &mut desk, source, sink)
+}
+
+/// The same with whoever counts at a desk.
+fn run_at<C: Counter, S: Source, K: Sink>(
+    alloc: Global,
+    words: &[String],
+    desk: &mut Desk<C>,
+    source: &mut S,
+    sink: &mut K,
+) -> u8
+    ensures { IsRun INPUT_MAX (command (map string_bytes words.now)) result
+        (record { left = S.left source.old; read_faults = S.faults source.old; taken = K.taken sink.old; write_faults = K.faults sink.old })
+        (record { left = S.left source.new; read_faults = S.faults source.new; taken = K.taken sink.new; write_faults = K.faults sink.new }) }
+{
     let asked = match read_words(alloc, words) {
         Ok(asked) => asked,
         Err(WordFault::Usage) => return write_usage(sink),
         Err(WordFault::Memory) => return 6,
     };
-    let mut scratch = Scratch::new();
+    desk.workers = asked.workers;
     if asked.mode.reads_input() {
-        run_reading(alloc, asked, &mut scratch, source, sink)
+        run_reading(alloc, asked, desk, source, sink)
     } else {
-        run_made(alloc, asked, &mut scratch, sink)
+        run_made(alloc, asked, desk, sink)
     }
 }
 
 /// Runs a command that reads its input.
-fn run_reading<S: Source, K: Sink>(
+fn run_reading<C: Counter, S: Source, K: Sink>(
     alloc: Global,
     asked: Command,
-    scratch: &mut Scratch,
+    desk: &mut Desk<C>,
     source: &mut S,
     sink: &mut K,
 ) -> u8
@@ -64,7 +85,7 @@ fn run_reading<S: Source, K: Sink>(
         return 6;
     };
     law_closed_lines();
-    match write_report(alloc, asked, input.reported(asked.mode), scratch, sink) {
+    match write_report(alloc, asked, input.reported(asked.mode), desk, sink) {
         Ok(rejected) => status_of(input.ending, rejected),
         Err(WriteFault::Failed) => 4,
         Err(WriteFault::Memory) => 6,
@@ -72,14 +93,19 @@ fn run_reading<S: Source, K: Sink>(
 }
 
 /// Runs a command that reads no input.
-fn run_made<K: Sink>(alloc: Global, asked: Command, scratch: &mut Scratch, sink: &mut K) -> u8
+fn run_made<C: Counter, K: Sink>(
+    alloc: Global,
+    asked: Command,
+    desk: &mut Desk<C>,
+    sink: &mut K,
+) -> u8
     requires makes { reads_input asked.mode ≡ false }
     requires few { asked.hands ≤ 10000 }
     ensures { (left : Option (List ℕ)) (faults : ℕ) → IsRun INPUT_MAX (Some asked) result
         (record { left = left; read_faults = faults; taken = K.taken sink.old; write_faults = K.faults sink.old })
         (record { left = left; read_faults = faults; taken = K.taken sink.new; write_faults = K.faults sink.new }) }
 {
-    match write_report(alloc, asked, &[], scratch, sink) {
+    match write_report(alloc, asked, &[], desk, sink) {
         Ok(rejected) => status_of(Ending::Whole, rejected),
         Err(WriteFault::Failed) => 4,
         Err(WriteFault::Memory) => 6,

@@ -9,50 +9,49 @@ ghost use Rattle.run_engine.specs.Writing.{IsInside, StepsTo};
 ghost use Rattle.run_engine.specs.declared.listed.Listed.TheVariants.{Spots};
 ghost use Rattle.spot_text.specs.Spot.{spot_of};
 
+use crate::counter::{Counter, Desk};
 use crate::cursor::Cursor;
-use crate::equities::equity_of_table;
 use crate::reading::INPUT_MAX;
 use card_sets::{Known, Memory};
-use equity_job::Scratch;
 use line_text::next_line;
-use report_table::{Equity, Form, table_alone, write_spot};
+use report_table::{Form, table_alone, write_spot};
 use spot_text::{SpotFault, has_word, read_spot};
 
-/// The equity of a spot; none is asked for where it is rejected.
-fn equity_of_spot(known: &Result<Known, SpotFault>, scratch: &mut Scratch) -> Equity
-    ensures { IfOk known.now (λ k. IsEquityOf (alone (state_of k)) result) }
+/// Asks for the equity of a spot, but where it is rejected.
+fn ask_spot<C: Counter>(known: &Result<Known, SpotFault>, desk: &mut Desk<C>) -> Result<(), Memory>
+    ensures { OnOk result (IfOk known.now (λ k. IsEquityOf (alone (state_of k)) desk.new.equity)) }
 {
     let Ok(known) = known else {
-        return Equity::NotAsked;
+        return Ok(());
     };
-    equity_of_table(&table_alone(*known), scratch)
+    desk.ask_table(&table_alone(*known))
 }
 
 /// Appends the block of a spot line, and answers whether the spot is rejected.
-fn write_line(
+fn write_line<C: Counter>(
     block: &mut Vec<u8>,
     form: Form,
     place: u64,
     number: u32,
     line: &[u8],
-    scratch: &mut Scratch,
+    desk: &mut Desk<C>,
 ) -> Result<bool, Memory>
     ensures block { OnOk result (block.new.items ≡ block.old.items ++ spot_block form place number (spot_of line.now)) }
     ensures rejected { IfOk result (λ rejected. rejected ≡ is_err (spot_of line.now)) }
 {
     let known = read_spot(line);
-    let equity = equity_of_spot(&known, scratch);
-    write_spot(block, place, number, &known, &equity, form)?;
+    ask_spot(&known, desk)?;
+    write_spot(block, place, number, &known, &desk.equity, form)?;
     Ok(known.is_err())
 }
 
 /// Makes the block of the next spot, goes on behind its line, and answers whether the spot is rejected;
 /// none where no spot is left.
-pub(crate) fn next_spot(
+pub(crate) fn next_spot<C: Counter>(
     form: Form,
     bytes: &[u8],
     cursor: &mut Cursor,
-    scratch: &mut Scratch,
+    desk: &mut Desk<C>,
     block: &mut Vec<u8>,
 ) -> Result<Option<bool>, Memory>
     requires small { length bytes.now ≤ INPUT_MAX }
@@ -71,7 +70,7 @@ pub(crate) fn next_spot(
         cursor.line += 1;
         if has_word(text) {
             cursor.place += 1;
-            let rejected = write_line(block, form, place, number, text, scratch)?;
+            let rejected = write_line(block, form, place, number, text, desk)?;
             return Ok(Some(rejected));
         }
     }

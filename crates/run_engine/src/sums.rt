@@ -10,12 +10,11 @@ ghost use Rattle.report_table.specs.Totals.{totals_of};
 ghost use Rattle.run_engine.specs.Histories.{verdict_of};
 ghost use Rattle.run_engine.specs.Report.{verdicts};
 
+use crate::counter::{Counter, Desk};
 use crate::cursor::Cursor;
-use crate::equities::equity_of_hand;
 use crate::hands::cut_hand;
 use crate::reading::INPUT_MAX;
 use card_sets::Memory;
-use equity_job::Scratch;
 use hand_audit::{HandAudit, audit_hand};
 use report_table::{Equity, MadeSums, Totals};
 use std::alloc::Global;
@@ -65,11 +64,11 @@ impl HandSums for MadeSums {
 
 /// Adds a hand, whose lines the bytes are; its header line comes first and has the number `first`.
 #[tactic(auto, unfolding(crate::specs::Histories::verdict_of))]
-fn add_lines<H: HandSums>(
+fn add_lines<C: Counter, H: HandSums>(
     alloc: Global,
     bytes: &[u8],
     first: u32,
-    scratch: &mut Scratch,
+    desk: &mut Desk<C>,
     sums: &mut H,
 ) -> Result<(), Memory>
     requires header { IsTrue (begins_hand (lines bytes.now)) }
@@ -79,15 +78,15 @@ fn add_lines<H: HandSums>(
         → OnOk result (sums.new ≡ H.sums_of (hands ++ option_to_list (verdict_of (record { first = first; lines = lines bytes.now })))) }
 {
     let audit = audit_hand(alloc, bytes, first)?;
-    let equity = equity_of_hand(true, &audit, scratch);
-    sums.add_hand(&audit, &equity)
+    desk.ask_hand(true, &audit)?;
+    sums.add_hand(&audit, &desk.equity)
 }
 
 /// Adds all hands of the bytes to the sums of none.
-pub(crate) fn add_hands<H: HandSums>(
+pub(crate) fn add_hands<C: Counter, H: HandSums>(
     alloc: Global,
     bytes: &[u8],
-    scratch: &mut Scratch,
+    desk: &mut Desk<C>,
     sums: &mut H,
 ) -> Result<(), Memory>
     requires small { length bytes.now ≤ INPUT_MAX }
@@ -97,7 +96,7 @@ pub(crate) fn add_hands<H: HandSums>(
     let mut cursor = Cursor::start();
     'hands: while let Some(place) = cut_hand(bytes, &mut cursor) {
         let hand = &bytes[place.start..place.end];
-        add_lines(alloc, hand, place.line, scratch, sums)?;
+        add_lines(alloc, hand, place.line, desk, sums)?;
     }
     Ok(())
 }

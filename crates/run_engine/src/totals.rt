@@ -8,21 +8,21 @@ ghost use Rattle.run_engine.specs.Writing.{WritesBlocks};
 ghost use Rattle.run_engine.specs.declared.command.Mode.TheVariants.{Totals as TotalsMode};
 
 use crate::command::Command;
+use crate::counter::{Counter, Desk};
 use crate::reading::INPUT_MAX;
 use crate::sums::add_hands;
 use crate::write_fault::WriteFault;
 use byte_ends::{Sink, write_all};
-use equity_job::Scratch;
 use report_table::Totals;
 use std::alloc::Global;
 
 /// Writes the totals as one block, which is made whole before any of it is written. Answers how many hands
 /// are rejected.
-pub(crate) fn write_totals<K: Sink>(
+pub(crate) fn write_totals<C: Counter, K: Sink>(
     alloc: Global,
     asked: Command,
     bytes: &[u8],
-    scratch: &mut Scratch,
+    desk: &mut Desk<C>,
     sink: &mut K,
 ) -> Result<u64, WriteFault>
     requires { length bytes.now ≤ INPUT_MAX }
@@ -35,7 +35,7 @@ pub(crate) fn write_totals<K: Sink>(
     ensures calm { IsErrOf result WriteFault.Memory → K.faults sink.new ≡ K.faults sink.old }
 {
     let mut totals = Totals::new(alloc);
-    add_hands(alloc, bytes, scratch, &mut totals)?;
+    add_hands(alloc, bytes, desk, &mut totals)?;
     let mut block = Vec::new(alloc);
     totals.write(&mut block, asked.form)?;
     write_all(sink, &block)?;

@@ -12,8 +12,6 @@ mod laws;
 mod places;
 mod shapes;
 mod successor;
-#[cfg(test)]
-mod tests;
 
 pub use counting::{Above, choices as count_choices, count_runouts};
 pub use lacking::shape;

@@ -19,7 +19,7 @@ use Rattle.runout_walk.specs.Boards.{AreFirst, IsBoardAlone, are_boards, board_l
 use Rattle.runout_walk.specs.Listing.{IsEndOf, last_count, left_after}
 use Rattle.runout_walk.specs.declared.spot.Spot.{Spot}
 use Rattle.runout_walk.proofs.BoardDealt.{IsScene, first_cards, own_of, scene_of}
-use Rattle.runout_walk.proofs.BoardRunouts.{some_member}
+use Rattle.runout_walk.proofs.Members.{some_member}
 
 -- no slot stands before the board's
 pub front_none : (st : State) (front : List (List ℕ)) → IsBoardAlone st → suc (length front) ≡ length (slots st) → front ≡ []

@@ -1,8 +1,8 @@
 -- Runouts that deal the board alone.
-use Rattle.std.proofs.Common.{◌≡◌, ℕ, zero, suc, ◌+◌, ◌-◌, ◌<◌, ◌≤◌, ◌==◌, List, [], ◌∷◌, ◌++◌, length, map, refl, sym, ap, ◌∙◌, Bool, true, false, cond, arith, ◌||◌, subst, take, drop, append_assoc}
-use Rattle.std.specs.List.{count_by, flat_map, slice_range, sum_by}
-use Rattle.std.proofs.lemmas.List.{length-map, length-take, length-drop, take-map, drop-map}
-use Rattle.std.proofs.lemmas.List.Sums.{sum_by-append, sum_by-cons}
+use Rattle.std.proofs.Common.{◌≡◌, ℕ, zero, suc, ◌+◌, ◌-◌, ◌<◌, ◌≤◌, ◌==◌, List, [], ◌∷◌, ◌++◌, length, map, refl, sym, ap, ◌∙◌, Bool, true, false, cond, arith, ◌||◌, subst, take, append_assoc}
+use Rattle.std.specs.List.{count_by, flat_map, slice_range}
+use Rattle.std.proofs.lemmas.List.{length-map}
+use Rattle.std.proofs.lemmas.List.Sums.{sum_by-append}
 use Rattle.std.proofs.lemmas.List.Folds.{list_any-append}
 use Rattle.card_sets.specs.Bits.{cards_where_same, IsCardSet-cards_where}
 use Rattle.card_sets.specs.Cards.{cards_where, cards_below, has_card, union, with_card, IsCardSet, IsRising, RisingFrom}
@@ -22,6 +22,7 @@ use Rattle.showdown_tally.proofs.Full.{hand_of, Sound, unseen_free, any-index, f
 use Rattle.runout_walk.specs.Boards.{IsBoardAlone, board_lacks}
 use Rattle.runout_walk.specs.Pairs.{cards_of_pair}
 use Rattle.runout_walk.specs.declared.pair.Pair.{Pair}
+use Rattle.runout_walk.proofs.Members.{in_range, length-range, member-map}
 
 one-or : (f : ℕ → Bool) (p q : Bool) (n : ℕ) → (p ≡ true → q ≡ true → ⊥) → count_by f (cond (p || q) (n ∷ []) []) ≡ count_by f (cond p (n ∷ []) []) + count_by f (cond q (n ∷ []) [])
 one-or f true true n h = absurd (h refl refl)
@@ -70,48 +71,24 @@ board_apart st set w = λ k x y. (unseen_free st k (w k y)).0 x
 pub hand_apart : (st : State) (set : List ℕ) (h : ℕ) → Within set (unseen st) → Apart (hand_of st h) set
 hand_apart st set h w = λ k x y. (unseen_free st k (w k y)).1 (any-index k st.hands h x)
 
-pub member-map : {X Y : Type 0} (f : X → Y) (xs : List X) (x : X) → HasMember xs x → HasMember (map f xs) (f x)
-member-map f xs x m = (map f m.0, map f m.1, ap (map f) m.2 ∙ go m.0 m.1)
-  where
-    go : (front back : List _) → map f (front ++ x ∷ back) ≡ map f front ++ f x ∷ map f back
-    go [] back = refl
-    go (y ∷ front) back = ap (λ l. f y ∷ l) (go front back)
+-- a range of all members is the whole
+take_itself : {X : Type 0} (xs : List X) → take (length xs) xs ≡ xs
+take_itself [] = refl
+take_itself (x ∷ xs) = ap (λ l. x ∷ l) (take_itself xs)
 
-in-take : {X : Type 0} (n : ℕ) (xs : List X) (x : X) → HasMember (take n xs) x → HasMember xs x
-in-take n xs x m = go n xs m.0 m.1 m.2
-  where
-    go : (n : ℕ) (xs front back : List _) → take n xs ≡ front ++ x ∷ back → HasMember xs x
-    go zero xs [] back e = cc
-    go zero xs (y ∷ front) back e = cc
-    go (suc n) [] [] back e = cc
-    go (suc n) [] (y ∷ front) back e = cc
-    go (suc n) (z ∷ xs) [] back e = let same : z ≡ x = cc in ([], xs, ap (λ v. v ∷ xs) same)
-    go (suc n) (z ∷ xs) (y ∷ front) back e = let rest : take n xs ≡ front ++ x ∷ back = cc in let r = go n xs front back rest in (z ∷ r.0, r.1, ap (λ l. z ∷ l) r.2)
-
-in-drop : {X : Type 0} (n : ℕ) (xs : List X) (x : X) → HasMember (drop n xs) x → HasMember xs x
-in-drop zero xs x m = m
-in-drop (suc n) [] x m = m
-in-drop (suc n) (z ∷ xs) x m = let r = in-drop n xs x m in (z ∷ r.0, r.1, ap (λ l. z ∷ l) r.2)
-
-pub in-range : {X : Type 0} (xs : List X) (lo hi : ℕ) (x : X) → HasMember (slice_range xs lo hi) x → HasMember xs x
-in-range xs lo hi x m = in-drop lo xs x (in-take (hi - lo) (drop lo xs) x m)
-
-pub length-range : {X : Type 0} (xs : List X) (lo hi : ℕ) → lo ≤ hi → hi ≤ length xs → length (slice_range xs lo hi) ≡ hi - lo
-length-range xs lo hi h k = omega (arith, length-take (hi - lo) (drop lo xs), length-drop lo xs)
+pub whole_range : {X : Type 0} (xs : List X) (lo hi : ℕ) → lo < hi → hi ≤ length xs → hi - lo ≡ length xs → slice_range xs lo hi ≡ xs
+whole_range xs zero hi l h e = ap (λ n. take n xs) e ∙ take_itself xs
+whole_range [] (suc lo) hi l h e = absurd (omega arith)
+whole_range (x ∷ xs) (suc lo) hi l h e = absurd (omega arith)
 
 -- a pair of a stretch is a choice of two
 pub stretch-member : (stretch : List Pair) (rest : List ℕ) (lo hi : ℕ) (pair : Pair) → map cards_of_pair stretch ≡ slice_range (choose 2 rest) lo hi → HasMember stretch pair → HasMember (choose 2 rest) (cards_of_pair pair)
 stretch-member stretch rest lo hi pair e m =
     let P : List (List ℕ) → Type 0 = λ l. HasMember l (cards_of_pair pair) in
-    in-range (choose 2 rest) lo hi (cards_of_pair pair) (subst P e (member-map cards_of_pair stretch pair m))
+    in_range (choose 2 rest) lo hi (cards_of_pair pair) (subst P e (member-map cards_of_pair stretch pair m))
 
 pub stretch-length : (stretch : List Pair) (rest : List ℕ) (lo hi : ℕ) → map cards_of_pair stretch ≡ slice_range (choose 2 rest) lo hi → lo < hi → hi ≤ length (choose 2 rest) → length stretch ≡ hi - lo
 stretch-length stretch rest lo hi e h k = sym (length-map stretch cards_of_pair) ∙ ap length e ∙ length-range (choose 2 rest) lo hi (omega arith) k
-
--- a list that isn't empty has a member
-pub some_member : {X : Type 0} (xs : List X) → 0 < length xs → (x : X) × HasMember xs x
-some_member [] h = absurd (omega arith)
-some_member (x ∷ xs) h = (x, ([], xs, refl))
 
 -- what the only set of a runout is
 pub set_of_member : (st : State) (set : List ℕ) → IsBoardAlone st → HasMember (runouts_after st) (set ∷ []) → IsChoice (board_lacks (slots st)) 0 (unseen st) set
@@ -163,10 +140,3 @@ front-has front back k h = list_any-append (λ c. c == k) front back ∙ go (has
     go : (a b : Bool) → a ≡ true → (a || b) ≡ true
     go true b e = refl
     go false b e = cc
-
-pub range-map : {X Y : Type 0} (f : X → Y) (xs : List X) (lo hi : ℕ) → slice_range (map f xs) lo hi ≡ map f (slice_range xs lo hi)
-range-map f xs lo hi = ap (λ l. take (hi - lo) l) (drop-map f lo xs) ∙ take-map f (hi - lo) (drop lo xs)
-
-pub sum-map : {X Y : Type 0} (g : Y → ℕ) (f : X → Y) (xs : List X) → sum_by g (map f xs) ≡ sum_by (λ x. g (f x)) xs
-sum-map g f [] = refl
-sum-map g f (x ∷ xs) = sum_by-cons g (f x) (map f xs) ∙ ap (λ n. g (f x) + n) (sum-map g f xs) ∙ sym (sum_by-cons (λ x. g (f x)) x xs)

@@ -31,7 +31,8 @@ use Rattle.runout_walk.specs.Draws.{last_hand}
 use Rattle.runout_walk.specs.Listing.{last_count}
 use Rattle.runout_walk.specs.Rivals.{value_with}
 use Rattle.runout_walk.specs.Worth.{IsDraw, AreNumbers, full_worth, number_of, worth, worth_after}
-use Rattle.runout_walk.proofs.DrawLists.{count_map, count_same, in_range, map_same, some_member}
+use Rattle.runout_walk.proofs.Members.{count_map, count_same, in_range, some_member}
+use Rattle.runout_walk.proofs.DrawLists.{map_same}
 use Rattle.runout_walk.proofs.DrawSlots.{IsLastOf, last_deal, last_of_hands, last_set, no_board_slots, other_set}
 use Rattle.runout_walk.proofs.DrawWinners.{outcome_is, set_same}
 

@@ -1,12 +1,11 @@
 -- Lists of cards, of draws and of their numbers.
-use Rattle.std.proofs.Common.{◌≡◌, ℕ, zero, suc, ◌+◌, ◌-◌, ◌<◌, ◌≤◌, ◌==◌, ◌||◌, Bool, true, false, cond, List, [], ◌∷◌, ◌++◌, length, length-append, map, take, drop, set, get_or, refl, sym, ap, ◌∙◌, arith, append_assoc, append-nil, inl, inr, None}
-use Rattle.std.specs.Prelude.{min, slice_get, slice_index, slice_index_or}
-use Rattle.std.specs.List.{count_by, slice_range}
+use Rattle.std.proofs.Common.{◌≡◌, ℕ, zero, suc, ◌+◌, ◌-◌, ◌<◌, ◌≤◌, ◌==◌, ◌||◌, Bool, true, false, List, [], ◌∷◌, ◌++◌, length, length-append, map, take, drop, set, get_or, refl, sym, ap, ◌∙◌, arith, append_assoc, append-nil, inl, inr}
+use Rattle.std.specs.Prelude.{min, slice_index, slice_index_or}
+use Rattle.std.specs.List.{slice_range}
 use Rattle.std.proofs.lemmas.Bool.{cases_eq, cases_lt}
-use Rattle.std.proofs.lemmas.List.{length-map, length-take, length-drop, map-append, take-map, drop-map, take_all, take_more_set}
-use Rattle.std.proofs.lemmas.List.Sums.{sum_by-cons}
-use Rattle.card_sets.specs.Cards.{has_card, with_card, union, IsCardSet}
-use Rattle.card_sets.specs.Bits.{cards_where_same, has-cards_where, IsCardSet-cards_where}
+use Rattle.std.proofs.lemmas.List.{length-map, map-append, take_all, take_more_set}
+use Rattle.card_sets.specs.Cards.{has_card, with_card, union}
+use Rattle.card_sets.specs.Bits.{cards_where_same, has-cards_where}
 use Rattle.card_sets.specs.Choose.{choose}
 use Rattle.card_sets.specs.Disjoint.{apart}
 use Rattle.runout_ranges.specs.Runouts.{HasMember}
@@ -14,15 +13,14 @@ use Rattle.runout_ranges.specs.Ways.{binomial}
 use Rattle.runout_ranges.proofs.Numbers.{length_choose}
 use Rattle.runout_ranges.proofs.NextChoice.{choose_length}
 use Rattle.runout_walk.specs.Worth.{number_at, number_of, plane_base}
+use Rattle.runout_walk.proofs.Members.{in_range, length-range}
+use Rattle.runout_walk.proofs.PairListing.{choose-one, grows, two-first}
+use Rattle.runout_walk.proofs.Ranges.{map-map, range-append, range-empty, range-map}
 
 -- one card more in a list
 pub put_card : (cards all rest left : List ℕ) (used card : ℕ) → used < length cards → rest ≡ card ∷ left → take used cards ++ rest ≡ all → take (used + 1) (set cards used card) ++ left ≡ all
 put_card cards all rest left used card inside first e =
     ap (λ l. l ++ left) (take_more_set cards used card inside) ∙ append_assoc (take used cards) (card ∷ []) left ∙ ap (λ l. take used cards ++ l) (sym first) ∙ e
-
-pub none_there : (xs : List ℕ) → slice_get xs 0 ≡ None → xs ≡ []
-none_there [] e = refl
-none_there (x ∷ xs) e = cc
 
 -- no card is in no cards
 pub apart_none : (cards : List ℕ) → apart cards [] ≡ true
@@ -69,85 +67,14 @@ with_three own low mid high =
     with_two (with_card own low) mid high
     ∙ cards_where_same _ _ (λ k h. rw (has-cards_where (λ k. (k == low) || has_card own k) k h, same_eq k low) (or_move (low == k) (has_card own k) ((mid == k) || ((high == k) || false))))
 
-or_none : (b : Bool) → (b || false) ≡ b
-or_none true = refl
-or_none false = refl
-
-pub union_none : (a : List ℕ) → IsCardSet a → union a [] ≡ a
-union_none a is = cards_where_same _ _ (λ k h. or_none (has_card a k)) ∙ is
-
-pub union_set : (a b : List ℕ) → IsCardSet (union a b)
-union_set a b = IsCardSet-cards_where _
-
--- a member of a part
-in_take : {X : Type 0} (n : ℕ) (xs : List X) (x : X) → HasMember (take n xs) x → HasMember xs x
-in_take n xs x m = go n xs m.0 m.1 m.2
-  where
-    go : (n : ℕ) (xs front back : List _) → take n xs ≡ front ++ x ∷ back → HasMember xs x
-    go zero xs [] back e = cc
-    go zero xs (y ∷ front) back e = cc
-    go (suc n) [] [] back e = cc
-    go (suc n) [] (y ∷ front) back e = cc
-    go (suc n) (z ∷ xs) [] back e = let same : z ≡ x = cc in ([], xs, ap (λ v. v ∷ xs) same)
-    go (suc n) (z ∷ xs) (y ∷ front) back e = let rest : take n xs ≡ front ++ x ∷ back = cc in let r = go n xs front back rest in (z ∷ r.0, r.1, ap (λ l. z ∷ l) r.2)
-
-in_drop : {X : Type 0} (n : ℕ) (xs : List X) (x : X) → HasMember (drop n xs) x → HasMember xs x
-in_drop zero xs x m = m
-in_drop (suc n) [] x m = m
-in_drop (suc n) (z ∷ xs) x m = let r = in_drop n xs x m in (z ∷ r.0, r.1, ap (λ l. z ∷ l) r.2)
-
-pub in_range : {X : Type 0} (xs : List X) (lo hi : ℕ) (x : X) → HasMember (slice_range xs lo hi) x → HasMember xs x
-in_range xs lo hi x m = in_drop lo xs x (in_take (hi - lo) (drop lo xs) x m)
-
-pub length_range : {X : Type 0} (xs : List X) (lo hi : ℕ) → lo ≤ hi → hi ≤ length xs → length (slice_range xs lo hi) ≡ hi - lo
-length_range xs lo hi h k = omega (arith, length-take (hi - lo) (drop lo xs), length-drop lo xs)
-
--- a list that isn't empty has a member
-pub some_member : {X : Type 0} (xs : List X) → 0 < length xs → (x : X) × HasMember xs x
-some_member [] h = absurd (omega arith)
-some_member (x ∷ xs) h = (x, ([], xs, refl))
-
 -- images of the members alone matter
 pub map_same : {X Y : Type 0} (f g : X → Y) (xs : List X) → ((x : X) → HasMember xs x → f x ≡ g x) → map f xs ≡ map g xs
 map_same f g [] h = refl
 map_same f g (x ∷ xs) h =
     ap (λ v. v ∷ map f xs) (h x ([], xs, refl)) ∙ ap (λ l. g x ∷ l) (map_same f g xs (λ y m. h y (x ∷ m.0, m.1, ap (λ l. x ∷ l) m.2)))
 
-pub count_same : {X : Type 0} (p q : X → Bool) (xs : List X) → ((x : X) → HasMember xs x → p x ≡ q x) → count_by p xs ≡ count_by q xs
-count_same p q [] h = refl
-count_same p q (x ∷ xs) h =
-    sum_by-cons (λ y. cond (p y) 1 0) x xs
-    ∙ ap (λ b. cond b 1 0 + count_by p xs) (h x ([], xs, refl))
-    ∙ ap (λ n. cond (q x) 1 0 + n) (count_same p q xs (λ y m. h y (x ∷ m.0, m.1, ap (λ l. x ∷ l) m.2)))
-    ∙ sym (sum_by-cons (λ y. cond (q y) 1 0) x xs)
-
-pub count_map : {X Y : Type 0} (p : Y → Bool) (f : X → Y) (xs : List X) → count_by p (map f xs) ≡ count_by (λ x. p (f x)) xs
-count_map p f [] = refl
-count_map p f (x ∷ xs) =
-    sum_by-cons (λ y. cond (p y) 1 0) (f x) (map f xs) ∙ ap (λ n. cond (p (f x)) 1 0 + n) (count_map p f xs) ∙ sym (sum_by-cons (λ y. cond (p (f y)) 1 0) x xs)
-
-pub map_map : {X Y Z : Type 0} (g : Y → Z) (f : X → Y) (xs : List X) → map g (map f xs) ≡ map (λ x. g (f x)) xs
-map_map g f [] = refl
-map_map g f (x ∷ xs) = ap (λ l. g (f x) ∷ l) (map_map g f xs)
-
--- the draws of one card, and of two
-pub choose_one : (xs : List ℕ) → choose 1 xs ≡ map (λ x. x ∷ []) xs
-choose_one [] = refl
-choose_one (x ∷ xs) = ap (λ l. (x ∷ []) ∷ l) (choose_one xs)
-
-pub two_first : (low : ℕ) (others : List ℕ) → choose 2 (low ∷ others) ≡ map (λ high. low ∷ high ∷ []) others ++ choose 2 others
-two_first low others = ap (λ l. l ++ choose 2 others) (ap (λ l. map (λ rest. low ∷ rest) l) (choose_one others) ∙ map_map (λ rest. low ∷ rest) (λ x. x ∷ []) others)
-
-grows : (n m k : ℕ) → binomial n k ≤ binomial (n + m) k
-grows n zero k = let z : n + 0 ≡ n = omega arith in rw z (omega arith)
-grows n (suc m) zero = omega arith
-grows n (suc m) (suc k) =
-    let s : n + suc m ≡ suc (n + m) = omega arith in
-    let ih : binomial n (suc k) ≤ binomial (n + m) (suc k) = grows n m (suc k) in
-    rw s (omega arith)
-
 pub one_length : (xs : List ℕ) → length (choose 1 xs) ≡ length xs
-one_length xs = ap length (choose_one xs) ∙ length-map xs (λ x. x ∷ [])
+one_length xs = ap length (choose-one xs) ∙ length-map xs (λ x. x ∷ [])
 
 -- no more draws than of the whole deck
 few_of : (cards : List ℕ) (count most : ℕ) → length cards ≤ 52 → binomial 52 count ≤ most → length (choose count cards) ≤ most
@@ -163,56 +90,11 @@ few_draws cards (suc (suc zero)) h l m = let size : binomial 52 2 ≡ 1326 = ref
 few_draws cards (suc (suc (suc zero))) h l m = let size : binomial 52 3 ≡ 22100 = refl in few_of cards 3 22100 h (omega arith)
 few_draws cards (suc (suc (suc (suc n)))) h l m = absurd (omega arith)
 
--- ranges
-pub range_none : {X : Type 0} (lo hi : ℕ) → slice_range {X = X} [] lo hi ≡ []
-range_none {X} lo hi = drop_none lo
-  where
-    take_none : (n : ℕ) → take {A = X} n [] ≡ []
-    take_none zero = refl
-    take_none (suc n) = refl
-
-    drop_none : (n : ℕ) → take {A = X} (hi - lo) (drop n []) ≡ []
-    drop_none zero = take_none (hi - lo)
-    drop_none (suc n) = take_none (hi - lo)
-
-pub range_append : {X : Type 0} (xs ys : List X) (lo hi : ℕ) → slice_range (xs ++ ys) lo hi ≡ slice_range xs lo (min hi (length xs)) ++ slice_range ys (lo - length xs) (hi - length xs)
-range_append [] ys lo hi =
-    let a : lo - 0 ≡ lo = omega arith in
-    let b : hi - 0 ≡ hi = omega arith in
-    rw (range_none lo (min hi 0), a, b) refl
-range_append (x ∷ xs) ys zero zero =
-    let a : min 0 (suc (length xs)) ≡ 0 = omega arith in
-    let b : 0 - suc (length xs) ≡ 0 = omega arith in
-    rw (a, b) refl
-range_append (x ∷ xs) ys zero (suc hi) =
-    let a : min (suc hi) (suc (length xs)) - 0 ≡ suc (min hi (length xs) - 0) = omega arith in
-    let b : suc hi - suc (length xs) ≡ hi - length xs = omega arith in
-    let c : 0 - suc (length xs) ≡ 0 - length xs = omega arith in
-    let d : suc hi - 0 ≡ suc (hi - 0) = omega arith in
-    rw (a, b, c, d) (ap (λ l. x ∷ l) (range_append xs ys zero hi))
-range_append (x ∷ xs) ys (suc lo) zero =
-    let a : min 0 (suc (length xs)) - suc lo ≡ 0 = omega arith in
-    let b : (0 - suc (length xs)) - (suc lo - suc (length xs)) ≡ 0 = omega arith in
-    let d : 0 - suc lo ≡ 0 = omega arith in
-    rw (a, b, d) refl
-range_append (x ∷ xs) ys (suc lo) (suc hi) =
-    let a : min (suc hi) (suc (length xs)) - suc lo ≡ min hi (length xs) - lo = omega arith in
-    let b : suc hi - suc (length xs) ≡ hi - length xs = omega arith in
-    let c : suc lo - suc (length xs) ≡ lo - length xs = omega arith in
-    let d : suc hi - suc lo ≡ hi - lo = omega arith in
-    rw (a, b, c, d) (range_append xs ys lo hi)
-
-pub range_map : {X Y : Type 0} (f : X → Y) (xs : List X) (lo hi : ℕ) → slice_range (map f xs) lo hi ≡ map f (slice_range xs lo hi)
-range_map f xs lo hi = ap (λ l. take (hi - lo) l) (drop-map f lo xs) ∙ take-map f (hi - lo) (drop lo xs)
-
-range_empty : {X : Type 0} (xs : List X) (lo hi : ℕ) → hi ≤ lo → slice_range xs lo hi ≡ []
-range_empty xs lo hi h = let e : hi - lo ≡ 0 = omega arith in rw e refl
-
 -- ends that are moved to the end of the list where they are behind it
 clipped : {X : Type 0} (xs : List X) (lo hi : ℕ) → slice_range xs (min lo (length xs)) (min hi (length xs)) ≡ slice_range xs lo (min hi (length xs))
 clipped xs lo hi = elim (cases_lt lo (length xs)) [
   | inl l ↦ (let m : min lo (length xs) ≡ lo = omega arith in ap (λ n. slice_range xs n (min hi (length xs))) m)
-  | inr ge ↦ range_empty xs (min lo (length xs)) (min hi (length xs)) (omega arith) ∙ sym (range_empty xs lo (min hi (length xs)) (omega arith))
+  | inr ge ↦ range-empty xs (min lo (length xs)) (min hi (length xs)) (omega arith) ∙ sym (range-empty xs lo (min hi (length xs)) (omega arith))
 ]
 
 -- the draws of a card with each of some others
@@ -224,10 +106,10 @@ range_of_two : (low : ℕ) (cards highs : List ℕ) (lo hi : ℕ) → cards ≡ 
     ≡ pairs_with low (slice_range highs (min lo (length highs)) (min hi (length highs))) ++ slice_range (choose 2 highs) (lo - length highs) (hi - length highs)
 range_of_two low cards highs lo hi first =
     ap (λ l. slice_range (choose 2 l) lo hi) first
-    ∙ ap (λ l. slice_range l lo hi) (two_first low highs)
-    ∙ range_append (pairs_with low highs) (choose 2 highs) lo hi
+    ∙ ap (λ l. slice_range l lo hi) (two-first low highs)
+    ∙ range-append (pairs_with low highs) (choose 2 highs) lo hi
     ∙ ap (λ n. slice_range (pairs_with low highs) lo (min hi n) ++ slice_range (choose 2 highs) (lo - n) (hi - n)) (length-map highs (λ high. low ∷ high ∷ []))
-    ∙ ap (λ l. l ++ slice_range (choose 2 highs) (lo - length highs) (hi - length highs)) (range_map (λ high. low ∷ high ∷ []) highs lo (min hi (length highs)) ∙ ap (pairs_with low) (sym (clipped highs lo hi)))
+    ∙ ap (λ l. l ++ slice_range (choose 2 highs) (lo - length highs) (hi - length highs)) (range-map (λ high. low ∷ high ∷ []) highs lo (min hi (length highs)) ∙ ap (pairs_with low) (sym (clipped highs lo hi)))
 
 -- the same with ends that the code has
 pub pairs_split : (low : ℕ) (cards highs : List ℕ) (lo hi start end later_lo later_hi : ℕ) → cards ≡ low ∷ highs → start ≡ min lo (length highs) → end ≡ min hi (length highs) → later_lo ≡ lo - length highs → later_hi ≡ hi - length highs
@@ -238,10 +120,6 @@ pairs_split low cards highs lo hi start end later_lo later_hi first a b c d =
     ∙ ap (λ n. pairs_with low (slice_range highs start n) ++ slice_range (choose 2 highs) (lo - length highs) (hi - length highs)) (sym b)
     ∙ ap (λ n. pairs_with low (slice_range highs start end) ++ slice_range (choose 2 highs) n (hi - length highs)) (sym c)
     ∙ ap (λ n. pairs_with low (slice_range highs start end) ++ slice_range (choose 2 highs) later_lo n) (sym d)
-
-pub two_first_length : (low : ℕ) (cards highs : List ℕ) → cards ≡ low ∷ highs → length (choose 2 cards) ≡ length highs + length (choose 2 highs)
-two_first_length low cards highs first =
-    ap (λ l. length (choose 2 l)) first ∙ ap length (two_first low highs) ∙ length-append (pairs_with low highs) (choose 2 highs) ∙ ap (λ n. n + length (choose 2 highs)) (length-map highs (λ high. low ∷ high ∷ []))
 
 -- a list by its first member and the others, as a pattern has them
 pub first_split : (cards : List ℕ) (low d : ℕ) → 1 ≤ length cards → low ≡ get_or cards 0 d → cards ≡ low ∷ take (length cards - 1) (drop 1 cards)
@@ -260,10 +138,10 @@ choices_split k low cards others count lo hi start end later_lo later_hi first s
     let s : start ≡ min lo (length (choose k others)) = a ∙ ap (min lo) size in
     let e : end ≡ min hi (length (choose k others)) = b ∙ ap (min hi) size in
     ap (λ l. slice_range (choose (suc k) l) lo hi) first
-    ∙ range_append with later lo hi
+    ∙ range-append with later lo hi
     ∙ ap (λ n. slice_range with lo (min hi n) ++ slice_range later (lo - n) (hi - n)) l
     ∙ ap (λ n. slice_range with lo (min hi n) ++ slice_range later (lo - count) (hi - count)) size
-    ∙ ap (λ l. l ++ slice_range later (lo - count) (hi - count)) (range_map (λ draw. low ∷ draw) (choose k others) lo (min hi (length (choose k others))) ∙ ap (map (λ draw. low ∷ draw)) (sym (clipped (choose k others) lo hi)))
+    ∙ ap (λ l. l ++ slice_range later (lo - count) (hi - count)) (range-map (λ draw. low ∷ draw) (choose k others) lo (min hi (length (choose k others))) ∙ ap (map (λ draw. low ∷ draw)) (sym (clipped (choose k others) lo hi)))
     ∙ ap (λ n. map (λ draw. low ∷ draw) (slice_range (choose k others) n (min hi (length (choose k others)))) ++ slice_range later (lo - count) (hi - count)) (sym s)
     ∙ ap (λ n. map (λ draw. low ∷ draw) (slice_range (choose k others) start n) ++ slice_range later (lo - count) (hi - count)) (sym e)
     ∙ ap (λ n. map (λ draw. low ∷ draw) (slice_range (choose k others) start end) ++ slice_range later n (hi - count)) (sym c)
@@ -310,7 +188,7 @@ filling_room f first whole todo part later used values way split =
 
 -- the numbers of the draws with a card
 pub pair_numbers : (rows : List (List ℕ)) (base low from : ℕ) (part : List ℕ) → from ≡ low → map (slice_index (slice_index_or rows (base + from) [])) part ≡ map (number_at rows base) (pairs_with low part)
-pair_numbers rows base low from part same = ap (λ k. map (slice_index (slice_index_or rows (base + k) [])) part) same ∙ sym (map_map (number_at rows base) (λ high. low ∷ high ∷ []) part)
+pair_numbers rows base low from part same = ap (λ k. map (slice_index (slice_index_or rows (base + k) [])) part) same ∙ sym (map-map (number_at rows base) (λ high. low ∷ high ∷ []) part)
 
 -- one number more
 map_take : (f : ℕ → ℕ) (xs : List ℕ) (i d : ℕ) → i < length xs → map f (take (i + 1) xs) ≡ map f (take i xs) ++ f (get_or xs i d) ∷ []
@@ -336,9 +214,9 @@ put_value first values row cards used place card from room inside is same so_far
 pub single_numbers : (rows : List (List ℕ)) (planes : List (List ℕ)) (cards new : List ℕ) (lo hi : ℕ) → lo ≤ hi → hi ≤ length cards → take (0 + length (slice_range cards lo hi)) new ≡ map (slice_index (slice_index_or rows 0 [])) (slice_range cards lo hi)
     → take (hi - lo) new ≡ map (number_of rows planes) (slice_range (choose 1 cards) lo hi)
 single_numbers rows planes cards new lo hi order inside put =
-    let size : hi - lo ≡ 0 + length (slice_range cards lo hi) = omega (arith, length_range cards lo hi order inside) in
+    let size : hi - lo ≡ 0 + length (slice_range cards lo hi) = omega (arith, length-range cards lo hi order inside) in
     ap (λ n. take n new) size ∙ put
-    ∙ sym (ap (λ l. map (number_of rows planes) (slice_range l lo hi)) (choose_one cards) ∙ ap (map (number_of rows planes)) (range_map (λ x. x ∷ []) cards lo hi) ∙ map_map (number_of rows planes) (λ x. x ∷ []) (slice_range cards lo hi))
+    ∙ sym (ap (λ l. map (number_of rows planes) (slice_range l lo hi)) (choose-one cards) ∙ ap (map (number_of rows planes)) (range-map (λ x. x ∷ []) cards lo hi) ∙ map-map (number_of rows planes) (λ x. x ∷ []) (slice_range cards lo hi))
 
 two_same : (rows planes : List (List ℕ)) (draw : List ℕ) → length draw ≡ 2 → number_at rows 0 draw ≡ number_of rows planes draw
 two_same rows planes [] e = absurd (omega arith)
@@ -364,7 +242,7 @@ pub three_numbers : (rows planes : List (List ℕ)) (low base : ℕ) (cards : Li
 three_numbers rows planes low base cards lo hi same =
     ap (λ k. map (number_at planes k) (slice_range (choose 2 cards) lo hi)) same
     ∙ map_same (number_at planes (plane_base low)) (λ draw. number_of rows planes (low ∷ draw)) (slice_range (choose 2 cards) lo hi) (λ draw m. three_same rows planes low draw (two_long cards lo hi draw m))
-    ∙ sym (map_map (number_of rows planes) (λ draw. low ∷ draw) (slice_range (choose 2 cards) lo hi))
+    ∙ sym (map-map (number_of rows planes) (λ draw. low ∷ draw) (slice_range (choose 2 cards) lo hi))
 
 pub no_list : {X : Type 0} (xs : List X) → length xs < 1 → xs ≡ []
 no_list [] h = refl

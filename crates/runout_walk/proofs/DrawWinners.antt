@@ -29,7 +29,7 @@ use Rattle.showdown_tally.specs.Sides.{side_outcome}
 use Rattle.runout_walk.specs.Bests.{best_value, best_set}
 use Rattle.runout_walk.specs.Rivals.{others_of, value_with, pick, winner_by}
 use Rattle.runout_walk.specs.Worth.{or_zero, full_worth, worth_after}
-use Rattle.runout_walk.proofs.DrawLists.{union_none}
+use Rattle.runout_walk.proofs.BoardRunouts.{union-none}
 
 -- the numbers of all but one hand
 best-append : (v : ℕ → ℕ) (xs ys : List ℕ) → best_value v (xs ++ ys) ≡ max (best_value v xs) (best_value v ys)
@@ -328,8 +328,8 @@ number_is : (game : Game) (full : List ℕ) → board_size game ≡ 0 → length
 number_is Holdem full e n is = absurd (omega arith)
 number_is Omaha8 full e n is = absurd (omega arith)
 number_is Stud full e n is = refl
-number_is Razz full e n is = some_least _ (map low_a5 (choose 5 (union full []))) (some_five low_a5 (union full []) (omega (arith, ap length (union_none full is))))
-number_is Lowball27 full e n is = some_least _ (map low_27 (choose 5 (union full []))) (some_five low_27 (union full []) (omega (arith, ap length (union_none full is))))
+number_is Razz full e n is = some_least _ (map low_a5 (choose 5 (union full []))) (some_five low_a5 (union full []) (omega (arith, ap length (union-none full is))))
+number_is Lowball27 full e n is = some_least _ (map low_27 (choose 5 (union full []))) (some_five low_27 (union full []) (omega (arith, ap length (union-none full is))))
 
 no_cards : (cards : List ℕ) → length cards ≡ 0 → cards ≡ []
 no_cards [] e = refl

@@ -17,6 +17,7 @@ pub mod BoardDealt
 pub mod FirstRanks
 pub mod RowSets
 pub mod PairCounts
+pub mod RankPairs
 pub mod BoardLeaf
 pub mod NoTable
 pub mod DrawLists

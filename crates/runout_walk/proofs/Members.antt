@@ -1,7 +1,8 @@
 -- Members of listings.
-use Rattle.std.proofs.Common.{◌≡◌, ℕ, zero, suc, ◌-◌, ◌<◌, ◌≤◌, List, [], ◌∷◌, ◌++◌, length, map, drop, refl, sym, ap, ◌∙◌, arith, subst, append_assoc}
-use Rattle.std.specs.List.{slice_range}
+use Rattle.std.proofs.Common.{◌≡◌, ℕ, zero, suc, ◌+◌, ◌-◌, ◌<◌, ◌≤◌, Bool, cond, List, [], ◌∷◌, ◌++◌, length, map, take, drop, refl, sym, ap, ◌∙◌, arith, subst, append_assoc}
+use Rattle.std.specs.List.{count_by, slice_range}
 use Rattle.std.proofs.lemmas.List.{length-take, length-drop}
+use Rattle.std.proofs.lemmas.List.Sums.{sum_by-cons}
 use Rattle.card_sets.specs.Choose.{choose}
 use Rattle.runout_ranges.specs.Runouts.{HasMember}
 
@@ -39,3 +40,42 @@ without_members M taken rest others card zero some first all more m = absurd (om
 without_members M taken rest others card (suc k) some first all more m =
     let Q : List ℕ → Type 0 = λ l. HasMember (choose (suc k) l) more in
     all more (subst Q (sym first) (member-right (choose (suc k) (card ∷ others)) (map (λ l. card ∷ l) (choose k others)) (choose (suc k) others) more refl m))
+
+-- a member of a part
+in_take : {X : Type 0} (n : ℕ) (xs : List X) (x : X) → HasMember (take n xs) x → HasMember xs x
+in_take n xs x m = go n xs m.0 m.1 m.2
+  where
+    go : (n : ℕ) (xs front back : List _) → take n xs ≡ front ++ x ∷ back → HasMember xs x
+    go zero xs [] back e = cc
+    go zero xs (y ∷ front) back e = cc
+    go (suc n) [] [] back e = cc
+    go (suc n) [] (y ∷ front) back e = cc
+    go (suc n) (z ∷ xs) [] back e = let same : z ≡ x = cc in ([], xs, ap (λ v. v ∷ xs) same)
+    go (suc n) (z ∷ xs) (y ∷ front) back e = let rest : take n xs ≡ front ++ x ∷ back = cc in let r = go n xs front back rest in (z ∷ r.0, r.1, ap (λ l. z ∷ l) r.2)
+
+in_drop : {X : Type 0} (n : ℕ) (xs : List X) (x : X) → HasMember (drop n xs) x → HasMember xs x
+in_drop zero xs x m = m
+in_drop (suc n) [] x m = m
+in_drop (suc n) (z ∷ xs) x m = let r = in_drop n xs x m in (z ∷ r.0, r.1, ap (λ l. z ∷ l) r.2)
+
+pub in_range : {X : Type 0} (xs : List X) (lo hi : ℕ) (x : X) → HasMember (slice_range xs lo hi) x → HasMember xs x
+in_range xs lo hi x m = in_drop lo xs x (in_take (hi - lo) (drop lo xs) x m)
+
+-- a list that isn't empty has a member
+pub some_member : {X : Type 0} (xs : List X) → 0 < length xs → (x : X) × HasMember xs x
+some_member [] h = absurd (omega arith)
+some_member (x ∷ xs) h = (x, ([], xs, refl))
+
+-- counts of members
+pub count_same : {X : Type 0} (p q : X → Bool) (xs : List X) → ((x : X) → HasMember xs x → p x ≡ q x) → count_by p xs ≡ count_by q xs
+count_same p q [] h = refl
+count_same p q (x ∷ xs) h =
+    sum_by-cons (λ y. cond (p y) 1 0) x xs
+    ∙ ap (λ b. cond b 1 0 + count_by p xs) (h x ([], xs, refl))
+    ∙ ap (λ n. cond (q x) 1 0 + n) (count_same p q xs (λ y m. h y (x ∷ m.0, m.1, ap (λ l. x ∷ l) m.2)))
+    ∙ sym (sum_by-cons (λ y. cond (q y) 1 0) x xs)
+
+pub count_map : {X Y : Type 0} (p : Y → Bool) (f : X → Y) (xs : List X) → count_by p (map f xs) ≡ count_by (λ x. p (f x)) xs
+count_map p f [] = refl
+count_map p f (x ∷ xs) =
+    sum_by-cons (λ y. cond (p y) 1 0) (f x) (map f xs) ∙ ap (λ n. cond (p (f x)) 1 0 + n) (count_map p f xs) ∙ sym (sum_by-cons (λ y. cond (p (f y)) 1 0) x xs)

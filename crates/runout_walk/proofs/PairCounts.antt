@@ -16,6 +16,7 @@ use Rattle.showdown_tally.specs.Showdown.{Showdown}
 use Rattle.showdown_tally.specs.SideCounts.{CountsFit, CountsGrow, count_at, count_place}
 use Rattle.runout_walk.specs.KeptRows.{CellsGrow, HasNoFlush, IsRowFor, PairsGrow, PairsWait, WaitsFit, pair_place, row_place, so_many, waiting}
 use Rattle.runout_walk.specs.Pairs.{cards_of_pair}
+use Rattle.runout_walk.specs.RankPairs.{ChoicesGrow}
 use Rattle.card_sets.specs.Cards.{rank_of}
 use Rattle.card_sets.specs.PlayerSets.{AreBelow}
 use Rattle.showdown_tally.specs.Showdown.{eligible_in}
@@ -23,7 +24,7 @@ use Rattle.runout_walk.specs.declared.pair.Pair.{Pair}
 use Rattle.runout_walk.specs.declared.row.Row.{Row}
 use Rattle.runout_walk.proofs.BestHands.{Keeps}
 use Rattle.runout_walk.proofs.BoardDealt.{IsScene, plain_main, row_there}
-use Rattle.runout_walk.proofs.BoardRunouts.{sum-map}
+use Rattle.runout_walk.proofs.Members.{count_map}
 
 -- how many of one pass
 pub count_one : {X : Type 0} (test : X → Bool) (x : X) → count_by test (x ∷ []) ≡ cond (test x) 1 0
@@ -161,16 +162,17 @@ waits_next deal taken rows pair was_at was at old new is put pot number side row
 pub counted_at_once : (deal : Showdown) (taken : List ℕ) (rows : List Row) (pair : Pair) (at times : ℕ) (old new : List (List ℕ)) → PairsGrow deal taken (pair ∷ []) old new → PairsWait deal taken rows (pair ∷ []) at times at times old new
 counted_at_once deal taken rows pair at times old new grow pot number side row p has l found = omega (arith, grow pot number side p has l)
 
+-- there is a row
+pub some_row : (rows : List Row) (i : ℕ) → i < length rows → (row : Row) × (slice_get rows i ≡ Some row)
+some_row [] i l = absurd (omega arith)
+some_row (row ∷ rows) zero l = (row, refl)
+some_row (row ∷ rows) (suc i) l = some_row rows i (omega arith)
+
 pub fits_at_once : (deal : Showdown) (rows : List Row) (at times : ℕ) (counts : List (List ℕ)) → length rows ≡ length deal.pots → WaitsFit deal rows at times counts 1 → CountsFit deal counts 1
 fits_at_once deal rows at times counts same fits pot number side p has l =
     let row = some_row rows pot (omega arith) in
     let f = fits pot number side row.0 p has l row.1 in
     omega arith
-  where
-    some_row : (rows : List Row) (i : ℕ) → i < length rows → (row : Row) × (slice_get rows i ≡ Some row)
-    some_row [] i l = absurd (omega arith)
-    some_row (row ∷ rows) zero l = (row, refl)
-    some_row (row ∷ rows) (suc i) l = some_row rows i (omega arith)
 
 -- one pair more
 pub wait_next : (deal : Showdown) (taken : List ℕ) (rows : List Row) (pairs : List Pair) (i next : ℕ) (pair : Pair) (at times to more : ℕ) (old mid new : List (List ℕ)) → next ≡ suc i → slice_get pairs i ≡ Some pair
@@ -203,11 +205,6 @@ all_put deal taken rows pairs n at times old mid new e same was put pot number s
     let all : take n pairs ≡ pairs = ap (λ k. take k pairs) e ∙ take_all pairs in
     omega (arith, was pot number side row.0 p has l row.1, put pot number side row.0 p has row.1, none_waits row.0 side 0 number, ap (count_by (λ q. pair_place deal taken pot side q == number)) all)
   where
-    some_row : (rows : List Row) (i : ℕ) → i < length rows → (row : Row) × (slice_get rows i ≡ Some row)
-    some_row [] i l = absurd (omega arith)
-    some_row (row ∷ rows) zero l = (row, refl)
-    some_row (row ∷ rows) (suc i) l = some_row rows i (omega arith)
-
     take_all : (xs : List Pair) → take (length xs) xs ≡ xs
     take_all [] = refl
     take_all (x ∷ xs) = ap (λ l. x ∷ l) (take_all xs)
@@ -227,6 +224,16 @@ only_pot deal taken pairs old new one no_low cells pot place High p has l =
     subst P (sym zero_pot) (cells place l)
 only_pot deal taken pairs old new one no_low cells pot place Low p has l = absurd (true≢false (sym has ∙ no_low))
 
+-- all choices are the last cards of runouts
+pub grow_choices : (deal : Showdown) (front : List (List ℕ)) (taken rest : List ℕ) (lo hi : ℕ) (old new : List (List ℕ)) → front ≡ [] → slice_range (choose 2 rest) lo hi ≡ choose 2 rest → ChoicesGrow deal taken (choose 2 rest) old new
+    → CountsGrow deal (map (λ more. front ++ (taken ++ more) ∷ []) (slice_range (choose 2 rest) lo hi)) old new
+grow_choices deal front taken rest lo hi old new none whole grow pot place side p has l =
+    let test : List (List ℕ) → Bool = λ runout. count_place deal pot side runout == place in
+    grow pot place side p has l
+    ∙ ap (λ n. count_at old pot side place + n) (sym (ap (λ f. count_by test (map (λ more. f ++ (taken ++ more) ∷ []) (slice_range (choose 2 rest) lo hi))) none
+    ∙ ap (λ all. count_by test (map (λ more. (taken ++ more) ∷ []) all)) whole
+    ∙ count_map test (λ more. (taken ++ more) ∷ []) (choose 2 rest)))
+
 -- pairs of a stretch are the last cards of runouts
 pub grow_of : (deal : Showdown) (front : List (List ℕ)) (taken rest : List ℕ) (lo hi : ℕ) (stretch : List Pair) (old new : List (List ℕ)) → front ≡ [] → map cards_of_pair stretch ≡ slice_range (choose 2 rest) lo hi → PairsGrow deal taken stretch old new
     → CountsGrow deal (map (λ more. front ++ (taken ++ more) ∷ []) (slice_range (choose 2 rest) lo hi)) old new
@@ -234,7 +241,7 @@ grow_of deal front taken rest lo hi stretch old new none pairs grow pot place si
     let test : List (List ℕ) → Bool = λ runout. count_place deal pot side runout == place in
     let same : count_by test (map (λ more. front ++ (taken ++ more) ∷ []) (slice_range (choose 2 rest) lo hi)) ≡ count_by (λ q. pair_place deal taken pot side q == place) stretch =
     ap (λ f. count_by test (map (λ more. f ++ (taken ++ more) ∷ []) (slice_range (choose 2 rest) lo hi))) none
-    ∙ sum-map (λ runout. cond (test runout) 1 0) (λ more. (taken ++ more) ∷ []) (slice_range (choose 2 rest) lo hi)
+    ∙ count_map test (λ more. (taken ++ more) ∷ []) (slice_range (choose 2 rest) lo hi)
     ∙ ap (λ all. count_by (λ more. test ((taken ++ more) ∷ [])) all) (sym pairs)
-    ∙ sum-map (λ more. cond (test ((taken ++ more) ∷ [])) 1 0) cards_of_pair stretch in
+    ∙ count_map (λ more. test ((taken ++ more) ∷ [])) cards_of_pair stretch in
     omega (arith, grow pot place side p has l, same)

@@ -3,12 +3,13 @@ use Rattle.std.proofs.Common.{◌≡◌, ℕ, zero, suc, ◌+◌, ◌-◌, ◌<�
 use Rattle.std.specs.Prelude.{slice_get}
 use Rattle.card_sets.specs.Cards.{IsRising, RisingFrom}
 use Rattle.std.specs.List.{slice_range}
-use Rattle.std.proofs.lemmas.List.{length-map, map-append, take_more_set, take-map, drop-map}
+use Rattle.std.proofs.lemmas.List.{length-map, map-append, take_more_set}
 use Rattle.card_sets.specs.Choose.{choose}
 use Rattle.runout_ranges.specs.Ways.{binomial}
 use Rattle.runout_ranges.proofs.Numbers.{length_choose}
 use Rattle.runout_walk.specs.Pairs.{cards_of_pair}
 use Rattle.runout_walk.specs.declared.pair.Pair.{Pair}
+use Rattle.runout_walk.proofs.Ranges.{map-map, range-map, range-none}
 
 -- one pair more
 pub put_one : (pairs : List Pair) (used low high : ℕ) (rest left : List ℕ) (pair : Pair) (all : List (List ℕ)) → used < length pairs → cards_of_pair pair ≡ low ∷ high ∷ [] → rest ≡ high ∷ left
@@ -20,13 +21,9 @@ put_one pairs used low high rest left pair all inside is first e =
     ∙ append_assoc (map cards_of_pair (take used pairs)) ((low ∷ high ∷ []) ∷ []) (map (λ h. low ∷ h ∷ []) left)
     ∙ ap (λ r. map cards_of_pair (take used pairs) ++ map (λ h. low ∷ h ∷ []) r) (sym first) ∙ e
 
-choose-one : (xs : List ℕ) → choose 1 xs ≡ map (λ x. x ∷ []) xs
+pub choose-one : (xs : List ℕ) → choose 1 xs ≡ map (λ x. x ∷ []) xs
 choose-one [] = refl
 choose-one (x ∷ xs) = ap (λ l. (x ∷ []) ∷ l) (choose-one xs)
-
-map-map : {X Y Z : Type 0} (g : Y → Z) (f : X → Y) (xs : List X) → map g (map f xs) ≡ map (λ x. g (f x)) xs
-map-map g f [] = refl
-map-map g f (x ∷ xs) = ap (λ l. g (f x) ∷ l) (map-map g f xs)
 
 -- the choices of two with the first card, and those without it
 pub two-first : (low : ℕ) (others : List ℕ) → choose 2 (low ∷ others) ≡ map (λ high. low ∷ high ∷ []) others ++ choose 2 others
@@ -41,7 +38,7 @@ pub two-first-length : (low : ℕ) (rest others : List ℕ) → rest ≡ low ∷
 two-first-length low rest others first =
     ap (λ l. length (choose 2 l)) first ∙ ap length (two-first low others) ∙ length-append (map (λ high. low ∷ high ∷ []) others) (choose 2 others) ∙ ap (λ n. n + length (choose 2 others)) (length-map others (λ high. low ∷ high ∷ []))
 
-grows : (n m k : ℕ) → binomial n k ≤ binomial (n + m) k
+pub grows : (n m k : ℕ) → binomial n k ≤ binomial (n + m) k
 grows n zero k = let z : n + 0 ≡ n = omega arith in rw z (omega arith)
 grows n (suc m) zero = omega arith
 grows n (suc m) (suc k) =
@@ -67,20 +64,6 @@ choose-end k (x ∷ front) rest =
 drop-front : {X : Type 0} (front rest : List X) → drop (length front) (front ++ rest) ≡ rest
 drop-front [] rest = refl
 drop-front (x ∷ front) rest = drop-front front rest
-
-range-none : {X : Type 0} (lo hi : ℕ) → slice_range {X = X} [] lo hi ≡ []
-range-none {X} lo hi = drop_none lo
-  where
-    take_none : (n : ℕ) → take {A = X} n [] ≡ []
-    take_none zero = refl
-    take_none (suc n) = refl
-
-    drop_none : (n : ℕ) → take {A = X} (hi - lo) (drop n []) ≡ []
-    drop_none zero = take_none (hi - lo)
-    drop_none (suc n) = take_none (hi - lo)
-
-range-map : {X Y : Type 0} (f : X → Y) (xs : List X) (lo hi : ℕ) → slice_range (map f xs) lo hi ≡ map f (slice_range xs lo hi)
-range-map f xs lo hi = ap (λ l. take (hi - lo) l) (drop-map f lo xs) ∙ take-map f (hi - lo) (drop lo xs)
 
 range-behind : {X : Type 0} (xs : List X) (start lo hi : ℕ) → slice_range xs (start + lo) (start + hi) ≡ slice_range (drop start xs) lo hi
 range-behind xs zero lo hi =

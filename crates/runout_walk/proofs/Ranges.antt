@@ -4,8 +4,8 @@ use Rattle.std.specs.Prelude.{min}
 use Rattle.std.specs.List.{slice_range}
 use Rattle.std.proofs.lemmas.List.{take-map, drop-map}
 
-range-none : {X : Type 0} (lo hi : ℕ) → slice_range {X = X} [] lo hi ≡ []
-range-none {X} lo hi = drop_none lo ∙ ap (λ l. l) refl
+pub range-none : {X : Type 0} (lo hi : ℕ) → slice_range {X = X} [] lo hi ≡ []
+range-none {X} lo hi = drop_none lo
   where
     take_none : (n : ℕ) → take {A = X} n [] ≡ []
     take_none zero = refl

@@ -1,15 +1,14 @@
 -- Rows and flushes in their places.
-use Rattle.std.proofs.Common.{◌≡◌, ◌+◌, ◌<◌, ◌≤◌, ℕ, zero, suc, List, [], ◌∷◌, ◌++◌, refl, sym, ap, ◌∙◌, arith, Bool, true, false, Some, set, subst, inl, inr, take, drop, ◌-◌, get_or}
+use Rattle.std.proofs.Common.{◌≡◌, ◌+◌, ◌<◌, ◌≤◌, ℕ, zero, suc, List, [], ◌∷◌, ◌++◌, refl, sym, ap, ◌∙◌, arith, true, false, Some, set, subst, inl, inr, take, drop, ◌-◌, get_or, length, ◌⊎◌}
 use Rattle.std.specs.Prelude.{slice_get, replicate}
 use Rattle.std.specs.List.{slice_range}
-use Rattle.std.proofs.lemmas.Bool.{cases_eq}
+use Rattle.std.proofs.lemmas.Bool.{cases_eq, cases_lt}
 use mathlib.Core.Bool.{true≢false}
 use Rattle.card_sets.specs.Cards.{IsRising, rank_of}
 use Rattle.showdown_tally.specs.Showdown.{Showdown}
 use Rattle.runout_walk.specs.Bests.{IsBestFlush}
-use Rattle.runout_walk.specs.KeptRows.{AreRows, AreFlushes, IsRowFor}
+use Rattle.runout_walk.specs.KeptRows.{IsAway, IsBestAt, IsButAt, IsRowFor}
 use Rattle.runout_walk.specs.SideRows.{AreRanksOf, IsSideRow}
-use Rattle.runout_walk.specs.declared.flush.Flush.{Flush}
 use Rattle.runout_walk.specs.declared.row.Row.{Row}
 
 pub none_live : (n i : ℕ) → slice_get (replicate n false) i ≡ Some true → ⊥
@@ -32,11 +31,88 @@ get-same (x ∷ xs) (suc i) v r e = get-same xs i v r e
 pub some_same : {X : Type 0} (a b : X) → Some a ≡ Some b → a ≡ b
 some_same a b e = cc
 
--- all of the same
-pub same_get : {X : Type 0} (n i : ℕ) (x y : X) → slice_get (replicate n x) i ≡ Some y → y ≡ x
-same_get zero i x y e = cc
-same_get (suc n) zero x y e = cc
-same_get (suc n) (suc i) x y e = same_get n i x y e
+pub get-here : {X : Type 0} (xs : List X) (i : ℕ) (v : X) → i < length xs → slice_get (set xs i v) i ≡ Some v
+get-here [] i v l = absurd (omega arith)
+get-here (x ∷ xs) zero v l = refl
+get-here (x ∷ xs) (suc i) v l = get-here xs i v (omega arith)
+
+-- what holds of all holds with one more of which it holds
+pub all_set : {X : Type 0} (P : X → Type 0) (xs : List X) (place : ℕ) (v : X) → ((i : ℕ) (x : X) → slice_get xs i ≡ Some x → P x) → P v → (i : ℕ) (x : X) → slice_get (set xs place v) i ≡ Some x → P x
+all_set P xs place v all is i x at = elim (cases_eq i place) [
+  | inl same ↦
+      let here : x ≡ v = get-same xs place v x (ap (slice_get (set xs place v)) (sym same) ∙ at) in
+      subst P (sym here) is
+  | inr other ↦ all i x (sym (get-other xs place i v other) ∙ at)
+]
+
+pub all_alike : {X : Type 0} (P : X → Type 0) (n : ℕ) (v : X) → P v → (i : ℕ) (x : X) → slice_get (replicate n v) i ≡ Some x → P x
+all_alike P zero v is i x at = cc
+all_alike P (suc n) v is zero x at = let same : v ≡ x = cc in subst P same is
+all_alike P (suc n) v is (suc i) x at = all_alike P n v is i x at
+
+-- places from a base on, one of which is set
+pub group_set : {X : Type 0} (P : ℕ → X → Type 0) (xs : List X) (base pot at : ℕ) (v : X) → at ≡ base + pot → ((p : ℕ) (x : X) → p < pot → slice_get xs (base + p) ≡ Some x → P p x) → P pot v
+    → (p : ℕ) (x : X) → p < pot + 1 → slice_get (set xs at v) (base + p) ≡ Some x → P p x
+group_set P xs base pot at v e was is p x l found = elim (cases_lt p pot) [
+  | inl less ↦ was p x less (sym (get-other xs at (base + p) v (λ s. omega arith)) ∙ found)
+  | inr ge ↦
+      let same : pot ≡ p = omega arith in
+      let there : base + p ≡ at = omega arith in
+      let here : x ≡ v = get-same xs at v x (ap (slice_get (set xs at v)) (sym there) ∙ found) in
+      let Q : ℕ → Type 0 = λ k. P k x in
+      subst Q same (subst (P pot) (sym here) is)
+]
+
+pub away_set : {X : Type 0} (xs old : List X) (base pot at : ℕ) (v : X) → at ≡ base + pot → ((i : ℕ) → IsAway base pot i → slice_get xs i ≡ slice_get old i)
+    → (i : ℕ) → IsAway base (pot + 1) i → slice_get (set xs at v) i ≡ slice_get old i
+away_set xs old base pot at v e was i away = get-other xs at i v (λ s. away pot (omega arith) (s ∙ e)) ∙ was i (λ p l s. away p (omega arith) s)
+
+-- a place is one of those from a base on, or away from them
+pub within : (base pots i : ℕ) → ((pot : ℕ) × (pot < pots) × (i ≡ base + pot)) ⊎ IsAway base pots i
+within base pots i = elim (cases_lt i base) [
+  | inl less ↦ inr (λ pot l e. omega arith)
+  | inr ge ↦ elim (cases_lt (i - base) pots) [
+    | inl inside ↦ inl (i - base, inside, omega arith)
+    | inr over ↦ inr (λ pot l e. omega arith)
+  ]
+]
+
+-- a row as it was but for two changes in the same place, and for none
+pub but_none : (row : Row) (place : ℕ) → IsButAt row place row
+but_none row place = record { pot_is = refl; ranks_are = refl; least_is = refl; mains_are = λ k ne. refl; lows_are = λ k ne. refl; tops_are = λ k ne. refl }
+
+but_again : (was mid row : Row) (place : ℕ) → IsButAt was place mid → IsButAt mid place row → IsButAt was place row
+but_again was mid row place a b = record {
+  pot_is = b.pot_is ∙ a.pot_is;
+  ranks_are = b.ranks_are ∙ a.ranks_are;
+  least_is = b.least_is ∙ a.least_is;
+  mains_are = λ k ne. b.mains_are k ne ∙ a.mains_are k ne;
+  lows_are = λ k ne. b.lows_are k ne ∙ a.lows_are k ne;
+  tops_are = λ k ne. b.tops_are k ne ∙ a.tops_are k ne;
+}
+
+abbrev pub WasBut : List Row → ℕ → ℕ → Row → Type 0
+WasBut old place i row = (was : Row) × (slice_get old i ≡ Some was) × IsButAt was place row
+
+pub but_set : (rows old : List Row) (place at : ℕ) (mid new : Row) → slice_get rows at ≡ Some mid → IsButAt mid place new → ((i : ℕ) (row : Row) → slice_get rows i ≡ Some row → WasBut old place i row)
+    → (i : ℕ) (row : Row) → slice_get (set rows at new) i ≡ Some row → WasBut old place i row
+but_set rows old place at mid new there but was i row found = elim (cases_eq i at) [
+  | inl same ↦
+      let here : row ≡ new = get-same rows at new row (ap (slice_get (set rows at new)) (sym same) ∙ found) in
+      let before = was at mid there in
+      let Q : ℕ → Type 0 = λ k. WasBut old place k row in
+      let P : Row → Type 0 = λ r. WasBut old place at r in
+      subst Q (sym same) (subst P (sym here) (before.0, before.1, but_again before.0 mid new place before.2 but))
+  | inr other ↦ was i row (sym (get-other rows at i new other) ∙ found)
+]
+
+-- who is best at another place is as it was
+pub best_other : (deal : Showdown) (pot k place : ℕ) (runout : List (List ℕ)) (was row : Row) → IsButAt was place row → (k ≡ place → ⊥) → IsBestAt deal pot runout was k → IsBestAt deal pot runout row k
+best_other deal pot k place runout was row but ne best = record {
+  low_set = but.lows_are k ne ∙ best.low_set;
+  main_set = but.mains_are k ne ∙ best.main_set;
+  best = but.tops_are k ne ∙ best.best;
+}
 
 -- a row of one pot and of these ranks
 abbrev pub IsRow : Showdown → ℕ → List ℕ → ℕ → Row → Type 0
@@ -50,16 +126,6 @@ row_right deal pot ranks least row p r l is =
     let L : ℕ → Type 0 = λ x. IsRow deal pot ranks x row in
     subst P (sym p) (subst Q (sym r) (subst L (sym l) is))
 
--- a row more in use
-pub put_row : (deal : Showdown) (live : List Bool) (rows : List Row) (place : ℕ) (new : Row) → AreRows deal live rows → IsRow deal new.pot new.ranks new.least new → AreRows deal (set live place true) (set rows place new)
-put_row deal live rows place new are is = λ i row on at. elim (cases_eq i place) [
-  | inl same ↦
-      let here : row ≡ new = get-same rows place new row (ap (slice_get (set rows place new)) (sym same) ∙ at) in
-      let P : Row → Type 0 = λ r. IsRow deal r.pot r.ranks r.least r in
-      subst P (sym here) is
-  | inr other ↦ are i row (sym (get-other live place i true other) ∙ on) (sym (get-other rows place i new other) ∙ at)
-]
-
 -- a row that names these ranks is one for all first cards that have them
 pub row_for : (deal : Showdown) (pot : ℕ) (taken ranks : List ℕ) (least : ℕ) (row : Row) → IsRow deal row.pot row.ranks row.least row → row.pot ≡ pot → row.ranks ≡ ranks → row.least ≡ least
     → AreRanksOf ranks taken → ((card : ℕ) (more : List ℕ) → IsRising (taken ++ card ∷ more) → least ≤ rank_of card) → IsRowFor deal pot taken row
@@ -70,23 +136,6 @@ row_for deal pot taken ranks least row is same_pot same_ranks same_least are low
       of_ranks = subst (λ r. AreRanksOf r taken) (sym same_ranks) are;
       from_least = λ card more rises. subst (λ l. l ≤ rank_of card) (sym same_least) (low card more rises);
     }
-
--- a flush more
-abbrev pub IsFlush : Showdown → Flush → Type 0
-IsFlush deal f = IsBestFlush deal f.pot f.cards f.suit f.top f.set
-
-pub put_flush : (deal : Showdown) (flushes : List Flush) (place : ℕ) (new : Flush) → AreFlushes deal flushes → IsFlush deal new → AreFlushes deal (set flushes place new)
-put_flush deal flushes place new are is = λ i flush at low. elim (cases_eq i place) [
-  | inl same ↦
-      let here : flush ≡ new = get-same flushes place new flush (ap (slice_get (set flushes place new)) (sym same) ∙ at) in
-      subst (IsFlush deal) (sym here) is
-  | inr other ↦ are i flush (sym (get-other flushes place i new other) ∙ at) low
-]
-
-pub no_flushes : (deal : Showdown) (n : ℕ) (none : Flush) → none.suit ≡ 4 → AreFlushes deal (replicate n none)
-no_flushes deal n none four = λ i flush at low.
-    let here : flush ≡ none = same_get n i none flush at in
-    absurd (let s : flush.suit ≡ 4 = ap (λ (f : Flush). f.suit) here ∙ four in omega arith)
 
 -- the same flush
 pub same_best : (deal : Showdown) (pot pot' : ℕ) (cards cards' : List ℕ) (suit suit' top top' set set' : ℕ) → pot ≡ pot' → cards ≡ cards' → suit ≡ suit' → top ≡ top' → set ≡ set' → IsBestFlush deal pot cards suit top set → IsBestFlush deal pot' cards' suit' top' set'

@@ -1,5 +1,5 @@
 -- The best of some hands by numbers.
-use Rattle.std.specs.Prelude.{◌≡◌, ℕ, ◌<◌, ◌==◌, List, [], ◌∷◌, filter, max, slice_index_or}
+use Rattle.std.specs.Prelude.{◌≡◌, ℕ, ◌<◌, ◌==◌, List, [], ◌∷◌, filter, length, max, slice_index, slice_index_or}
 use Rattle.card_sets.specs.PlayerSets.{set_of_players}
 use Rattle.card_sets.specs.State.{State}
 use Rattle.showdown_tally.specs.Showdown.{Showdown, own_after, board_after, eligible_in}
@@ -24,6 +24,10 @@ high_of state runout h = high_number state.game (own_after state runout h) (boar
 -- and with cards of one suit on the board, as a flush
 abbrev pub flush_of : State → List ℕ → ℕ → ℕ → ℕ
 flush_of state cards suit h = suited_number state.game (slice_index_or state.hands h []) cards suit
+
+-- what each hand is worth so
+abbrev pub AreFlushesOf : State → List ℕ → ℕ → List ℕ → Type 0
+AreFlushesOf state cards suit values = (h : ℕ) → h < length state.hands → slice_index values h ≡ flush_of state cards suit h
 
 -- the best flush of the hands of a pot, and where there is one, whose it is
 pub record IsBestFlush (deal : Showdown) (pot : ℕ) (cards : List ℕ) (suit top set : ℕ) : Type 0 where

@@ -1,5 +1,5 @@
--- Rows and flushes that are kept, and what flushes change.
-use Rattle.std.specs.Prelude.{◌≡◌, ◌<◌, ◌≤◌, ℕ, ◌+◌, ◌/◌, ◌%◌, ◌==◌, ◌&&◌, Bool, true, if◌then◌else◌, List, [], ◌∷◌, ◌++◌, length, max, slice_get, slice_index, slice_index_or, count_by, Option, Some, MatchOption, ◌^◌}
+-- Rows that are kept, and what flushes change.
+use Rattle.std.specs.Prelude.{◌≡◌, ◌<◌, ◌≤◌, ℕ, ◌+◌, ◌==◌, ◌&&◌, Bool, true, if◌then◌else◌, List, [], ◌∷◌, ◌++◌, length, max, slice_get, slice_index, slice_index_or, count_by, Option, Some, MatchOption, ◌^◌}
 use Rattle.card_sets.specs.Cards.{IsRising, rank_of}
 use Rattle.card_sets.specs.Disjoint.{apart}
 use Rattle.card_sets.specs.Games.{has_side}
@@ -9,9 +9,8 @@ use Rattle.card_sets.specs.declared.games.Side.TheVariants.{High, Low}
 use Rattle.showdown_tally.specs.Showdown.{Showdown, board_after}
 use Rattle.showdown_tally.specs.SideCounts.{count_at, count_place}
 use Rattle.showdown_tally.specs.Sides.{AreSideNumbersAfter}
-use Rattle.runout_walk.specs.Bests.{IsBestFlush, flush_of, high_of, plain_of}
-use Rattle.runout_walk.specs.SideRows.{AreRanksOf, IsDealtWith, IsSideRow}
-use Rattle.runout_walk.specs.declared.flush.Flush.{Flush}
+use Rattle.runout_walk.specs.Bests.{flush_of, high_of, plain_of}
+use Rattle.runout_walk.specs.SideRows.{AreRanksOf, IsBestOf, IsSideRow}
 use Rattle.runout_walk.specs.declared.flush.Suited.{Suited}
 use Rattle.runout_walk.specs.Pairs.{cards_of_pair}
 use Rattle.runout_walk.specs.declared.pair.Pair.{Pair}
@@ -23,10 +22,28 @@ pub record AreWorthsAfter (state : State) (runout : List (List ℕ)) (worths : W
   pub as_highs : (h : ℕ) → h < length state.hands → slice_index worths.highs h ≡ plain_of state runout h
   pub as_lows : AreSideNumbersAfter Low state runout worths.lows
 
--- the same with first cards of these ranks, at the places of a row
-abbrev pub AreWorthsRow : State → List ℕ → ℕ → List Worths → Type 0
-AreWorthsRow state ranks least all = (place : ℕ) (runout : List (List ℕ)) (worths : Worths) → place < 169 → least ≤ place / 13 → place / 13 ≤ place % 13
-    → IsDealtWith state ranks (place / 13) (place % 13) runout → slice_get all place ≡ Some worths → AreWorthsAfter state runout worths
+-- a row says at a place who is best after a runout
+abbrev pub IsBestAt : Showdown → ℕ → List (List ℕ) → Row → ℕ → Type 0
+IsBestAt deal pot runout row place = IsBestOf deal pot runout (slice_index row.mains place) (slice_index row.lows place) (slice_index row.tops place)
+
+-- a row is to be for a pot and first cards of these ranks
+pub record IsNamed (row : Row) (pot : ℕ) (ranks : List ℕ) (least : ℕ) : Type 0 where
+  pub pot_is : row.pot ≡ pot
+  pub ranks_are : row.ranks ≡ ranks
+  pub least_is : row.least ≡ least
+
+-- a row is as it was but for a place
+pub record IsButAt (was : Row) (place : ℕ) (row : Row) : Type 0 where
+  pub pot_is : row.pot ≡ was.pot
+  pub ranks_are : row.ranks ≡ was.ranks
+  pub least_is : row.least ≡ was.least
+  pub mains_are : (other : ℕ) → (other ≡ place → ⊥) → slice_index row.mains other ≡ slice_index was.mains other
+  pub lows_are : (other : ℕ) → (other ≡ place → ⊥) → slice_index row.lows other ≡ slice_index was.lows other
+  pub tops_are : (other : ℕ) → (other ≡ place → ⊥) → slice_index row.tops other ≡ slice_index was.tops other
+
+-- a place is none of those of the pots, which stand from a base on
+abbrev pub IsAway : ℕ → ℕ → ℕ → Type 0
+IsAway base pots i = (pot : ℕ) → pot < pots → i ≡ base + pot → ⊥
 
 -- each row in use is one of the pot that it names
 abbrev pub AreRows : Showdown → List Bool → List Row → Type 0
@@ -45,10 +62,6 @@ AreRowsFor deal pots taken rows base = (pot : ℕ) (row : Row) → pot < pots �
 -- a row of each pot, in their order
 abbrev pub AreRowsOf : Showdown → List ℕ → List Row → Type 0
 AreRowsOf deal taken rows = (pot : ℕ) (row : Row) → slice_get rows pot ≡ Some row → IsRowFor deal pot taken row
-
--- each flush is the best of its cards in the pot that it names
-abbrev pub AreFlushes : Showdown → List Flush → Type 0
-AreFlushes deal flushes = (i : ℕ) (flush : Flush) → slice_get flushes i ≡ Some flush → flush.suit < 4 → IsBestFlush deal flush.pot flush.cards flush.suit flush.top flush.set
 
 -- after a runout suits don't count
 abbrev pub HasNoFlush : State → List (List ℕ) → Type 0

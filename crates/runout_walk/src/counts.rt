@@ -23,7 +23,7 @@ fn side_row(side: Side) -> usize
     }
 }
 
-/// Makes the numbers of a row 0.
+/// Makes the numbers of a row zero.
 fn clear(row: &mut [u32])
     ensures zero { (place : ℕ) → slice_index row.new place ≡ 0 }
     ensures places { length row.new ≡ length row.old }

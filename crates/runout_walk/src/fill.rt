@@ -1,16 +1,16 @@
-//! Filling in who wins both sides of a pot, for each pair of ranks of the last two cards of the board.
+//! Filling in who wins both sides of each pot, for each pair of ranks of the last two cards of the board.
 
-ghost use Rattle.std.specs.Prelude.{◌≡◌, ℕ, ◌<◌, ◌≤◌, [], List, false, length, slice_get, slice_index, slice_index_or, Some, IsTrue};
+ghost use Rattle.std.specs.Prelude.{◌≡◌, ℕ, ◌+◌, ◌<◌, ◌≤◌, [], List, false, length, slice_get, slice_index_or, Some, IsTrue};
 ghost use Rattle.card_sets.specs.Games.{has_board, own_size};
 ghost use Rattle.card_sets.specs.State.{state_of};
 ghost use Rattle.showdown_tally.specs.Deals.{deal_of};
 ghost use Rattle.runout_walk.specs.Boards.{AreFirst};
-ghost use Rattle.runout_walk.specs.KeptRows.{AreWorthsRow};
+ghost use Rattle.runout_walk.specs.KeptRows.{AreWorthsAfter, IsAway, IsBestAt, IsButAt, IsNamed};
 ghost use Rattle.runout_walk.specs.SideRows.{AreRanksOf, IsSideRow};
 
 use crate::row::{PLACES, Row};
 use crate::sides::{Worths, pot_ends, worths_with};
-use card_sets::{CardSet, Known};
+use card_sets::CardSet;
 use showdown_tally::Table;
 
 /// Whether two ranks don't fall, and none is below the least.
@@ -21,91 +21,66 @@ fn is_met(least: u8, low: u8, high: u8) -> bool
     least <= low && low <= high
 }
 
-/// Fills in what the hands are worth with first cards, for the pairs of ranks from one on.
-pub(crate) fn fill_worths(all: &mut [Worths], known: &Known, taken: CardSet, least: u8)
-    requires places { length all.old ≡ 169 }
-    requires dealt { IsTrue (has_board known.now.game) }
-    requires taken { AreFirst (state_of known.now) taken }
-    requires own { (h : ℕ) → h < length (state_of known.now).hands → length (slice_index_or (state_of known.now).hands h []) ≡ own_size known.now.game }
-    ensures worths { (ranks : List ℕ) → AreRanksOf ranks taken → AreWorthsRow (state_of known.now) ranks least all.new }
-    ensures places { length all.new ≡ 169 }
+/// Names what the rows from a base on are to be for: first cards of these ranks, and each pot in turn.
+fn name_rows(rows: &mut [Row], base: usize, pots: u8, ranks: [u8; 3], least: u8)
+    requires room { base + pots ≤ length rows.old }
+    ensures names { (pot : ℕ) (row : Row) → pot < pots → slice_get rows.new (base + pot) ≡ Some row → IsNamed row pot ranks least }
+    ensures away { (i : ℕ) → IsAway base pots i → slice_get rows.new i ≡ slice_get rows.old i }
+    ensures places { length rows.new ≡ length rows.old }
 {
-    known.board.rising();
-    taken.rising();
-    for place in 0..PLACES {
-        let low = (place / 13) as u8;
-        let high = (place % 13) as u8;
-        if !is_met(least, low, high) {
-            continue;
-        }
-        all[place] = worths_with(known, taken, low, high);
+    for pot in 0..pots {
+        let row = &mut rows[base + usize::from(pot)];
+        row.name(pot, ranks, least);
     }
 }
 
-/// What the hands are worth at a place.
-#[inline]
-fn worths_at(all: &[Worths], place: usize) -> Worths
-    requires { place < length all.now }
-    ensures { slice_get all.now place ≡ Some result }
+/// Puts who wins each pot at a place of its row, by what the hands are worth there. The rows stand from a base on.
+fn put_ends(rows: &mut [Row], base: usize, table: &Table, place: usize, worths: &Worths)
+    requires room { base + table.now.pots ≤ length rows.old }
+    requires place { place < 169 }
+    ensures here { (pot : ℕ) (row : Row) (runout : List (List ℕ)) → pot < table.now.pots → slice_get rows.new (base + pot) ≡ Some row → AreWorthsAfter (state_of table.now.known) runout worths.now
+        → IsBestAt (deal_of table.now) pot runout row place }
+    ensures others { (i : ℕ) (row : Row) → slice_get rows.new i ≡ Some row → (was : Row) × (slice_get rows.old i ≡ Some was) × IsButAt was place row }
+    ensures away { (i : ℕ) → IsAway base table.now.pots i → slice_get rows.new i ≡ slice_get rows.old i }
+    ensures places { length rows.new ≡ length rows.old }
 {
-    all[place]
+    for pot in 0..table.pots {
+        let ends = pot_ends(table, pot, worths);
+        let row = &mut rows[base + usize::from(pot)];
+        row.put(place, ends);
+    }
 }
 
-/// Fills in who wins the pot, and with which high, by what the hands are worth, for the pairs of ranks from one on.
-fn fill_row(
-    mains: &mut [u16],
-    lows: &mut [u16],
-    tops: &mut [u32],
+/// Fills the rows of the pots of a table for first cards, whose ranks are given, for the pairs of ranks from the least on. They stand
+/// from a base on. What each hand is worth is worked out once for all pots.
+pub(crate) fn fill_rows(
+    rows: &mut [Row],
+    base: usize,
     table: &Table,
-    pot: u8,
-    all: &[Worths],
+    taken: CardSet,
+    ranks: [u8; 3],
     least: u8,
 )
-    requires mains { length mains.old ≡ 169 }
-    requires lows { length lows.old ≡ 169 }
-    requires tops { length tops.old ≡ 169 }
-    requires all { length all.now ≡ 169 }
-    requires few_mains { (place : ℕ) → slice_index mains.old place < 2048 }
-    requires few_lows { (place : ℕ) → slice_index lows.old place < 1024 }
-    requires inside { pot < table.now.pots }
-    ensures row { (ranks : List ℕ) → AreWorthsRow (state_of table.now.known) ranks least all.now → IsSideRow (deal_of table.now) pot ranks least mains.new lows.new tops.new }
-    ensures few_mains { (place : ℕ) → slice_index mains.new place < 2048 }
-    ensures few_lows { (place : ℕ) → slice_index lows.new place < 1024 }
+    requires room { base + table.now.pots ≤ length rows.old }
+    requires dealt { IsTrue (has_board table.now.known.game) }
+    requires first { AreFirst (state_of table.now.known) taken }
+    requires own { (h : ℕ) → h < length (state_of table.now.known).hands → length (slice_index_or (state_of table.now.known).hands h []) ≡ own_size table.now.known.game }
+    requires ranks { AreRanksOf ranks taken }
+    ensures names { (pot : ℕ) (row : Row) → pot < table.now.pots → slice_get rows.new (base + pot) ≡ Some row → IsNamed row pot ranks least }
+    ensures rows { (pot : ℕ) (row : Row) → pot < table.now.pots → slice_get rows.new (base + pot) ≡ Some row → IsSideRow (deal_of table.now) pot ranks least row.mains row.lows row.tops }
+    ensures away { (i : ℕ) → IsAway base table.now.pots i → slice_get rows.new i ≡ slice_get rows.old i }
+    ensures places { length rows.new ≡ length rows.old }
 {
-    for place in 0..PLACES {
+    table.known.board.rising();
+    taken.rising();
+    name_rows(rows, base, table.pots, ranks, least);
+    for place in 14 * usize::from(least)..PLACES {
         let low = (place / 13) as u8;
         let high = (place % 13) as u8;
         if !is_met(least, low, high) {
             continue;
         }
-        let worths = worths_at(all, place);
-        let ends = pot_ends(table, pot, &worths);
-        mains[place] = ends.main;
-        lows[place] = ends.low;
-        tops[place] = ends.top;
-    }
-}
-
-/// The row of a pot of a table for first cards, by what the hands are worth with them.
-pub(crate) fn new_row(table: &Table, pot: u8, all: &[Worths], ranks: [u8; 3], least: u8) -> Row
-    requires all { length all.now ≡ 169 }
-    requires inside { pot < table.now.pots }
-    requires worths { AreWorthsRow (state_of table.now.known) ranks least all.now }
-    ensures row { IsSideRow (deal_of table.now) pot ranks least result.mains result.lows result.tops }
-    ensures pot { result.pot ≡ pot }
-    ensures ranks { result.ranks ≡ ranks }
-    ensures least { result.least ≡ least }
-{
-    let mut mains = [0; PLACES];
-    let mut lows = [0; PLACES];
-    let mut tops = [0; PLACES];
-    fill_row(&mut mains, &mut lows, &mut tops, table, pot, all, least);
-    Row {
-        pot,
-        ranks,
-        least,
-        mains,
-        lows,
-        tops,
+        let worths = worths_with(&table.known, taken, low, high);
+        put_ends(rows, base, table, place, &worths);
     }
 }

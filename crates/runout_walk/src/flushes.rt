@@ -1,134 +1,172 @@
 //! The best flush of each pot with cards of one suit on the board.
 
-ghost use Rattle.std.specs.Prelude.{◌≡◌, ℕ, ◌<◌, ◌≤◌, [], List, length, slice_index, slice_index_or, IsTrue};
+ghost use Rattle.std.specs.Prelude.{◌≡◌, ℕ, ◌<◌, ◌≤◌, [], length, slice_index_or, IsTrue};
 ghost use Rattle.card_sets.specs.Disjoint.{apart};
 ghost use Rattle.card_sets.specs.Games.{has_board, own_size};
 ghost use Rattle.card_sets.specs.State.{state_of};
 ghost use Rattle.showdown_tally.specs.Deals.{deal_of};
 ghost use Rattle.showdown_tally.specs.Showdown.{Showdown};
-ghost use Rattle.runout_walk.specs.Bests.{IsBestFlush};
-ghost use Rattle.runout_walk.specs.KeptRows.{AreFlushes};
+ghost use Rattle.runout_walk.specs.Bests.{AreFlushesOf, IsBestFlush};
+ghost use Rattle.runout_walk.specs.KeptFlushes.{AreFlushes, ArePast};
 
 use crate::bests::{Best, pot_best};
-use crate::flush::Flush;
+use crate::flush::{Flush, HandFlushes, Suited};
 use crate::high::suited_value;
-use card_sets::{Card, CardSet};
 use showdown_tally::Table;
 
-/// How many flushes are kept. Where three to five cards of a suit may come there are some 400 sets of them.
-const FLUSHES: usize = 8192;
+/// How many flushes are kept. First cards that follow one another ask for the same ones.
+const FLUSHES: usize = 2048;
 
-/// The best flush of a pot with some cards of a suit on the board.
-fn new_flush(table: &Table, pot: u8, cards: CardSet, suit: u8) -> Flush
+/// What each hand is worth as a flush with some cards of a suit on the board.
+fn hand_flushes(table: &Table, part: &Suited) -> [u32; 10]
     requires dealt { IsTrue (has_board table.now.known.game) }
     requires own { (h : ℕ) → h < length (state_of table.now.known).hands → length (slice_index_or (state_of table.now.known).hands h []) ≡ own_size table.now.known.game }
-    requires suit { suit < 4 }
-    requires five { length cards ≤ 5 }
-    requires apart { (h : ℕ) → h < length (state_of table.now.known).hands → IsTrue (apart (slice_index_or (state_of table.now.known).hands h []) cards) }
-    requires inside { pot < table.now.pots }
-    ensures flush { IsBestFlush (deal_of table.now) pot cards suit result.top result.set }
-    ensures cards { result.cards ≡ cards }
-    ensures suit { result.suit ≡ suit }
-    ensures pot { result.pot ≡ pot }
+    requires suit { part.now.suit < 4 }
+    requires five { length part.now.cards ≤ 5 }
+    requires apart { (h : ℕ) → h < length (state_of table.now.known).hands → IsTrue (apart (slice_index_or (state_of table.now.known).hands h []) part.now.cards) }
+    ensures { AreFlushesOf (state_of table.now.known) part.now.cards part.now.suit result }
 {
     let mut values = [0; 10];
     let hands = &table.known.hands[..table.known.count as usize];
     for (hand, own) in hands.iter().enumerate() {
-        values[hand] = suited_value(table.known.game, *own, cards, suit);
+        values[hand] = suited_value(table.known.game, *own, part.cards, part.suit);
     }
-    let best = pot_best(table, pot, &values);
-    Flush {
-        cards,
-        top: best.top,
-        set: best.set,
-        suit,
-        pot,
-    }
-}
-
-/// The number of a card, 0 for none.
-#[inline]
-fn number_of(card: Option<Card>) -> usize
-    ensures { result < 52 }
-{
-    match card {
-        Some(card) => usize::from(card.number()),
-        None => 0,
-    }
+    values
 }
 
 /// The place of the best flush of a pot with some cards on the board. Where two share one, the later takes it.
 #[inline]
-fn flush_place(cards: CardSet, pot: u8) -> usize
-    ensures { result < 8192 }
+fn flush_place(tag: u32, suit: u8, pot: u8) -> usize
+    ensures { result < 2048 }
 {
-    let mut rest = cards.iter();
-    let first = number_of(rest.next());
-    let second = number_of(rest.next());
-    let third = number_of(rest.next());
-    let fourth = number_of(rest.next());
-    let last = number_of(cards.last());
-    (first + 13 * second + 131 * third + 1021 * fourth + 347 * last + 2221 * usize::from(pot))
-        % FLUSHES
+    let mixed = tag as usize * 40503 / 16;
+    (mixed + 577 * usize::from(suit) + 1021 * usize::from(pot)) % FLUSHES
 }
 
-/// The best flushes of the pots of a table that were asked for last.
+/// The best flushes of the pots of a table that were asked for last. They have the number of the deal, which is another for each, so
+/// those of the deals before needn't be cleared.
 #[derive(Clone, Copy, Debug)]
 pub(crate) struct Flushes {
+    /// The number of the deal.
+    pub(crate) stamp: u32,
     /// The flushes.
     pub(crate) list: [Flush; FLUSHES],
+    /// What each hand is worth with the cards that were worked out last.
+    pub(crate) last: HandFlushes,
 }
 
 impl Flushes {
     /// No flushes.
     pub(crate) fn none() -> Flushes
-        ensures { (deal : Showdown) → AreFlushes deal result.list }
+        ensures { (deal : Showdown) → AreFlushes deal result }
     {
         let none = Flush::none();
         Flushes {
+            stamp: 1,
             list: [none; FLUSHES],
+            last: HandFlushes::none(),
         }
+    }
+
+    /// Drops all flushes when the numbers of deals have run out.
+    #[inline(never)]
+    fn begin_again(&mut self)
+        ensures { (deal : Showdown) → AreFlushes deal self.new }
+    {
+        *self = Flushes::none();
     }
 
     /// Drops all flushes.
     pub(crate) fn clear(&mut self)
-        ensures { (deal : Showdown) → AreFlushes deal self.new.list }
+        requires { ArePast self.old }
+        ensures { (deal : Showdown) → AreFlushes deal self.new }
     {
-        let none = Flush::none();
-        let list = [none; FLUSHES];
-        self.list = list;
+        if self.stamp == u32::MAX {
+            self.begin_again();
+            return;
+        }
+        self.stamp += 1;
     }
 
     /// There are so many places.
     #[inline]
     fn places(&self)
-        ensures { length self.now.list ≡ 8192 }
+        ensures { length self.now.list ≡ 2048 }
     {
         let _list: &[Flush] = &self.list;
     }
 
-    /// The best flush of a pot with some cards of a suit on the board, which is made where it isn't kept.
-    #[inline]
-    pub(crate) fn best_for(&mut self, table: &Table, pot: u8, cards: CardSet, suit: u8) -> Best
+    /// Works out what each hand is worth with some cards of a suit on the board, where it isn't known from before.
+    fn work_out(&mut self, table: &Table, part: &Suited)
         requires dealt { IsTrue (has_board table.now.known.game) }
         requires own { (h : ℕ) → h < length (state_of table.now.known).hands → length (slice_index_or (state_of table.now.known).hands h []) ≡ own_size table.now.known.game }
-        requires suit { suit < 4 }
-        requires five { length cards ≤ 5 }
-        requires apart { (h : ℕ) → h < length (state_of table.now.known).hands → IsTrue (apart (slice_index_or (state_of table.now.known).hands h []) cards) }
+        requires suit { part.now.suit < 4 }
+        requires five { length part.now.cards ≤ 5 }
+        requires apart { (h : ℕ) → h < length (state_of table.now.known).hands → IsTrue (apart (slice_index_or (state_of table.now.known).hands h []) part.now.cards) }
+        requires right { AreFlushes (deal_of table.now) self.old }
+        ensures values { AreFlushesOf (state_of table.now.known) part.now.cards part.now.suit self.new.last.values }
+        ensures right { AreFlushes (deal_of table.now) self.new }
+    {
+        if self.last.are_of(self.stamp, part) {
+            return;
+        }
+        self.last = HandFlushes {
+            cards: part.cards,
+            suit: part.suit,
+            stamp: self.stamp,
+            values: hand_flushes(table, part),
+        };
+    }
+
+    /// Works out the best flush of a pot with some cards of a suit on the board, and keeps it in a place. What each hand is worth is
+    /// worked out once for all pots.
+    #[inline(never)]
+    fn make(&mut self, place: usize, table: &Table, pot: u8, part: &Suited) -> Best
+        requires place { place < 2048 }
+        requires dealt { IsTrue (has_board table.now.known.game) }
+        requires own { (h : ℕ) → h < length (state_of table.now.known).hands → length (slice_index_or (state_of table.now.known).hands h []) ≡ own_size table.now.known.game }
+        requires suit { part.now.suit < 4 }
+        requires five { length part.now.cards ≤ 5 }
+        requires apart { (h : ℕ) → h < length (state_of table.now.known).hands → IsTrue (apart (slice_index_or (state_of table.now.known).hands h []) part.now.cards) }
         requires inside { pot < table.now.pots }
-        requires right { AreFlushes (deal_of table.now) self.old.list }
-        ensures flush { IsBestFlush (deal_of table.now) pot cards suit result.top result.set }
+        requires right { AreFlushes (deal_of table.now) self.old }
+        ensures flush { IsBestFlush (deal_of table.now) pot part.now.cards part.now.suit result.top result.set }
         ensures small { result.set < 1024 }
-        ensures right { AreFlushes (deal_of table.now) self.new.list }
+        ensures right { AreFlushes (deal_of table.now) self.new }
+    {
+        self.work_out(table, part);
+        let best = pot_best(table, pot, &self.last.values);
+        self.list[place] = Flush {
+            cards: part.cards,
+            top: best.top,
+            stamp: self.stamp,
+            set: best.set,
+            suit: part.suit,
+            pot,
+        };
+        best
+    }
+
+    /// The best flush of a pot with some cards of a suit on the board, which is worked out where it isn't kept.
+    #[inline]
+    pub(crate) fn best_for(&mut self, table: &Table, pot: u8, part: &Suited) -> Best
+        requires dealt { IsTrue (has_board table.now.known.game) }
+        requires own { (h : ℕ) → h < length (state_of table.now.known).hands → length (slice_index_or (state_of table.now.known).hands h []) ≡ own_size table.now.known.game }
+        requires suit { part.now.suit < 4 }
+        requires five { length part.now.cards ≤ 5 }
+        requires apart { (h : ℕ) → h < length (state_of table.now.known).hands → IsTrue (apart (slice_index_or (state_of table.now.known).hands h []) part.now.cards) }
+        requires inside { pot < table.now.pots }
+        requires right { AreFlushes (deal_of table.now) self.old }
+        ensures flush { IsBestFlush (deal_of table.now) pot part.now.cards part.now.suit result.top result.set }
+        ensures small { result.set < 1024 }
+        ensures right { AreFlushes (deal_of table.now) self.new }
     {
         self.places();
-        let place = flush_place(cards, pot);
+        let place = flush_place(part.tag, part.suit, pot);
         let kept = self.list[place];
-        if kept.is_of(pot, cards, suit) {
+        if kept.is_of(self.stamp, pot, part) {
             return kept.best();
         }
-        let flush = new_flush(table, pot, cards, suit);
-        self.list[place] = flush;
-        flush.best()
+        self.make(place, table, pot, part)
     }
 }

@@ -1,4 +1,30 @@
 //! How many runouts each set of hands wins each side of each pot with, in one walk over a range of the listing.
+//!
+//! [`count_runouts_of`] goes through the listing slot after slot, card after card, and leaves out what lies before or behind the
+//! range. It hands the last cards of a runout to a [`Leaf`], which counts all of them at once and takes a step for each.
+//!
+//! **Boards** ([`Boards`]: hold'em and Omaha Hi/Lo, where the board alone lacks two cards or more). The walk deals all but the last
+//! two cards; then there are up to 1,176 pairs behind them.
+//!
+//! 1. *A row by ranks.* Suits aside, who wins depends on the ranks of the pair alone: for the first cards' ranks a row of each pot
+//!    has, at 13 times the lower rank and the higher, who wins the high and the low. A row is filled where its ranks are met first,
+//!    and kept: at most 91 places, each of which costs a value a hand and side. Before the flop there are 455 rows.
+//! 2. *No flush.* Where no two cards can make anybody five of a suit, pairs aren't looked at one by one. There are as many of two
+//!    ranks as the product of how many cards are left of each, and they are added where the row says: about ten pairs an addition.
+//! 3. *A flush.* Elsewhere a table of sixteen bytes says, by the suits of the two, of which suit somebody may have a flush. The best
+//!    flush of the pot with the board's cards of that suit is looked up by their ranks, and is compared with the best by ranks. Each
+//!    is worked out once while the deal is the same; a new deal gets a new number, and nothing is cleared.
+//! 4. *More pots.* What a hand is worth, by ranks or as a flush, is worked out once for all pots.
+//!
+//! **Draws** ([`Draws`]: games without a board whose last slot takes one to three cards). What the last hand is worth with each draw
+//! stands in a table, filled once a spot. The numbers of a whole range are copied into a row, which is compared once for each pot
+//! with the best of the others.
+//!
+//! **One by one** ([`Plain`]: any other deal). Each hand's value on a side is computed once a runout, for all pots.
+//!
+//! A game more is no change here if it has no board, one side, and a value for every hand. With a board it adds its line to
+//! `flush_part` (how many own cards a flush may have), its arm in `high.rt` and `suits.rt`, and a line to each law of `HighLaws` and
+//! `HighCalls`: that its best five are the best by ranks or of one suit, and that ranks alone decide the former.
 #![tactic(auto)]
 
 mod all;
@@ -15,6 +41,7 @@ mod fill;
 mod flush;
 mod flushes;
 mod free;
+mod front;
 mod high;
 mod last;
 mod leaf;
@@ -22,13 +49,16 @@ mod numbers;
 mod orders;
 mod pair;
 mod pairs;
+mod places;
 mod plain;
 mod range;
+mod rank_pairs;
 mod rivals;
 mod row;
 mod rows;
 mod sides;
 mod spot;
+mod suited;
 mod suits;
 mod worth;
 

@@ -60,7 +60,7 @@ fn values_on(side: Side, table: &Table, shape: &Shape, sets: &[CardSet]) -> [Opt
 /// Who wins a side of a pot after each runout that gives the hands these values on it, by the number with their bits: nobody where the
 /// game hasn't the side.
 #[inline]
-fn winners_on(table: &Table, side: Side, values: &[Option<u32>; 10], pot: u8) -> u16
+pub(crate) fn winners_on(table: &Table, side: Side, values: &[Option<u32>; 10], pot: u8) -> u16
     requires { pot < table.now.pots }
     ensures value { (runout : List (List ℕ))
         → (has_side side table.now.known.game ≡ true → AreSideNumbersAfter side (state_of table.now.known) runout values.now)

@@ -1,9 +1,10 @@
 //! Who wins both sides of a pot, for each pair of ranks of the last two cards of the board.
 
-ghost use Rattle.std.specs.Prelude.{◌≡◌, ℕ, ◌<◌, ◌≤◌, ◌∷◌, ◌++◌, List, length, slice_index, MatchOption, IsTrue};
+ghost use Rattle.std.specs.Prelude.{◌≡◌, ◌≢◌, ℕ, ◌<◌, ◌≤◌, ◌∷◌, ◌++◌, List, length, slice_index, MatchOption, IsTrue};
 ghost use Rattle.card_sets.specs.Cards.{IsRising, rank_of};
 ghost use Rattle.runout_walk.specs.SideRows.{AreRanksOf};
 
+use crate::sides::Ends;
 use card_sets::{Card, CardSet};
 
 /// How many places there are for pairs of ranks: 13 times the lower rank and then the higher.
@@ -43,12 +44,45 @@ impl Row {
     pub(crate) fn none() -> Row {
         Row {
             pot: 0,
-            ranks: [13; 3],
+            ranks: [0; 3],
             least: 0,
             mains: [0; PLACES],
             lows: [0; PLACES],
             tops: [0; PLACES],
         }
+    }
+
+    /// Names the pot and the first cards that it is to be for.
+    #[inline]
+    pub(crate) fn name(&mut self, pot: u8, ranks: [u8; 3], least: u8)
+        ensures pot { self.new.pot ≡ pot }
+        ensures ranks { self.new.ranks ≡ ranks }
+        ensures least { self.new.least ≡ least }
+    {
+        self.pot = pot;
+        self.ranks = ranks;
+        self.least = least;
+    }
+
+    /// Puts who wins at a place.
+    #[inline]
+    pub(crate) fn put(&mut self, place: usize, ends: Ends)
+        requires place { place < 169 }
+        requires main { ends.main < 2048 }
+        requires low { ends.low < 1024 }
+        ensures pot { self.new.pot ≡ self.old.pot }
+        ensures ranks { self.new.ranks ≡ self.old.ranks }
+        ensures least { self.new.least ≡ self.old.least }
+        ensures main { slice_index self.new.mains place ≡ ends.main }
+        ensures low { slice_index self.new.lows place ≡ ends.low }
+        ensures top { slice_index self.new.tops place ≡ ends.top }
+        ensures mains { (other : ℕ) → other ≢ place → slice_index self.new.mains other ≡ slice_index self.old.mains other }
+        ensures lows { (other : ℕ) → other ≢ place → slice_index self.new.lows other ≡ slice_index self.old.lows other }
+        ensures tops { (other : ℕ) → other ≢ place → slice_index self.new.tops other ≡ slice_index self.old.tops other }
+    {
+        self.mains[place] = ends.main;
+        self.lows[place] = ends.low;
+        self.tops[place] = ends.top;
     }
 
     /// Whether it is one of a pot for first cards of these ranks, the last of which is the least of the cards behind them.

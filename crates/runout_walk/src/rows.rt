@@ -7,17 +7,17 @@ ghost use Rattle.card_sets.specs.State.{state_of};
 ghost use Rattle.showdown_tally.specs.Deals.{deal_of};
 ghost use Rattle.showdown_tally.specs.Showdown.{Showdown};
 ghost use Rattle.runout_walk.specs.Boards.{AreFirst};
-ghost use Rattle.runout_walk.specs.KeptRows.{AreRows, AreRowsFor};
+ghost use Rattle.runout_walk.specs.KeptRows.{AreRows, AreRowsFor, IsAway};
 ghost use Rattle.runout_walk.specs.SideRows.{AreRanksOf};
 
-use crate::fill::{fill_worths, new_row};
-use crate::row::{PLACES, Row, last_rank, ranks_of};
-use crate::sides::Worths;
+use crate::fill::fill_rows;
+use crate::row::{Row, last_rank, ranks_of};
 use card_sets::CardSet;
 use showdown_tally::Table;
 
-/// How many rows are kept. Of one pot that is one and more for each pair of a second and a third rank.
-const ROWS: usize = 256;
+/// How many rows are kept. With one pot or two there are places for each pair of a second and a third rank, of which there are 91.
+/// Rows of another first rank take theirs.
+const ROWS: usize = 192;
 
 /// Rows of the pots of a table. Those of all pots for the same first cards stand beside one another.
 #[derive(Clone, Copy, Debug)]
@@ -35,15 +35,16 @@ fn row_place(second: u8, third: u8, pots: u8) -> usize
     requires second { second < 14 }
     requires third { third < 14 }
     requires pots { pots ≤ 10 }
-    ensures { result + pots ≤ 256 }
+    ensures { result + pots ≤ 192 }
 {
     let second = usize::from(second);
     let pair = second * (25 - second) / 2 + usize::from(third);
     match pots {
-        0 | 1 => pair % 128,
-        2 => 2 * (pair % 127),
-        3 | 4 => 4 * (pair % 64),
-        _ => 10 * (pair % 25),
+        0 | 1 => pair % 96,
+        2 => 2 * (pair % 96),
+        3 => 3 * (pair % 64),
+        4 => 4 * (pair % 48),
+        _ => 10 * (pair % 19),
     }
 }
 
@@ -69,8 +70,8 @@ impl Rows {
     /// There are so many places.
     #[inline]
     fn places(&self)
-        ensures live { length self.now.live ≡ 256 }
-        ensures rows { length self.now.rows ≡ 256 }
+        ensures live { length self.now.live ≡ 192 }
+        ensures rows { length self.now.rows ≡ 192 }
     {
         let _live: &[bool] = &self.live;
         let _rows: &[Row] = &self.rows;
@@ -79,7 +80,7 @@ impl Rows {
     /// Whether the row in a place is in use, and is one of a pot for first cards of these ranks.
     #[inline]
     fn has_one(&self, place: usize, pot: u8, ranks: &[u8; 3], least: u8) -> bool
-        requires { place < 256 }
+        requires { place < 192 }
         ensures live { IsTrue result → slice_get self.now.live place ≡ Some true }
         ensures pot { (row : Row) → IsTrue result → slice_get self.now.rows place ≡ Some row → row.pot ≡ pot }
         ensures ranks { (row : Row) → IsTrue result → slice_get self.now.rows place ≡ Some row → row.ranks ≡ ranks.now }
@@ -91,7 +92,7 @@ impl Rows {
     /// Whether a row for first cards of these ranks is in use for each pot, from a place on.
     #[inline]
     fn has_all(&self, base: usize, pots: u8, ranks: &[u8; 3], least: u8) -> bool
-        requires { base + pots ≤ 256 }
+        requires { base + pots ≤ 192 }
         ensures live { (pot : ℕ) → IsTrue result → pot < pots → slice_get self.now.live (base + pot) ≡ Some true }
         ensures pot { (pot : ℕ) (row : Row) → IsTrue result → pot < pots → slice_get self.now.rows (base + pot) ≡ Some row → row.pot ≡ pot }
         ensures ranks { (pot : ℕ) (row : Row) → IsTrue result → pot < pots → slice_get self.now.rows (base + pot) ≡ Some row → row.ranks ≡ ranks.now }
@@ -112,7 +113,7 @@ impl Rows {
         requires right { AreRows (deal_of table.now) self.old.live self.old.rows }
         requires first { AreFirst (state_of table.now.known) taken }
         requires own { (h : ℕ) → h < length (state_of table.now.known).hands → length (slice_index_or (state_of table.now.known).hands h []) ≡ own_size table.now.known.game }
-        ensures place { result + table.now.pots ≤ 256 }
+        ensures place { result + table.now.pots ≤ 192 }
         ensures rows { AreRowsFor (deal_of table.now) table.now.pots taken self.new.rows result }
         ensures right { AreRows (deal_of table.now) self.new.live self.new.rows }
     {
@@ -126,10 +127,23 @@ impl Rows {
         base
     }
 
-    /// Puts the rows for first cards of the board, whose ranks are given, from a place on.
+    /// Puts the rows from a place on into use, or out of it.
+    fn set_live(&mut self, base: usize, pots: u8, live: bool)
+        requires { base + pots ≤ 192 }
+        ensures here { (pot : ℕ) → pot < pots → slice_get self.new.live (base + pot) ≡ Some live }
+        ensures away { (i : ℕ) → IsAway base pots i → slice_get self.new.live i ≡ slice_get self.old.live i }
+        ensures rows { self.new.rows ≡ self.old.rows }
+    {
+        self.places();
+        for pot in 0..pots {
+            self.live[base + usize::from(pot)] = live;
+        }
+    }
+
+    /// Fills the rows for first cards of the board, whose ranks are given, in their places from one on. They are out of use meanwhile.
     #[inline(never)]
     fn put(&mut self, base: usize, table: &Table, taken: CardSet, ranks: [u8; 3], least: u8)
-        requires place { base + table.now.pots ≤ 256 }
+        requires place { base + table.now.pots ≤ 192 }
         requires dealt { IsTrue (has_board table.now.known.game) }
         requires right { AreRows (deal_of table.now) self.old.live self.old.rows }
         requires first { AreFirst (state_of table.now.known) taken }
@@ -140,20 +154,15 @@ impl Rows {
         ensures right { AreRows (deal_of table.now) self.new.live self.new.rows }
     {
         self.places();
-        let mut all = [Worths::none(); PLACES];
-        fill_worths(&mut all, &table.known, taken, least);
-        for pot in 0..table.pots {
-            let place = base + usize::from(pot);
-            let row = new_row(table, pot, &all, ranks, least);
-            self.rows[place] = row;
-            self.live[place] = true;
-        }
+        self.set_live(base, table.pots, false);
+        fill_rows(&mut self.rows, base, table, taken, ranks, least);
+        self.set_live(base, table.pots, true);
     }
 
     /// So many rows from a place on.
     #[inline]
     pub(crate) fn stretch(&self, base: usize, pots: u8) -> &[Row]
-        requires { base + pots ≤ 256 }
+        requires { base + pots ≤ 192 }
         ensures rows { (pot : ℕ) (row : Row) → slice_get result.now pot ≡ Some row → (pot < pots) × (slice_get self.now.rows (base + pot) ≡ Some row) }
         ensures count { length result.now ≡ pots }
     {

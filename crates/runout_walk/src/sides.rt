@@ -14,9 +14,10 @@ ghost use Rattle.runout_walk.specs.KeptRows.{AreWorthsAfter};
 ghost use Rattle.runout_walk.specs.SideRows.{IsBestOf};
 
 use crate::bests::pot_best;
+use crate::plain::winners_on;
 use crate::worth::worth_with;
 use card_sets::{CardSet, Known, Side};
-use showdown_tally::{Table, side_outcome};
+use showdown_tally::Table;
 
 /// What each hand is worth on both sides.
 #[derive(Clone, Copy, Debug)]
@@ -25,17 +26,6 @@ pub(crate) struct Worths {
     pub(crate) highs: [u32; 10],
     /// As lows, turned round so that greater is better, where there are any.
     pub(crate) lows: [Option<u32>; 10],
-}
-
-impl Worths {
-    /// No hand is worth anything.
-    #[inline]
-    pub(crate) fn none() -> Worths {
-        Worths {
-            highs: [0; 10],
-            lows: [None; 10],
-        }
-    }
 }
 
 /// Who wins a pot by ranks alone.
@@ -95,7 +85,7 @@ pub(crate) fn pot_ends(table: &Table, pot: u8, worths: &Worths) -> Ends
     ensures low { result.low < 1024 }
 {
     let high = pot_best(table, pot, &worths.highs);
-    let low = side_outcome(table, Side::Low, &worths.lows, pot);
+    let low = winners_on(table, Side::Low, &worths.lows, pot);
     Ends {
         main: high.set + low_mark(low),
         low,

@@ -4,7 +4,7 @@ ghost use Rattle.std.specs.Prelude.{◌≡◌, ℕ, ◌+◌, ◌<◌, ◌≤◌,
 ghost use Rattle.card_sets.specs.State.{state_of};
 ghost use Rattle.rank_high.specs.Parts.{count_of_suit};
 ghost use Rattle.runout_walk.specs.HighParts.{flush_part};
-ghost use Rattle.runout_walk.specs.Suits.{AreMost, IsShort, AreFlagged, AreFlagsFor, AreAllShort};
+ghost use Rattle.runout_walk.specs.Suits.{AreMost, IsShort, AreFives, AreFivesWith, AreAllShort};
 ghost use Rattle.runout_walk.specs.Values.{one_of};
 
 use card_sets::{CardSet, Game, Known};
@@ -111,30 +111,37 @@ fn is_five(count: u32, suit: u8, a: u8, b: u8) -> bool
     count + one_of(a, suit) + one_of(b, suit) > 4
 }
 
-/// Whether so many cards of each suit and one of each of two suits more are five of a suit.
+/// The first suit of which so many cards of each and one of each of two suits more are five, or else 4.
 #[inline]
-fn may_flush(counts: [u32; 4], a: u8, b: u8) -> bool
+fn first_five(counts: [u32; 4], a: u8, b: u8) -> u8
     requires { (s : ℕ) → slice_index counts s ≤ 156 }
-    ensures { result ≡ false → IsShort counts a b }
+    ensures { 4 ≤ result → IsShort counts a b }
 {
-    is_five(counts[0], 0, a, b)
-        || is_five(counts[1], 1, a, b)
-        || is_five(counts[2], 2, a, b)
-        || is_five(counts[3], 3, a, b)
+    if is_five(counts[0], 0, a, b) {
+        0
+    } else if is_five(counts[1], 1, a, b) {
+        1
+    } else if is_five(counts[2], 2, a, b) {
+        2
+    } else if is_five(counts[3], 3, a, b) {
+        3
+    } else {
+        4
+    }
 }
 
-/// Flags the pairs of suits with which so many cards of each suit may be five of one.
+/// For each pair of suits the one of which so many cards of each may be five with two more of these suits, or else 4.
 #[inline]
-fn flags(counts: [u32; 4]) -> [bool; 16]
+fn five_suits(counts: [u32; 4]) -> [u8; 16]
     requires { (s : ℕ) → slice_index counts s ≤ 156 }
-    ensures flags { AreFlagged counts result }
+    ensures suits { AreFives counts result }
     ensures length { length result ≡ 16 }
 {
-    let mut flags = [true; 16];
+    let mut suits = [4; 16];
     for place in 0..16u8 {
-        flags[usize::from(place)] = may_flush(counts, place / 4, place % 4);
+        suits[usize::from(place)] = first_five(counts, place / 4, place % 4);
     }
-    flags
+    suits
 }
 
 /// Whether there are so few cards of each suit that two more never are five of one.
@@ -145,18 +152,18 @@ fn are_few(counts: [u32; 4]) -> bool
     counts[0] <= 2 && counts[1] <= 2 && counts[2] <= 2 && counts[3] <= 2
 }
 
-/// Flags the pairs of suits of the last two cards with which somebody may have a flush, behind first cards of the board, at 4 times
-/// one suit and the other: those with which a number for the suit and its first and last cards are more than four together. None
-/// where there are no such pairs.
+/// The suit of which somebody may have a flush behind first cards of the board, at 4 times the suit of one of the last two cards and
+/// that of the other, or else 4: one of which a number for the suit and its first and last cards are more than four together. None
+/// where there is no such suit for any two.
 #[inline]
-pub(crate) fn flags_for(most: [u32; 4], taken: CardSet) -> Option<[bool; 16]>
+pub(crate) fn suits_for(most: [u32; 4], taken: CardSet) -> Option<[u8; 16]>
     requires { (s : ℕ) → slice_index most s ≤ 104 }
-    ensures { MatchOption result (AreAllShort most taken) (λ flags. AreFlagsFor most taken flags × (length flags ≡ 16)) }
+    ensures { MatchOption result (AreAllShort most taken) (λ suits. AreFivesWith most taken suits × (length suits ≡ 16)) }
 {
     let counts = suit_counts(taken);
     let together = sums(most, counts);
     if are_few(together) {
         return None;
     }
-    Some(flags(together))
+    Some(five_suits(together))
 }

@@ -7,8 +7,6 @@ ghost use Rattle.std.specs.Str.Parse.{digits_value};
 ghost use Rattle.share_fractions.specs.Round.{round, fixed_text, digit_at, last_digits};
 
 mod put;
-#[cfg(test)]
-mod tests;
 
 use itoa::Buffer;
 use put::{put_byte, put_bytes};
@@ -42,7 +40,7 @@ fn power_of_ten(exponent: u32) -> u128
 /// The fraction with so many decimal places, rounded once, a half up.
 pub fn rounded(numerator: u128, denominator: u128, places: u32) -> Fixed
     requires some { 0 < denominator }
-    requires small { numerator ≤ 10 ^ 32 }
+    requires small { numerator ≤ 2 * 10 ^ 32 }
     requires small_too { denominator ≤ 10 ^ 32 }
     requires few { places ≤ 4 }
     ensures value { result.whole ≡ round numerator denominator places }

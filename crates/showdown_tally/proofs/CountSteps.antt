@@ -255,17 +255,17 @@ places_units_more pot mask count halved row n p h =
     (units_of_places row halved count h (n + 1)) (units_more row halved count h n)
 
 -- the sets below 0 give nothing
-pub places_none : (pot : ℕ) (side : Side) (mask count : ℕ) (row : List ℕ) (p h : ℕ) (s : Side) → places_cells pot side mask count row 0 p h s ≡ no_runout
-places_none pot side mask count row p h s = one ((p == pot) && is_side s side && nat_lt h count && is_set mask h)
+pub places_none : (pot : ℕ) (side : Side) (mask count : ℕ) (sets : List ℕ) (p h : ℕ) (s : Side) → places_cells pot side mask count sets 0 p h s ≡ no_runout
+places_none pot side mask count sets p h s = one ((p == pot) && is_side s side && nat_lt h count && is_set mask h)
   where
-    one : (b : Bool) → cond b (cell_of_places row count h 0) no_runout ≡ no_runout
+    one : (b : Bool) → cond b (cell_of_places sets count h 0) no_runout ≡ no_runout
     one true = refl
     one false = refl
 
-pub places_units_none : (pot mask count : ℕ) (halved : Bool) (row : List ℕ) (p h : ℕ) → places_units pot mask count halved row 0 p h ≡ 0
-places_units_none pot mask count halved row p h = one ((p == pot) && nat_lt h count && is_set mask h)
+pub places_units_none : (pot mask count : ℕ) (halved : Bool) (sets : List ℕ) (p h : ℕ) → places_units pot mask count halved sets 0 p h ≡ 0
+places_units_none pot mask count halved sets p h = one ((p == pot) && nat_lt h count && is_set mask h)
   where
-    one : (b : Bool) → cond b (units_of_places row halved count h 0) 0 ≡ 0
+    one : (b : Bool) → cond b (units_of_places sets halved count h 0) 0 ≡ 0
     one true = refl
     one false = refl
 

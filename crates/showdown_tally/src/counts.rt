@@ -198,25 +198,13 @@ fn give_pots(table: &Table, runouts: u64, counts: &[[u32; 2048]], tally: &mut Ta
     tally.end_runouts(runouts);
 }
 
-/// The tally of so many runouts, by how often each set of hands wins each side of each pot. A pot has
-/// two rows of counts, the high's before the low's, and a set stands for the number with the bits of
-/// its hands. The high's row has the runouts in which a set wins the high and nobody has a low at the
-/// place of the set, and those in which somebody has one at 1,024 more; the low's has those in which a
-/// set wins the low at its place. Rows of a side that the game isn't played for aren't looked at, nor
-/// are places of hands that there aren't. It takes no memory.
-pub fn tally_of_counts(table: &Table, runouts: u64, counts: &[[u32; 2048]]) -> Tally
-    requires rows { 2 * table.now.pots ≤ length counts.now }
-    ensures { (all : List (List (List ℕ))) → length all ≡ runouts
-        → AreSideCounts (deal_of table.now) all counts.now
-        → Counts (deal_of table.now) all result }
-{
-    let mut tally = Tally::zero();
-    give_pots(table, runouts, counts, &mut tally);
-    tally
-}
-
-/// Makes a tally, whatever it held, that of so many runouts, by the same counts. It takes no memory,
-/// and moves no tally.
+/// Makes a tally, whatever it held, that of so many runouts, by how often each set of hands wins each
+/// side of each pot. A pot has two rows of counts, the high's before the low's, and a set stands for
+/// the number with the bits of its hands. The high's row has the runouts in which a set wins the high
+/// and nobody has a low at the place of the set, and those in which somebody has one at 1,024 more; the
+/// low's has those in which a set wins the low at its place. Rows of a side that the game isn't played
+/// for aren't looked at, nor are places of hands that there aren't. It takes no memory, and moves no
+/// tally.
 pub fn fill_tally(table: &Table, runouts: u64, counts: &[[u32; 2048]], tally: &mut Tally)
     requires rows { 2 * table.now.pots ≤ length counts.now }
     ensures { (all : List (List (List ℕ))) → length all ≡ runouts

@@ -16,8 +16,6 @@ mod gather;
 mod laws;
 mod marks;
 mod spot;
-#[cfg(test)]
-mod tests;
 mod words;
 
 pub use faults::SpotFault;

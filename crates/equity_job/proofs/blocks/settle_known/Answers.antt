@@ -13,7 +13,7 @@ settle_runout-requires-clause-runout g c =
 
 pub settle_runout-requires-clause-fits : goal.settle_runout-requires-clause-fits
 settle_runout-requires-clause-fits g c =
-    Fits-few (deal_of c.args.job.now.table) [] c.first_runout.new.out c.zero-tally.result (Counts-none (deal_of c.args.job.now.table) c.zero-tally.result c.zero-tally.ensures.runouts c.zero-tally.ensures.cells c.zero-tally.ensures.units) (omega arith)
+    Fits-few (deal_of c.args.job.now.table) [] c.first_runout.new.out c.clear.new.self (Counts-none (deal_of c.args.job.now.table) c.clear.new.self c.clear.ensures.runouts c.clear.ensures.cells c.clear.ensures.units) (omega arith)
 
 pub returns-clause-counts : goal.returns-clause-counts
 returns-clause-counts g c =
@@ -21,7 +21,7 @@ returns-clause-counts g c =
     let begins : Begins all c.first_runout.new.out = of_state (λ all. Begins all c.first_runout.new.out) (state_of c.args.job.now.table.known) c.args.job.now.shape c.args.job.now.shaped c.first_runout.ensures in
     let one = only_runout all c.first_runout.new.out (none_lacking (state_of c.args.job.now.table.known) c.args.job.now.shape c.args.job.now.shaped c.requires.none) begins in
     subst (λ some. Counts (deal_of c.args.job.now.table) some c.settle_runout.new.tally) (sym (only_block all c.first_runout.new.out c.args.block one c.requires.block))
-    (Counts-more (deal_of c.args.job.now.table) [] c.first_runout.new.out c.zero-tally.result c.settle_runout.new.tally (Counts-none (deal_of c.args.job.now.table) c.zero-tally.result c.zero-tally.ensures.runouts c.zero-tally.ensures.cells c.zero-tally.ensures.units) c.settle_runout.ensures.adds)
+    (Counts-more (deal_of c.args.job.now.table) [] c.first_runout.new.out c.clear.new.self c.settle_runout.new.tally (Counts-none (deal_of c.args.job.now.table) c.clear.new.self c.clear.ensures.runouts c.clear.ensures.cells c.clear.ensures.units) c.settle_runout.ensures.adds)
 
 pub returns-clause-steps : goal.returns-clause-steps
 returns-clause-steps g c =

@@ -1,4 +1,4 @@
-use Rattle.std.proofs.Common.{◌≡◌, ◌+◌, ◌<◌, ◌≤◌, length, sym, refl, ap, ◌∙◌, arith, Some}
+use Rattle.std.proofs.Common.{sym, refl, ap, ◌∙◌, arith, Some}
 use Rattle.std.proofs.lemmas.Option.{slice_get-get_or}
 use Rattle.runout_ranges.proofs.Listed.{member_at}
 use Rattle.showdown_tally.specs.Deals.{deal_of}

@@ -1,6 +1,7 @@
 use Rattle.std.proofs.Common.{◌≡◌, ◌+◌, ◌<◌, ◌≤◌, length, take}
 use Rattle.showdown_tally.specs.Deals.{deal_of}
-use Rattle.runout_walk.specs.KeptRows.{AreFlushes, PairsWait}
+use Rattle.runout_walk.specs.KeptRows.{PairsWait}
+use Rattle.runout_walk.specs.KeptFlushes.{AreFlushes}
 use Rattle.runout_walk.proofs.board_leaf.count_pairs.Given as goal
 
 abbrev pub invariant-loop-pair : goal.invariant-loop-pair
@@ -9,6 +10,6 @@ invariant-loop-pair g l = record {
   inside : l.wait.ranks < 169;
   few : l.wait.times ≤ l.pair-index;
   same : length l.counts ≡ length l.fn.counts;
-  flushes : AreFlushes (deal_of l.spot.table) l.flushes.list;
+  flushes : AreFlushes (deal_of l.spot.table) l.flushes;
   steps : l.steps ≡ l.fn.steps + l.pair-index;
 }

@@ -1,6 +1,6 @@
 use Rattle.std.proofs.Common.{◌≡◌, length}
 use Rattle.showdown_tally.specs.Deals.{deal_of}
-use Rattle.runout_walk.specs.KeptRows.{AreFlushes}
+use Rattle.runout_walk.specs.KeptFlushes.{AreFlushes}
 use Rattle.runout_walk.proofs.PairCounts.{IsCounted}
 use Rattle.runout_walk.proofs.board_leaf.count_suited.Given as goal
 
@@ -8,5 +8,5 @@ abbrev pub invariant-loop-pot : goal.invariant-loop-pot
 invariant-loop-pot l = record {
   counted : IsCounted (deal_of l.spot.table) l.taken l.pair l.pot l.fn.counts l.counts;
   same : length l.counts ≡ length l.fn.counts;
-  flushes : AreFlushes (deal_of l.spot.table) l.flushes.list;
+  flushes : AreFlushes (deal_of l.spot.table) l.flushes;
 }

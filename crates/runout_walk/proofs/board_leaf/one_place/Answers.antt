@@ -1,4 +1,4 @@
-use Rattle.std.proofs.Common.{◌≡◌, ◌+◌, ◌*◌, ◌<◌, ◌++◌, List, ℕ, ◌∙◌}
+use Rattle.std.proofs.Common.{◌++◌, List, ℕ, ◌∙◌}
 use Rattle.card_sets.specs.State.{State, state_of}
 use Rattle.card_sets.specs.declared.games.Side.TheVariants.{High}
 use Rattle.showdown_tally.specs.Deals.{deal_of}

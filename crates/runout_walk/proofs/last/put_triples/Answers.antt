@@ -3,7 +3,10 @@ use Rattle.std.specs.List.{slice_range}
 use Rattle.std.proofs.lemmas.List.{length-map}
 use Rattle.card_sets.specs.Choose.{choose}
 use Rattle.runout_walk.specs.Worth.{number_at, number_of}
-use Rattle.runout_walk.proofs.DrawLists.{choices_length, choices_split, filling_begins, filling_ends, filling_goes_on, filling_room, first_split, length_range, no_list, range_none, three_numbers, two_first_length}
+use Rattle.runout_walk.proofs.PairListing.{two-first-length}
+use Rattle.runout_walk.proofs.Ranges.{range-none}
+use Rattle.runout_walk.proofs.Members.{length-range}
+use Rattle.runout_walk.proofs.DrawLists.{choices_length, choices_split, filling_begins, filling_ends, filling_goes_on, filling_room, first_split, no_list, three_numbers}
 use Rattle.runout_walk.proofs.last.put_triples.Goals as goal
 
 pub loop-rest-init : goal.loop-rest-init
@@ -23,7 +26,7 @@ overflow_sub-count g c =
     let pairs = c.loop-rest.invariant.pairs in
     let others : List ℕ = take (length rest - 1) (drop 1 rest) in
     let first : rest ≡ c.low-item.result ∷ others = first_split rest c.low-item.result _ c.in-len1-up.len_at_least c.low-item.is in
-    omega (arith, pairs, two_first_length c.low-item.result rest others first)
+    omega (arith, pairs, two-first-length c.low-item.result rest others first)
 
 pub put_pairs-requires-clause-order : goal.put_pairs-requires-clause-order
 put_pairs-requires-clause-order g c =
@@ -37,7 +40,7 @@ put_pairs-requires-clause-inside g c =
     let others : List ℕ = take (length rest - 1) (drop 1 rest) in
     let first : rest ≡ c.low-item.result ∷ others = first_split rest c.low-item.result _ c.in-len1-up.len_at_least c.low-item.is in
     let count : ℕ = c.loop-rest.pairs - length others in
-    let count_is : count ≡ length (choose 2 others) = omega (arith, pairs, two_first_length c.low-item.result rest others first) in
+    let count_is : count ≡ length (choose 2 others) = omega (arith, pairs, two-first-length c.low-item.result rest others first) in
     omega (arith, c.min-end.ensures, count_is)
 
 pub put_pairs-requires-clause-room : goal.put_pairs-requires-clause-room
@@ -48,13 +51,13 @@ put_pairs-requires-clause-room g c =
     let first : rest ≡ c.low-item.result ∷ others = first_split rest c.low-item.result _ c.in-len1-up.len_at_least c.low-item.is in
     let pairs = inv.pairs in
     let count : ℕ = c.loop-rest.pairs - length others in
-    let count_is : count ≡ length (choose 2 others) = omega (arith, pairs, two_first_length c.low-item.result rest others first) in
+    let count_is : count ≡ length (choose 2 others) = omega (arith, pairs, two-first-length c.low-item.result rest others first) in
     let part : List (List ℕ) = slice_range (choose 2 others) c.min-start.result c.min-end.result in
     let split = choices_split 2 c.low-item.result rest others count c.loop-rest.lo c.loop-rest.hi c.min-start.result c.min-end.result _ _ first count_is c.min-start.ensures c.min-end.ensures refl refl in
     let fits = filling_room _ _ _ _ (map (λ draw. c.low-item.result ∷ draw) part) _ c.loop-rest.used c.loop-rest.values inv.way split in
     let order = inv.order in
-    let size : length part ≡ c.min-end.result - c.min-start.result = length_range (choose 2 others) c.min-start.result c.min-end.result (omega (arith, c.min-start.ensures, c.min-end.ensures, order)) (omega (arith, c.min-end.ensures, count_is)) in
-    let whole : length (slice_range (choose 3 c.args.cards.now) c.args.range.lo c.args.range.hi) ≡ c.args.range.hi - c.args.range.lo = length_range (choose 3 c.args.cards.now) c.args.range.lo c.args.range.hi c.requires.order c.requires.inside in
+    let size : length part ≡ c.min-end.result - c.min-start.result = length-range (choose 2 others) c.min-start.result c.min-end.result (omega (arith, c.min-start.ensures, c.min-end.ensures, order)) (omega (arith, c.min-end.ensures, count_is)) in
+    let whole : length (slice_range (choose 3 c.args.cards.now) c.args.range.lo c.args.range.hi) ≡ c.args.range.hi - c.args.range.lo = length-range (choose 3 c.args.cards.now) c.args.range.lo c.args.range.hi c.requires.order c.requires.inside in
     let room = c.requires.room in
     let same = inv.room in
     omega (arith, fits, whole, room, same, size, length-map part (λ draw. c.low-item.result ∷ draw))
@@ -67,13 +70,13 @@ overflow_add-used g c =
     let first : rest ≡ c.low-item.result ∷ others = first_split rest c.low-item.result _ c.in-len1-up.len_at_least c.low-item.is in
     let pairs = inv.pairs in
     let count : ℕ = c.loop-rest.pairs - length others in
-    let count_is : count ≡ length (choose 2 others) = omega (arith, pairs, two_first_length c.low-item.result rest others first) in
+    let count_is : count ≡ length (choose 2 others) = omega (arith, pairs, two-first-length c.low-item.result rest others first) in
     let part : List (List ℕ) = slice_range (choose 2 others) c.min-start.result c.min-end.result in
     let split = choices_split 2 c.low-item.result rest others count c.loop-rest.lo c.loop-rest.hi c.min-start.result c.min-end.result _ _ first count_is c.min-start.ensures c.min-end.ensures refl refl in
     let fits = filling_room _ _ _ _ (map (λ draw. c.low-item.result ∷ draw) part) _ c.loop-rest.used c.loop-rest.values inv.way split in
     let order = inv.order in
-    let size : length part ≡ c.min-end.result - c.min-start.result = length_range (choose 2 others) c.min-start.result c.min-end.result (omega (arith, c.min-start.ensures, c.min-end.ensures, order)) (omega (arith, c.min-end.ensures, count_is)) in
-    let whole : length (slice_range (choose 3 c.args.cards.now) c.args.range.lo c.args.range.hi) ≡ c.args.range.hi - c.args.range.lo = length_range (choose 3 c.args.cards.now) c.args.range.lo c.args.range.hi c.requires.order c.requires.inside in
+    let size : length part ≡ c.min-end.result - c.min-start.result = length-range (choose 2 others) c.min-start.result c.min-end.result (omega (arith, c.min-start.ensures, c.min-end.ensures, order)) (omega (arith, c.min-end.ensures, count_is)) in
+    let whole : length (slice_range (choose 3 c.args.cards.now) c.args.range.lo c.args.range.hi) ≡ c.args.range.hi - c.args.range.lo = length-range (choose 3 c.args.cards.now) c.args.range.lo c.args.range.hi c.requires.order c.requires.inside in
     let room = c.requires.room in
     let same = inv.room in
     omega (arith, fits, whole, room, same, size, length-map part (λ draw. c.low-item.result ∷ draw))
@@ -86,13 +89,13 @@ loop-rest-preserved g c =
     let first : rest ≡ c.low-item.result ∷ others = first_split rest c.low-item.result _ c.in-len1-up.len_at_least c.low-item.is in
     let pairs = inv.pairs in
     let count : ℕ = c.loop-rest.pairs - length others in
-    let count_is : count ≡ length (choose 2 others) = omega (arith, pairs, two_first_length c.low-item.result rest others first) in
+    let count_is : count ≡ length (choose 2 others) = omega (arith, pairs, two-first-length c.low-item.result rest others first) in
     let part : List (List ℕ) = slice_range (choose 2 others) c.min-start.result c.min-end.result in
     let split = choices_split 2 c.low-item.result rest others count c.loop-rest.lo c.loop-rest.hi c.min-start.result c.min-end.result c.saturating_sub-lo.result c.saturating_sub-hi.result first count_is c.min-start.ensures c.min-end.ensures c.saturating_sub-lo.ensures c.saturating_sub-hi.ensures in
     let order = inv.order in
     let inside = inv.inside in
     let few = inv.few in
-    let size : length part ≡ c.min-end.result - c.min-start.result = length_range (choose 2 others) c.min-start.result c.min-end.result (omega (arith, c.min-start.ensures, c.min-end.ensures, order)) (omega (arith, c.min-end.ensures, count_is)) in
+    let size : length part ≡ c.min-end.result - c.min-start.result = length-range (choose 2 others) c.min-start.result c.min-end.result (omega (arith, c.min-start.ensures, c.min-end.ensures, order)) (omega (arith, c.min-end.ensures, count_is)) in
     record {
       way = filling_goes_on (number_of c.args.numbers.now.rows c.args.numbers.now.planes) _ _ _ (map (λ draw. c.low-item.result ∷ draw) part) _ c.loop-rest.used (c.min-end.result - c.min-start.result) _ c.loop-rest.values c.put_pairs.new.values
           (map (number_at c.args.numbers.now.planes c.plane_base-base.result) part) inv.way split (sym (length-map part _ ∙ size)) (three_numbers c.args.numbers.now.rows c.args.numbers.now.planes c.low-item.result c.plane_base-base.result others c.min-start.result c.min-end.result c.plane_base-base.ensures.value) c.put_pairs.ensures.numbers (omega arith);
@@ -108,9 +111,9 @@ pub returns : goal.returns
 returns g c =
     let inv = c.loop-rest.invariant in
     let none : c.loop-rest.rest.now ≡ [] = no_list c.loop-rest.rest.now c.in_default.len_below in
-    let todo : slice_range (choose 3 c.loop-rest.rest.now) c.loop-rest.lo c.loop-rest.hi ≡ [] = ap (λ l. slice_range (choose 3 l) c.loop-rest.lo c.loop-rest.hi) none ∙ range_none c.loop-rest.lo c.loop-rest.hi in
+    let todo : slice_range (choose 3 c.loop-rest.rest.now) c.loop-rest.lo c.loop-rest.hi ≡ [] = ap (λ l. slice_range (choose 3 l) c.loop-rest.lo c.loop-rest.hi) none ∙ range-none c.loop-rest.lo c.loop-rest.hi in
     let ends = filling_ends _ _ _ _ c.loop-rest.used c.loop-rest.values inv.way todo in
-    let whole : length (slice_range (choose 3 c.args.cards.now) c.args.range.lo c.args.range.hi) ≡ c.args.range.hi - c.args.range.lo = length_range (choose 3 c.args.cards.now) c.args.range.lo c.args.range.hi c.requires.order c.requires.inside in
+    let whole : length (slice_range (choose 3 c.args.cards.now) c.args.range.lo c.args.range.hi) ≡ c.args.range.hi - c.args.range.lo = length-range (choose 3 c.args.cards.now) c.args.range.lo c.args.range.hi c.requires.order c.requires.inside in
     let all : c.loop-rest.used ≡ c.args.range.hi - c.args.range.lo = (let u = ends.0 in omega (arith, u, whole)) in
     record {
       numbers = ap (λ n. take n c.loop-rest.values) (sym all) ∙ ends.1;

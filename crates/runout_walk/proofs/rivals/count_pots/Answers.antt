@@ -8,7 +8,7 @@ use Rattle.showdown_tally.specs.Deals.{deal_of}
 use Rattle.showdown_tally.specs.Showdown.{eligible_in}
 use Rattle.runout_walk.specs.Bests.{best_set}
 use Rattle.runout_walk.specs.Rivals.{value_with, winner_by}
-use Rattle.runout_walk.proofs.DrawLists.{count_same}
+use Rattle.runout_walk.proofs.Members.{count_same}
 use Rattle.runout_walk.proofs.rivals.count_pots.Goals as goal
 
 other_row : (rows : List (List ℕ)) (i j place : ℕ) (new : List ℕ) → (j ≡ i → ⊥) → slice_index (slice_index_or (set rows i new) j []) place ≡ slice_index (slice_index_or rows j []) place

@@ -9,7 +9,7 @@ use Rattle.runout_walk.proofs.sides.pot_ends.Goals as goal
 pub returns-clause-best : goal.returns-clause-best
 returns-clause-best c = λ runout worths.
     let high = c.pot_best-high.ensures.best (plain_of (state_of c.args.table.now.known) runout) worths.as_highs in
-    let low = c.side_outcome-low.ensures.value runout worths.as_lows in
+    let low = c.winners_on-low.ensures.value runout (λ has. worths.as_lows) in
     record {
       low_set = low;
       main_set = ap (λ n. n + c.low_mark.result) high.1 ∙ ap (λ n. best_set (plain_of (state_of c.args.table.now.known) runout) (eligible_in (deal_of c.args.table.now) c.args.pot) + n) (c.low_mark.ensures.value ∙ ap mark_of low);

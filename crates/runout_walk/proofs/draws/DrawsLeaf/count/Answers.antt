@@ -20,7 +20,8 @@ use Rattle.runout_walk.specs.Listing.{last_count}
 use Rattle.runout_walk.specs.Rivals.{value_with}
 use Rattle.runout_walk.specs.Worth.{number_of, worth}
 use Rattle.runout_walk.proofs.DrawLeaf.{IsLeafDraw, last_inside, leaf_counts, leaf_draw, leaf_values, taken_none}
-use Rattle.runout_walk.proofs.DrawLists.{few_draws, in_range}
+use Rattle.runout_walk.proofs.Members.{in_range}
+use Rattle.runout_walk.proofs.DrawLists.{few_draws}
 use Rattle.runout_walk.proofs.DrawWinners.{only_one}
 use Rattle.runout_walk.proofs.draws.DrawsLeaf.count.Goals as goal
 

@@ -1,5 +1,14 @@
-use Rattle.runout_walk.proofs.RowSets.{no_flushes}
+use Rattle.std.proofs.Common.{arith}
 use Rattle.runout_walk.proofs.flushes.Flushes.clear.Goals as goal
 
 pub returns : goal.returns
-returns c = λ deal. no_flushes deal 8192 c.none-none.result c.none-none.ensures
+returns c = λ deal.
+    let was = c.requires in
+    record {
+      past = record {
+        each = λ i flush at. let l = was.each i flush at in omega arith;
+        hands = (let l = was.hands in omega arith);
+      };
+      best = λ i flush at same. absurd (let l = was.each i flush at in omega arith);
+      of_hands = λ same. absurd (let l = was.hands in omega arith);
+    }

@@ -1,37 +1,29 @@
-use Rattle.std.proofs.Common.{◌≡◌, ◌+◌, ℕ, ap, sym, ◌∙◌, arith, set, subst, inl, inr}
+use Rattle.std.proofs.Common.{◌≡◌, ◌+◌, ℕ, true, Some, ap, sym, ◌∙◌, inl, inr}
 use Rattle.std.specs.Prelude.{slice_get}
-use Rattle.std.proofs.Math.ListN.{length-set}
-use Rattle.std.proofs.lemmas.Bool.{cases_lt}
 use Rattle.showdown_tally.specs.Deals.{deal_of}
-use Rattle.runout_walk.specs.KeptRows.{IsRowFor}
-use Rattle.runout_walk.specs.declared.row.Row.{Row}
-use Rattle.runout_walk.proofs.RowSets.{get-other, get-same, put_row, row_for, row_right}
+use Rattle.showdown_tally.specs.Showdown.{Showdown}
+use Rattle.runout_walk.proofs.RowSets.{row_for, row_right, within}
 use Rattle.runout_walk.proofs.rows.Rows.put.Goals as goal
 
-pub loop-pot-preserved : goal.loop-pot-preserved
-loop-pot-preserved c =
-    let was = c.loop-pot.invariant in
-    let new : Row = c.new_row-row.result in
-    let e = c.new_row-row.ensures in
-    let place : ℕ = c.args.base + c.from.result in
-    let is = row_right (deal_of c.args.table.now) c.loop-pot.pot c.args.ranks c.args.least new e.pot e.ranks e.least e.row in
-    record {
-      live_size = rw length-set was.live_size;
-      rows_size = rw length-set was.rows_size;
-      right = put_row (deal_of c.args.table.now) c.loop-pot.self.live c.loop-pot.self.rows place new was.right is;
-      rows = λ pot row lt at. elim (cases_lt pot c.loop-pot.pot) [
-        | inl less ↦ was.rows pot row less (sym (get-other c.loop-pot.self.rows place (c.args.base + pot) new (λ x. let f = c.from.ensures in omega arith)) ∙ at)
-        | inr ge ↦
-            let same : pot ≡ c.loop-pot.pot = omega arith in
-            let there : c.args.base + pot ≡ place = (let f = c.from.ensures in omega arith) in
-            let here : row ≡ new = get-same c.loop-pot.self.rows place new row (ap (slice_get (set c.loop-pot.self.rows place new)) (sym there) ∙ at) in
-            let P : Row → Type 0 = λ r. IsRowFor (deal_of c.args.table.now) pot c.args.taken r in
-            subst P (sym here) (row_for (deal_of c.args.table.now) pot c.args.taken c.args.ranks c.args.least new is (e.pot ∙ sym same) e.ranks e.least c.requires.ranks c.requires.least)
-      ];
-    }
-
-pub new_row-row-requires-clause-worths : goal.new_row-row-requires-clause-worths
-new_row-row-requires-clause-worths c = c.fill_worths.ensures.worths c.args.ranks c.requires.ranks
-
 pub returns-clause-rows : goal.returns-clause-rows
-returns-clause-rows c = λ pot row lt at. c.loop-pot.invariant.rows pot row (let e = c.loop-pot-test.false in omega arith) at
+returns-clause-rows c = λ pot row lt at.
+    let found : slice_get c.fill_rows.new.rows (c.args.base + pot) ≡ Some row = ap (λ rows. slice_get rows (c.args.base + pot)) (sym c.set_live-2.ensures.rows) ∙ at in
+    let named = c.fill_rows.ensures.names pot row lt found in
+    let is = row_right (deal_of c.args.table.now) pot c.args.ranks c.args.least row named.pot_is named.ranks_are named.least_is (c.fill_rows.ensures.rows pot row lt found) in
+    row_for (deal_of c.args.table.now) pot c.args.taken c.args.ranks c.args.least row is named.pot_is named.ranks_are named.least_is c.requires.ranks c.requires.least
+
+pub returns-clause-right : goal.returns-clause-right
+returns-clause-right c = λ i row on at.
+    let deal : Showdown = deal_of c.args.table.now in
+    let found : slice_get c.fill_rows.new.rows i ≡ Some row = ap (λ rows. slice_get rows i) (sym c.set_live-2.ensures.rows) ∙ at in
+    elim (within c.args.base c.args.table.now.pots i) [
+      | inl here ↦
+          let pot : ℕ = here.0 in
+          let there : slice_get c.fill_rows.new.rows (c.args.base + pot) ≡ Some row = ap (slice_get c.fill_rows.new.rows) (sym here.2) ∙ found in
+          let named = c.fill_rows.ensures.names pot row here.1 there in
+          row_right deal pot c.args.ranks c.args.least row named.pot_is named.ranks_are named.least_is (c.fill_rows.ensures.rows pot row here.1 there)
+      | inr away ↦
+          let live : slice_get c.args.self.now.live i ≡ Some true = sym (c.set_live-2.ensures.away i away ∙ c.set_live.ensures.away i away) ∙ on in
+          let was : slice_get c.args.self.now.rows i ≡ Some row = ap (λ rows. slice_get rows i) (sym c.set_live.ensures.rows) ∙ sym (c.fill_rows.ensures.away i away) ∙ found in
+          c.requires.right i row live was
+    ]

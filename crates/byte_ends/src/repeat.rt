@@ -1,0 +1,82 @@
+//! A source that gives one line again and again.
+
+ghost use Rattle.std.specs.Prelude.{◌≡◌, ◌+◌, ◌<◌, ◌≤◌, ◌^◌, ◌++◌, length, Some, IsOk, IfOk, OnOk, OnErr, drop, take};
+ghost use Rattle.byte_ends.specs.Ends.{Rises, Reads};
+ghost use Rattle.byte_ends.specs.Memory.{least};
+ghost use Rattle.byte_ends.specs.Repeat.{repeated};
+
+use crate::{Failed, Source};
+use std::marker::Model;
+
+/// How many bytes the line has.
+const LINE: u64 = 64;
+
+/// A source that gives a line of 64 bytes again and again from its start, up to a number of bytes.
+/// No read of it fails.
+#[derive(Drop)]
+pub struct RepeatSource {
+    line: [u8; 64],
+    given: u64,
+    left: u64,
+    piece: usize,
+}
+
+impl Model for RepeatSource {
+    ghost use Rattle.byte_ends.specs.Repeat.{RepeatState, IsRepeatSound, repeated};
+
+    ghost Value = { RepeatState };
+
+    ghost view = { λ s. record { left = repeated s.line s.given s.left; piece = s.piece } };
+
+    ghost invariant = { λ s. IsRepeatSound s.given s.left s.piece };
+}
+
+impl RepeatSource {
+    /// A source of `left` bytes, which gives at most `piece` of them in one read.
+    pub fn new(line: [u8; 64], left: u64, piece: usize) -> RepeatSource
+        requires { 0 < piece }
+        ensures { result ≡ record { left = repeated line 0 left; piece = piece } }
+    {
+        RepeatSource {
+            line,
+            given: 0,
+            left,
+            piece,
+        }
+    }
+}
+
+impl Source for RepeatSource {
+    ghost left = { λ s. Some s.left };
+
+    ghost faults = { λ _. 0 };
+
+    fn read(&mut self, piece: &mut [u8]) -> Result<usize, Failed>
+        ensures within { IfOk result (λ n. n ≤ length piece.new) }
+        ensures bytes { IfOk result (λ n.
+            Reads (Some self.old.left) (Some self.new.left) piece.old piece.new n) }
+        ensures fine { IsOk result }
+        ensures amount { IfOk result (λ n.
+            n ≡ least (length piece.old) self.old.piece (length self.old.left)) }
+        ensures given { IfOk result (λ n. piece.new ≡ take n self.old.left ++ drop n piece.old) }
+        ensures after { IfOk result (λ n. self.new ≡ record self.old { left = drop n self.old.left }) }
+    {
+        let count = piece.len().min(self.piece).min(self.left as usize);
+        fill(&mut piece[..count], &self.line, self.given);
+        self.given += count as u64;
+        self.left -= count as u64;
+        Ok(count)
+    }
+}
+
+/// Fills a piece with the bytes of a line again and again, from the one with this number on.
+fn fill(piece: &mut [u8], line: &[u8; 64], from: u64)
+    requires { from + length piece.old < 2 ^ 64 }
+    ensures { piece.new ≡ repeated line.now from (length piece.old) }
+{
+    let mut at = 0;
+    'bytes: while at < piece.len() {
+        piece[at] = line[((from + at as u64) % LINE) as usize];
+        at += 1;
+    }
+}

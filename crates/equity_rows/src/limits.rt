@@ -1,0 +1,82 @@
+//! Spots on both sides of the limit on runouts, and one block of a count that would take long.
+
+ghost use Rattle.std.specs.Prelude.{◌≡◌, ◌<◌, length};
+ghost use Rattle.card_sets.specs.State.{state_of};
+ghost use Rattle.equity_job.specs.Blocks.{blocks_of};
+ghost use Rattle.showdown_tally.specs.Tallies.{runouts_after};
+
+use card_sets::Side;
+use equity_job::{Job, JobFault, Scratch, count_block};
+use report_table::table_alone;
+use showdown_tally::{Cell, Tally};
+use spot_text::read_spot;
+use std::marker::Brand;
+use std::sync::ledger::{Blank, Ledger};
+use std::test::Fail;
+use step_count::Steps;
+
+/// Two stud hands on the fourth street.
+const FOURTH_STREET: &[u8] = b"stud As Ad Ah Ac - Ks Kd Kh Kc";
+
+/// Spot lines, each with the numbers of its runouts and of its blocks where it is counted.
+const SIZES: &[(&[u8], Option<(u64, u32)>)] = &[
+    (FOURTH_STREET, Some((141_181_040, 2155))),
+    (b"stud As Ad Ah - Ks Kd Kh", None),
+    (
+        b"stud As Ad Ah Ac 2c - Ks Kd Kh Kc 2d - Qs Qd Qh Qc 2h",
+        None,
+    ),
+    (
+        b"stud As Ad Ah Ac 2c - Ks Kd Kh Kc 2d - Qs Qd Qh Qc 2h / 2s",
+        Some((175_301_280, 2675)),
+    ),
+];
+
+/// The job of a spot line.
+fn job_of(line: &[u8]) -> Option<Job> {
+    let Ok(known) = read_spot(line) else {
+        return None;
+    };
+    match Job::make(&table_alone(known)) {
+        Ok(job) => Some(job),
+        Err(JobFault::DeckShort | JobFault::AboveLimit) => None,
+    }
+}
+
+/// One dead card more or less decides whether a spot is counted.
+#[test]
+fn most_runouts_and_more(rt: HostRuntime) {
+    for (line, sizes) in SIZES {
+        let found = match job_of(line) {
+            Some(job) => Some((job.runouts(), job.blocks())),
+            None => None,
+        };
+        assert_eq!(rt; found, *sizes);
+    }
+}
+
+/// The tally of the first block of a job, with a counter of its own.
+fn first_block<L: Ledger>(job: &Job, blank: Blank) -> Tally
+    requires some_block { 0 < blocks_of (length (runouts_after (state_of job.now.table.known))) }
+    requires name { blank.name ≡ L.name }
+    requires parts { blank.parts ≡ L.parts }
+    requires some { 0 < blank.parts }
+{
+    let mut steps = Steps::<L>::new(blank);
+    let mut scratch = Scratch::new();
+    count_block(job, 0, &mut scratch, &mut steps)
+}
+
+/// Four aces win each runout of the first block, whatever else comes to them and to the kings.
+#[test]
+fn the_first_of_many_blocks(rt: HostRuntime) -> Result<(), Fail> {
+    let job = job_of(FOURTH_STREET).ok_or("no job")?;
+    assert!(rt; 0 < job.blocks());
+    let tally = first_block::<Brand>(&job, Blank::new(1));
+    assert_eq!(rt; tally.runouts(), 65_536);
+    for (hand, win, lose) in [(0, 65_536, 0), (1, 0, 65_536), (2, 0, 0)] {
+        let cell = Cell { win, tie: 0, lose };
+        assert_eq!(rt; tally.cell(0, hand, Side::High), cell);
+    }
+    Ok(())
+}

@@ -1,0 +1,11 @@
+pub mod Parts
+pub mod HandLists
+pub mod ClosedFacts
+pub mod UnitLaws
+pub mod LineTexts
+pub mod ScanSteps
+pub mod HandScans
+pub mod LastHands
+pub mod LineScans
+pub mod CutterSteps
+pub mod Forgetting

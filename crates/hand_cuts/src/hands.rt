@@ -1,0 +1,114 @@
+//! The hands of some bytes, one after the other.
+
+ghost use Rattle.std.specs.Prelude.{◌≡◌, ◌≤◌, ◌+◌, IfNone, IfSome, length};
+ghost use Rattle.hand_cuts.specs.Scans.{Finds, HandsOut, HasHead, IsScan, NoUnit, SearchesAll, number_bound};
+ghost use Rattle.hand_cuts.specs.declared.units.CutKind.TheVariants.{Hands};
+
+use crate::limits::INPUT_MAX;
+use crate::scan::{Head, Scan, end_of_line};
+use crate::texts::text_of;
+use crate::units::{CutKind, Unit};
+use history_text::is_header;
+
+/// Hands out the next hand. One that no later header line closes counts only at the end.
+pub(crate) fn cut_hand(bytes: &[u8], closed: bool, scan: &mut Scan) -> Option<Unit>
+    requires scan { IsScan bytes.now scan.old }
+    requires few { number_bound bytes.now scan.old ≤ INPUT_MAX + 1 }
+    ensures scan { IsScan bytes.now scan.new }
+    ensures few { number_bound bytes.now scan.new ≤ number_bound bytes.now scan.old }
+    ensures none { IfNone result (NoUnit Hands closed bytes.now scan.old scan.new) }
+    ensures some { IfSome result (λ unit. HandsOut Hands closed bytes.now scan.old scan.new unit) }
+{
+    find_head(bytes, CutKind::Hands, scan);
+    let Some(head) = scan.head else {
+        return last_hand(bytes, closed, scan);
+    };
+    let Some(next) = next_head(bytes, scan) else {
+        return last_hand(bytes, closed, scan);
+    };
+    scan.begin(next);
+    Some(Unit {
+        first: head.at,
+        end: next.at,
+        first_line: head.line,
+    })
+}
+
+/// Looks for the first header line, up to the last newline. Where lines are cut none is looked for.
+pub(crate) fn find_head(bytes: &[u8], kind: CutKind, scan: &mut Scan)
+    requires scan { IsScan bytes.now scan.old }
+    requires few { number_bound bytes.now scan.old ≤ INPUT_MAX + 1 }
+    ensures scan { IsScan bytes.now scan.new }
+    ensures few { number_bound bytes.now scan.new ≤ number_bound bytes.now scan.old }
+    ensures head { HasHead kind bytes.now scan.old scan.new }
+{
+    if kind == CutKind::Lines || scan.head.is_some() {
+        return;
+    }
+    scan.head = next_head(bytes, scan);
+}
+
+/// Goes on behind the next header line that has its newline; none where no such line follows, and then
+/// all is searched.
+fn next_head(bytes: &[u8], scan: &mut Scan) -> Option<Head>
+    requires scan { IsScan bytes.now scan.old }
+    requires few { number_bound bytes.now scan.old ≤ INPUT_MAX + 1 }
+    ensures few { number_bound bytes.now scan.new ≤ number_bound bytes.now scan.old }
+    ensures none { IfNone result (SearchesAll bytes.now scan.old scan.new) }
+    ensures some { IfSome result (λ head. Finds bytes.now scan.old scan.new head) }
+{
+    'lines: while let Some(next) = end_of_line(bytes, scan.looked, scan.searched) {
+        let here = Head {
+            at: scan.looked,
+            line: scan.number,
+        };
+        scan.pass(next);
+        if is_header(text_of(&bytes[here.at..next - 1])) {
+            return Some(here);
+        }
+    }
+    scan.searched = bytes.len();
+    None
+}
+
+/// Hands out the hand that the end of a closed stream closes. What stands behind the last newline is its
+/// last line, or a hand of its own.
+fn last_hand(bytes: &[u8], closed: bool, scan: &mut Scan) -> Option<Unit>
+    requires scan { IsScan bytes.now scan.old }
+    requires few { number_bound bytes.now scan.old ≤ INPUT_MAX + 1 }
+    requires all { scan.old.searched ≡ length bytes.now }
+    ensures scan { IsScan bytes.now scan.new }
+    ensures few { number_bound bytes.now scan.new ≤ number_bound bytes.now scan.old }
+    ensures none { IfNone result (NoUnit Hands closed bytes.now scan.old scan.new) }
+    ensures some { IfSome result (λ unit. HandsOut Hands closed bytes.now scan.old scan.new unit) }
+{
+    if !closed {
+        return None;
+    }
+    if is_header(text_of(&bytes[scan.looked..])) {
+        let last = Unit {
+            first: scan.looked,
+            end: bytes.len(),
+            first_line: scan.number,
+        };
+        let Some(head) = scan.head else {
+            scan.finish(bytes.len());
+            return Some(last);
+        };
+        scan.go_on();
+        return Some(Unit {
+            first: head.at,
+            end: last.first,
+            first_line: head.line,
+        });
+    }
+    let Some(head) = scan.head else {
+        return None;
+    };
+    scan.finish(bytes.len());
+    Some(Unit {
+        first: head.at,
+        end: bytes.len(),
+        first_line: head.line,
+    })
+}

@@ -1,0 +1,24 @@
+//! A stream of bytes, cut into its hands or its lines, however it comes in pieces.
+//!
+//! `Cutter::give` takes a piece, `Cutter::close` says that none follows, and `Cutter::next_unit` hands
+//! out the next hand or line as soon as it is closed: a line by its newline, a hand by a later header
+//! line that has its newline, and what is left by the end. `Cutter::forget` drops what was handed out.
+//! So a caller who reads a long stream holds the bytes of one open hand and one piece.
+//!
+//! Each byte is searched for a newline once, and moved only where something before it is dropped. No
+//! clause counts either.
+#![tactic(auto)]
+
+mod cutter;
+mod hands;
+mod laws;
+mod limits;
+mod lines;
+mod scan;
+mod texts;
+mod units;
+
+pub use cutter::Cutter;
+pub use laws::{law_closed_hands_by_bytes, law_closed_units_stay};
+pub use limits::INPUT_MAX;
+pub use units::{CutKind, Unit};

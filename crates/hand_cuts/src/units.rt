@@ -1,0 +1,20 @@
+//! What a stream is cut into.
+
+/// What a stream is cut into.
+#[derive(Clone, Copy, Debug, PartialEq, Eq)]
+pub enum CutKind {
+    /// Hands: a header line and the lines up to the next one.
+    Hands,
+    /// Lines.
+    Lines,
+}
+
+/// A hand or a line, by its places in the bytes that are held: it is `first..end`, the newline of
+/// its last line with it.
+#[derive(Clone, Copy, Debug, PartialEq, Eq)]
+pub struct Unit {
+    pub first: usize,
+    pub end: usize,
+    /// The number of its first line in the stream, from 1.
+    pub first_line: u32,
+}

@@ -1,0 +1,158 @@
+//! A book of one block, into which two workers post.
+
+ghost use Rattle.std.specs.Prelude.{◌≡◌, ℕ, ◌<◌, ◌≤◌, ◌+◌, true, [], ◌∷◌, length};
+ghost use Rattle.card_sets.specs.State.{state_of};
+ghost use Rattle.showdown_tally.specs.Deals.{deal_of};
+ghost use Rattle.showdown_tally.specs.Tallies.{Counts, runouts_after};
+ghost use Rattle.equity_job.specs.Blocks.{block_of, blocks_of};
+ghost use Rattle.tally_book.specs.Pages.{is_marked};
+
+use card_sets::{Card, CardSet, Game, Known, Memory, Side};
+use equity_job::{Job, Scratch, count_job};
+use showdown_tally::{Cell, Table, Tally};
+use std::alloc::Global;
+use std::marker::Brand;
+use std::sync::ledger::Blank;
+use std::test::Fail;
+use tally_book::{Book, Closed, Naming, Part, Posted};
+
+/// What two workers are told of a block that both post, which of them handed it in, and the book when it is closed.
+#[derive(Drop)]
+struct PostedTwice {
+    first: Posted,
+    second: Posted,
+    handed: [bool; 2],
+    closed: Closed,
+}
+
+/// The card of a number.
+fn card(number: u8) -> Card
+    requires { number < 52 }
+    ensures { result ≡ number }
+{
+    Card::new(number / 4, number % 4).unwrap()
+}
+
+/// A set of two cards.
+fn two(a: u8, b: u8) -> CardSet
+    requires rising { a < b }
+    requires deck { b < 52 }
+    ensures { result ≡ a ∷ b ∷ [] }
+{
+    CardSet::empty().with(card(a)).with(card(b))
+}
+
+/// A set of four cards.
+fn four(a: u8, b: u8, c: u8, d: u8) -> CardSet
+    requires first { a < b }
+    requires second { b < c }
+    requires third { c < d }
+    requires deck { d < 52 }
+    ensures { result ≡ a ∷ b ∷ c ∷ d ∷ [] }
+{
+    two(a, b).with(card(c)).with(card(d))
+}
+
+/// As Ah against Ks Kh, with 2c 4s 7d 9h on the board: 44 rivers, of which two are kings.
+fn turn_table() -> Table {
+    let none = CardSet::empty();
+    let known = Known {
+        game: Game::Holdem,
+        count: 2,
+        hands: [
+            two(50, 51),
+            two(46, 47),
+            none,
+            none,
+            none,
+            none,
+            none,
+            none,
+            none,
+            none,
+        ],
+        board: four(0, 11, 21, 30),
+        dead: none,
+    };
+    Table {
+        known,
+        pots: 1,
+        eligible: [0b11, 0, 0, 0, 0, 0, 0, 0, 0, 0],
+    }
+}
+
+/// Posts the only block of a job.
+fn post_only<N: Naming>(book: &mut Book<N>, tally: &Tally, part: &mut Part<N>) -> Posted
+    requires one { blocks_of (length (runouts_after N.deal.state)) ≡ 1 }
+    requires count { length book.old.marks ≡ 1 }
+    requires tally { Counts N.deal (block_of (runouts_after N.deal.state) 0) tally.now }
+    ensures marked { is_marked book.new 0 ≡ true }
+    ensures count { length book.new.marks ≡ 1 }
+    ensures parts { part.new.parts ≡ part.old.parts }
+{
+    book.post(0, tally, part)
+}
+
+/// The only block of a job, posted by two workers.
+fn post_twice<N: Naming>(
+    alloc: Global,
+    job: &Job,
+    tally: &Tally,
+    blank: Blank,
+) -> Result<PostedTwice, Memory>
+    requires named { deal_of job.now.table ≡ N.deal }
+    requires name { blank.name ≡ N.name }
+    requires parts { blank.parts ≡ N.parts }
+    requires two { 2 ≤ blank.parts }
+    requires one { blocks_of (length (runouts_after N.deal.state)) ≡ 1 }
+    requires tally { Counts N.deal (block_of (runouts_after N.deal.state) 0) tally.now }
+{
+    let (mut book, mut mine) = Book::<N>::start(alloc, job, blank)?;
+    let mut other = mine.split();
+    let first = post_only(&mut book, tally, &mut mine);
+    let second = post_only(&mut book, tally, &mut other);
+    let handed = [mine.has(0), other.has(0)];
+    mine.merge(other);
+    let closed = book.close(mine);
+    Ok(PostedTwice {
+        first,
+        second,
+        handed,
+        closed,
+    })
+}
+
+/// The same with a ledger of its own, by the tally of all runouts; none where the job hasn't one block.
+fn posted_twice(alloc: Global, job: &Job, tally: &Tally) -> Result<Option<PostedTwice>, Memory>
+    requires { Counts (deal_of job.now.table) (runouts_after (state_of job.now.table.known)) tally.now }
+{
+    if job.blocks() != 1 {
+        return Ok(None);
+    }
+    let posted = post_twice::<Brand>(alloc, job, tally, Blank::new(2))?;
+    Ok(Some(posted))
+}
+
+#[test]
+fn a_block_that_is_posted_twice_counts_once(rt: HostRuntime) -> Result<(), Fail> {
+    let job = Job::make(&turn_table()).ok().ok_or("no job")?;
+    let mut scratch = Scratch::new();
+    let mut tally = Tally::zero();
+    count_job(&job, &mut scratch, &mut tally);
+    let posted = posted_twice(rt.alloc(), &job, &tally).ok().ok_or("memory")?;
+    let posted = posted.ok_or("not one block")?;
+    assert_eq!(rt; posted.first, Posted::Fresh);
+    assert_eq!(rt; posted.second, Posted::Already);
+    assert_eq!(rt; posted.handed, [true, true]);
+    assert_eq!(rt; posted.closed.by_workers, 1);
+    let total = &posted.closed.total;
+    let aces = Cell {
+        win: 42,
+        tie: 0,
+        lose: 2,
+    };
+    assert_eq!(rt; total.runouts(), 44);
+    assert_eq!(rt; total.cell(0, 0, Side::High), aces);
+    assert_eq!(rt; total.units(0, 0), 42 * 5040);
+    Ok(())
+}

@@ -1,5 +1,0 @@
-use Rattle.std.proofs.Common.{arith}
-use Rattle.pot_layers.proofs.tests.dead_and_folded_chips_are_in_the_pots.Goals as goal
-
-pub layers-requires : goal.layers-requires
-layers-requires c = omega arith

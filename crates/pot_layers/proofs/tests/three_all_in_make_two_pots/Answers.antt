@@ -1,5 +1,0 @@
-use Rattle.std.proofs.Common.{arith}
-use Rattle.pot_layers.proofs.tests.three_all_in_make_two_pots.Goals as goal
-
-pub layers-requires : goal.layers-requires
-layers-requires c = omega arith

@@ -1,6 +1,0 @@
-use Rattle.std.proofs.Common.{[], ◌∷◌, refl, arith}
-use Rattle.pot_layers.proofs.Listed.{orders_its_seats}
-use Rattle.pot_layers.proofs.tests.units_left_over_go_by_the_order.Goals as goal
-
-pub split-requires-clause-high : goal.split-requires-clause-high
-split-requires-clause-high c s = rw s.of-second_first.ensures (orders_its_seats (2 ∷ 1 ∷ []) (refl, (refl, tt)) (omega arith, omega arith, (omega arith, omega arith, tt)))

@@ -1,0 +1,131 @@
+//! Who counts equities, and the last one that was asked for.
+
+ghost use Rattle.std.specs.Prelude.{◌≡◌, OnOk, true};
+ghost use Rattle.card_sets.specs.State.{state_of};
+ghost use Rattle.report_table.specs.Equities.{IsEquityOf, IsOfAllIn, IsOfHand, is_asked};
+ghost use Rattle.showdown_tally.specs.Deals.{deal_of};
+ghost use Rattle.showdown_tally.specs.Tallies.{Counts, runouts_after};
+
+use card_sets::Memory;
+use equity_job::{Job, Scratch, count_job};
+use hand_audit::{AllIn, HandAudit};
+use report_table::Equity;
+use showdown_tally::{Table, Tally};
+
+/// Counts jobs.
+pub(crate) trait Counter {
+    /// Makes a tally that of all runouts of a job, whatever it held, with so many workers at the most.
+    fn count(&mut self, job: &Job, workers: u32, tally: &mut Tally) -> Result<(), Memory>
+        ensures { OnOk result (Counts (deal_of job.now.table) (runouts_after (state_of job.now.table.known)) tally.new) };
+}
+
+/// Counts on the thread that asks, in a room that is made for the first count. It takes no memory.
+#[derive(Drop)]
+pub(crate) struct Alone {
+    pub(crate) scratch: Option<Scratch>,
+}
+
+impl Alone {
+    /// Makes a tally that of all runouts of a job, whatever it held.
+    pub(crate) fn count_here(&mut self, job: &Job, tally: &mut Tally)
+        ensures { Counts (deal_of job.now.table) (runouts_after (state_of job.now.table.known)) tally.new }
+    {
+        let scratch = self.scratch.get_or_insert_with(Scratch::new);
+        count_job(job, scratch, tally);
+    }
+}
+
+impl Counter for Alone {
+    fn count(&mut self, job: &Job, _workers: u32, tally: &mut Tally) -> Result<(), Memory> {
+        self.count_here(job, tally);
+        Ok(())
+    }
+}
+
+/// Who counts the equities of a run, with how many workers, and the last equity that was asked for. It is
+/// kept, so that its tally is made once in a run.
+#[derive(Drop)]
+pub(crate) struct Desk<C> {
+    /// Who counts.
+    pub(crate) counter: C,
+    /// How many workers it may have.
+    pub(crate) workers: u32,
+    /// The last equity.
+    pub(crate) equity: Equity,
+}
+
+impl<C: Counter> Desk<C> {
+    /// Asks for nothing.
+    pub(crate) fn ask_nothing(&mut self)
+        ensures { self.new.equity ≡ Equity.NotAsked }
+    {
+        self.equity = Equity::NotAsked;
+    }
+
+    /// Asks for an equity that nobody will look at.
+    fn ask_any(&mut self)
+        ensures { is_asked self.new.equity ≡ true }
+    {
+        if !self.equity.is_asked() {
+            self.equity = Equity::Counted(Tally::zero());
+        }
+    }
+
+    /// Counts a job.
+    fn ask_job(&mut self, job: &Job) -> Result<(), Memory>
+        ensures { OnOk result (IsEquityOf (deal_of job.now.table) self.new.equity) }
+    {
+        if let Equity::Counted(tally) = &mut self.equity {
+            return self.counter.count(job, self.workers, tally);
+        }
+        let mut tally = Tally::zero();
+        self.counter.count(job, self.workers, &mut tally)?;
+        self.equity = Equity::Counted(tally);
+        Ok(())
+    }
+
+    /// Asks for the equity of a table: counted over all runouts, or why it isn't.
+    pub(crate) fn ask_table(&mut self, table: &Table) -> Result<(), Memory>
+        ensures { OnOk result (IsEquityOf (deal_of table.now) self.new.equity) }
+    {
+        match Job::make(table) {
+            Ok(job) => self.ask_job(&job),
+            Err(fault) => {
+                self.equity = Equity::Refused(fault);
+                Ok(())
+            }
+        }
+    }
+
+    /// Asks for the equity of an all-in. Where its cards aren't known it is one that nobody looks at.
+    fn ask_all_in(&mut self, all_in: &AllIn) -> Result<(), Memory>
+        ensures equity { OnOk result (IsOfAllIn all_in.now self.new.equity) }
+        ensures asked { OnOk result (is_asked self.new.equity ≡ true) }
+    {
+        match all_in {
+            AllIn::None | AllIn::Unknown => {
+                self.ask_any();
+                Ok(())
+            }
+            AllIn::Known { table, .. } => self.ask_table(table),
+        }
+    }
+
+    /// Asks for the equity of a hand, where it is wanted.
+    pub(crate) fn ask_hand(&mut self, wanted: bool, audit: &HandAudit) -> Result<(), Memory>
+        ensures equity { OnOk result (IsOfHand audit.now self.new.equity) }
+        ensures asked { OnOk result (is_asked self.new.equity ≡ wanted) }
+    {
+        if !wanted {
+            self.ask_nothing();
+            return Ok(());
+        }
+        match audit {
+            HandAudit::Rejected { .. } => {
+                self.ask_any();
+                Ok(())
+            }
+            HandAudit::Accepted { all_in, .. } => self.ask_all_in(all_in),
+        }
+    }
+}

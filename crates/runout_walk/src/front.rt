@@ -1,0 +1,67 @@
+//! First cards of a board, and where somebody may have a flush with two more.
+
+ghost use Rattle.std.specs.Prelude.{◌≡◌, length, IsTrue};
+ghost use Rattle.runout_walk.specs.Suits.{AreAllShort, AreFivesWith};
+
+use crate::spot::Spot;
+use crate::suits::suits_for;
+use card_sets::CardSet;
+
+/// First cards of a board, and where somebody may have a flush with two more.
+#[derive(Clone, Copy, Debug)]
+pub(crate) struct Front {
+    /// The cards.
+    pub(crate) taken: CardSet,
+    /// Whether no two more make anybody a flush.
+    pub(crate) plain: bool,
+    /// The suit of which somebody may have a flush, at 4 times the suit of one of the last two and that of the other, or else 4.
+    pub(crate) suits: [u8; 16],
+    /// For each suit the ranks of the board's cards so far, as bits.
+    pub(crate) tags: [u32; 4],
+}
+
+/// The ranks of some cards, as bits. They only say where to look for what is kept.
+#[inline]
+fn rank_bits(cards: CardSet) -> u32 {
+    let mut bits = 0u32;
+    for card in cards.iter() {
+        bits = bits | (1 << card.rank());
+    }
+    bits
+}
+
+/// The same of the cards of each suit.
+fn suit_bits(cards: CardSet) -> [u32; 4] {
+    [
+        rank_bits(cards.of_suit(0)),
+        rank_bits(cards.of_suit(1)),
+        rank_bits(cards.of_suit(2)),
+        rank_bits(cards.of_suit(3)),
+    ]
+}
+
+impl Front {
+    /// First cards of a board.
+    #[inline]
+    pub(crate) fn of(spot: &Spot, taken: CardSet) -> Front
+        ensures taken { result.taken ≡ taken }
+        ensures plain { IsTrue result.plain → AreAllShort spot.now.most result.taken }
+        ensures suits { AreFivesWith spot.now.most result.taken result.suits }
+        ensures places { length result.suits ≡ 16 }
+    {
+        match suits_for(spot.most, taken) {
+            Some(suits) => Front {
+                taken,
+                plain: false,
+                suits,
+                tags: suit_bits(spot.table.known.board.union(taken)),
+            },
+            None => Front {
+                taken,
+                plain: true,
+                suits: [4; 16],
+                tags: [0; 4],
+            },
+        }
+    }
+}

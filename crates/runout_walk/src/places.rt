@@ -1,0 +1,86 @@
+//! Places of the counts, and runouts that are added there.
+
+ghost use Rattle.std.specs.Prelude.{◌≡◌, ℕ, ◌+◌, ◌*◌, ◌^◌, ◌<◌, ◌≤◌, ◌==◌, if◌then◌else◌, length, slice_get, slice_index, Some, true, IsTrue};
+ghost use Rattle.card_sets.specs.Games.{has_side};
+ghost use Rattle.showdown_tally.specs.Deals.{deal_of};
+ghost use Rattle.showdown_tally.specs.SideCounts.{count_at};
+ghost use Rattle.runout_walk.specs.KeptRows.{WaitsFit, so_many, waiting};
+
+use crate::row::Row;
+use crate::spot::Spot;
+use card_sets::Side;
+
+/// Where a runout is counted for a pot.
+#[derive(Clone, Copy, Debug)]
+pub(crate) struct Place {
+    /// On the high side.
+    pub(crate) main: u16,
+    /// On the low side.
+    pub(crate) low: u16,
+}
+
+/// So many runouts more at a place.
+#[inline]
+fn add_times(cells: &mut [u32], place: u16, times: u32)
+    requires inside { place < length cells.old }
+    requires fits { slice_index cells.old place + times < 2 ^ 32 }
+    ensures counts { (other : ℕ) → slice_index cells.new other ≡ slice_index cells.old other + (if place == other then times else 0) }
+    ensures places { length cells.new ≡ length cells.old }
+{
+    cells[usize::from(place)] += times;
+}
+
+/// So many runouts more at their places for a pot.
+#[inline]
+pub(crate) fn add_place(
+    counts: &mut [[u32; 2048]],
+    two_sides: bool,
+    pot: u8,
+    place: Place,
+    times: u32,
+)
+    requires inside { 2 * pot + 1 < length counts.old }
+    requires few_mains { place.main < 2048 }
+    requires few_lows { place.low < 2048 }
+    requires fits_main { count_at counts.old pot Side.High place.main + times < 2 ^ 32 }
+    requires fits_low { IsTrue two_sides → count_at counts.old pot Side.Low place.low + times < 2 ^ 32 }
+    ensures high { (p k : ℕ) → count_at counts.new p Side.High k ≡ count_at counts.old p Side.High k + so_many times pot place.main place.low p Side.High k }
+    ensures low { (p k : ℕ) → IsTrue two_sides → count_at counts.new p Side.Low k ≡ count_at counts.old p Side.Low k + so_many times pot place.main place.low p Side.Low k }
+    ensures places { length counts.new ≡ length counts.old }
+{
+    let first = 2 * usize::from(pot);
+    add_times(&mut counts[first], place.main, times);
+    if two_sides {
+        add_times(&mut counts[first + 1], place.low, times);
+    }
+}
+
+/// So many runouts that wait to be counted at a place of the rows: those of pairs of the same ranks, which stand behind one another.
+#[derive(Clone, Copy, Debug)]
+pub(crate) struct Wait {
+    /// The place.
+    pub(crate) ranks: usize,
+    /// How many they are.
+    pub(crate) times: u32,
+}
+
+/// Counts the runouts that wait, for each pot.
+#[inline]
+pub(crate) fn put_wait(spot: &Spot, rows: &[Row], wait: Wait, counts: &mut [[u32; 2048]])
+    requires pots { length rows.now ≡ spot.now.table.pots }
+    requires inside { wait.ranks < 169 }
+    requires counts { 2 * spot.now.table.pots ≤ length counts.old }
+    requires fits { WaitsFit (deal_of spot.now.table) rows.now wait.ranks wait.times counts.old 0 }
+    ensures counts { (pot number : ℕ) (side : Side) (row : Row) → pot < length (deal_of spot.now.table).pots → has_side side spot.now.table.known.game ≡ true → slice_get rows.now pot ≡ Some row
+        → count_at counts.new pot side number ≡ count_at counts.old pot side number + waiting row side wait.ranks wait.times number }
+    ensures same { length counts.new ≡ length counts.old }
+{
+    let two_sides = spot.table.known.game.has_side(Side::Low);
+    for pot in 0..spot.table.pots {
+        let row = &rows[usize::from(pot)];
+        let main = row.mains[wait.ranks];
+        let low = row.lows[wait.ranks];
+        let place = Place { main, low };
+        add_place(counts, two_sides, pot, place, wait.times);
+    }
+}

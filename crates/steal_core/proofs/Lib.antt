@@ -1,0 +1,5 @@
+pub mod BlockSums
+pub mod Weights
+pub mod Ranges
+pub mod Orders
+pub mod Runs

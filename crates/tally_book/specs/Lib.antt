@@ -1,0 +1,3 @@
+pub use Rattle.equity_job.specs.Blocks
+pub mod Parts
+pub mod Pages

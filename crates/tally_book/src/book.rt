@@ -1,0 +1,147 @@
+//! The book.
+
+ghost use Rattle.std.specs.Prelude.{◌≡◌, ℕ, ◌+◌, ◌<◌, ◌≤◌, ◌||◌, ◌==◌, ◌↔◌, Bool, true, false, replicate, length, slice_set, IfOk};
+ghost use Rattle.showdown_tally.specs.Cells.{IsSum};
+ghost use Rattle.showdown_tally.specs.Deals.{deal_of};
+ghost use Rattle.showdown_tally.specs.Tallies.{Counts, runouts_after};
+ghost use Rattle.equity_job.specs.Blocks.{block_of, blocks_of};
+ghost use Rattle.tally_book.specs.Parts.{is_handed, no_blocks};
+ghost use Rattle.tally_book.specs.Pages.{Page, is_marked, marked_of};
+ghost use Rattle.tally_book.specs.declared.limits.TheConstants.{BLOCKS_MAX};
+
+use crate::{Naming, Part};
+use card_sets::Memory;
+use equity_job::Job;
+use showdown_tally::Tally;
+use std::alloc::Global;
+use std::marker::Model;
+use std::sync::ledger;
+use std::sync::ledger::Blank;
+
+/// Which blocks of a job are counted, and the sum of their tallies, each once. It keeps that the total is the sum of exactly
+/// the marked blocks, whoever posted them, and that its ledger has as many fresh posts as there are marks.
+#[derive(Drop)]
+pub struct Book<N: Naming> {
+    marks: Vec<bool>,
+    total: Tally,
+    posts: ledger::Book<N>,
+}
+
+impl<N: Naming> Model for Book<N> {
+    ghost use Rattle.tally_book.specs.Pages.{Page, IsPage};
+
+    ghost Value = { Page };
+
+    ghost view = { λ b. record { marks = b.marks.items; total = b.total } };
+
+    ghost invariant = { λ b. IsPage N.deal b.marks.items b.total b.posts.total };
+}
+
+/// What became of a post.
+#[derive(Clone, Copy, Debug, PartialEq, Eq)]
+pub enum Posted {
+    /// The block wasn't marked, and is now counted.
+    Fresh,
+    /// It was marked before, and isn't counted again.
+    Already,
+}
+
+/// A count that is done.
+#[derive(Drop)]
+pub struct Closed {
+    /// The tally of all runouts.
+    pub total: Tally,
+    /// How many blocks were posted with the parts that count.
+    pub by_workers: u64,
+}
+
+impl<N: Naming> Book<N> {
+    /// The book of a job, with no block marked, and the part that has the whole ledger.
+    pub fn start(alloc: Global, job: &Job, blank: Blank) -> Result<(Book<N>, Part<N>), Memory>
+        requires named { deal_of job.now.table ≡ N.deal }
+        requires name { blank.name ≡ N.name }
+        requires parts { blank.parts ≡ N.parts }
+        requires some { 0 < blank.parts }
+        ensures unmarked { IfOk result (λ r. r.0.marks ≡ replicate (blocks_of (length (runouts_after N.deal.state))) false) }
+        ensures part { IfOk result (λ r. r.1 ≡ record { parts = blank.parts; amount = 0; words = no_blocks }) }
+    {
+        let marks = no_marks(alloc, job.blocks() as usize)?;
+        let (posts, share) = blank.open::<N>();
+        let book = Book {
+            marks,
+            total: Tally::zero(),
+            posts,
+        };
+        Ok((book, Part::of(share)))
+    }
+
+    /// Whether a block is marked.
+    pub fn marked(&self, block: u32) -> bool
+        requires { block < blocks_of (length (runouts_after N.deal.state)) }
+        ensures { result ≡ is_marked self.now block }
+    {
+        self.marks[block as usize]
+    }
+
+    /// Hands in a block with its tally. `Fresh` exactly where it wasn't marked. It then is, its tally is added to the total,
+    /// and one to the part's amount. `Already` changes nothing but the part's set.
+    pub fn post(&mut self, block: u32, tally: &Tally, part: &mut Part<N>) -> Posted
+        requires block { block < blocks_of (length (runouts_after N.deal.state)) }
+        requires tally { Counts N.deal (block_of (runouts_after N.deal.state) block) tally.now }
+        ensures which { (result ≡ Posted.Fresh) ↔ (is_marked self.old block ≡ false) }
+        ensures fresh { result ≡ Posted.Fresh → (self.new.marks ≡ slice_set self.old.marks block true) × IsSum self.old.total tally.now self.new.total × (part.new.amount ≡ part.old.amount + 1) }
+        ensures already { result ≡ Posted.Already → (self.new ≡ self.old) × (part.new.amount ≡ part.old.amount) }
+        ensures handed { (b : ℕ) → b < BLOCKS_MAX → is_handed part.new b ≡ (is_handed part.old b || (b == block)) }
+        ensures parts { part.new.parts ≡ part.old.parts }
+    {
+        let already = self.marks[block as usize];
+        part.hand_in(block);
+        if already {
+            return Posted::Already;
+        }
+        self.marks[block as usize] = true;
+        self.total.add(tally);
+        self.posts.add(&mut part.share, 1);
+        Posted::Fresh
+    }
+
+    /// The total, where every block is marked, and the amount of the part that has the whole ledger, which is then the number of
+    /// blocks.
+    pub fn close(self, whole: Part<N>) -> Closed
+        requires all { (b : ℕ) → b < length self.marks → is_marked self b ≡ true }
+        requires whole { whole.parts ≡ N.parts }
+        ensures total { Counts N.deal (runouts_after N.deal.state) result.total }
+        ensures amount { result.by_workers ≡ whole.amount }
+        ensures blocks { result.by_workers ≡ blocks_of (length (runouts_after N.deal.state)) }
+    {
+        let Book {
+            marks,
+            total,
+            posts,
+        } = self;
+        let Part { share, .. } = whole;
+        let mut posts = posts;
+        let mut share = share;
+        posts.audit(&mut share);
+        Closed {
+            total,
+            by_workers: marks.len() as u64,
+        }
+    }
+
+    /// What every book keeps, whoever posted into it: a mark for each block of its job, and the total of exactly the marked
+    /// blocks, each once.
+    pub fn law_the_total_is_that_of_the_marked_blocks(&self)
+        ensures marks { length self.now.marks ≡ blocks_of (length (runouts_after N.deal.state)) }
+        ensures total { Counts N.deal (marked_of (runouts_after N.deal.state) self.now.marks) self.now.total }
+    {
+        let _blocks = self.marks.len();
+    }
+}
+
+/// So many blocks, none of them marked.
+fn no_marks(alloc: Global, blocks: usize) -> Result<Vec<bool>, Memory>
+    ensures { IfOk result (λ marks. marks.items ≡ replicate blocks false) }
+{
+    Ok(Vec::from_elem(alloc, false, blocks)?)
+}

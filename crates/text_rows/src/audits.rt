@@ -1,0 +1,177 @@
+//! Whole hands as a site writes them.
+
+ghost use Rattle.std.specs.Prelude.{◌≡◌, length};
+ghost use Rattle.line_text.specs.Lines.{lines};
+
+use card_sets::{Card, CardSet, Known};
+use hand_audit::*;
+use history_text::{Street, is_header};
+use line_text::next_line;
+use std::alloc::Global;
+use std::test::Fail;
+
+/// A hand of four whose stacks make three pots, beside one who sits out. The winner of the last pot is shown by
+/// the summary alone.
+const THREE_POTS: &[u8] =
+    b"PokerStars Hand #1: Tournament #5, $1+$0.10 USD Hold'em No Limit - Level I (10/20)
+Table 'x' 6-max Seat #4 is the button
+Seat 1: ann (100 in chips)
+Seat 2: bob (300 in chips)
+Seat 3: cat (600 in chips)
+Seat 4: dan (1000 in chips)
+Seat 5: eve (500 in chips) is sitting out
+eve: is sitting out
+ann: posts small blind 10
+bob: posts big blind 20
+*** HOLE CARDS ***
+cat: raises 580 to 600 and is all-in
+dan: calls 600
+ann: calls 90 and is all-in
+bob: calls 280 and is all-in
+eve: sits out
+*** FLOP *** [2c 7d 9h]
+*** TURN *** [2c 7d 9h] [Js]
+*** RIVER *** [2c 7d 9h Js] [3c]
+*** SHOW DOWN ***
+dan: shows [Td Th]
+cat: doesn't show hand
+cat collected 600 from side pot-2
+bob: shows [Kd Kh]
+bob collected 600 from side pot-1
+ann: shows [Ad Ah]
+ann collected 400 from main pot
+*** SUMMARY ***
+Total pot 1600 Main pot 400. Side pot-1 600. Side pot-2 600. | Rake 0
+Seat 3: cat mucked [Qd Qh]
+";
+
+/// A hand in which bob and cat are all-in on the flop, and cat folds behind it. Ann's cards are known, and she folds
+/// before it.
+const FOLDED_BEHIND: &[u8] =
+    b"PokerStars Hand #4: Tournament #5, $1+$0.10 USD Hold'em No Limit - Level I (10/20)
+Table 'x' 3-max Seat #1 is the button
+Seat 1: ann (1000 in chips)
+Seat 2: bob (300 in chips)
+Seat 3: cat (500 in chips)
+bob: posts small blind 10
+cat: posts big blind 20
+*** HOLE CARDS ***
+Dealt to ann [2c 2d]
+ann: folds
+bob: calls 10
+cat: checks
+*** FLOP *** [Kd 7h 3s]
+bob: bets 280 and is all-in
+cat: calls 280
+*** TURN *** [Kd 7h 3s] [9c]
+cat: folds [7c 7d]
+bob collected 600 from pot
+bob: shows [Ks Qs]
+*** SUMMARY ***
+Total pot 600 | Rake 0
+";
+
+fn count_lines(bytes: &[u8]) -> usize
+    ensures { result ≡ length (lines bytes.now) }
+{
+    let mut at = 0;
+    let mut count = 0usize;
+    'lines: while let Some(line) = next_line(bytes, at) {
+        count += 1;
+        at = line.next;
+    }
+    count
+}
+
+fn audit(alloc: Global, bytes: &[u8]) -> Option<HandAudit> {
+    let head = next_line(bytes, 0)?;
+    if !is_header(&bytes[head.first..head.end]) || count_lines(bytes) > 99 {
+        return None;
+    }
+    match audit_hand(alloc, bytes, 1) {
+        Ok(audit) => Some(audit),
+        Err(_) => None,
+    }
+}
+
+fn settlement(alloc: Global, bytes: &[u8]) -> Option<Settlement> {
+    let audit = audit(alloc, bytes)?;
+    match audit {
+        HandAudit::Accepted { settlement, .. } => Some(settlement),
+        HandAudit::Rejected { .. } => None,
+    }
+}
+
+/// Whether a pot holds so much, for these seats, and it is known who wins, and a seat has all of it.
+fn is_pot(settlement: &Settlement, number: usize, gross: u64, eligible: u16, winner: u8) -> bool {
+    let paid = [Payment {
+        seat: winner,
+        got: gross,
+        due: gross,
+    }];
+    match settlement.pots.items().get(number) {
+        Some(pot) => {
+            pot.gross == gross
+                && pot.rake == 0
+                && pot.eligible == eligible
+                && pot.checked
+                && pot.paid.items() == &paid[..]
+        }
+        None => false,
+    }
+}
+
+#[test]
+fn three_pots_are_collected_by_their_names(rt: HostRuntime) -> Result<(), Fail> {
+    let settlement = settlement(rt.alloc(), THREE_POTS).ok_or("rejected")?;
+    assert!(rt; settlement.fits && !settlement.hundredths);
+    assert_eq!(rt; settlement.pots.items().len(), 3);
+    assert!(rt; is_pot(&settlement, 0, 400, 0b11110, 1));
+    assert!(rt; is_pot(&settlement, 1, 600, 0b11100, 2));
+    assert!(rt; is_pot(&settlement, 2, 600, 0b11000, 3));
+    Ok(())
+}
+
+/// What is known of a hand's all-in, where it is on this street and of these seats, and its pots.
+fn known_at(audit: &HandAudit, at: Street, of: [u8; 10]) -> Option<(Known, [u16; 10])> {
+    match audit {
+        HandAudit::Accepted {
+            all_in: AllIn::Known {
+                street,
+                seats,
+                table,
+            },
+            ..
+        } => {
+            if *street == at && *seats == of && table.pots == 1 {
+                Some((table.known, table.eligible))
+            } else {
+                None
+            }
+        }
+        _ => None,
+    }
+}
+
+/// Whether a set has just these two cards.
+fn is_pair(cards: CardSet, first: [u8; 2], second: [u8; 2]) -> bool {
+    match (Card::read(first), Card::read(second)) {
+        (Some(first), Some(second)) => {
+            cards.has(first) && cards.has(second) && cards.count() == 2
+        }
+        _ => false,
+    }
+}
+
+#[test]
+fn who_folds_behind_the_point_wins_no_pot(rt: HostRuntime) -> Result<(), Fail> {
+    let audit = audit(rt.alloc(), FOLDED_BEHIND).ok_or("no hand")?;
+    let seats = [2, 3, 0, 0, 0, 0, 0, 0, 0, 0];
+    let (known, pots) = known_at(&audit, Street::Flop, seats).ok_or("another")?;
+    assert_eq!(rt; pots, [0b1, 0, 0, 0, 0, 0, 0, 0, 0, 0]);
+    assert!(rt; known.count == 2 && known.board.count() == 3);
+    assert!(rt; is_pair(known.hands[0], *b"Ks", *b"Qs"));
+    assert!(rt; is_pair(known.hands[1], *b"7c", *b"7d"));
+    assert!(rt; is_pair(known.dead, *b"2c", *b"2d"));
+    Ok(())
+}

@@ -1,0 +1,326 @@
+//! Hands in text, judged by hand.
+
+ghost use Rattle.std.specs.Prelude.{◌<◌, ◌≤◌, ◌^◌, IsTrue};
+ghost use Rattle.betting_replay.specs.Events.{SeatFits};
+ghost use Rattle.betting_replay.specs.Limits.{ActFits, AmountsFit};
+
+use betting_replay::{BetFault, Replay};
+use card_sets::{Card, Game, Memory};
+use history_text::{Act, Event, Header, Limit, Names, Part, Street, read_line};
+use std::alloc::Global;
+use std::test::Fail;
+
+mod all_in;
+mod posts;
+
+/// Stakes of a half and a dollar.
+const DOLLARS: Header = Header {
+    game: Game::Holdem,
+    limit: Limit::NoLimit,
+    hundredths: true,
+    big: 100,
+};
+
+/// The names of three seats.
+fn three_names(alloc: Global) -> Result<Names, Memory> {
+    let mut names = Names::new(alloc);
+    names.add(1, b"ann")?;
+    names.add(2, b"bob")?;
+    names.add(3, b"cat")?;
+    Ok(names)
+}
+
+/// Whether an amount is within the limit.
+fn is_amount(units: u64) -> bool
+    ensures { IsTrue result → units < 10 ^ 15 }
+{
+    units < 1_000_000_000_000_000
+}
+
+/// Whether the amounts of an act are.
+fn act_fits(act: Act) -> bool
+    ensures { IsTrue result → ActFits act }
+{
+    match act {
+        Act::Fold | Act::Check => true,
+        Act::Call(units) | Act::Bet(units) => is_amount(units),
+        Act::Raise { by, to } => is_amount(by) && is_amount(to),
+    }
+}
+
+/// Whether the amounts of an event are.
+fn amounts_fit(e: &Event) -> bool
+    ensures { IsTrue result → AmountsFit e.now }
+{
+    match *e {
+        Event::Seat { units, .. }
+        | Event::Post { units, .. }
+        | Event::Uncalled { units, .. }
+        | Event::Collect { units, .. } => is_amount(units),
+        Event::Act { act, .. } => act_fits(act),
+        Event::Total { units, rake } => is_amount(units) && is_amount(rake),
+        _ => true,
+    }
+}
+
+/// Whether a seat is one of the ten.
+fn is_seat(seat: u8) -> bool
+    ensures first { IsTrue result → 1 ≤ seat }
+    ensures last { IsTrue result → seat ≤ 10 }
+{
+    seat >= 1 && seat <= 10
+}
+
+/// Whether the seat of an event is.
+fn seat_fits(e: &Event) -> bool
+    ensures { IsTrue result → SeatFits e.now }
+{
+    match *e {
+        Event::Seat { seat, .. }
+        | Event::Button { seat }
+        | Event::Post { seat, .. }
+        | Event::Deal { seat, .. }
+        | Event::Act { seat, .. }
+        | Event::Uncalled { seat, .. }
+        | Event::Collect { seat, .. }
+        | Event::Show { seat, .. }
+        | Event::Muck { seat }
+        | Event::SeatCards { seat, .. }
+        | Event::Discard { seat, .. }
+        | Event::Pat { seat } => is_seat(seat),
+        Event::Street { .. } | Event::Total { .. } | Event::Remark => true,
+    }
+}
+
+/// Goes on by a line of a part of a hand. None where it can't be read.
+fn step_line(
+    replay: &mut Replay,
+    names: &Names,
+    header: &Header,
+    part: Part,
+    line: &[u8],
+) -> Option<Result<(), BetFault>> {
+    match read_line(names, header, part, line) {
+        Ok(e) => {
+            if seat_fits(&e) && amounts_fit(&e) {
+                Some(replay.step(&e))
+            } else {
+                None
+            }
+        }
+        Err(_) => None,
+    }
+}
+
+/// How many of some lines may stand, and what the first that may not is refused for.
+fn step_lines(
+    replay: &mut Replay,
+    names: &Names,
+    lines: &[&[u8]],
+) -> Option<(usize, Option<BetFault>)> {
+    for (place, line) in lines.iter().enumerate() {
+        if let Err(fault) = step_line(replay, names, &DOLLARS, Part::Preamble, *line)? {
+            return Some((place, Some(fault)));
+        }
+    }
+    Some((lines.len(), None))
+}
+
+/// The card of a number.
+fn card(number: u8) -> Card
+    requires { number < 52 }
+{
+    Card::new(number / 4, number % 4).unwrap()
+}
+
+/// Two seats, and the cards before the flop.
+const TWO_SEATS: [&[u8]; 8] = [
+    b"Table 'T' 2-max Seat #1 is the button",
+    b"Seat 1: ann ($50 in chips)",
+    b"Seat 2: bob ($50 in chips)",
+    b"ann: posts small blind $0.50",
+    b"bob: posts big blind $1",
+    b"*** HOLE CARDS ***",
+    b"ann: calls $0.50",
+    b"bob: checks",
+];
+
+const FLOP: [&[u8]; 5] = [
+    b"*** FLOP *** [2c 7d 9h]",
+    b"bob: bets $2",
+    b"ann: calls $2",
+    b"*** TURN *** [2c 7d 9h] [4s]",
+    b"bob: checks",
+];
+
+const REST: [&[u8]; 9] = [
+    b"ann: checks",
+    b"*** RIVER *** [2c 7d 9h 4s] [Jc]",
+    b"bob: checks",
+    b"ann: checks",
+    b"*** SHOW DOWN ***",
+    b"bob: shows [Ks Kh]",
+    b"ann: shows [As Ah]",
+    b"ann collected $6 from pot",
+    b"*** SUMMARY ***",
+];
+
+#[test]
+fn a_hand_of_two_is_stepped_through(rt: HostRuntime) -> Result<(), Fail> {
+    let names = three_names(rt.alloc()).ok().ok_or("memory")?;
+    let mut replay = Replay::new(&DOLLARS, 6);
+    assert_eq!(rt;
+        step_lines(&mut replay, &names, &TWO_SEATS),
+        Some((8, None))
+    );
+    assert_eq!(rt; replay.owes(), None);
+    assert_eq!(rt; replay.button(), 1);
+    assert_eq!(rt; step_lines(&mut replay, &names, &FLOP), Some((5, None)));
+    assert_eq!(rt; replay.owes(), Some(1));
+    assert_eq!(rt; replay.street(), Some(Street::Turn));
+    assert_eq!(rt; replay.stack(1), 4700);
+    assert_eq!(rt; step_lines(&mut replay, &names, &REST), Some((9, None)));
+    assert_eq!(rt; replay.contenders(), 6);
+    assert_eq!(rt; replay.paid(2).live, 300);
+    assert_eq!(rt; replay.board_at(Street::First).count(), 0);
+    assert_eq!(rt; replay.board_at(Street::Flop).count(), 3);
+    assert_eq!(rt; replay.board_at(Street::Turn).count(), 4);
+    assert!(rt; !replay.board_at(Street::Turn).has(card(37)));
+    assert!(rt; replay.board_at(Street::River).has(card(36)));
+    let shown = replay.final_cards(1).ok_or("unknown")?;
+    assert_eq!(rt; shown.count(), 2);
+    assert!(rt; shown.has(card(50)));
+    Ok(())
+}
+
+/// Three seats, the third with little, and the cards before the flop.
+const THREE_SEATS: [&[u8]; 6] = [
+    b"Seat 1: ann ($50 in chips)",
+    b"Seat 2: bob ($50 in chips)",
+    b"Seat 3: cat ($2.50 in chips)",
+    b"ann: posts small blind $0.50",
+    b"bob: posts big blind $1",
+    b"*** HOLE CARDS ***",
+];
+
+/// Lines behind those, of which the last that isn't empty is refused.
+#[derive(Drop)]
+struct Refused {
+    lines: [&'static [u8]; 4],
+    fault: BetFault,
+}
+
+/// Each refusal once.
+fn refusals() -> [Refused; 16] {
+    [
+        Refused {
+            lines: [b"cat: folds", b"cat: calls $1", b"", b""],
+            fault: BetFault::NotInHand,
+        },
+        Refused {
+            lines: [b"cat: calls $1", b"bob: checks", b"", b""],
+            fault: BetFault::OutOfTurn(1),
+        },
+        Refused {
+            lines: [
+                b"cat: calls $1",
+                b"ann: calls $0.50",
+                b"bob: checks",
+                b"cat: checks",
+            ],
+            fault: BetFault::NothingOwed,
+        },
+        Refused {
+            lines: [b"cat: checks", b"", b"", b""],
+            fault: BetFault::CheckFacingBet(100),
+        },
+        Refused {
+            lines: [b"cat: calls $0.50", b"", b"", b""],
+            fault: BetFault::CallAmount(100),
+        },
+        Refused {
+            lines: [b"cat: bets $2", b"", b"", b""],
+            fault: BetFault::BetFacingBet,
+        },
+        Refused {
+            lines: [b"cat: raises $1 to $3", b"", b"", b""],
+            fault: BetFault::RaiseAmount(100),
+        },
+        Refused {
+            lines: [b"cat: raises $2 to $3", b"", b"", b""],
+            fault: BetFault::AboveStack(250),
+        },
+        Refused {
+            lines: [b"cat: raises $1.50 to $2.50", b"", b"", b""],
+            fault: BetFault::AllInWord,
+        },
+        Refused {
+            lines: [b"*** FLOP *** [2c 7d 9h]", b"", b"", b""],
+            fault: BetFault::StreetEarly(1),
+        },
+        Refused {
+            lines: [
+                b"cat: calls $1",
+                b"ann: calls $0.50",
+                b"bob: checks",
+                b"*** TURN *** [2c 7d 9h] [4s]",
+            ],
+            fault: BetFault::StreetOrder,
+        },
+        Refused {
+            lines: [
+                b"cat: folds",
+                b"ann: folds",
+                b"Uncalled bet ($1) returned to bob",
+                b"",
+            ],
+            fault: BetFault::UncalledAmount(50),
+        },
+        Refused {
+            lines: [b"Dealt to ann [As Ks]", b"Dealt to bob [Qs As]", b"", b""],
+            fault: BetFault::CardTwice(card(51)),
+        },
+        Refused {
+            lines: [b"bob: posts the ante $1", b"", b"", b""],
+            fault: BetFault::PostLate,
+        },
+        Refused {
+            lines: [b"Seat 3: dan ($5 in chips)", b"", b"", b""],
+            fault: BetFault::SeatTwice,
+        },
+        Refused {
+            lines: [b"Dealt to ann [As Ks]", b"ann: shows [Qs Js]", b"", b""],
+            fault: BetFault::TooManyCards(1),
+        },
+    ]
+}
+
+/// How many of the lines aren't empty.
+fn line_count(lines: &[&[u8]]) -> usize {
+    lines.iter().filter(|line| !line.is_empty()).count()
+}
+
+#[test]
+fn each_refusal_comes_with_what_it_carries(rt: HostRuntime) -> Result<(), Fail> {
+    let names = three_names(rt.alloc()).ok().ok_or("memory")?;
+    for refused in refusals().iter() {
+        let mut replay = Replay::new(&DOLLARS, 14);
+        assert_eq!(rt;
+            step_lines(&mut replay, &names, &THREE_SEATS),
+            Some((6, None))
+        );
+        let last = line_count(&refused.lines).saturating_sub(1);
+        assert_eq!(rt;
+            step_lines(&mut replay, &names, &refused.lines),
+            Some((last, Some(refused.fault)))
+        );
+    }
+    Ok(())
+}
+
+#[test]
+fn the_laws_of_pots_can_be_called() {
+    pot_layers::law_no_two_pots_have_the_same_players();
+    pot_layers::law_two_sides_share_a_pot();
+    pot_layers::law_winners_of_a_side_get_the_same_or_one_more();
+}

@@ -1,0 +1,238 @@
+//! All-in points, and the cards known there, of hands worked out by hand.
+
+use super::{DOLLARS, card, step_line, step_lines, three_names};
+use betting_replay::Replay;
+use card_sets::{Card, CardSet, Game, Memory};
+use history_text::{Header, Limit, Names, Part, Street};
+use std::alloc::Global;
+use std::test::Fail;
+
+/// The set of some cards.
+fn cards(texts: &[[u8; 2]]) -> Option<CardSet> {
+    let mut set = CardSet::empty();
+    for text in texts {
+        set = set.with(Card::read(*text)?);
+    }
+    Some(set)
+}
+
+/// Whether two sets have the same cards.
+fn same(some: Option<CardSet>, others: Option<CardSet>) -> bool {
+    match (some, others) {
+        (Some(some), Some(others)) => {
+            some.count() == others.count() && some.minus(others).count() == 0
+        }
+        _ => false,
+    }
+}
+
+/// Goes on by lines of a part. Whether all may stand.
+fn go(replay: &mut Replay, names: &Names, header: &Header, part: Part, lines: &[&[u8]]) -> bool {
+    for line in lines {
+        match step_line(replay, names, header, part, *line) {
+            Some(Ok(())) => {}
+            _ => return false,
+        }
+    }
+    true
+}
+
+/// Three seats, of which the third is all in and the first folds.
+const BEFORE_CALL: [&[u8]; 9] = [
+    b"Seat 1: ann ($50 in chips)",
+    b"Seat 2: bob ($50 in chips)",
+    b"Seat 3: cat ($2.50 in chips)",
+    b"ann: posts small blind $0.50",
+    b"bob: posts big blind $1",
+    b"*** HOLE CARDS ***",
+    b"Dealt to ann [As Ks]",
+    b"cat: raises $1.50 to $2.50 and is all-in",
+    b"ann: folds",
+];
+
+const AFTER_CALL: [&[u8]; 7] = [
+    b"bob: calls $1.50",
+    b"*** FLOP *** [2c 7d 9h]",
+    b"*** TURN *** [2c 7d 9h] [4s]",
+    b"*** RIVER *** [2c 7d 9h 4s] [Jc]",
+    b"*** SHOW DOWN ***",
+    b"cat: shows [Qs Qh]",
+    b"bob: mucks hand",
+];
+
+#[test]
+fn the_first_point_is_kept(rt: HostRuntime) -> Result<(), Fail> {
+    let names = three_names(rt.alloc()).ok().ok_or("memory")?;
+    let mut replay = Replay::new(&DOLLARS, 14);
+    assert_eq!(rt;
+        step_lines(&mut replay, &names, &BEFORE_CALL),
+        Some((9, None))
+    );
+    assert_eq!(rt; replay.all_in_point(), None);
+    assert_eq!(rt; replay.all_in_contenders(), 0);
+    assert_eq!(rt; replay.dead().count(), 0);
+    assert_eq!(rt;
+        step_lines(&mut replay, &names, &AFTER_CALL),
+        Some((7, None))
+    );
+    assert_eq!(rt; replay.all_in_point(), Some(Street::First));
+    assert_eq!(rt; replay.all_in_contenders(), 12);
+    assert!(rt; same(Some(replay.dead()), cards(&[*b"As", *b"Ks"])));
+    assert!(rt; same(replay.cards_at(3, Street::First), cards(&[*b"Qs", *b"Qh"])));
+    assert!(rt; replay.cards_at(2, Street::First).is_none());
+    Ok(())
+}
+
+/// Stakes of 10 and 20 chips.
+fn chips(game: Game) -> Header {
+    Header {
+        game,
+        limit: Limit::NoLimit,
+        hundredths: false,
+        big: 20,
+    }
+}
+
+/// The names of two seats.
+fn two_names(alloc: Global) -> Result<Names, Memory> {
+    let mut names = Names::new(alloc);
+    names.add(1, b"x")?;
+    names.add(2, b"y")?;
+    Ok(names)
+}
+
+/// A hand of razz in which the second player's cards face down are shown at the end alone.
+const RAZZ: [&[u8]; 22] = [
+    b"Seat 1: x (31 in chips)",
+    b"Seat 2: y (500 in chips)",
+    b"x: posts the ante 1",
+    b"y: posts the ante 1",
+    b"*** 3rd STREET ***",
+    b"Dealt to x [As 2d 3h]",
+    b"Dealt to y [Kc]",
+    b"y: brings in for 3",
+    b"x: raises 7 to 10",
+    b"y: calls 7",
+    b"*** 4th STREET ***",
+    b"Dealt to x [As 2d 3h] [4c]",
+    b"Dealt to y [Kc] [Kd]",
+    b"x: checks",
+    b"y: checks",
+    b"*** 5th STREET ***",
+    b"Dealt to x [As 2d 3h 4c] [5s]",
+    b"Dealt to y [Kc Kd] [Qc]",
+    b"x: bets 20 and is all-in",
+    b"y: calls 20",
+    b"*** 6th STREET ***",
+    b"Dealt to y [Kc Kd Qc] [Qd]",
+];
+
+const RAZZ_END: [&[u8]; 4] = [
+    b"*** RIVER ***",
+    b"*** SHOW DOWN ***",
+    b"y: mucks hand",
+    b"*** SUMMARY ***",
+];
+
+#[test]
+fn cards_face_down_are_those_of_a_later_bracket(rt: HostRuntime) -> Result<(), Fail> {
+    let names = two_names(rt.alloc()).ok().ok_or("memory")?;
+    let header = chips(Game::Razz);
+    let mut replay = Replay::new(&header, 6);
+    assert!(rt; go(&mut replay, &names, &header, Part::Preamble, &RAZZ));
+    assert!(rt; go(&mut replay, &names, &header, Part::Play, &RAZZ_END));
+    assert_eq!(rt; replay.all_in_point(), Some(Street::Fifth));
+    let fifth = cards(&[*b"As", *b"2d", *b"3h", *b"4c", *b"5s"]);
+    assert!(rt; same(replay.cards_at(1, Street::Fifth), fifth));
+    assert!(rt; replay.cards_at(2, Street::Fifth).is_none());
+    assert!(rt; replay.final_cards(2).is_none());
+    let shown: [&[u8]; 1] = [b"Seat 2: y mucked [8c 8d Kc Kd Qc Qd 9h]"];
+    assert!(rt; go(&mut replay, &names, &header, Part::Summary, &shown));
+    let found = cards(&[*b"8c", *b"8d", *b"Kc", *b"Kd", *b"Qc"]);
+    assert!(rt; same(replay.cards_at(2, Street::Fifth), found));
+    assert!(rt;
+        same(
+            replay.cards_at(2, Street::First),
+            cards(&[*b"8c", *b"8d", *b"Kc"])
+        )
+    );
+    assert_eq!(rt; replay.dead().count(), 0);
+    assert!(rt; replay.final_cards(2).is_some() && replay.final_cards(1).is_none());
+    Ok(())
+}
+
+/// A draw before which both are all in.
+const DRAW: [&[u8]; 8] = [
+    b"Seat 1: x (100 in chips)",
+    b"Seat 2: y (100 in chips)",
+    b"x: posts small blind 10",
+    b"y: posts big blind 20",
+    b"*** DEALING HANDS ***",
+    b"Dealt to x [7c 5d 4h 3s 2c]",
+    b"x: raises 80 to 100 and is all-in",
+    b"y: calls 80 and is all-in",
+];
+
+/// How the two draw, and what they keep.
+#[derive(Drop)]
+struct Drawn {
+    lines: [&'static [u8]; 2],
+    first: Option<u32>,
+    second: Option<u32>,
+    dead: u32,
+}
+
+/// Each rule of what is kept.
+fn ways_to_draw() -> [Drawn; 4] {
+    [
+        Drawn {
+            lines: [b"x: stands pat on [7c 5d 4h 3s 2c]", b"y: stands pat"],
+            first: Some(5),
+            second: Some(5),
+            dead: 0,
+        },
+        Drawn {
+            lines: [b"x: discards 1 card [7c]", b"y: discards 1 card"],
+            first: Some(4),
+            second: None,
+            dead: 1,
+        },
+        Drawn {
+            lines: [b"x: discards 1 card", b"y: discards 5 cards"],
+            first: None,
+            second: Some(0),
+            dead: 0,
+        },
+        Drawn {
+            lines: [b"x: stands pat", b"y: discards 1 card [Kh]"],
+            first: Some(5),
+            second: None,
+            dead: 1,
+        },
+    ]
+}
+
+/// How many cards are known.
+fn count(cards: Option<CardSet>) -> Option<u32> {
+    Some(cards?.count())
+}
+
+#[test]
+fn what_is_kept_goes_by_the_discards(rt: HostRuntime) -> Result<(), Fail> {
+    let names = two_names(rt.alloc()).ok().ok_or("memory")?;
+    let header = chips(Game::Lowball27);
+    let end: [&[u8]; 2] = [b"*** SHOW DOWN ***", b"y: shows [8d 6h 5s 4c 2d]"];
+    for hand in ways_to_draw().iter() {
+        let mut replay = Replay::new(&header, 6);
+        assert!(rt; go(&mut replay, &names, &header, Part::Preamble, &DRAW));
+        assert_eq!(rt; replay.all_in_point(), Some(Street::First));
+        assert!(rt; go(&mut replay, &names, &header, Part::Play, &hand.lines));
+        assert!(rt; go(&mut replay, &names, &header, Part::Play, &end));
+        assert_eq!(rt; count(replay.cards_at(1, Street::First)), hand.first);
+        assert_eq!(rt; count(replay.cards_at(2, Street::First)), hand.second);
+        assert_eq!(rt; count(replay.final_cards(2)), Some(5));
+        assert_eq!(rt; replay.dead().count(), hand.dead);
+        assert!(rt; !replay.dead().has(card(51)));
+    }
+    Ok(())
+}

@@ -1,0 +1,347 @@
+use card_sets::{Card, CardSet, Game};
+use spot_text::{SpotFault, has_word, read_spot};
+use std::test::Fail;
+
+/// Whether the set has the cards that the words name, and no others.
+fn holds(set: CardSet, words: &[[u8; 2]]) -> bool {
+    let mut wanted = CardSet::empty();
+    for word in words {
+        if let Some(card) = Card::read(*word) {
+            wanted = wanted.with(card);
+        }
+    }
+    set.count() as usize == words.len() && set.union(wanted).count() == set.count()
+}
+
+/// Why the line is refused.
+fn fault_of(line: &[u8]) -> Option<SpotFault> {
+    match read_spot(line) {
+        Ok(_) => None,
+        Err(fault) => Some(fault),
+    }
+}
+
+#[test]
+fn a_good_line_gives_the_hands_the_board_and_the_dead_cards(rt: HostRuntime) -> Result<(), Fail> {
+    let lines: [&[u8]; 4] = [
+        b"holdem As Ah - Kd Qd -- Jd Td 2c 3h / 4h 4c",
+        b"holdem Ah As - Qd Kd -- 3h 2c Td Jd / 4c 4h",
+        b"holdem\tAs\tAh\t-\tKd\tQd\t--\tJd\tTd\t2c\t3h\t/\t4h\t4c",
+        b"\t holdem \t As    Ah -\t\tKd Qd --   Jd Td 2c \t 3h / 4h   4c\t",
+    ];
+    for line in lines {
+        let known = read_spot(line).ok().ok_or("refused")?;
+        assert_eq!(rt; known.game, Game::Holdem);
+        assert_eq!(rt; known.count, 2);
+        assert!(rt; holds(known.hands[0], &[*b"As", *b"Ah"]));
+        assert!(rt; holds(known.hands[1], &[*b"Kd", *b"Qd"]));
+        assert!(rt; holds(known.board, &[*b"Jd", *b"Td", *b"2c", *b"3h"]));
+        assert!(rt; holds(known.dead, &[*b"4h", *b"4c"]));
+    }
+    Ok(())
+}
+
+#[test]
+fn the_board_and_the_dead_cards_may_be_missing_or_empty(rt: HostRuntime) -> Result<(), Fail> {
+    let lines: [(&[u8], u32, u32); 9] = [
+        (b"holdem As Ah - Kd Qd", 0, 0),
+        (b"holdem As Ah - Kd Qd --", 0, 0),
+        (b"holdem As Ah - Kd Qd /", 0, 0),
+        (b"holdem As Ah - Kd Qd -- /", 0, 0),
+        (b"holdem As Ah - Kd Qd / 2c", 0, 1),
+        (b"holdem As Ah - Kd Qd -- 2c 3c 4c", 3, 0),
+        (b"holdem As Ah - Kd Qd -- 2c 3c 4c 5c 6c", 5, 0),
+        (b"holdem As Ah - Kd Qd -- 2c 3c 4c / 5c 6c", 3, 2),
+        (b"holdem As Ah - Kd Qd -- / 5c 6c 7c", 0, 3),
+    ];
+    for (line, board, dead) in lines {
+        let known = read_spot(line).ok().ok_or("refused")?;
+        assert_eq!(rt; known.count, 2);
+        assert_eq!(rt; known.board.count(), board);
+        assert_eq!(rt; known.dead.count(), dead);
+    }
+    Ok(())
+}
+
+#[test]
+fn ten_hands_are_read_in_order(rt: HostRuntime) -> Result<(), Fail> {
+    let line =
+        b"holdem 2c 2d - 3c 3d - 4c 4d - 5c 5d - 6c 6d - 7c 7d - 8c 8d - 9c 9d - Tc Td - Jc Jd -- Qc Qd Qh / Kc Kd As";
+    let known = read_spot(line).ok().ok_or("refused")?;
+    assert_eq!(rt; known.count, 10);
+    assert!(rt; holds(known.hands[0], &[*b"2c", *b"2d"]));
+    assert!(rt; holds(known.hands[4], &[*b"6c", *b"6d"]));
+    assert!(rt; holds(known.hands[9], &[*b"Jc", *b"Jd"]));
+    assert!(rt; holds(known.board, &[*b"Qc", *b"Qd", *b"Qh"]));
+    assert!(rt; holds(known.dead, &[*b"Kc", *b"Kd", *b"As"]));
+    Ok(())
+}
+
+#[test]
+fn another_game_is_an_unknown_word(rt: HostRuntime) -> Result<(), Fail> {
+    let lines: [&[u8]; 8] = [
+        b"",
+        b" \t ",
+        b"omaha As Ah - Ks Kh",
+        b"omaha9 As Ah 2c 3c - Ks Kh 4c 5c",
+        b"Holdem As Ah - Kd Qd",
+        b"holdemAs Ah - Kd Qd",
+        b"As Ah - Kd Qd",
+        b"hold As As - xx",
+    ];
+    for line in lines {
+        assert!(rt; fault_of(line) == Some(SpotFault::UnknownWord));
+    }
+    Ok(())
+}
+
+#[test]
+fn a_word_that_may_not_stand_there_is_a_bad_card(rt: HostRuntime) -> Result<(), Fail> {
+    let lines: [&[u8]; 18] = [
+        b"holdem As Ax - As Kh",
+        b"holdem 1s Ah - Kd Qd",
+        b"holdem as Ah - Kd Qd",
+        b"holdem AsAh - Kd Qd",
+        b"holdem A s Ah - Kd Qd",
+        b"holdem As,Ah - Kd Qd",
+        b"holdem As Ah - Kd Qd\r",
+        b"holdem As Ah --- Kd Qd",
+        b"holdem As Ah - Kd Qd -- 2c 3c 4c - 5c 5d",
+        b"holdem As Ah - Kd Qd -- 2c 3c 4c -- 5c 6c 7c",
+        b"holdem As Ah - Kd Qd -- --",
+        b"holdem As Ah - Kd Qd / 2c -- 3c 4c 5c",
+        b"holdem As Ah / 2c - Kd Qd",
+        b"holdem As Ah - Kd Qd / 2c / 3c",
+        b"holdem As Ah - Kd Qd / /",
+        b"holdem As Ah - Kd Qd // 2c",
+        b"holdem As - As As xx",
+        b"holdem As As - Kd Qd / 2c 3c -",
+    ];
+    for line in lines {
+        assert!(rt; fault_of(line) == Some(SpotFault::BadCard));
+    }
+    Ok(())
+}
+
+#[test]
+fn the_first_card_that_stands_twice_is_named(rt: HostRuntime) -> Result<(), Fail> {
+    let lines: [(&[u8], [u8; 2]); 8] = [
+        (b"holdem As Ah - As Kh", *b"As"),
+        (b"holdem As Ah - Ah Qd -- As", *b"Ah"),
+        (b"holdem As Ah - Kd Qd -- Jd Td 2c Kd", *b"Kd"),
+        (b"holdem As Ah - Kd Qd -- Jd Td Jd 3h", *b"Jd"),
+        (b"holdem As Ah - Kd Qd -- Jd Td 2c / Qd", *b"Qd"),
+        (b"holdem As Ah - Kd Qd / 2c 3c 2c 3c", *b"2c"),
+        (b"holdem 2c - - 3c 3c 2c", *b"3c"),
+        (
+            b"holdem 2c 2d - 3c 3d - 4c 4d - 5c 5d - 6c 6d - 7c 7d - 8c 8d - 9c 9d - Tc Td - Jc Jd - Qc Qd - 5d",
+            *b"5d",
+        ),
+    ];
+    for (line, card) in lines {
+        let card = Card::read(card).ok_or("no card")?;
+        assert!(rt; fault_of(line) == Some(SpotFault::TwiceCard(card)));
+    }
+    Ok(())
+}
+
+#[test]
+fn sizes_are_tested_in_order(rt: HostRuntime) -> Result<(), Fail> {
+    let lines: [(&[u8], SpotFault); 16] = [
+        (b"holdem", SpotFault::HandSize),
+        (b"holdem As - Ks Kh", SpotFault::HandSize),
+        (b"holdem As Ah - Ks Kh Kc", SpotFault::HandSize),
+        (b"holdem As Ah - Ks Kh -", SpotFault::HandSize),
+        (b"holdem - As Ah - Ks Kh", SpotFault::HandSize),
+        (b"holdem As Ah - - Ks Kh", SpotFault::HandSize),
+        (b"holdem As Ah Ks Kh -- 2c", SpotFault::HandSize),
+        (b"holdem As Ah - Ks Kh -- 2c 7d", SpotFault::BoardSize),
+        (b"holdem As Ah - Ks Kh -- 2c", SpotFault::BoardSize),
+        (
+            b"holdem As Ah - Ks Kh -- 2c 3c 4c 5c 6c 7c",
+            SpotFault::BoardSize,
+        ),
+        (b"holdem As Ah -- 2c 7d", SpotFault::BoardSize),
+        (b"holdem As Ah -- 2c 7d / 3c", SpotFault::BoardSize),
+        (b"holdem As Ah", SpotFault::PlayerCount),
+        (b"holdem As Ah -- 2c 3c 4c / 5c", SpotFault::PlayerCount),
+        (
+            b"holdem 2c 2d - 3c 3d - 4c 4d - 5c 5d - 6c 6d - 7c 7d - 8c 8d - 9c 9d - Tc Td - Jc Jd - Qc Qd",
+            SpotFault::PlayerCount,
+        ),
+        (
+            b"holdem 2c 2d - 3c 3d - 4c 4d - 5c 5d - 6c 6d - 7c 7d - 8c 8d - 9c 9d - Tc Td - Jc Jd - Qc Qd - Kc",
+            SpotFault::HandSize,
+        ),
+    ];
+    for (line, fault) in lines {
+        assert!(rt; fault_of(line) == Some(fault));
+    }
+    Ok(())
+}
+
+#[test]
+fn each_game_has_its_sizes(rt: HostRuntime) -> Result<(), Fail> {
+    let lines: [(&[u8], Game, [u32; 2], u32, u32); 10] = [
+        (b"holdem As Ah - Ks Kh", Game::Holdem, [2, 2], 0, 0),
+        (
+            b"omaha8 As 2s Kd Kh - Qc Qd Jc Jd -- 3h 4c 8s 9h",
+            Game::Omaha8,
+            [4, 4],
+            4,
+            0,
+        ),
+        (
+            b"omaha8 As 2s Kd Kh - Qc Qd Jc Jd / 3h",
+            Game::Omaha8,
+            [4, 4],
+            0,
+            1,
+        ),
+        (b"stud As Ad Ah - Ks Kd Kh", Game::Stud, [3, 3], 0, 0),
+        (
+            b"stud As Ad Ah Ac 2c 3c 4c - Ks Kd Kh -- / 2d",
+            Game::Stud,
+            [7, 3],
+            0,
+            1,
+        ),
+        (
+            b"razz As 2d 3h 4c 5s 6d - 8c 8d Kc Kd",
+            Game::Razz,
+            [6, 4],
+            0,
+            0,
+        ),
+        (
+            b"razz As 2d 3h - 8c 8d Kc Kd Qc Qd 2c --",
+            Game::Razz,
+            [3, 7],
+            0,
+            0,
+        ),
+        (
+            b"lowball27 7c 5d 4h 3s 2c - 7d 5h 4s 3c",
+            Game::Lowball27,
+            [5, 4],
+            0,
+            0,
+        ),
+        (b"lowball27 - 7d / 2c 3c", Game::Lowball27, [0, 1], 0, 2),
+        (b"lowball27 -", Game::Lowball27, [0, 0], 0, 0),
+    ];
+    for (line, game, own, board, dead) in lines {
+        let known = read_spot(line).ok().ok_or("refused")?;
+        assert_eq!(rt; known.game, game);
+        assert_eq!(rt; known.count, 2);
+        assert_eq!(rt; known.hands[0].count(), own[0]);
+        assert_eq!(rt; known.hands[1].count(), own[1]);
+        assert_eq!(rt; known.board.count(), board);
+        assert_eq!(rt; known.dead.count(), dead);
+    }
+    Ok(())
+}
+
+#[test]
+fn each_game_refuses_other_sizes(rt: HostRuntime) -> Result<(), Fail> {
+    let lines: [(&[u8], SpotFault); 17] = [
+        (b"omaha8 As Ah 2c - Ks Kh Kd Kc", SpotFault::HandSize),
+        (b"omaha8 As Ah 2c 3c 4c - Ks Kh Kd Kc", SpotFault::HandSize),
+        (
+            b"omaha8 As Ah 2c 3c - Ks Kh Kd Kc -- 5c 6c",
+            SpotFault::BoardSize,
+        ),
+        (b"omaha8 As Ah 2c 3c -- 5c 6c 7c", SpotFault::PlayerCount),
+        (
+            b"omaha8 As Ah 2c 3c - Ks Ah Kd Kc -- xx",
+            SpotFault::BadCard,
+        ),
+        (b"stud As Ah - Ks Kh Kd", SpotFault::HandSize),
+        (
+            b"stud As Ah Ad - 2c 3c 4c 5c 6c 7c 8c 9c",
+            SpotFault::HandSize,
+        ),
+        (b"stud As Ah Ad - 2c 3c 4c -- 5c", SpotFault::BoardSize),
+        (
+            b"stud As Ah Ad - 2c 3c 4c -- 5c 6c 7c",
+            SpotFault::BoardSize,
+        ),
+        (b"stud As Ah Ad", SpotFault::PlayerCount),
+        (b"razz - 2c 3c 4c", SpotFault::HandSize),
+        (
+            b"razz As Ah Ad - 2c 3c 4c -- 5c 6c 7c 8c",
+            SpotFault::BoardSize,
+        ),
+        (b"razz As Ah Ad", SpotFault::PlayerCount),
+        (b"lowball27 7c 5d 4h 3s 2c 8c -", SpotFault::HandSize),
+        (b"lowball27 7c - 8c -- 9c", SpotFault::BoardSize),
+        (b"lowball27", SpotFault::PlayerCount),
+        (
+            b"stud 2c 2d 2h - 2s 3c 3d - 3h 3s 4c - 4d 4h 4s - 5c 5d 5h - 5s 6c 6d - 6h 6s 7c - 7d 7h 7s",
+            SpotFault::DeckShort,
+        ),
+    ];
+    for (line, fault) in lines {
+        assert!(rt; fault_of(line) == Some(fault));
+    }
+    let ace = Card::read(*b"As").ok_or("no card")?;
+    assert!(rt; fault_of(b"razz As Ah Ad - 2c As") == Some(SpotFault::TwiceCard(ace)));
+    Ok(())
+}
+
+#[test]
+fn dead_cards_may_leave_too_few_for_the_board(rt: HostRuntime) -> Result<(), Fail> {
+    // Four cards in two hands and 43 dead ones leave five, as many as the board takes.
+    let mut line = Vec::from_slice(rt.alloc(), b"holdem 2c 2d - 2h 2s /")?;
+    let suits = [b'c', b'd', b'h', b's'];
+    for rank in *b"3456789TJQ" {
+        for suit in suits {
+            line.extend_from_slice(&[b' ', rank, suit])?;
+        }
+    }
+    line.extend_from_slice(b" Kc Kd Kh")?;
+    assert!(rt; fault_of(&line).is_none());
+    line.extend_from_slice(b" Ks")?;
+    assert!(rt; fault_of(&line) == Some(SpotFault::DeckShort));
+    line.extend_from_slice(b" Ac Ad Ah As")?;
+    assert!(rt; fault_of(&line) == Some(SpotFault::DeckShort));
+    Ok(())
+}
+
+#[test]
+fn a_line_of_spaces_and_tabs_has_no_word(rt: HostRuntime) -> Result<(), Fail> {
+    let lines: [(&[u8], bool); 6] = [
+        (b"", false),
+        (b" ", false),
+        (b"\t \t", false),
+        (b"a", true),
+        (b" \t-", true),
+        (b"\r", true),
+    ];
+    for (line, has) in lines {
+        assert_eq!(rt; has_word(line), has);
+    }
+    Ok(())
+}
+
+#[test]
+fn long_lines_are_answered(rt: HostRuntime) -> Result<(), Fail> {
+    let spaces = vec![in rt.alloc(); b' '; 1_000_000]?;
+    assert!(rt; !has_word(&spaces));
+    let mut line = Vec::from_slice(rt.alloc(), b"holdem As Ah - Kd Qd")?;
+    line.extend_from_slice(&spaces)?;
+    assert!(rt; fault_of(&line).is_none());
+    line.extend_from_slice(b"x")?;
+    assert!(rt; fault_of(&line) == Some(SpotFault::BadCard));
+
+    let mut cards = Vec::from_slice(rt.alloc(), b"holdem")?;
+    let mut hands = Vec::from_slice(rt.alloc(), b"holdem As Ah")?;
+    for _ in 0..60_000 {
+        cards.extend_from_slice(b" 2c")?;
+        hands.extend_from_slice(b" -")?;
+    }
+    let deuce = Card::read(*b"2c").ok_or("no card")?;
+    assert!(rt; fault_of(&cards) == Some(SpotFault::TwiceCard(deuce)));
+    assert!(rt; fault_of(&hands) == Some(SpotFault::HandSize));
+    Ok(())
+}
