@@ -6,37 +6,53 @@ use Rattle.card_sets.specs.Cards.{has_card, union, IsCardSet}
 use Rattle.card_sets.specs.Bits.{IsCardSet-cards_where}
 use Rattle.card_sets.specs.Disjoint.{apart}
 use Rattle.history_text.specs.declared.events.Header.{Header}
+use Rattle.history_text.specs.declared.events.BoardNumber.{BoardNumber}
+use Rattle.history_text.specs.declared.events.BoardNumber.TheVariants as board
 use Rattle.history_text.specs.declared.events.Event.{Event}
 use Rattle.history_text.specs.declared.events.Event.TheVariants.{Deal, Street, Act, Show, SeatCards, Discard}
 use Rattle.card_sets.specs.declared.streets.Street.{Street as StreetName}
 use Rattle.card_sets.specs.declared.streets.Street.TheVariants.{First, Flop, Turn, River}
 use Rattle.betting_replay.specs.Accepted.{IsAccepted}
-use Rattle.betting_replay.specs.Boards.{board_on, named_on, board_up_to}
+use Rattle.betting_replay.specs.Boards.{is_second, cards_if, named_on, named_second, board_on, second_on, board_up_to, before, board_before, shared_by, shared, second_own}
 use Rattle.betting_replay.specs.CardLaws.{Among}
 use Rattle.betting_replay.specs.Dealing.{counts_on, dealt_on, dealt_then, gathered, up_by, given_by}
 use Rattle.betting_replay.specs.Events.{seat_of, cards_named}
 use Rattle.betting_replay.specs.Hands.{dealt, dealt_by, shown, shown_by}
-use Rattle.betting_replay.specs.Places.{place, is_at, owned, thrown_by, is_board}
+use Rattle.betting_replay.specs.Places.{place_of, cards_given, place, is_at, owned, thrown_by}
 use Rattle.betting_replay.specs.Streets.{same_street}
-use Rattle.betting_replay.specs.Sums.{street}
+use Rattle.betting_replay.specs.Sums.{street, twice_from}
 use Rattle.betting_replay.specs.Tables.{point}
 use Rattle.betting_replay.proofs.Members.{in_where, in_union, union_left, union_right, no_cards, apart_from}
 use Rattle.betting_replay.proofs.Stands.{seat_below, cards_free, own_case}
 
 -- an event that may stand gives its cards to its place, and takes none from any
-pub own_step : (g : Header) (players : ℕ) (e : Event) (h : List Event) (p : ℕ) → IsAccepted g players (e ∷ h) → owned (e ∷ h) p ≡ (if seat_of e == p then union (owned h p) (cards_named e) else owned h p)
+pub own_step : (g : Header) (players : ℕ) (e : Event) (h : List Event) (p : ℕ) → IsAccepted g players (e ∷ h) → owned (e ∷ h) p ≡ (if place_of e == p then union (owned h p) (cards_named e) else owned h p)
 own_step g players e h p ok =
-    own_case e h (is_board e) (cards_free g players h (point g players h) e (seat_below e ok.0.seats) ok.1) p (seat_of e == p) refl
+    own_case e h (cards_free g players h (point g players h) e (seat_below e ok.0.seats) ok.1) p (place_of e == p) refl
 
 pub own_more : (g : Header) (players : ℕ) (e : Event) (h : List Event) (p k : ℕ) → IsAccepted g players (e ∷ h) → has_card (owned h p) k ≡ true → has_card (owned (e ∷ h) p) k ≡ true
-own_more g players e h p k ok has = rw (own_step g players e h p ok) (at (seat_of e == p))
+own_more g players e h p k ok has = rw (own_step g players e h p ok) (at (place_of e == p))
   where
     at : (b : Bool) → has_card (if b then union (owned h p) (cards_named e) else owned h p) k ≡ true
     at true = union_left (owned h p) (cards_named e) k (in_where (λ card. is_at p (place h card)) k has).0 has
     at false = has
 
-pub own_here : (g : Header) (players : ℕ) (e : Event) (h : List Event) (p k : ℕ) → IsAccepted g players (e ∷ h) → (seat_of e == p) ≡ true → k < 52 → has_card (cards_named e) k ≡ true → has_card (owned (e ∷ h) p) k ≡ true
-own_here g players e h p k ok here l has = rw (own_step g players e h p ok, here) (union_right (owned h p) (cards_named e) k l has)
+pub own_there : (g : Header) (players : ℕ) (e : Event) (h : List Event) (p k : ℕ) → IsAccepted g players (e ∷ h) → (place_of e == p) ≡ true → k < 52 → has_card (cards_named e) k ≡ true → has_card (owned (e ∷ h) p) k ≡ true
+own_there g players e h p k ok here l has = rw (own_step g players e h p ok, here) (union_right (owned h p) (cards_named e) k l has)
+
+-- a seat gets the cards that its event gives it, and so does the first board
+pub own_here : (g : Header) (players : ℕ) (e : Event) (h : List Event) (p k : ℕ) → IsAccepted g players (e ∷ h) → (seat_of e == p) ≡ true → k < 52 → has_card (cards_given e) k ≡ true → has_card (owned (e ∷ h) p) k ≡ true
+own_here g players (Street s board.Second cards) h p k ok here l has = absurd (true≢false (sym has))
+own_here g players (Street s board.Only cards) h p k ok here l has = own_there g players (Street s board.Only cards) h p k ok here l has
+own_here g players (Street s board.First cards) h p k ok here l has = own_there g players (Street s board.First cards) h p k ok here l has
+own_here g players e h p k ok here l has = own_there g players e h p k ok here l has
+
+-- it names them
+pub given_is_named : (e : Event) (k : ℕ) → has_card (cards_given e) k ≡ true → has_card (cards_named e) k ≡ true
+given_is_named (Street s board.Second cards) k h = absurd (true≢false (sym h))
+given_is_named (Street s board.Only cards) k h = h
+given_is_named (Street s board.First cards) k h = h
+given_is_named e k h = h
 
 -- a card has one place
 pub one_place : (h : List Event) (p q k : ℕ) → has_card (owned h p) k ≡ true → has_card (owned h q) k ≡ true → p ≡ q
@@ -51,7 +67,7 @@ places_apart h p q other = apart_from (owned h p) (owned h q) (λ k x y. let sam
 
 -- a card that is gathered from the events of a place came with one before, or with this one
 abbrev pub Comes : (List Event → List ℕ) → ℕ → Type 0
-Comes all p = (e : Event) (h : List Event) (k : ℕ) → has_card (all (e ∷ h)) k ≡ true → (has_card (all h) k ≡ true) ⊎ (((seat_of e == p) ≡ true) × (k < 52) × (has_card (cards_named e) k ≡ true))
+Comes all p = (e : Event) (h : List Event) (k : ℕ) → has_card (all (e ∷ h)) k ≡ true → (has_card (all h) k ≡ true) ⊎ (((seat_of e == p) ≡ true) × (k < 52) × (has_card (cards_given e) k ≡ true))
 
 pub gather : (all : List Event → List ℕ) (p : ℕ) → ((k : ℕ) → has_card (all []) k ≡ true → ⊥) → Comes all p
     → (g : Header) (players : ℕ) (h : List Event) (k : ℕ) → IsAccepted g players h → has_card (all h) k ≡ true → has_card (owned h p) k ≡ true
@@ -61,9 +77,9 @@ gather all p none comes g players (e ∷ h) k ok has = elim (comes e h k has) [
   | inr now ↦ own_here g players e h p k ok now.0 now.1 now.2
 ]
 
--- where each event about a seat adds some of the cards that it names
-pub comes_by : (old by : List ℕ) (e : Event) (p k : ℕ) (b : Bool) → (seat_of e == p) ≡ b → (has_card by k ≡ true → has_card (cards_named e) k ≡ true) → has_card (if b then union old by else old) k ≡ true
-    → (has_card old k ≡ true) ⊎ (((seat_of e == p) ≡ true) × (k < 52) × (has_card (cards_named e) k ≡ true))
+-- where each event about a seat adds some of the cards that it gives it
+pub comes_by : (old by : List ℕ) (e : Event) (p k : ℕ) (b : Bool) → (seat_of e == p) ≡ b → (has_card by k ≡ true → has_card (cards_given e) k ≡ true) → has_card (if b then union old by else old) k ≡ true
+    → (has_card old k ≡ true) ⊎ (((seat_of e == p) ≡ true) × (k < 52) × (has_card (cards_given e) k ≡ true))
 comes_by old by e p k true is part has = (let w = in_union old by k has in elim w.1 [
   | inl before ↦ inl before
   | inr now ↦ inr (is, w.0, part now)
@@ -73,37 +89,37 @@ comes_by old by e p k false is part has = inl has
 pub no_card : (k : ℕ) → has_card [] k ≡ true → ⊥
 no_card k h = true≢false (sym h)
 
--- what is dealt, given up, shown or gives a board its cards is named
-dealt_named : (e : Event) (k : ℕ) → has_card (dealt_by e) k ≡ true → has_card (cards_named e) k ≡ true
+-- what is dealt, given up or shown is given to the seat
+dealt_named : (e : Event) (k : ℕ) → has_card (dealt_by e) k ≡ true → has_card (cards_given e) k ≡ true
 dealt_named (Deal seat cards drawn) k h = h
 dealt_named _ k h = absurd (no_card k h)
 
-pub shown_named : (e : Event) (k : ℕ) → has_card (shown_by e) k ≡ true → has_card (cards_named e) k ≡ true
+pub shown_named : (e : Event) (k : ℕ) → has_card (shown_by e) k ≡ true → has_card (cards_given e) k ≡ true
 shown_named (Act seat act all_in shown) k h = h
 shown_named (Show seat cards) k h = h
 shown_named (SeatCards seat cards) k h = h
 shown_named _ k h = absurd (no_card k h)
 
-pub thrown_named : (e : Event) (k : ℕ) → has_card (thrown_by e) k ≡ true → has_card (cards_named e) k ≡ true
+pub thrown_named : (e : Event) (k : ℕ) → has_card (thrown_by e) k ≡ true → has_card (cards_given e) k ≡ true
 thrown_named (Discard seat count cards) k h = h
 thrown_named _ k h = absurd (no_card k h)
 
-given_named : (e : Event) (k : ℕ) → has_card (given_by e) k ≡ true → has_card (cards_named e) k ≡ true
+given_named : (e : Event) (k : ℕ) → has_card (given_by e) k ≡ true → has_card (cards_given e) k ≡ true
 given_named (Deal seat cards true) k h = absurd (no_card k h)
 given_named (Deal seat cards false) k h = h
 given_named _ k h = absurd (no_card k h)
 
-on_named : (s : StreetName) (now : Option StreetName) (e : Event) (k : ℕ) → has_card (dealt_on s now e) k ≡ true → has_card (cards_named e) k ≡ true
+on_named : (s : StreetName) (now : Option StreetName) (e : Event) (k : ℕ) → has_card (dealt_on s now e) k ≡ true → has_card (cards_given e) k ≡ true
 on_named s now e k h = one (counts_on s now) h
   where
-    one : (b : Bool) → has_card (if b then dealt_by e else []) k ≡ true → has_card (cards_named e) k ≡ true
+    one : (b : Bool) → has_card (if b then dealt_by e else []) k ≡ true → has_card (cards_given e) k ≡ true
     one true h = dealt_named e k h
     one false h = absurd (no_card k h)
 
-up_named : (e : Event) (k : ℕ) → has_card (up_by e) k ≡ true → has_card (cards_named e) k ≡ true
+up_named : (e : Event) (k : ℕ) → has_card (up_by e) k ≡ true → has_card (cards_given e) k ≡ true
 up_named e k h = one (length (dealt_by e) == 1) h
   where
-    one : (b : Bool) → has_card (if b then dealt_by e else []) k ≡ true → has_card (cards_named e) k ≡ true
+    one : (b : Bool) → has_card (if b then dealt_by e else []) k ≡ true → has_card (cards_given e) k ≡ true
     one true h = dealt_named e k h
     one false h = absurd (no_card k h)
 
@@ -149,14 +165,19 @@ given_among g players h p ok = record {
 
 -- and what came to the board on a street belongs to the board
 board_comes : (s : StreetName) → Comes (board_on s) 0
-board_comes s (Street marker cards) h k has = (let w = in_union (board_on s h) (named_on s (Street marker cards)) k has in elim w.1 [
+board_comes s (Street marker number cards) h k has = (let w = in_union (board_on s h) (named_on s (Street marker number cards)) k has in elim w.1 [
   | inl before ↦ inl before
-  | inr now ↦ inr (refl, w.0, one (same_street marker (Some s)) now)
+  | inr now ↦ inr (refl, w.0, on_board number (same_street marker (Some s)) now)
 ])
   where
-    one : (b : Bool) → has_card (if b then cards else []) k ≡ true → has_card cards k ≡ true
+    one : (b : Bool) → has_card (cards_if b cards) k ≡ true → has_card cards k ≡ true
     one true h = h
     one false h = absurd (no_card k h)
+
+    on_board : (n : BoardNumber) (b : Bool) → has_card (if is_second n then [] else cards_if b cards) k ≡ true → has_card (cards_given (Street marker n cards)) k ≡ true
+    on_board board.Only b h = one b h
+    on_board board.First b h = one b h
+    on_board board.Second b h = absurd (no_card k h)
 board_comes s e h k has = (let w = in_union (board_on s h) (named_on s e) k has in elim w.1 [
   | inl before ↦ inl before
   | inr now ↦ absurd (no_card k now)
@@ -177,3 +198,46 @@ up_to_among g players First h ok = record { set = no_cards; each = (λ k has. ab
 up_to_among g players Flop h ok = board_among g players Flop h ok
 up_to_among g players Turn h ok = union_among _ _ _ (board_among g players Flop h ok) (board_among g players Turn h ok)
 up_to_among g players _ h ok = union_among _ _ _ (union_among _ _ _ (board_among g players Flop h ok) (board_among g players Turn h ok)) (board_among g players River h ok)
+
+pub before_among : (g : Header) (players : ℕ) (s : StreetName) (h : List Event) → IsAccepted g players h → Among (board_before h s) (owned h 0)
+before_among g players First h ok = record { set = no_cards; each = (λ k has. absurd (no_card k has)) }
+before_among g players Flop h ok = record { set = no_cards; each = (λ k has. absurd (no_card k has)) }
+before_among g players Turn h ok = board_among g players Flop h ok
+before_among g players River h ok = union_among _ _ _ (board_among g players Flop h ok) (board_among g players Turn h ok)
+before_among g players _ h ok = union_among _ _ _ (union_among _ _ _ (board_among g players Flop h ok) (board_among g players Turn h ok)) (board_among g players River h ok)
+
+-- what two boards share belongs to the first
+pub shared_among : (g : Header) (players : ℕ) (h : List Event) → IsAccepted g players h → Among (shared h) (owned h 0)
+shared_among g players h ok = by (twice_from h)
+  where
+    by : (o : Option StreetName) → Among (shared_by o (board_on Flop h) (board_on Turn h) (board_on River h)) (owned h 0)
+    by None = record { set = no_cards; each = (λ k has. absurd (no_card k has)) }
+    by (Some s) = before_among g players s h ok
+
+-- and what came to the second alone to that
+pub second_set : (s : StreetName) (h : List Event) → IsCardSet (second_on s h)
+second_set s [] = no_cards
+second_set s (e ∷ h) = set_by (second_on s h) (named_second s e) true (second_set s h)
+
+second_there : (s : StreetName) (e : Event) (k : ℕ) → has_card (named_second s e) k ≡ true → ((place_of e == 11) ≡ true) × (has_card (cards_named e) k ≡ true)
+second_there s (Street marker board.Only cards) k h = absurd (no_card k h)
+second_there s (Street marker board.First cards) k h = absurd (no_card k h)
+second_there s (Street marker board.Second cards) k h = (refl, one (same_street marker (Some s)) h)
+  where
+    one : (b : Bool) → has_card (cards_if b cards) k ≡ true → has_card cards k ≡ true
+    one true h = h
+    one false h = absurd (no_card k h)
+second_there s e k h = absurd (no_card k h)
+
+second_owned : (g : Header) (players : ℕ) (s : StreetName) (h : List Event) (k : ℕ) → IsAccepted g players h → has_card (second_on s h) k ≡ true → has_card (owned h 11) k ≡ true
+second_owned g players s [] k ok has = absurd (no_card k has)
+second_owned g players s (e ∷ h) k ok has = (let w = in_union (second_on s h) (named_second s e) k has in elim w.1 [
+  | inl before ↦ own_more g players e h 11 k ok (second_owned g players s h k ok.2 before)
+  | inr now ↦ (let there = second_there s e k now in own_there g players e h 11 k ok there.0 w.0 there.1)
+])
+
+pub second_among : (g : Header) (players : ℕ) (h : List Event) → IsAccepted g players h → Among (second_own h) (owned h 11)
+second_among g players h ok = union_among _ _ _ (union_among _ _ _ (on Flop) (on Turn)) (on River)
+  where
+    on : (s : StreetName) → Among (second_on s h) (owned h 11)
+    on s = record { set = second_set s h; each = λ k has. second_owned g players s h k ok has }

@@ -1,17 +1,19 @@
 -- How many cards a board has on each of its streets, after one event more.
-use Rattle.std.proofs.Common.{◌≡◌, ℕ, ◌+◌, ◌<◌, List, [], ◌∷◌, refl, ap, ◌∙◌, Bool, true, false, ◌||◌, arith, length}
+use Rattle.std.proofs.Common.{◌≡◌, ℕ, ◌+◌, ◌<◌, List, [], ◌∷◌, refl, ap, ◌∙◌, Bool, true, false, ◌||◌, ◌==◌, arith, length}
 use Rattle.std.specs.Prelude.{Some, if◌then◌else◌}
 use Rattle.card_sets.specs.Cards.{has_card, union}
 use Rattle.card_sets.specs.Bits.{cards_where_same, has-cards_where}
 use Rattle.history_text.specs.declared.events.Header.{Header}
+use Rattle.history_text.specs.declared.events.BoardNumber.{BoardNumber}
+use Rattle.history_text.specs.declared.events.BoardNumber.TheVariants as board
 use Rattle.history_text.specs.declared.events.Event.{Event}
 use Rattle.history_text.specs.declared.events.Event.TheVariants.{Street}
 use Rattle.card_sets.specs.declared.streets.Street.{Street as StreetName}
 use Rattle.card_sets.specs.declared.streets.Street.TheVariants.{Flop, Turn, River}
 use Rattle.betting_replay.specs.Accepted.{IsAccepted}
-use Rattle.betting_replay.specs.Boards.{board_on}
+use Rattle.betting_replay.specs.Boards.{is_second, cards_if, named_on, board_on}
 use Rattle.betting_replay.specs.CardLaws.{Among}
-use Rattle.betting_replay.specs.Places.{owned, is_board}
+use Rattle.betting_replay.specs.Places.{place_of, owned, is_board}
 use Rattle.betting_replay.specs.Streets.{same_street}
 use Rattle.card_sets.specs.Bits.{none-cards_where}
 use Rattle.betting_replay.proofs.CardSets.{union-nil}
@@ -27,7 +29,7 @@ pub record Sizes (h : List Event) (a b c : ℕ) : Type 0 where
   pub own : length (owned h 0) ≡ c
 
 -- the sets of a board after a marker
-mid : (a b c : List ℕ) → union (union a c) b ≡ union (union a b) c
+pub mid : (a b c : List ℕ) → union (union a c) b ≡ union (union a b) c
 mid a b c = cards_where_same _ _ (λ k l. rw (has-cards_where (λ j. has_card a j || has_card c j) k l, has-cards_where (λ j. has_card a j || has_card b j) k l) (swap (has_card a k) (has_card b k) (has_card c k)))
   where
     swap : (x y z : Bool) → ((x || z) || y) ≡ ((x || y) || z)
@@ -37,7 +39,7 @@ mid a b c = cards_where_same _ _ (λ k l. rw (has-cards_where (λ j. has_card a 
     swap false false true = refl
     swap false false false = refl
 
-far : (a b c : List ℕ) → union a (union b c) ≡ union (union a b) c
+pub far : (a b c : List ℕ) → union a (union b c) ≡ union (union a b) c
 far a b c = cards_where_same _ _ (λ k l. rw (has-cards_where (λ j. has_card b j || has_card c j) k l, has-cards_where (λ j. has_card a j || has_card b j) k l) (assoc (has_card a k) (has_card b k) (has_card c k)))
   where
     assoc : (x y z : Bool) → (x || (y || z)) ≡ ((x || y) || z)
@@ -66,63 +68,102 @@ pub quiet_sizes : (g : Header) (players : ℕ) (e : Event) (h : List Event) (a b
 quiet_sizes g players e h a b c ok plain x =
     same_sizes g players e h a b c (same_on g players Flop e h ok.2 (none_on Flop e plain)) (same_on g players Turn e h ok.2 (none_on Turn e plain)) (same_on g players River e h ok.2 (none_on River e plain)) (own_same g players e h ok plain) x
 
-no_length : (xs : List ℕ) → length xs ≡ 0 → xs ≡ []
+pub no_length : (xs : List ℕ) → length xs ≡ 0 → xs ≡ []
 no_length [] e = refl
 no_length (x ∷ xs) e = absurd (omega arith)
 
+-- a marker gives its cards to the first board, or to the second
+pub on_first : (s m : StreetName) (number : BoardNumber) (cards : List ℕ) → is_second number ≡ false → named_on s (Street m number cards) ≡ cards_if (same_street m (Some s)) cards
+on_first s m board.Only cards first = refl
+on_first s m board.First cards first = refl
+on_first s m board.Second cards first = cc
+
+place_first : (m : StreetName) (number : BoardNumber) (cards : List ℕ) → is_second number ≡ false → place_of (Street m number cards) ≡ 0
+place_first m board.Only cards first = refl
+place_first m board.First cards first = refl
+place_first m board.Second cards first = cc
+
+own_first : (g : Header) (players : ℕ) (s : StreetName) (number : BoardNumber) (cards : List ℕ) (h : List Event) → IsAccepted g players (Street s number cards ∷ h) → is_second number ≡ false → owned (Street s number cards ∷ h) 0 ≡ union (owned h 0) cards
+own_first g players s number cards h ok first = own_step g players (Street s number cards) h 0 ok ∙ ap (λ q. if q == 0 then union (owned h 0) cards else owned h 0) (place_first s number cards first)
+
 -- a marker with no cards
-pub bare_sizes : (g : Header) (players : ℕ) (s : StreetName) (cards : List ℕ) (h : List Event) (a b c : ℕ) → IsAccepted g players (Street s cards ∷ h) → length cards ≡ 0 → Sizes h a b c → Sizes (Street s cards ∷ h) a b c
-bare_sizes g players s cards h a b c ok none x =
-    let no_cards : cards ≡ [] = no_length cards none in
-    same_sizes g players (Street s cards) h a b c (same_on g players Flop (Street s cards) h ok.2 (bare (same_street s (Some Flop)) no_cards)) (same_on g players Turn (Street s cards) h ok.2 (bare (same_street s (Some Turn)) no_cards)) (same_on g players River (Street s cards) h ok.2 (bare (same_street s (Some River)) no_cards))
-    (own_step g players (Street s cards) h 0 ok ∙ rw no_cards (union-nil (owned h 0) (all_among h 0).set)) x
+pub no_cards_on : (s m : StreetName) (number : BoardNumber) (cards : List ℕ) → cards ≡ [] → named_on s (Street m number cards) ≡ []
+no_cards_on s m number cards none = by (is_second number) (same_street m (Some s))
   where
-    bare : (b : Bool) → cards ≡ [] → (if b then cards else []) ≡ []
-    bare true none = none
-    bare false none = refl
+    by : (a b : Bool) → (if a then [] else cards_if b cards) ≡ []
+    by true b = refl
+    by false true = none
+    by false false = refl
 
-own_grows : (g : Header) (players : ℕ) (s : StreetName) (cards : List ℕ) (h : List Event) → IsAccepted g players (Street s cards ∷ h) → ((k : ℕ) → has_card cards k ≡ true → k < 52) → length (owned (Street s cards ∷ h) 0) ≡ length (owned h 0) + length cards
-own_grows g players s cards h ok deck = ap length (own_step g players (Street s cards) h 0 ok) ∙ marker_grows g players s cards h (owned h 0) ok deck (all_among h 0)
+pub bare_sizes : (g : Header) (players : ℕ) (s : StreetName) (number : BoardNumber) (cards : List ℕ) (h : List Event) (a b c : ℕ) → IsAccepted g players (Street s number cards ∷ h) → length cards ≡ 0 → Sizes h a b c → Sizes (Street s number cards ∷ h) a b c
+bare_sizes g players s number cards h a b c ok none x =
+    let no_cards : cards ≡ [] = no_length cards none in
+    let e : Event = Street s number cards in
+    same_sizes g players e h a b c (same_on g players Flop e h ok.2 (no_cards_on Flop s number cards no_cards)) (same_on g players Turn e h ok.2 (no_cards_on Turn s number cards no_cards)) (same_on g players River e h ok.2 (no_cards_on River s number cards no_cards))
+    (own_step g players e h 0 ok ∙ by (place_of e == 0) no_cards) x
+  where
+    by : (b : Bool) → cards ≡ [] → (if b then union (owned h 0) cards else owned h 0) ≡ owned h 0
+    by true empty = rw empty (union-nil (owned h 0) (all_among h 0).set)
+    by false empty = refl
 
-pub flop_sizes : (g : Header) (players : ℕ) (cards : List ℕ) (h : List Event) (a b c : ℕ) → IsAccepted g players (Street Flop cards ∷ h) → ((k : ℕ) → has_card cards k ≡ true → k < 52) → Sizes h a b c → Sizes (Street Flop cards ∷ h) (a + length cards) (b + length cards) (c + length cards)
-flop_sizes g players cards h a b c ok deck x =
-    let t : board_on Turn (Street Flop cards ∷ h) ≡ board_on Turn h = same_on g players Turn (Street Flop cards) h ok.2 refl in
-    let r : board_on River (Street Flop cards ∷ h) ≡ board_on River h = same_on g players River (Street Flop cards) h ok.2 refl in
-    let two : union (board_on Flop (Street Flop cards ∷ h)) (board_on Turn (Street Flop cards ∷ h)) ≡ union (union (board_on Flop h) (board_on Turn h)) cards = ap (union (union (board_on Flop h) cards)) t ∙ mid (board_on Flop h) (board_on Turn h) cards in
-    let three : union (union (board_on Flop (Street Flop cards ∷ h)) (board_on Turn (Street Flop cards ∷ h))) (board_on River (Street Flop cards ∷ h)) ≡ union (union (union (board_on Flop h) (board_on Turn h)) (board_on River h)) cards =
+-- a marker of the second board
+pub second_sizes : (g : Header) (players : ℕ) (s : StreetName) (cards : List ℕ) (h : List Event) (a b c : ℕ) → IsAccepted g players (Street s board.Second cards ∷ h) → Sizes h a b c → Sizes (Street s board.Second cards ∷ h) a b c
+second_sizes g players s cards h a b c ok x =
+    let e : Event = Street s board.Second cards in
+    same_sizes g players e h a b c (same_on g players Flop e h ok.2 refl) (same_on g players Turn e h ok.2 refl) (same_on g players River e h ok.2 refl) (own_step g players e h 0 ok) x
+
+own_grows : (g : Header) (players : ℕ) (s : StreetName) (number : BoardNumber) (cards : List ℕ) (h : List Event) → IsAccepted g players (Street s number cards ∷ h) → is_second number ≡ false → ((k : ℕ) → has_card cards k ≡ true → k < 52) → length (owned (Street s number cards ∷ h) 0) ≡ length (owned h 0) + length cards
+own_grows g players s number cards h ok first deck = ap length (own_first g players s number cards h ok first) ∙ marker_grows g players s number cards h (owned h 0) ok deck (all_among h 0)
+
+-- what a board has on a street, with a marker of it, and with one of another
+grown_on : (s : StreetName) (number : BoardNumber) (cards : List ℕ) (h : List Event) → is_second number ≡ false → cards_if (same_street s (Some s)) cards ≡ cards → board_on s (Street s number cards ∷ h) ≡ union (board_on s h) cards
+grown_on s number cards h first mine = ap (union (board_on s h)) (on_first s s number cards first ∙ mine)
+
+other_on : (g : Header) (players : ℕ) (s m : StreetName) (number : BoardNumber) (cards : List ℕ) (h : List Event) → IsAccepted g players h → is_second number ≡ false → cards_if (same_street m (Some s)) cards ≡ [] → board_on s (Street m number cards ∷ h) ≡ board_on s h
+other_on g players s m number cards h ok first other = same_on g players s (Street m number cards) h ok (on_first s m number cards first ∙ other)
+
+pub flop_sizes : (g : Header) (players : ℕ) (number : BoardNumber) (cards : List ℕ) (h : List Event) (a b c : ℕ) → IsAccepted g players (Street Flop number cards ∷ h) → is_second number ≡ false → ((k : ℕ) → has_card cards k ≡ true → k < 52) → Sizes h a b c → Sizes (Street Flop number cards ∷ h) (a + length cards) (b + length cards) (c + length cards)
+flop_sizes g players number cards h a b c ok first deck x =
+    let f : board_on Flop (Street Flop number cards ∷ h) ≡ union (board_on Flop h) cards = grown_on Flop number cards h first refl in
+    let t : board_on Turn (Street Flop number cards ∷ h) ≡ board_on Turn h = other_on g players Turn Flop number cards h ok.2 first refl in
+    let r : board_on River (Street Flop number cards ∷ h) ≡ board_on River h = other_on g players River Flop number cards h ok.2 first refl in
+    let two : union (board_on Flop (Street Flop number cards ∷ h)) (board_on Turn (Street Flop number cards ∷ h)) ≡ union (union (board_on Flop h) (board_on Turn h)) cards = rw (f, t) (mid (board_on Flop h) (board_on Turn h) cards) in
+    let three : union (union (board_on Flop (Street Flop number cards ∷ h)) (board_on Turn (Street Flop number cards ∷ h))) (board_on River (Street Flop number cards ∷ h)) ≡ union (union (union (board_on Flop h) (board_on Turn h)) (board_on River h)) cards =
     rw (two, r) (mid (union (board_on Flop h) (board_on Turn h)) (board_on River h) cards) in
     record {
-      one = marker_grows g players Flop cards h _ ok deck (one_among g players h ok.2) ∙ ap (λ n. n + length cards) x.one;
-      two = ap length two ∙ marker_grows g players Flop cards h _ ok deck (two_among g players h ok.2) ∙ ap (λ n. n + length cards) x.two;
-      all = ap length three ∙ marker_grows g players Flop cards h _ ok deck (three_among g players h ok.2) ∙ ap (λ n. n + length cards) x.all;
-      own = own_grows g players Flop cards h ok deck ∙ ap (λ n. n + length cards) x.own;
+      one = ap length f ∙ marker_grows g players Flop number cards h _ ok deck (one_among g players h ok.2) ∙ ap (λ n. n + length cards) x.one;
+      two = ap length two ∙ marker_grows g players Flop number cards h _ ok deck (two_among g players h ok.2) ∙ ap (λ n. n + length cards) x.two;
+      all = ap length three ∙ marker_grows g players Flop number cards h _ ok deck (three_among g players h ok.2) ∙ ap (λ n. n + length cards) x.all;
+      own = own_grows g players Flop number cards h ok first deck ∙ ap (λ n. n + length cards) x.own;
     }
 
-pub turn_sizes : (g : Header) (players : ℕ) (cards : List ℕ) (h : List Event) (a b c : ℕ) → IsAccepted g players (Street Turn cards ∷ h) → ((k : ℕ) → has_card cards k ≡ true → k < 52) → Sizes h a b c → Sizes (Street Turn cards ∷ h) a (b + length cards) (c + length cards)
-turn_sizes g players cards h a b c ok deck x =
-    let f : board_on Flop (Street Turn cards ∷ h) ≡ board_on Flop h = same_on g players Flop (Street Turn cards) h ok.2 refl in
-    let r : board_on River (Street Turn cards ∷ h) ≡ board_on River h = same_on g players River (Street Turn cards) h ok.2 refl in
-    let two : union (board_on Flop (Street Turn cards ∷ h)) (board_on Turn (Street Turn cards ∷ h)) ≡ union (union (board_on Flop h) (board_on Turn h)) cards = rw f (far (board_on Flop h) (board_on Turn h) cards) in
-    let three : union (union (board_on Flop (Street Turn cards ∷ h)) (board_on Turn (Street Turn cards ∷ h))) (board_on River (Street Turn cards ∷ h)) ≡ union (union (union (board_on Flop h) (board_on Turn h)) (board_on River h)) cards =
+pub turn_sizes : (g : Header) (players : ℕ) (number : BoardNumber) (cards : List ℕ) (h : List Event) (a b c : ℕ) → IsAccepted g players (Street Turn number cards ∷ h) → is_second number ≡ false → ((k : ℕ) → has_card cards k ≡ true → k < 52) → Sizes h a b c → Sizes (Street Turn number cards ∷ h) a (b + length cards) (c + length cards)
+turn_sizes g players number cards h a b c ok first deck x =
+    let f : board_on Flop (Street Turn number cards ∷ h) ≡ board_on Flop h = other_on g players Flop Turn number cards h ok.2 first refl in
+    let t : board_on Turn (Street Turn number cards ∷ h) ≡ union (board_on Turn h) cards = grown_on Turn number cards h first refl in
+    let r : board_on River (Street Turn number cards ∷ h) ≡ board_on River h = other_on g players River Turn number cards h ok.2 first refl in
+    let two : union (board_on Flop (Street Turn number cards ∷ h)) (board_on Turn (Street Turn number cards ∷ h)) ≡ union (union (board_on Flop h) (board_on Turn h)) cards = rw (f, t) (far (board_on Flop h) (board_on Turn h) cards) in
+    let three : union (union (board_on Flop (Street Turn number cards ∷ h)) (board_on Turn (Street Turn number cards ∷ h))) (board_on River (Street Turn number cards ∷ h)) ≡ union (union (union (board_on Flop h) (board_on Turn h)) (board_on River h)) cards =
     rw (two, r) (mid (union (board_on Flop h) (board_on Turn h)) (board_on River h) cards) in
     record {
       one = ap length f ∙ x.one;
-      two = ap length two ∙ marker_grows g players Turn cards h _ ok deck (two_among g players h ok.2) ∙ ap (λ n. n + length cards) x.two;
-      all = ap length three ∙ marker_grows g players Turn cards h _ ok deck (three_among g players h ok.2) ∙ ap (λ n. n + length cards) x.all;
-      own = own_grows g players Turn cards h ok deck ∙ ap (λ n. n + length cards) x.own;
+      two = ap length two ∙ marker_grows g players Turn number cards h _ ok deck (two_among g players h ok.2) ∙ ap (λ n. n + length cards) x.two;
+      all = ap length three ∙ marker_grows g players Turn number cards h _ ok deck (three_among g players h ok.2) ∙ ap (λ n. n + length cards) x.all;
+      own = own_grows g players Turn number cards h ok first deck ∙ ap (λ n. n + length cards) x.own;
     }
 
-pub river_sizes : (g : Header) (players : ℕ) (cards : List ℕ) (h : List Event) (a b c : ℕ) → IsAccepted g players (Street River cards ∷ h) → ((k : ℕ) → has_card cards k ≡ true → k < 52) → Sizes h a b c → Sizes (Street River cards ∷ h) a b (c + length cards)
-river_sizes g players cards h a b c ok deck x =
-    let f : board_on Flop (Street River cards ∷ h) ≡ board_on Flop h = same_on g players Flop (Street River cards) h ok.2 refl in
-    let t : board_on Turn (Street River cards ∷ h) ≡ board_on Turn h = same_on g players Turn (Street River cards) h ok.2 refl in
-    let three : union (union (board_on Flop (Street River cards ∷ h)) (board_on Turn (Street River cards ∷ h))) (board_on River (Street River cards ∷ h)) ≡ union (union (union (board_on Flop h) (board_on Turn h)) (board_on River h)) cards =
-    rw (f, t) (far (union (board_on Flop h) (board_on Turn h)) (board_on River h) cards) in
+pub river_sizes : (g : Header) (players : ℕ) (number : BoardNumber) (cards : List ℕ) (h : List Event) (a b c : ℕ) → IsAccepted g players (Street River number cards ∷ h) → is_second number ≡ false → ((k : ℕ) → has_card cards k ≡ true → k < 52) → Sizes h a b c → Sizes (Street River number cards ∷ h) a b (c + length cards)
+river_sizes g players number cards h a b c ok first deck x =
+    let f : board_on Flop (Street River number cards ∷ h) ≡ board_on Flop h = other_on g players Flop River number cards h ok.2 first refl in
+    let t : board_on Turn (Street River number cards ∷ h) ≡ board_on Turn h = other_on g players Turn River number cards h ok.2 first refl in
+    let r : board_on River (Street River number cards ∷ h) ≡ union (board_on River h) cards = grown_on River number cards h first refl in
+    let three : union (union (board_on Flop (Street River number cards ∷ h)) (board_on Turn (Street River number cards ∷ h))) (board_on River (Street River number cards ∷ h)) ≡ union (union (union (board_on Flop h) (board_on Turn h)) (board_on River h)) cards =
+    rw (f, t, r) (far (union (board_on Flop h) (board_on Turn h)) (board_on River h) cards) in
     record {
       one = ap length f ∙ x.one;
       two = ap length (rw (f, t) refl) ∙ x.two;
-      all = ap length three ∙ marker_grows g players River cards h _ ok deck (three_among g players h ok.2) ∙ ap (λ n. n + length cards) x.all;
-      own = own_grows g players River cards h ok deck ∙ ap (λ n. n + length cards) x.own;
+      all = ap length three ∙ marker_grows g players River number cards h _ ok deck (three_among g players h ok.2) ∙ ap (λ n. n + length cards) x.all;
+      own = own_grows g players River number cards h ok first deck ∙ ap (λ n. n + length cards) x.own;
     }
 
 -- before the first event

@@ -1,6 +1,7 @@
 -- After accepted events: cards that were thrown away, and those of players who had folded, are nobody's who is in the hand.
 use Rattle.std.proofs.Common.{◌≡◌, ℕ, zero, suc, ◌<◌, ◌≤◌, List, [], ◌∷◌, refl, sym, ap, ◌∙◌, Bool, true, false, not, ◌||◌, ◌&&◌, ◌==◌, ◌⊎◌, inl, inr, arith}
 use Rattle.std.specs.Prelude.{Option, Some, None, if◌then◌else◌, nat_lt, nat_le}
+use Rattle.std.proofs.lemmas.Bool.Decides.{nat_tests}
 use mathlib.Core.Bool.{true≢false}
 use Rattle.card_sets.specs.Cards.{has_card, with_card, union, minus, IsCardSet}
 use Rattle.card_sets.specs.Bits.{IsCardSet-cards_where}
@@ -9,6 +10,8 @@ use Rattle.card_sets.specs.declared.games.Game.{Game}
 use Rattle.card_sets.specs.declared.games.Family.{Family}
 use Rattle.card_sets.specs.declared.games.Family.TheVariants as family
 use Rattle.history_text.specs.declared.events.Header.{Header}
+use Rattle.history_text.specs.declared.events.BoardNumber.{BoardNumber}
+use Rattle.history_text.specs.declared.events.BoardNumber.TheVariants as board
 use Rattle.history_text.specs.declared.events.Event.{Event}
 use Rattle.history_text.specs.declared.events.Event.TheVariants.{Street, Discard, Pat}
 use Rattle.card_sets.specs.declared.streets.Street.{Street as StreetName}
@@ -20,22 +23,22 @@ use Rattle.betting_replay.specs.Dealing.{gathered, given_by, draws_of}
 use Rattle.card_sets.specs.Games.{family_of, is_draw as family_is_draw, has_draw, own_size}
 use Rattle.betting_replay.specs.Events.{seat_of, cards_named, SeatFits}
 use Rattle.betting_replay.specs.Turns.{contender_count}
-use Rattle.betting_replay.specs.Faults.{street_order, marker_stands, draw_stands}
+use Rattle.betting_replay.specs.Faults.{street_order, may_part, next_only, next_first, next_second, next_on, marker_stands, draw_stands}
 use Rattle.betting_replay.specs.Hands.{dealt, shown, shown_by, shown_after, whole, is_discard, if_many}
 use Rattle.betting_replay.specs.Known.{holding_of, final_drawn, draws_openly, kept, known_drawn, known_in, known_by}
-use Rattle.betting_replay.specs.Places.{owned, named, thrown, thrown_by, is_board, is_free, first_twice}
+use Rattle.betting_replay.specs.Places.{place_of, owned, named, thrown, thrown_by, is_board, is_free, first_twice}
 use Rattle.card_sets.specs.PlayerSets.{has_player}
 use Rattle.betting_replay.specs.Seats.{or_else}
 use Rattle.card_sets.specs.Streets.{next_street}
-use Rattle.betting_replay.specs.Streets.{begun_by_drawing, same_street}
-use Rattle.betting_replay.specs.Sums.{street}
-use Rattle.betting_replay.specs.Tables.{table_of, point, dead}
+use Rattle.betting_replay.specs.Streets.{begun_by_drawing, same_street, is_number, is_end}
+use Rattle.betting_replay.specs.Sums.{street, is_last_of, twice_from}
+use Rattle.betting_replay.specs.Tables.{Table, table_of, point, dead}
 use Rattle.betting_replay.proofs.Afford.{not_not}
 use Rattle.betting_replay.proofs.Families.{never_next, none_begun}
 use Rattle.betting_replay.proofs.Passed.{passed, not_failed}
 use Rattle.betting_replay.proofs.Stands.{seat_below, cards_free}
 use Rattle.betting_replay.proofs.Members.{in_union, in_minus, no_cards, either, or_right, both, not_both, where_in}
-use Rattle.betting_replay.proofs.Belong.{own_step, own_more, own_here, one_place, thrown_named, shown_named, no_card}
+use Rattle.betting_replay.proofs.Belong.{own_step, own_more, own_here, given_is_named, one_place, thrown_named, shown_named, no_card}
 use Rattle.betting_replay.proofs.KnownCards.{if_many_is, shown_holds}
 
 -- no card of a bracket with no fault stood before it
@@ -60,24 +63,27 @@ only_discards (Discard seat count cards) k other h = cc
 only_discards _ k other h = no_card k h
 
 -- what an event throws away belongs to its seat
-thrown_seat : (e : Event) (k : ℕ) → SeatFits e → has_card (thrown_by e) k ≡ true → 1 ≤ seat_of e
-thrown_seat (Discard seat count cards) k fits h = fits.0
+thrown_seat : (e : Event) (k : ℕ) → SeatFits e → has_card (thrown_by e) k ≡ true → (1 ≤ seat_of e) × (seat_of e ≤ 10)
+thrown_seat (Discard seat count cards) k fits h = fits
 thrown_seat _ k fits h = absurd (no_card k h)
 
 thrown_own : (g : Header) (players : ℕ) (e : Event) (h : List Event) (k : ℕ) → IsAccepted g players (e ∷ h) → k < 52 → has_card (thrown_by e) k ≡ true → has_card (owned (e ∷ h) (seat_of e)) k ≡ true
 thrown_own g players e h k ok l has = (let here : (seat_of e == seat_of e) ≡ true = grind arith in own_here g players e h (seat_of e) k ok here l (thrown_named e k has))
 
--- so no card of the board is
-pub thrown_not_board : (g : Header) (players : ℕ) (h : List Event) (k : ℕ) → IsAccepted g players h → has_card (thrown h) k ≡ true → has_card (owned h 0) k ≡ true → ⊥
-thrown_not_board g players [] k ok has own = no_card k has
-thrown_not_board g players (e ∷ h) k ok has own =
+-- so no card of a place that is no seat is
+abbrev IsNoSeat : ℕ → Type 0
+IsNoSeat q = (s : ℕ) → 1 ≤ s → s ≤ 10 → s ≡ q → ⊥
+
+thrown_elsewhere : (g : Header) (players : ℕ) (h : List Event) (q k : ℕ) → IsNoSeat q → IsAccepted g players h → has_card (thrown h) k ≡ true → has_card (owned h q) k ≡ true → ⊥
+thrown_elsewhere g players [] q k none ok has own = no_card k has
+thrown_elsewhere g players (e ∷ h) q k none ok has own =
     (let w = in_union (thrown h) (thrown_by e) k has in elim w.1 [
-      | inl old ↦ before (thrown_not_board g players h k ok.2 old) w.0 old (seat_of e == 0) (ap (λ xs. has_card xs k) (sym (own_step g players e h 0 ok)) ∙ own)
-      | inr now ↦ (let same : seat_of e ≡ 0 = one_place (e ∷ h) (seat_of e) 0 k (thrown_own g players e h k ok w.0 now) own in let seat : 1 ≤ seat_of e = thrown_seat e k ok.0.seats now in absurd (omega arith))
+      | inl old ↦ before (thrown_elsewhere g players h q k none ok.2 old) w.0 old (place_of e == q) (ap (λ xs. has_card xs k) (sym (own_step g players e h q ok)) ∙ own)
+      | inr now ↦ (let same : seat_of e ≡ q = one_place (e ∷ h) (seat_of e) q k (thrown_own g players e h k ok w.0 now) own in let seat = thrown_seat e k ok.0.seats now in none (seat_of e) seat.0 seat.1 same)
     ])
   where
-    before : (has_card (owned h 0) k ≡ true → ⊥) → k < 52 → has_card (thrown h) k ≡ true → (b : Bool) → has_card (if b then union (owned h 0) (cards_named e) else owned h 0) k ≡ true → ⊥
-    before ih l old true own = elim (in_union (owned h 0) (cards_named e) k own).1 [
+    before : (has_card (owned h q) k ≡ true → ⊥) → k < 52 → has_card (thrown h) k ≡ true → (b : Bool) → has_card (if b then union (owned h q) (cards_named e) else owned h q) k ≡ true → ⊥
+    before ih l old true own = elim (in_union (owned h q) (cards_named e) k own).1 [
       | inl there ↦ ih there
       | inr named ↦ named_new g players e h k ok l named old
     ]
@@ -95,7 +101,7 @@ shown_not_thrown g players (e ∷ h) p cards k ok is has gone =
         let there : has_card (union [] (shown_by e)) k ≡ true = ap (λ ys. has_card ys k) (set ∙ same) ∙ has in
         elim (in_union [] (shown_by e) k there).1 [
           | inl none ↦ no_card k none
-          | inr now ↦ named_new g players e h k ok l (shown_named e k now) old
+          | inr now ↦ named_new g players e h k ok l (given_is_named e k (shown_named e k now)) old
         ]
 
     last : k < 52 → (shown g h p ≡ Some cards → has_card (thrown h) k ≡ true → ⊥) → has_card (thrown h) k ≡ true → (o : Option (List ℕ)) → whole g.game (shown_by e) ≡ o → or_else o (shown g h p) ≡ Some cards → ⊥
@@ -122,25 +128,66 @@ shown_not_thrown g players (e ∷ h) p cards k ok is has gone =
 pub order_of : (g : Header) (players : ℕ) (e : Event) (h : List Event) → IsAccepted g players (e ∷ h) → street_order (table_of g players h) e ≡ None
 order_of g players e h ok = (passed (table_of g players h) e ok.1).order
 
-pub marker_of : (g : Header) (players : ℕ) (s : StreetName) (cards : List ℕ) (h : List Event) → IsAccepted g players (Street s cards ∷ h) → marker_stands (table_of g players h) s ≡ true
+pub marker_of : (g : Header) (players : ℕ) (s : StreetName) (number : BoardNumber) (cards : List ℕ) (h : List Event) → IsAccepted g players (Street s number cards ∷ h) → marker_stands (table_of g players h) number s ≡ true
 unfolding street_order
-marker_of g players s cards h ok = not_not _ (not_failed _ _ (order_of g players (Street s cards) h ok))
+marker_of g players s number cards h ok = not_not _ (not_failed _ _ (order_of g players (Street s number cards) h ok))
+
+-- no marker comes of a street that is neither the next of the game nor the one from which on there are two boards
+pub never_on : (s : StreetName) (t : Table) (number : BoardNumber) → same_street s None ≡ false → same_street s (next_street t.header.game t.street) ≡ false → same_street s t.twice ≡ false → same_street s (next_on t number) ≡ false
+never_on s t board.Only none next from = by t.twice
+  where
+    by : (o : Option StreetName) → same_street s (next_only o (next_street t.header.game t.street)) ≡ false
+    by None = next
+    by (Some other) = none
+never_on s t board.First none next from = by (may_part t) t.twice t.marker
+  where
+    by : (b : Bool) (o : Option StreetName) (n : BoardNumber) → same_street s (next_first b o n (next_street t.header.game t.street)) ≡ false
+    by true None n = next
+    by false None n = none
+    by b (Some other) board.Only = none
+    by b (Some other) board.First = next
+    by b (Some other) board.Second = none
+never_on s t board.Second none next from = by t.twice t.marker (is_last_of t.header.game t.street) from
+  where
+    by : (o : Option StreetName) (n : BoardNumber) (b : Bool) → same_street s o ≡ false → same_street s (next_second o n b (next_street t.header.game t.street)) ≡ false
+    by None n b other = none
+    by (Some other) board.Only b f = none
+    by (Some other) board.First true f = f
+    by (Some other) board.First false f = none
+    by (Some other) board.Second b f = next
 
 -- a game with no draw never comes to one, and nothing is thrown away in it
-not_drawing : (g : Header) (players : ℕ) (h : List Event) → IsAccepted g players h → has_draw g.game ≡ false → same_street Draw (street g h) ≡ false
-not_drawing g players [] ok no_draw = refl
-not_drawing g players (Street Draw cards ∷ h) ok no_draw =
-    (let s = both (same_street Draw (next_street g.game (street g h))) (nat_le 2 (contender_count (table_of g players h))) (marker_of g players Draw cards h ok) in absurd (true≢false (sym s.0 ∙ never_next g.game (street g h) no_draw)))
-not_drawing g players (Street s cards ∷ h) ok no_draw = refl
-not_drawing g players (Discard seat count cards ∷ h) ok no_draw = rw (none_begun g.game (street g h) no_draw) (not_drawing g players h ok.2 no_draw)
-not_drawing g players (Pat seat ∷ h) ok no_draw = rw (none_begun g.game (street g h) no_draw) (not_drawing g players h ok.2 no_draw)
-not_drawing g players (e ∷ h) ok no_draw = not_drawing g players h ok.2 no_draw
+record HasNoDraw (g : Header) (h : List Event) : Type 0 where
+  now : same_street Draw (street g h) ≡ false
+  twice : same_street Draw (twice_from h) ≡ false
+
+either_street : (s : StreetName) (a b : Option StreetName) → same_street s a ≡ false → same_street s b ≡ false → same_street s (or_else a b) ≡ false
+either_street s None b x y = y
+either_street s (Some t) b x y = x
+
+not_drawing : (g : Header) (players : ℕ) (h : List Event) → IsAccepted g players h → has_draw g.game ≡ false → HasNoDraw g h
+not_drawing g players [] ok no_draw = record { now = refl; twice = refl }
+not_drawing g players (Street Draw number cards ∷ h) ok no_draw =
+    let before = not_drawing g players h ok.2 no_draw in
+    let s = both (same_street Draw (next_on (table_of g players h) number)) (nat_le 2 (contender_count (table_of g players h))) (marker_of g players Draw number cards h ok) in
+    absurd (true≢false (sym s.0 ∙ never_on Draw (table_of g players h) number refl (never_next g.game (street g h) no_draw) before.twice))
+not_drawing g players (Street s number cards ∷ h) ok no_draw = record {
+  now = refl;
+  twice = either_street Draw (twice_from h) _ (not_drawing g players h ok.2 no_draw).twice (by (is_number board.First number && not (is_end s)));
+}
+  where
+    by : (b : Bool) → same_street Draw (if b then Some s else None) ≡ false
+    by true = refl
+    by false = refl
+not_drawing g players (Discard seat count cards ∷ h) ok no_draw = (let before = not_drawing g players h ok.2 no_draw in record { now = rw (none_begun g.game (street g h) no_draw) before.now; twice = either_street Draw (twice_from h) None before.twice refl })
+not_drawing g players (Pat seat ∷ h) ok no_draw = (let before = not_drawing g players h ok.2 no_draw in record { now = rw (none_begun g.game (street g h) no_draw) before.now; twice = either_street Draw (twice_from h) None before.twice refl })
+not_drawing g players (e ∷ h) ok no_draw = (let before = not_drawing g players h ok.2 no_draw in record { now = before.now; twice = either_street Draw (twice_from h) None before.twice refl })
 
 not_now : (g : Header) (players : ℕ) (e : Event) (h : List Event) (k : ℕ) → IsAccepted g players (e ∷ h) → has_draw g.game ≡ false → has_card (thrown_by e) k ≡ true → ⊥
 unfolding street_order
 not_now g players (Discard seat count cards) h k ok no_draw now =
     let stands : draw_stands (table_of g players h) ≡ true = not_not _ (not_failed _ _ (order_of g players (Discard seat count cards) h ok)) in
-    let off : same_street Draw (street g h) ≡ false = not_drawing g players h ok.2 no_draw in
+    let off : same_street Draw (street g h) ≡ false = (not_drawing g players h ok.2 no_draw).now in
     let none : begun_by_drawing g.game (street g h) ≡ None = none_begun g.game (street g h) no_draw in
     let never : draw_stands (table_of g players h) ≡ false = rw (off, none) refl in
     true≢false (sym stands ∙ never)
@@ -154,16 +201,25 @@ nothing_thrown g players (e ∷ h) k ok no_draw has = elim (in_union (thrown h) 
 ]
 
 -- a card of some seats that pass a test is of one of them
-of_some : (test : ℕ → Bool) (own : ℕ → List ℕ) (n k : ℕ) → has_card (cards_of_seats test own n) k ≡ true → (q : ℕ) × (test q ≡ true) × (has_card (own q) k ≡ true)
+record OfSome (test : ℕ → Bool) (own : ℕ → List ℕ) (n k : ℕ) : Type 0 where
+  seat : ℕ
+  small : seat < n
+  passes : test seat ≡ true
+  has : has_card (own seat) k ≡ true
+
+of_more : (test : ℕ → Bool) (own : ℕ → List ℕ) (n k : ℕ) → OfSome test own n k → OfSome test own (suc n) k
+of_more test own n k x = record { seat = x.seat; small = (let l : x.seat < n = x.small in omega arith); passes = x.passes; has = x.has }
+
+of_some : (test : ℕ → Bool) (own : ℕ → List ℕ) (n k : ℕ) → has_card (cards_of_seats test own n) k ≡ true → OfSome test own n k
 of_some test own zero k has = absurd (no_card k has)
 of_some test own (suc n) k has = one (test n) refl has (of_some test own n k)
   where
-    one : (b : Bool) → test n ≡ b → has_card (if b then union (cards_of_seats test own n) (own n) else cards_of_seats test own n) k ≡ true → (has_card (cards_of_seats test own n) k ≡ true → (q : ℕ) × (test q ≡ true) × (has_card (own q) k ≡ true)) → (q : ℕ) × (test q ≡ true) × (has_card (own q) k ≡ true)
+    one : (b : Bool) → test n ≡ b → has_card (if b then union (cards_of_seats test own n) (own n) else cards_of_seats test own n) k ≡ true → (has_card (cards_of_seats test own n) k ≡ true → OfSome test own n k) → OfSome test own (suc n) k
     one true is has go = elim (in_union (cards_of_seats test own n) (own n) k has).1 [
-      | inl below ↦ go below
-      | inr here ↦ (n, is, here)
+      | inl below ↦ of_more test own n k (go below)
+      | inr here ↦ record { seat = n; small = omega arith; passes = is; has = here }
     ]
-    one false is has go = go has
+    one false is has go = of_more test own n k (go has)
 
 -- no known card was thrown away
 drawn_not_thrown : (g : Header) (players : ℕ) (h : List Event) (p : ℕ) (cards : List ℕ) (k : ℕ) → IsAccepted g players h → final_drawn (holding_of g h p) ≡ Some cards → has_card cards k ≡ true → has_card (thrown h) k ≡ true → ⊥
@@ -205,7 +261,7 @@ known_not_thrown g players h p s cards k game same ok is has gone = by (family_o
 
 -- a dead card was thrown away, or is of a player who had folded
 in_dead : (players : ℕ) (h : List Event) (o : Option Point) (k : ℕ) → has_card (dead_by players o (owned h) (thrown h)) k ≡ true
-    → (has_card (thrown h) k ≡ true) ⊎ ((found : Point) × (o ≡ Some found) × ((q : ℕ) × (had_folded players found q ≡ true) × (has_card (owned h q) k ≡ true)))
+    → (has_card (thrown h) k ≡ true) ⊎ ((found : Point) × (o ≡ Some found) × OfSome (had_folded players found) (owned h) 11 k)
 in_dead players h None k has = absurd (no_card k has)
 in_dead players h (Some found) k has = elim (in_union (thrown h) (cards_of_seats (had_folded players found) (owned h) 11) k has).1 [
   | inl gone ↦ inl gone
@@ -216,24 +272,35 @@ pub dead_is_set : (players : ℕ) (h : List Event) (o : Option Point) → IsCard
 dead_is_set players h None = no_cards
 dead_is_set players h (Some found) = IsCardSet-cards_where (λ k. has_card (thrown h) k || has_card (cards_of_seats (had_folded players found) (owned h) 11) k)
 
-pub dead_not_board : (g : Header) (players : ℕ) (h : List Event) (k : ℕ) → IsAccepted g players h → has_card (dead g players h) k ≡ true → has_card (owned h 0) k ≡ true → ⊥
-dead_not_board g players h k ok has own = elim (in_dead players h (point g players h) k has) [
-  | inl gone ↦ thrown_not_board g players h k ok gone own
-  | inr f ↦ (let seat : nat_lt 0 f.2.0 ≡ true = (both _ _ (both _ _ f.2.1).0).0 in let same : f.2.0 ≡ 0 = one_place h f.2.0 0 k f.2.2 own in no_seat f.2.0 seat same)
+dead_elsewhere : (g : Header) (players : ℕ) (h : List Event) (q k : ℕ) → IsNoSeat q → IsAccepted g players h → has_card (dead g players h) k ≡ true → has_card (owned h q) k ≡ true → ⊥
+dead_elsewhere g players h q k none ok has own = elim (in_dead players h (point g players h) k has) [
+  | inl gone ↦ thrown_elsewhere g players h q k none ok gone own
+  | inr f ↦
+      (let over : nat_lt 0 f.2.seat ≡ true = (both _ _ (both _ _ f.2.passes).0).0 in
+      let same : f.2.seat ≡ q = one_place h f.2.seat q k f.2.has own in
+      let low : f.2.seat < 11 = f.2.small in
+      none f.2.seat (from_one f.2.seat over) (omega (arith, low)) same)
 ]
   where
-    no_seat : (q : ℕ) → nat_lt 0 q ≡ true → q ≡ 0 → ⊥
-    no_seat q seat same = true≢false (sym seat ∙ ap (nat_lt 0) same)
+    from_one : (n : ℕ) → nat_lt 0 n ≡ true → 1 ≤ n
+    from_one n over = grind (arith, nat_tests)
+
+-- no dead card is on a board
+pub dead_not_board : (g : Header) (players : ℕ) (h : List Event) (k : ℕ) → IsAccepted g players h → has_card (dead g players h) k ≡ true → has_card (owned h 0) k ≡ true → ⊥
+dead_not_board g players h k ok has own = dead_elsewhere g players h 0 k (λ s low high is. absurd (omega (arith, low, is))) ok has own
+
+pub dead_not_second : (g : Header) (players : ℕ) (h : List Event) (k : ℕ) → IsAccepted g players h → has_card (dead g players h) k ≡ true → has_card (owned h 11) k ≡ true → ⊥
+dead_not_second g players h k ok has own = dead_elsewhere g players h 11 k (λ s low high is. absurd (omega (arith, high, is))) ok has own
 
 pub dead_not_known : (g : Header) (players : ℕ) (h : List Event) (found : Point) (p : ℕ) (s : StreetName) (cards : List ℕ) (k : ℕ) → IsAccepted g players h → point g players h ≡ Some found → has_player found.contenders p ≡ true
     → known_by g.game (holding_of g h p) s ≡ Some cards → ((j : ℕ) → has_card cards j ≡ true → has_card (owned h p) j ≡ true) → has_card (dead g players h) k ≡ true → has_card cards k ≡ true → ⊥
 dead_not_known g players h found p s cards k ok at is_in known own has mine = elim (in_dead players h (point g players h) k has) [
   | inl gone ↦ known_not_thrown g players h p s cards k g.game refl ok known mine gone
   | inr f ↦
-      (let out : not (has_player f.0.contenders f.2.0) ≡ true = (both (nat_lt 0 f.2.0 && has_player players f.2.0) (not (has_player f.0.contenders f.2.0)) f.2.1).1 in
-      let same : f.2.0 ≡ p = one_place h f.2.0 p k f.2.2 (own k mine) in
+      (let out : not (has_player f.0.contenders f.2.seat) ≡ true = (both (nat_lt 0 f.2.seat && has_player players f.2.seat) (not (has_player f.0.contenders f.2.seat)) f.2.passes).1 in
+      let same : f.2.seat ≡ p = one_place h f.2.seat p k f.2.has (own k mine) in
       let one : Some f.0 ≡ Some found = sym f.1 ∙ at in
       let pt : f.0 ≡ found = cc in
-      let here : has_player f.0.contenders f.2.0 ≡ true = ap (λ (q : ℕ). has_player f.0.contenders q) same ∙ ap (λ (x : Point). has_player x.contenders p) pt ∙ is_in in
+      let here : has_player f.0.contenders f.2.seat ≡ true = ap (λ (q : ℕ). has_player f.0.contenders q) same ∙ ap (λ (x : Point). has_player x.contenders p) pt ∙ is_in in
       not_both _ out here)
 ]

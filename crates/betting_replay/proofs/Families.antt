@@ -7,9 +7,11 @@ use Rattle.card_sets.specs.declared.games.Family.{Family}
 use Rattle.card_sets.specs.declared.games.Family.TheVariants as family
 use Rattle.card_sets.specs.Games.{family_of, is_board, is_draw, has_board, has_draw, own_size, board_size_by}
 use Rattle.card_sets.specs.declared.streets.Street.{Street as StreetName}
-use Rattle.card_sets.specs.declared.streets.Street.TheVariants.{First, Flop, Turn, Fourth, Fifth, Sixth, River, Draw}
-use Rattle.card_sets.specs.Streets.{streets_by, street_after, next_street}
-use Rattle.betting_replay.specs.Streets.{same_street, begun_by_drawing}
+use Rattle.card_sets.specs.declared.streets.Street.TheVariants.{First, Flop, Turn, Fourth, Fifth, Sixth, River, Draw, ShowDown, Summary}
+use Rattle.card_sets.specs.Streets.{streets_by, street_after, next_street, is_last_of as is_last_of_list}
+use Rattle.betting_replay.specs.CardLaws.{is_end_of}
+use Rattle.betting_replay.specs.Streets.{same_street, begun_by_drawing, is_end}
+use Rattle.betting_replay.specs.Sums.{is_last_of}
 
 -- the family of the games with a board
 pub board_family : (f : Family) → is_board f ≡ true → f ≡ family.Board
@@ -77,3 +79,30 @@ never_next game (Some s) b = never_after (family_of game) s b
 
 pub none_begun : (game : Game) (o : Option StreetName) → has_draw game ≡ false → begun_by_drawing game o ≡ None
 none_begun game o b = rw (never_next game o b) refl
+
+-- nothing comes behind a showdown or the summary, and neither is a last street
+end_after : (f : Family) (s : StreetName) → is_end s ≡ true → street_after s (streets_by f) ≡ None
+end_after family.Board ShowDown is = refl
+end_after family.Stud ShowDown is = refl
+end_after family.Draw ShowDown is = refl
+end_after family.Board Summary is = refl
+end_after family.Stud Summary is = refl
+end_after family.Draw Summary is = refl
+end_after f _ is = cc
+
+end_last : (f : Family) (s : StreetName) → is_end s ≡ true → is_last_of_list s (streets_by f) ≡ false
+end_last family.Board ShowDown is = refl
+end_last family.Stud ShowDown is = refl
+end_last family.Draw ShowDown is = refl
+end_last family.Board Summary is = refl
+end_last family.Stud Summary is = refl
+end_last family.Draw Summary is = refl
+end_last f _ is = cc
+
+pub none_after_end : (game : Game) (o : Option StreetName) → is_end_of o ≡ true → next_street game o ≡ None
+none_after_end game None over = cc
+none_after_end game (Some s) over = end_after (family_of game) s over
+
+pub no_last_end : (game : Game) (o : Option StreetName) → is_end_of o ≡ true → is_last_of game o ≡ false
+no_last_end game None over = cc
+no_last_end game (Some s) over = end_last (family_of game) s over

@@ -16,12 +16,16 @@ pub mod Stands
 pub mod Belong
 pub mod KnownCards
 pub mod DeadCards
+pub mod SecondCards
 pub mod StreetCards
 pub mod HeldCards
 pub mod Ended
 pub mod WholeBoards
 pub mod BoardSizes
 pub mod Phases
+pub mod TwoBoards
+pub mod Reached
+pub mod PlayedBoards
 pub mod AtPoint
 pub mod Kept
 pub mod TurnOrder

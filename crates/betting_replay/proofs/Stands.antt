@@ -2,29 +2,32 @@
 use Rattle.std.proofs.Common.{◌≡◌, ℕ, ◌+◌, ◌-◌, ◌<◌, List, [], ◌∷◌, refl, sym, ap, ◌∙◌, Bool, true, false, arith, map, subst, ◌||◌, ◌&&◌, ◌==◌}
 use Rattle.std.specs.Prelude.{Option, Some, None, slice_index_or, slice_set, if◌then◌else◌}
 use Rattle.card_sets.specs.Cards.{union}
+use Rattle.card_sets.specs.Bits.{IsCardSet-cards_where}
 use Rattle.history_text.specs.declared.events.Header.{Header}
 use Rattle.history_text.specs.declared.events.Event.{Event}
-use Rattle.history_text.specs.declared.events.Event.TheVariants.{Seat, Button, Post, Deal, Act, Uncalled, Collect, Show, Muck, SeatCards, Discard, Pat}
+use Rattle.history_text.specs.declared.events.BoardNumber.TheVariants as board
+use Rattle.history_text.specs.declared.events.Event.TheVariants.{Seat, Button, Post, Deal, Street, Act, Uncalled, Collect, Show, Muck, SeatCards, Discard, Pat}
 use Rattle.card_sets.specs.declared.streets.Street.{Street as StreetName}
 use Rattle.betting_replay.specs.declared.faults.BetFault.{BetFault}
 use Rattle.betting_replay.specs.declared.seats.Chips.{Chips}
 use Rattle.betting_replay.specs.declared.seats.Acts.{Acts}
 use Rattle.betting_replay.specs.Seats.{by_seat, or_else}
 use Rattle.betting_replay.specs.Events.{seat_of, button_after, bought, returned, live_in, dead_in, ante_in, put_in, posts_small, brings_in, folds, is_act, is_seat_line, cards_named, SeatFits}
-use Rattle.betting_replay.specs.Streets.{begins, begins_later_by, is_later, is_first}
-use Rattle.betting_replay.specs.Sums.{street, button, opened, is_later_by, shows_down, shown_down, is_last_of, last_begun, small_posted, seated, live, dead, paid, stack, folded, acted, brought_in, last_actor}
-use Rattle.betting_replay.specs.Places.{owned, named, thrown, thrown_by, is_board, is_free, first_twice}
+use Rattle.betting_replay.specs.Streets.{begins, begins_on, marker_after, begins_later_by, is_later, is_first}
+use Rattle.betting_replay.specs.Sums.{street, button, opened, is_later_by, is_last_of, last_begun, twice_from, second_street, marker_board, showdowns_of, small_posted, seated, live, dead, paid, stack, folded, acted, brought_in, last_actor}
+use Rattle.betting_replay.specs.Places.{place_of, cards_given, place, is_at, owned, named, thrown, thrown_by, is_board, is_free, first_twice}
 use Rattle.betting_replay.specs.declared.seats.Deals.{Deals}
 use Rattle.betting_replay.specs.declared.seats.Draws.{Draws}
 use Rattle.betting_replay.specs.declared.points.Point.{Point}
 use Rattle.betting_replay.specs.Tables.{Table, StandsFor, table_of, table_with, point, chips_of, acts_of, no_chips, no_acts, no_deals, no_draws, chips_at, acts_at, own_at, dealt_at, shown_at, deals_at, row_at, draws_at}
-use Rattle.betting_replay.specs.Boards.{board_on, named_on}
+use Rattle.betting_replay.specs.Boards.{board_on, named_on, second_on, named_second}
 use Rattle.card_sets.specs.declared.streets.Street.TheVariants.{Flop, Turn, River}
 use Rattle.betting_replay.specs.Hands.{dealt as dealt_cards, shown as shown_cards, row as row_cards, dealt_by, shown_after, row_by}
 use Rattle.betting_replay.specs.Dealing.{deals_of, draws_of, deals_after, draws_after}
-use Rattle.betting_replay.specs.Counting.{chips_after, acts_after, cleared_chips, cleared_acts, cleared_if, on_street, begun_with, begun, counted, pointed, after}
+use Rattle.betting_replay.specs.Counting.{chips_after, acts_after, showdowns_after, cleared_chips, cleared_acts, cleared_if, on_street, begun_with, begun, counted, pointed, after}
 use Rattle.betting_replay.specs.Faults.{fault_at, card_twice, fault_with}
 use Rattle.betting_replay.proofs.SamePoint.{same_now}
+use Rattle.betting_replay.proofs.CardSets.{union-nil}
 use Rattle.betting_replay.proofs.BySeat.{at_by_seat, map_by_seat, same_by_seat, set_by_seat, with_at}
 use Rattle.betting_replay.proofs.Passed.{passed}
 use Rattle.betting_replay.proofs.Placed.{named_after, owned_other, owned_here}
@@ -65,10 +68,10 @@ acts_case g h e p false false = refl
 
 -- a list by seat, with what is new at one seat, and all cleared where a later street begins
 step_by_seat : {A : Type 0} (later : Bool) (clear : A → A) (old : ℕ → A) (s : ℕ) (f : A → A) (d : A) (new : ℕ → A) → s < 11
-    → ((p : ℕ) → new p ≡ cleared_where later clear (if s == p then f (old p) else old p))
+    → ((p : ℕ) → p < 11 → new p ≡ cleared_where later clear (if s == p then f (old p) else old p))
     → by_seat new ≡ cleared_where later (map clear) (slice_set (by_seat old) s (f (slice_index_or (by_seat old) s d)))
 step_by_seat {A} later clear old s f d new small same =
-    same_by_seat new (λ p. cleared_where later clear (with_at s (f (old s)) old p)) (λ p. same p ∙ ap (cleared_where later clear) (at_seat p (s == p) refl))
+    same_by_seat new (λ p. cleared_where later clear (with_at s (f (old s)) old p)) (λ p low. same p low ∙ ap (cleared_where later clear) (at_seat p (s == p) refl))
     ∙ clears later
     ∙ ap (λ x. cleared_where later (map clear) (slice_set (by_seat old) s (f x))) (sym (at_by_seat old s d small))
   where
@@ -98,11 +101,17 @@ table_now g players h e chips acts own dealt shown deals rows draws found all o 
   flop = union (board_on Flop h) (named_on Flop e);
   turn = union (board_on Turn h) (named_on Turn e);
   river = union (board_on River h) (named_on River e);
+  second_flop = union (second_on Flop h) (named_second Flop e);
+  second_turn = union (second_on Turn h) (named_second Turn e);
+  second_river = union (second_on River h) (named_second River e);
   button = button_after e (button h);
   street = or_else o (street g h);
   opened = is_first o || opened g h;
-  shown_down = shows_down o || shown_down g h;
   last_begun = is_last_of g.game o || last_begun g h;
+  marker = marker_after e (marker_board h);
+  showdowns = showdowns_after e (showdowns_of h);
+  twice = or_else (twice_from h) (begins_on board.First e);
+  second = or_else (begins_on board.Second e) (second_street h);
   small_posted = posts_small e || small_posted h;
   last = if begins_later_by o then None else (if is_act e then Some (seat_of e) else last_actor g h);
   point = found;
@@ -125,11 +134,17 @@ counted_so g players h e chips acts own dealt shown deals rows draws found all =
   flop = union (board_on Flop h) (named_on Flop e);
   turn = union (board_on Turn h) (named_on Turn e);
   river = union (board_on River h) (named_on River e);
+  second_flop = union (second_on Flop h) (named_second Flop e);
+  second_turn = union (second_on Turn h) (named_second Turn e);
+  second_river = union (second_on River h) (named_second River e);
   button = button_after e (button h);
   street = street g h;
   opened = opened g h;
-  shown_down = shown_down g h;
   last_begun = last_begun g h;
+  marker = marker_after e (marker_board h);
+  showdowns = showdowns_after e (showdowns_of h);
+  twice = or_else (twice_from h) (begins_on board.First e);
+  second = or_else (begins_on board.Second e) (second_street h);
   small_posted = posts_small e || small_posted h;
   last = if is_act e then Some (seat_of e) else last_actor g h;
   point = found;
@@ -149,10 +164,24 @@ pub no_card : (f : ℕ → BetFault) (o : Option ℕ) → fault_with f o ≡ Non
 no_card f None h = refl
 no_card f (Some n) h = cc
 
-pub own_case : (e : Event) (h : List Event) (board : Bool) → first_twice (is_free (named h) (owned h (seat_of e)) board) (thrown h) (cards_named e) ≡ None
-    → (p : ℕ) (b : Bool) → (seat_of e == p) ≡ b → owned (e ∷ h) p ≡ (if b then union (owned h p) (cards_named e) else owned h p)
-own_case e h board none p true is = let same : seat_of e ≡ p = grind arith in subst (λ (q : ℕ). owned (e ∷ h) q ≡ union (owned h q) (cards_named e)) same (owned_here e h board none)
-own_case e h board none p false is = owned_other e h p is
+pub own_case : (e : Event) (h : List Event) → first_twice (is_free (named h) (owned h (seat_of e)) (is_board e)) (thrown h) (cards_named e) ≡ None
+    → (p : ℕ) (b : Bool) → (place_of e == p) ≡ b → owned (e ∷ h) p ≡ (if b then union (owned h p) (cards_named e) else owned h p)
+own_case e h none p true is = let same : place_of e ≡ p = grind arith in subst (λ (q : ℕ). owned (e ∷ h) q ≡ union (owned h q) (cards_named e)) same (owned_here e h none)
+own_case e h none p false is = owned_other e h p is
+
+-- what a seat and the first board own, after an event
+own_given : (e : Event) (h : List Event) → first_twice (is_free (named h) (owned h (seat_of e)) (is_board e)) (thrown h) (cards_named e) ≡ None
+    → (p : ℕ) → p < 11 → owned (e ∷ h) p ≡ (if seat_of e == p then union (owned h p) (cards_given e) else owned h p)
+own_given (Street s board.Second cards) h none p small =
+    let other : (11 == p) ≡ false = grind arith in
+    own_case (Street s board.Second cards) h none p false other ∙ sym (by (0 == p))
+  where
+    by : (b : Bool) → (if b then union (owned h p) [] else owned h p) ≡ owned h p
+    by true = union-nil (owned h p) (IsCardSet-cards_where (λ card. is_at p (place h card)))
+    by false = refl
+own_given (Street s board.Only cards) h none p small = own_case (Street s board.Only cards) h none p (0 == p) refl
+own_given (Street s board.First cards) h none p small = own_case (Street s board.First cards) h none p (0 == p) refl
+own_given e h none p small = own_case e h none p (seat_of e == p) refl
 
 -- where an event may stand each of its cards is free
 pub cards_free : (g : Header) (players : ℕ) (h : List Event) (found : Option Point) (e : Event) → seat_of e < 11 → fault_at (table_with g players h found) e ≡ None → first_twice (is_free (named h) (owned h (seat_of e)) (is_board e)) (thrown h) (cards_named e) ≡ None
@@ -180,21 +209,21 @@ moved g players h e found small legal =
     let later : Bool = is_later_by g h e in
     let free : first_twice (is_free (named h) (owned h s) (is_board e)) (thrown h) (cards_named e) ≡ None = cards_free g players h found e small legal in
     let chips : by_seat (chips_of g (e ∷ h)) ≡ cleared_where later (map cleared_chips) (slice_set (by_seat (chips_of g h)) s (chips_after g.big (small_posted h) e (chips_at t s))) =
-    step_by_seat later cleared_chips (chips_of g h) s (chips_after g.big (small_posted h) e) no_chips (chips_of g (e ∷ h)) small (λ p. chips_case g h e p later (s == p)) in
+    step_by_seat later cleared_chips (chips_of g h) s (chips_after g.big (small_posted h) e) no_chips (chips_of g (e ∷ h)) small (λ p low. chips_case g h e p later (s == p)) in
     let acts : by_seat (acts_of g (e ∷ h)) ≡ cleared_where later (map cleared_acts) (slice_set (by_seat (acts_of g h)) s (acts_after e (acts_at t s))) =
-    step_by_seat later cleared_acts (acts_of g h) s (acts_after e) no_acts (acts_of g (e ∷ h)) small (λ p. acts_case g h e p later (s == p)) in
-    let own : by_seat (owned (e ∷ h)) ≡ slice_set (by_seat (owned h)) s (union (own_at t s) (cards_named e)) =
-    step_by_seat false (λ (x : List ℕ). x) (owned h) s (λ (x : List ℕ). union x (cards_named e)) [] (owned (e ∷ h)) small (λ p. own_case e h (is_board e) free p (s == p) refl) in
+    step_by_seat later cleared_acts (acts_of g h) s (acts_after e) no_acts (acts_of g (e ∷ h)) small (λ p low. acts_case g h e p later (s == p)) in
+    let own : by_seat (owned (e ∷ h)) ≡ slice_set (by_seat (owned h)) s (union (own_at t s) (cards_given e)) =
+    step_by_seat false (λ (x : List ℕ). x) (owned h) s (λ (x : List ℕ). union x (cards_given e)) [] (owned (e ∷ h)) small (λ p low. own_given e h free p low) in
     let given : by_seat (dealt_cards (e ∷ h)) ≡ slice_set (by_seat (dealt_cards h)) s (union (dealt_at t s) (dealt_by e)) =
-    step_by_seat false (λ (x : List ℕ). x) (dealt_cards h) s (λ (x : List ℕ). union x (dealt_by e)) [] (dealt_cards (e ∷ h)) small (λ p. refl) in
+    step_by_seat false (λ (x : List ℕ). x) (dealt_cards h) s (λ (x : List ℕ). union x (dealt_by e)) [] (dealt_cards (e ∷ h)) small (λ p low. refl) in
     let seen : by_seat (shown_cards g (e ∷ h)) ≡ slice_set (by_seat (shown_cards g h)) s (shown_after g.game e (shown_at t s)) =
-    step_by_seat false (λ (x : Option (List ℕ)). x) (shown_cards g h) s (shown_after g.game e) None (shown_cards g (e ∷ h)) small (λ p. refl) in
+    step_by_seat false (λ (x : Option (List ℕ)). x) (shown_cards g h) s (shown_after g.game e) None (shown_cards g (e ∷ h)) small (λ p low. refl) in
     let deals : by_seat (deals_of g (e ∷ h)) ≡ slice_set (by_seat (deals_of g h)) s (deals_after (street g h) e (deals_at t s)) =
-    step_by_seat false (λ (x : Deals). x) (deals_of g h) s (deals_after (street g h) e) no_deals (deals_of g (e ∷ h)) small (λ p. deals_case g h e p (seat_of e == p) refl) in
+    step_by_seat false (λ (x : Deals). x) (deals_of g h) s (deals_after (street g h) e) no_deals (deals_of g (e ∷ h)) small (λ p low. deals_case g h e p (seat_of e == p) refl) in
     let rows : by_seat (row_cards (e ∷ h)) ≡ slice_set (by_seat (row_cards h)) s (or_else (row_by e) (row_at t s)) =
-    step_by_seat false (λ (x : Option (List ℕ)). x) (row_cards h) s (λ (x : Option (List ℕ)). or_else (row_by e) x) None (row_cards (e ∷ h)) small (λ p. refl) in
+    step_by_seat false (λ (x : Option (List ℕ)). x) (row_cards h) s (λ (x : Option (List ℕ)). or_else (row_by e) x) None (row_cards (e ∷ h)) small (λ p low. refl) in
     let draws : by_seat (draws_of (e ∷ h)) ≡ slice_set (by_seat (draws_of h)) s (draws_after e (draws_at t s)) =
-    step_by_seat false (λ (x : Draws). x) (draws_of h) s (draws_after e) no_draws (draws_of (e ∷ h)) small (λ p. draws_case h e p (seat_of e == p) refl) in
+    step_by_seat false (λ (x : Draws). x) (draws_of h) s (draws_after e) no_draws (draws_of (e ∷ h)) small (λ p low. draws_case h e p (seat_of e == p) refl) in
     begun_case g players h e _ _ _ _ _ _ _ _ found _ (begins g.game (street g h) e) ∙ sym (rw (chips, acts, own, given, seen, deals, rows, draws, named_after e h) refl)
 
 -- then the moment may be the point

@@ -5,19 +5,21 @@ use mathlib.Core.Bool.{true≢false}
 use Rattle.card_sets.specs.Cards.{has_card, with_card, union, IsCardSet}
 use Rattle.card_sets.specs.Bits.{IsCardSet-cards_where}
 use Rattle.history_text.specs.declared.events.Header.{Header}
+use Rattle.history_text.specs.declared.events.BoardNumber.{BoardNumber}
 use Rattle.history_text.specs.declared.events.Event.{Event}
 use Rattle.history_text.specs.declared.events.Event.TheVariants.{Deal, Street, Act, Show, SeatCards, Discard}
 use Rattle.card_sets.specs.declared.streets.Street.{Street as StreetName}
 use Rattle.betting_replay.specs.Accepted.{IsAccepted}
-use Rattle.betting_replay.specs.Boards.{board_on, named_on}
+use Rattle.betting_replay.specs.Boards.{board_on, named_on, second_on, named_second}
 use Rattle.betting_replay.specs.CardLaws.{Among}
 use Rattle.betting_replay.specs.Events.{seat_of, cards_named, SeatFits}
-use Rattle.betting_replay.specs.Places.{place, is_at, owned, named, thrown, is_board, is_free, first_twice}
+use Rattle.betting_replay.specs.Places.{place_of, place, is_at, owned, named, thrown, is_board, is_free, first_twice}
 use Rattle.betting_replay.specs.Tables.{point}
 use Rattle.betting_replay.proofs.CardSets.{union-nil, union-front}
 use Rattle.betting_replay.proofs.Members.{in_where, where_in, either, or_left, or_right, length-with_card}
 use Rattle.betting_replay.proofs.Stands.{cards_free, seat_below}
-use Rattle.betting_replay.proofs.Belong.{own_step, board_among}
+use Rattle.betting_replay.proofs.Belong.{own_step, board_among, second_set}
+use Rattle.betting_replay.proofs.Placed.{place_seat}
 
 -- a set of named cards grows by each card of a marker
 grown : (all own cards before s : List ℕ) → first_twice (is_free all own true) before cards ≡ None → ((k : ℕ) → has_card cards k ≡ true → k < 52) → IsCardSet s → ((k : ℕ) → k < 52 → has_card s k ≡ true → (has_card all k ≡ true) ⊎ (has_card before k ≡ true))
@@ -61,18 +63,26 @@ owned_named h p k has = (let w = in_where (λ card. is_at p (place h card)) k ha
     one None is = absurd (true≢false (sym is))
     one (Some q) is = refl
 
--- so does a set of the board's cards with those of a marker
-pub marker_grows : (g : Header) (players : ℕ) (s : StreetName) (cards : List ℕ) (h : List Event) (part : List ℕ) → IsAccepted g players (Street s cards ∷ h) → ((k : ℕ) → has_card cards k ≡ true → k < 52) → Among part (owned h 0)
+-- so does a set of named cards with those of a marker
+pub named_grows : (g : Header) (players : ℕ) (s : StreetName) (number : BoardNumber) (cards : List ℕ) (h : List Event) (part : List ℕ) → IsAccepted g players (Street s number cards ∷ h) → ((k : ℕ) → has_card cards k ≡ true → k < 52) → Among part (named h)
     → length (union part cards) ≡ length part + length cards
-marker_grows g players s cards h part ok deck a =
-    grown (named h) (owned h 0) cards (thrown h) part (cards_free g players h (point g players h) (Street s cards) (seat_below (Street s cards) ok.0.seats) ok.1) deck a.set (λ k l has. inl (owned_named h 0 k (a.each k has)))
+named_grows g players s number cards h part ok deck a =
+    grown (named h) (owned h 0) cards (thrown h) part (cards_free g players h (point g players h) (Street s number cards) (seat_below (Street s number cards) ok.0.seats) ok.1) deck a.set (λ k l has. inl (a.each k has))
+
+-- what is among the cards of a place was named
+pub among_named : (h : List Event) (p : ℕ) (part : List ℕ) → Among part (owned h p) → Among part (named h)
+among_named h p part a = record { set = a.set; each = λ k has. owned_named h p k (a.each k has) }
+
+pub marker_grows : (g : Header) (players : ℕ) (s : StreetName) (number : BoardNumber) (cards : List ℕ) (h : List Event) (part : List ℕ) → IsAccepted g players (Street s number cards ∷ h) → ((k : ℕ) → has_card cards k ≡ true → k < 52) → Among part (owned h 0)
+    → length (union part cards) ≡ length part + length cards
+marker_grows g players s number cards h part ok deck a = named_grows g players s number cards h part ok deck (among_named h 0 part a)
 
 -- an event that is no marker leaves the board
 zero_seat : (seat : ℕ) (cards : List ℕ) → (1 ≤ seat) × (seat ≤ 10) → (seat == 0) ≡ true → cards ≡ []
 zero_seat seat cards fits here = (let none : seat ≡ 0 = grind arith in let some : 1 ≤ seat = fits.0 in absurd (omega arith))
 
 no_names : (e : Event) → SeatFits e → is_board e ≡ false → (seat_of e == 0) ≡ true → cards_named e ≡ []
-no_names (Street s cards) fits plain here = cc
+no_names (Street s number cards) fits plain here = cc
 no_names (Deal seat cards drawn) fits plain here = zero_seat seat cards fits here
 no_names (Act seat act all_in shown) fits plain here = zero_seat seat shown fits here
 no_names (Show seat cards) fits plain here = zero_seat seat cards fits here
@@ -81,15 +91,23 @@ no_names (Discard seat count cards) fits plain here = zero_seat seat cards fits 
 no_names _ fits plain here = refl
 
 pub own_same : (g : Header) (players : ℕ) (e : Event) (h : List Event) → IsAccepted g players (e ∷ h) → is_board e ≡ false → owned (e ∷ h) 0 ≡ owned h 0
-own_same g players e h ok plain = own_step g players e h 0 ok ∙ one (seat_of e == 0) refl
+own_same g players e h ok plain = own_step g players e h 0 ok ∙ one (place_of e == 0) refl
   where
-    one : (b : Bool) → (seat_of e == 0) ≡ b → (if b then union (owned h 0) (cards_named e) else owned h 0) ≡ owned h 0
-    one true is = (let none : cards_named e ≡ [] = no_names e ok.0.seats plain is in rw none (union-nil (owned h 0) (IsCardSet-cards_where (λ card. is_at 0 (place h card)))))
+    one : (b : Bool) → (place_of e == 0) ≡ b → (if b then union (owned h 0) (cards_named e) else owned h 0) ≡ owned h 0
+    one true is = (let none : cards_named e ≡ [] = no_names e ok.0.seats plain (ap (λ q. q == 0) (sym (place_seat e plain)) ∙ is) in rw none (union-nil (owned h 0) (IsCardSet-cards_where (λ card. is_at 0 (place h card)))))
     one false is = refl
 
 pub none_on : (s : StreetName) (e : Event) → is_board e ≡ false → named_on s e ≡ []
-none_on s (Street marker cards) plain = cc
+none_on s (Street marker number cards) plain = cc
 none_on s _ plain = refl
 
 pub same_on : (g : Header) (players : ℕ) (s : StreetName) (e : Event) (h : List Event) → IsAccepted g players h → named_on s e ≡ [] → board_on s (e ∷ h) ≡ board_on s h
 same_on g players s e h ok none = rw none (union-nil (board_on s h) (board_among g players s h ok).set)
+
+-- nor does it give the second board any
+pub none_second : (s : StreetName) (e : Event) → is_board e ≡ false → named_second s e ≡ []
+none_second s (Street marker number cards) plain = cc
+none_second s _ plain = refl
+
+pub same_second : (s : StreetName) (e : Event) (h : List Event) → named_second s e ≡ [] → second_on s (e ∷ h) ≡ second_on s h
+same_second s e h none = rw none (union-nil (second_on s h) (second_set s h))

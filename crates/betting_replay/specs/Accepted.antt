@@ -1,6 +1,7 @@
 -- Hands so far in which each event could follow those before it.
 use Rattle.std.specs.Prelude.{◌≡◌, ◌+◌, ◌<◌, ℕ, ◌==◌, ◌&&◌, Bool, true, if◌then◌else◌, List, [], ◌∷◌, None}
 use Rattle.history_text.specs.declared.events.Header.{Header}
+use Rattle.history_text.specs.declared.events.BoardNumber.{BoardNumber}
 use Rattle.history_text.specs.declared.events.Event.{Event}
 use Rattle.history_text.specs.declared.events.Event.TheVariants.{Act, Street}
 use Rattle.history_text.specs.declared.events.Act.{Act as Deed}
@@ -53,5 +54,5 @@ pub record IsInTurn (t : Table) (p : ℕ) : Type 0 where
 pub record TakesTurns : Type 0 where
   pub acts : (header : Header) (players : ℕ) (h : List Event) (seat : ℕ) (act : Deed) (all_in : Bool) (shown : List ℕ)
       → legal header players h (Act seat act all_in shown) ≡ None → IsInTurn (table_of header players h) seat
-  pub streets : (header : Header) (players : ℕ) (h : List Event) (street : StreetName) (cards : List ℕ)
-      → legal header players h (Street street cards) ≡ None → next_to_act (table_of header players h) ≡ None
+  pub streets : (header : Header) (players : ℕ) (h : List Event) (street : StreetName) (number : BoardNumber) (cards : List ℕ)
+      → legal header players h (Street street number cards) ≡ None → next_to_act (table_of header players h) ≡ None

@@ -9,14 +9,14 @@ use Rattle.history_text.specs.declared.events.Header.{Header}
 use Rattle.history_text.specs.declared.events.Event.{Event}
 use Rattle.history_text.specs.declared.events.Event.TheVariants.{Street}
 use Rattle.card_sets.specs.declared.streets.Street.{Street as StreetName}
-use Rattle.card_sets.specs.declared.streets.Street.TheVariants.{ShowDown, Summary}
 use Rattle.betting_replay.specs.declared.points.Point.{Point}
 use Rattle.betting_replay.specs.Accepted.{IsAccepted}
-use Rattle.betting_replay.specs.Boards.{board_up_to}
+use Rattle.betting_replay.specs.Boards.{board_up_to, second_board}
+pub use Rattle.betting_replay.specs.Streets.{is_end}
 use Rattle.betting_replay.specs.Known.{final_cards, cards_at}
 use Rattle.betting_replay.specs.Places.{owned}
 use Rattle.card_sets.specs.PlayerSets.{has_player}
-use Rattle.betting_replay.specs.Sums.{street, last_begun}
+use Rattle.betting_replay.specs.Sums.{street, last_begun, runs_twice, second_begun}
 use Rattle.betting_replay.specs.Tables.{table_of, point, dead}
 use Rattle.betting_replay.specs.Turns.{contender_count}
 
@@ -29,8 +29,8 @@ pub record Among (cards others : List ℕ) : Type 0 where
   pub set : IsCardSet cards
   pub each : (card : ℕ) → has_card cards card ≡ true → has_card others card ≡ true
 
--- after accepted events the cards of a seat that are known belong to it, are as many as the game gives, and are in no other seat's and not on the board;
--- those of the board belong to the board; and dead cards are neither the board's nor those of a player who hadn't folded at the point
+-- after accepted events the cards of a seat that are known belong to it, are as many as the game gives, and are in no other seat's and on no board;
+-- those of the board belong to the board; and dead cards are neither a board's nor those of a player who hadn't folded at the point
 pub record CardsBelong (header : Header) (players : ℕ) (h : List Event) : Type 0 where
   pub final : (p : ℕ) (cards : List ℕ) → final_cards header h p ≡ Some cards → Among cards (owned h p)
   pub whole : (p : ℕ) (cards : List ℕ) → final_cards header h p ≡ Some cards → length cards ≡ own_size header.game
@@ -40,9 +40,13 @@ pub record CardsBelong (header : Header) (players : ℕ) (h : List Event) : Type
   pub two_seats : (p q : ℕ) → (p == q) ≡ false → (street : StreetName) (some others : List ℕ) → cards_at header h p street ≡ Some some → cards_at header h q street ≡ Some others → apart some others ≡ true
   pub board : (street : StreetName) → Among (board_up_to h street) (owned h 0)
   pub seat_and_board : (p : ℕ) → (p == 0) ≡ false → (street shown : StreetName) (cards : List ℕ) → cards_at header h p street ≡ Some cards → apart cards (board_up_to h shown) ≡ true
+  pub second_set : (second : List ℕ) → second_board h ≡ Some second → IsCardSet second
+  pub final_and_second : (p : ℕ) → (p == 0) ≡ false → p < 11 → (cards second : List ℕ) → final_cards header h p ≡ Some cards → second_board h ≡ Some second → apart cards second ≡ true
+  pub seat_and_second : (p : ℕ) → (p == 0) ≡ false → p < 11 → (street : StreetName) (cards second : List ℕ) → cards_at header h p street ≡ Some cards → second_board h ≡ Some second → apart cards second ≡ true
   pub dead_set : IsCardSet (dead header players h)
   pub dead_and_board : apart (dead header players h) (owned h 0) ≡ true
   pub dead_and_shown : (street : StreetName) → apart (dead header players h) (board_up_to h street) ≡ true
+  pub dead_and_second : (second : List ℕ) → second_board h ≡ Some second → apart (dead header players h) second ≡ true
   pub dead_and_known : (found : Point) → point header players h ≡ Some found → (p : ℕ) → has_player found.contenders p ≡ true → (street : StreetName) (cards : List ℕ) → cards_at header h p street ≡ Some cards
       → apart (dead header players h) cards ≡ true
 
@@ -64,41 +68,40 @@ pub record HasCards (game : Game) (street : StreetName) (cards : List ℕ) : Typ
   pub deck : (card : ℕ) → has_card cards card ≡ true → card < 52
 
 abbrev pub MarkerFits : Game → Event → Type 0
-MarkerFits game (Street street cards) = HasCards game street cards
+MarkerFits game (Street street number cards) = HasCards game street cards
 MarkerFits game _ = Unit {0}
 
 abbrev pub MarkersFit : Game → List Event → Type 0
 MarkersFit game [] = Unit {0}
 MarkersFit game (e ∷ h) = MarkerFits game e × MarkersFit game h
 
--- a showdown or the summary, and whether the marker of one stood
-abbrev pub is_end : StreetName → Bool
-is_end ShowDown = true
-is_end Summary = true
-is_end _ = false
-
+-- whether the marker of a showdown or of the summary stood
 abbrev pub is_end_of : Option StreetName → Bool
 is_end_of None = false
 is_end_of (Some marker) = is_end marker
 
 abbrev pub ends : Event → Bool
-ends (Street street cards) = is_end street
+ends (Street street number cards) = is_end street
 ends _ = false
 
 abbrev pub has_ended : List Event → Bool
 has_ended [] = false
 has_ended (e ∷ h) = ends e || has_ended h
 
--- after accepted events whose markers have their cards a board that has all streets is whole, and never has more cards; at the point it has those of the streets up to it
+-- after accepted events whose markers have their cards a board that has all streets is whole, and never has more cards, and so is the second board of a hand
+-- that is run twice; at the point the board has the cards of the streets up to it
 pub record HasBoard (header : Header) (players : ℕ) (h : List Event) : Type 0 where
   pub last : last_begun header h ≡ true → length (owned h 0) ≡ board_size header.game
   pub few : (street : StreetName) → length (board_up_to h street) ≤ board_size header.game
+  pub second_last : second_begun header h ≡ true → (second : List ℕ) → second_board h ≡ Some second → length second ≡ board_size header.game
+  pub second_few : (second : List ℕ) → second_board h ≡ Some second → length second ≤ board_size header.game
   pub at_point : (found : Point) → point header players h ≡ Some found → length (board_up_to h found.street) ≡ board_then header.game found.street
 
--- where a hand has ended its last street has begun, or fewer than two contenders are left
+-- where a hand has ended its last street has begun, on both boards where it is run twice, or fewer than two contenders are left
 pub record HasEnded (header : Header) (players : ℕ) (h : List Event) : Type 0 where
   pub marker : is_end_of (street header h) ≡ true → has_ended h ≡ true
   pub played : has_ended h ≡ true → (last_begun header h || nat_lt (contender_count (table_of header players h)) 2) ≡ true
+  pub twice : has_ended h ≡ true → runs_twice h ≡ true → (second_begun header h || nat_lt (contender_count (table_of header players h)) 2) ≡ true
 
 pub record WholeBoards : Type 0 where
   pub boards : (header : Header) (players : ℕ) (h : List Event) → IsAccepted header players h → MarkersFit header.game h → HasBoard header players h

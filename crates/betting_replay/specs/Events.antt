@@ -13,7 +13,7 @@ seat_of (Seat seat units first end) = seat
 seat_of (Button seat) = 0
 seat_of (Post seat kind units all_in) = seat
 seat_of (Deal seat cards drawn) = seat
-seat_of (Street street cards) = 0
+seat_of (Street street number cards) = 0
 seat_of (Act seat act all_in shown) = seat
 seat_of (Uncalled seat units) = seat
 seat_of (Collect seat units pot) = seat
@@ -132,7 +132,7 @@ is_seat_line _ = false
 -- the cards that an event names
 abbrev pub cards_named : Event → List ℕ
 cards_named (Deal seat cards drawn) = cards
-cards_named (Street street cards) = cards
+cards_named (Street street number cards) = cards
 cards_named (Act seat act all_in shown) = shown
 cards_named (Show seat cards) = cards
 cards_named (SeatCards seat cards) = cards
@@ -145,7 +145,7 @@ SeatFits (Seat seat units first end) = (1 ≤ seat) × (seat ≤ 10)
 SeatFits (Button seat) = (1 ≤ seat) × (seat ≤ 10)
 SeatFits (Post seat kind units all_in) = (1 ≤ seat) × (seat ≤ 10)
 SeatFits (Deal seat cards drawn) = (1 ≤ seat) × (seat ≤ 10)
-SeatFits (Street street cards) = Unit {0}
+SeatFits (Street street number cards) = Unit {0}
 SeatFits (Act seat act all_in shown) = (1 ≤ seat) × (seat ≤ 10)
 SeatFits (Uncalled seat units) = (1 ≤ seat) × (seat ≤ 10)
 SeatFits (Collect seat units pot) = (1 ≤ seat) × (seat ≤ 10)

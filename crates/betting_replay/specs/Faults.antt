@@ -2,8 +2,10 @@
 use Rattle.std.specs.Prelude.{ℕ, ◌+◌, ◌==◌, ◌&&◌, ◌||◌, not, Bool, true, false, if◌then◌else◌, List, [], ◌∷◌, length, Option, Some, None, is_some, is_none, nat_lt, nat_le, Result, Ok, Err}
 use Rattle.card_sets.specs.declared.games.Game.{Game}
 use Rattle.card_sets.specs.Cards.{union}
-use Rattle.card_sets.specs.Games.{own_size, has_draw}
+use Rattle.card_sets.specs.Games.{own_size, has_board, has_draw}
 use Rattle.history_text.specs.declared.events.Header.{Header}
+use Rattle.history_text.specs.declared.events.BoardNumber.{BoardNumber}
+use Rattle.history_text.specs.declared.events.BoardNumber.TheVariants as board
 use Rattle.history_text.specs.declared.events.Event.{Event}
 use Rattle.history_text.specs.declared.events.Event.TheVariants.{Seat, Post, Street, Act, Uncalled, Collect, Discard, Pat}
 use Rattle.history_text.specs.declared.events.Act.{Act as Deed}
@@ -14,10 +16,12 @@ use Rattle.betting_replay.specs.declared.faults.BetFault.{BetFault}
 use Rattle.betting_replay.specs.declared.faults.BetFault.TheVariants.{NotInHand, OutOfTurn, NothingOwed, CheckFacingBet, CallAmount, BetFacingBet, RaiseAmount, AboveStack, AllInWord, StreetEarly, StreetOrder, UncalledAmount, CardTwice, PostLate, SeatTwice, TooManyCards}
 use Rattle.betting_replay.specs.Events.{seat_of, act_chips, is_bring_in, cards_named}
 use Rattle.card_sets.specs.Streets.{next_street}
-use Rattle.betting_replay.specs.Streets.{same_street, begun_by_drawing, is_first}
+use Rattle.betting_replay.specs.Streets.{same_street, begun_by_drawing, is_first, is_number}
+use Rattle.betting_replay.specs.Sums.{is_last_of}
 use Rattle.card_sets.specs.PlayerSets.{has_player}
 use Rattle.betting_replay.specs.Tables.{Table, chips_at, acts_at, own_at, table_of}
-use Rattle.betting_replay.specs.Turns.{live_at, greatest, contender_count, has_chips, may_act, owes_before, next_to_act, due, call_fits, raise_fits}
+use Rattle.betting_replay.specs.Turns.{live_at, greatest, contender_count, has_chips, any_shown, may_act, owes_before, next_to_act, due, call_fits, raise_fits}
+use Rattle.betting_replay.specs.AllIn.{funded_count}
 use Rattle.betting_replay.specs.Returns.{return_fits, uncalled_due}
 use Rattle.betting_replay.specs.Places.{is_board, is_free, first_twice}
 
@@ -82,28 +86,68 @@ all_in_word t _ = None
 
 -- 10: a marker, a return, a collection, or the first discard or stand-pat of a draw that no marker began, while somebody owes
 unfoldable pub street_early : Table → Event → Option BetFault
-street_early t (Street street cards) = fault_with StreetEarly (next_to_act t)
+street_early t (Street street number cards) = fault_with StreetEarly (next_to_act t)
 street_early t (Uncalled seat units) = fault_with StreetEarly (next_to_act t)
 street_early t (Collect seat units pot) = fault_with StreetEarly (next_to_act t)
 street_early t (Discard seat count cards) = if is_some (begun_by_drawing t.header.game t.street) then fault_with StreetEarly (next_to_act t) else None
 street_early t (Pat seat) = if is_some (begun_by_drawing t.header.game t.street) then fault_with StreetEarly (next_to_act t) else None
 street_early t _ = None
 
--- 11: a marker that isn't the next of its game, or with fewer than two contenders; a second showdown; a showdown or a summary
--- before the last street with two contenders or more; a discard or a stand-pat off the draw
-abbrev pub may_end : Table → Bool
-may_end t = t.last_begun || nat_lt (contender_count t) 2
+-- 11: a marker that isn't the next of its game on its board, or with fewer than two contenders; a showdown out of order; a showdown
+-- or a summary before the last street with two contenders or more; a discard or a stand-pat off the draw
 
-abbrev pub marker_stands : Table → StreetName → Bool
-marker_stands t ShowDown = not t.shown_down && may_end t
-marker_stands t Summary = may_end t
-marker_stands t street = same_street street (next_street t.header.game t.street) && nat_le 2 (contender_count t)
+-- a hand with a board may be run twice from the next street on where the first has begun, and at most one contender has chips left
+unfoldable pub may_part : Table → Bool
+may_part t = has_board t.header.game && t.opened && nat_le (funded_count t) 1
+
+-- the street that comes next on a board, where this comes next in the game. On the only board none does once the hand is run twice;
+-- on the first of two the next, until markers of the second stood
+abbrev pub next_only : Option StreetName → Option StreetName → Option StreetName
+next_only None next = next
+next_only (Some from) next = None
+
+abbrev pub next_first : Bool → Option StreetName → BoardNumber → Option StreetName → Option StreetName
+next_first may None marker next = if may then next else None
+next_first may (Some from) board.Only next = None
+next_first may (Some from) board.First next = next
+next_first may (Some from) board.Second next = None
+
+-- on the second board the same streets come behind the last of the first
+abbrev pub next_second : Option StreetName → BoardNumber → Bool → Option StreetName → Option StreetName
+next_second None marker last next = None
+next_second (Some from) board.Only last next = None
+next_second (Some from) board.First last next = if last then Some from else None
+next_second (Some from) board.Second last next = next
+
+abbrev pub next_on : Table → BoardNumber → Option StreetName
+next_on t board.Only = next_only t.twice (next_street t.header.game t.street)
+next_on t board.First = next_first (may_part t) t.twice t.marker (next_street t.header.game t.street)
+next_on t board.Second = next_second t.twice t.marker (is_last_of t.header.game t.street) (next_street t.header.game t.street)
+
+-- the last street has begun, on both boards where the hand is run twice
+abbrev pub all_begun : Table → Bool
+all_begun t = t.last_begun && (is_none t.twice || is_last_of t.header.game t.second)
+
+abbrev pub may_end : Table → Bool
+may_end t = all_begun t || nat_lt (contender_count t) 2
+
+-- a showdown's marker comes once: the only one or that of the first board, and behind either that of the second; those of two boards
+-- only where the hand is run twice
+abbrev pub shows_next : Table → BoardNumber → Bool
+shows_next t board.Only = not (any_shown t.showdowns)
+shows_next t board.First = is_some t.twice && not (any_shown t.showdowns)
+shows_next t board.Second = is_some t.twice && any_shown t.showdowns && not t.showdowns.second
+
+abbrev pub marker_stands : Table → BoardNumber → StreetName → Bool
+marker_stands t number ShowDown = shows_next t number && may_end t
+marker_stands t number Summary = is_number board.Only number && may_end t
+marker_stands t number street = same_street street (next_on t number) && nat_le 2 (contender_count t)
 
 abbrev pub draw_stands : Table → Bool
 draw_stands t = same_street Draw t.street || (is_some (begun_by_drawing t.header.game t.street) && nat_le 2 (contender_count t))
 
 unfoldable pub street_order : Table → Event → Option BetFault
-street_order t (Street street cards) = fault_if (not (marker_stands t street)) StreetOrder
+street_order t (Street street number cards) = fault_if (not (marker_stands t number street)) StreetOrder
 street_order t (Discard seat count cards) = fault_if (not (draw_stands t)) StreetOrder
 street_order t (Pat seat) = fault_if (not (draw_stands t)) StreetOrder
 street_order t _ = None

@@ -20,4 +20,5 @@ pub mod CardLaws
 pub mod PointLaws
 pub mod KnownLaws
 pub mod TurnLaws
+pub mod TwiceLaws
 pub mod Counting

@@ -1,6 +1,8 @@
--- Which street an event begins. Source: the usual rules of poker.
-use Rattle.std.specs.Prelude.{Bool, true, false, if◌then◌else◌, Option, Some, None}
+-- Which street an event begins, and on which board. Source: the usual rules of poker.
+use Rattle.std.specs.Prelude.{Bool, true, false, ◌&&◌, not, if◌then◌else◌, Option, Some, None}
 use Rattle.card_sets.specs.declared.games.Game.{Game}
+use Rattle.history_text.specs.declared.events.BoardNumber.{BoardNumber}
+use Rattle.history_text.specs.declared.events.BoardNumber.TheVariants as board
 use Rattle.history_text.specs.declared.events.Event.{Event}
 use Rattle.history_text.specs.declared.events.Event.TheVariants.{Street, Discard, Pat}
 use Rattle.card_sets.specs.declared.streets.Street.{Street as StreetName}
@@ -15,6 +17,12 @@ same_street street (Some other) = is_street street other
 abbrev pub is_showdown : StreetName → Bool
 is_showdown ShowDown = true
 is_showdown _ = false
+
+-- a showdown or the summary
+abbrev pub is_end : StreetName → Bool
+is_end ShowDown = true
+is_end Summary = true
+is_end _ = false
 
 abbrev pub is_first : Option StreetName → Bool
 is_first (Some First) = true
@@ -33,7 +41,7 @@ begun_by_drawing game street = if same_street Draw (next_street game street) the
 
 -- the street that an event begins after these
 abbrev pub begins : Game → Option StreetName → Event → Option StreetName
-begins game street (Street marker cards) = Some marker
+begins game street (Street marker number cards) = Some marker
 begins game street (Discard seat count cards) = begun_by_drawing game street
 begins game street (Pat seat) = begun_by_drawing game street
 begins game street _ = None
@@ -45,3 +53,25 @@ begins_later_by (Some marker) = is_later marker
 -- a street after the first begins with the event
 abbrev pub begins_later : Game → Option StreetName → Event → Bool
 begins_later game street e = begins_later_by (begins game street e)
+
+-- whether two markers are of the same board
+abbrev pub is_number : BoardNumber → BoardNumber → Bool
+is_number board.Only board.Only = true
+is_number board.First board.First = true
+is_number board.Second board.Second = true
+is_number _ _ = false
+
+-- the street that an event begins on a board: none where it isn't a marker of that board, or is one of a showdown or the summary
+abbrev pub begins_on : BoardNumber → Event → Option StreetName
+begins_on number (Street marker other cards) = if is_number number other && not (is_end marker) then Some marker else None
+begins_on number _ = None
+
+-- the event is a showdown's marker of a board
+abbrev pub shows_on : BoardNumber → Event → Bool
+shows_on number (Street marker other cards) = is_number number other && is_showdown marker
+shows_on number _ = false
+
+-- the board of the last marker after an event, where it was another before
+abbrev pub marker_after : Event → BoardNumber → BoardNumber
+marker_after (Street marker number cards) before = number
+marker_after _ before = before

@@ -1,13 +1,16 @@
 -- What the events of a hand so far make of each seat. The latest event stands first.
-use Rattle.std.specs.Prelude.{ℕ, ◌+◌, ◌-◌, ◌==◌, ◌&&◌, ◌||◌, Bool, false, if◌then◌else◌, List, [], ◌∷◌, Option, Some, None}
+use Rattle.std.specs.Prelude.{ℕ, ◌+◌, ◌-◌, ◌==◌, ◌&&◌, ◌||◌, Bool, false, if◌then◌else◌, List, [], ◌∷◌, Option, Some, None, is_some}
 use Rattle.card_sets.specs.declared.games.Game.{Game}
 use Rattle.history_text.specs.declared.events.Header.{Header}
+use Rattle.history_text.specs.declared.events.BoardNumber.{BoardNumber}
+use Rattle.history_text.specs.declared.events.BoardNumber.TheVariants as board
 use Rattle.history_text.specs.declared.events.Event.{Event}
 use Rattle.card_sets.specs.declared.streets.Street.{Street as StreetName}
+use Rattle.betting_replay.specs.declared.points.Showdowns.{Showdowns}
 use Rattle.betting_replay.specs.Events.{seat_of, button_after, bought, returned, live_in, dead_in, ante_in, put_in, posts_small, brings_in, folds, is_act, is_seat_line}
 use Rattle.betting_replay.specs.Seats.{or_else}
 use Rattle.card_sets.specs.Streets.{is_last}
-use Rattle.betting_replay.specs.Streets.{begins, begins_later, is_showdown, is_first}
+use Rattle.betting_replay.specs.Streets.{begins, begins_later, is_first, begins_on, shows_on, marker_after}
 
 -- the street: that of the last marker, or the draw that a discard or a stand-pat began
 abbrev pub street : Header → List Event → Option StreetName
@@ -18,15 +21,6 @@ street header (e ∷ h) = or_else (begins header.game (street header h) e) (stre
 abbrev pub is_later_by : Header → List Event → Event → Bool
 is_later_by header h e = begins_later header.game (street header h) e
 
--- the showdown's marker stood
-abbrev pub shows_down : Option StreetName → Bool
-shows_down None = false
-shows_down (Some marker) = is_showdown marker
-
-abbrev pub shown_down : Header → List Event → Bool
-shown_down header [] = false
-shown_down header (e ∷ h) = shows_down (begins header.game (street header h) e) || shown_down header h
-
 -- the last street has begun
 abbrev pub is_last_of : Game → Option StreetName → Bool
 is_last_of game None = false
@@ -35,6 +29,36 @@ is_last_of game (Some marker) = is_last game marker
 abbrev pub last_begun : Header → List Event → Bool
 last_begun header [] = false
 last_begun header (e ∷ h) = is_last_of header.game (begins header.game (street header h) e) || last_begun header h
+
+-- the street from which on there are two boards: that of the first marker of a first board; none where the hand isn't run twice
+abbrev pub twice_from : List Event → Option StreetName
+twice_from [] = None
+twice_from (e ∷ h) = or_else (twice_from h) (begins_on board.First e)
+
+abbrev pub runs_twice : List Event → Bool
+runs_twice h = is_some (twice_from h)
+
+-- the street that the second board has come to: that of its last marker
+abbrev pub second_street : List Event → Option StreetName
+second_street [] = None
+second_street (e ∷ h) = or_else (begins_on board.Second e) (second_street h)
+
+-- the last street has begun on the second board
+abbrev pub second_begun : Header → List Event → Bool
+second_begun header h = is_last_of header.game (second_street h)
+
+-- the board of the last marker
+abbrev pub marker_board : List Event → BoardNumber
+marker_board [] = board.Only
+marker_board (e ∷ h) = marker_after e (marker_board h)
+
+-- a showdown's marker of a board stood, and which did
+abbrev pub shown_on : BoardNumber → List Event → Bool
+shown_on number [] = false
+shown_on number (e ∷ h) = shows_on number e || shown_on number h
+
+abbrev pub showdowns_of : List Event → Showdowns
+showdowns_of h = record { plain = shown_on board.Only h; first = shown_on board.First h; second = shown_on board.Second h }
 
 -- the first street has begun
 abbrev pub opened : Header → List Event → Bool

@@ -1,13 +1,16 @@
 -- The table: what each seat has and has done, and what lies open.
-use Rattle.std.specs.Prelude.{ℕ, Bool, false, List, [], Option, None, slice_index_or}
+use Rattle.std.specs.Prelude.{ℕ, Bool, false, List, [], Option, None, is_some, slice_index_or}
 use Rattle.history_text.specs.declared.events.Header.{Header}
 use Rattle.card_sets.specs.declared.streets.Street.{Street as StreetName}
+use Rattle.history_text.specs.declared.events.BoardNumber.{BoardNumber}
 use Rattle.betting_replay.specs.declared.points.Point.{Point}
+use Rattle.betting_replay.specs.declared.points.Showdowns.{Showdowns}
 use Rattle.betting_replay.specs.declared.seats.Chips.{Chips}
 use Rattle.betting_replay.specs.declared.seats.Acts.{Acts}
 use Rattle.betting_replay.specs.declared.seats.Deals.{Deals}
 use Rattle.betting_replay.specs.declared.seats.Draws.{Draws}
-use Rattle.betting_replay.specs.Boards.{up_to}
+use Rattle.card_sets.specs.Cards.{union}
+use Rattle.betting_replay.specs.Boards.{up_to, shared_by, second_by}
 use Rattle.betting_replay.specs.Known.{Holding, final_by, known_by}
 
 -- a table, as a replay is seen
@@ -31,17 +34,25 @@ pub record Table : Type 0 where
   pub named : List ℕ
   -- those that were thrown away face up
   pub thrown : List ℕ
-  -- the cards that came to the board on each street
+  -- the cards that came to the board on each street, and to the second board
   pub flop : List ℕ
   pub turn : List ℕ
   pub river : List ℕ
+  pub second_flop : List ℕ
+  pub second_turn : List ℕ
+  pub second_river : List ℕ
   -- the seat of the button, 0 where there is none
   pub button : ℕ
   pub street : Option StreetName
-  -- whether the first street has begun, whether the showdown's marker stood, and whether the last street has begun
+  -- whether the first street has begun, and whether the last has
   pub opened : Bool
-  pub shown_down : Bool
   pub last_begun : Bool
+  -- the board of the last marker, and which showdown's markers stood
+  pub marker : BoardNumber
+  pub showdowns : Showdowns
+  -- the street from which on there are two boards, and the street that the second has come to
+  pub twice : Option StreetName
+  pub second : Option StreetName
   pub small_posted : Bool
   pub last : Option ℕ
   -- the first moment that was an all-in point
@@ -87,6 +98,13 @@ draws_at t p = slice_index_or t.draws p no_draws
 -- the board's cards of the streets up to one
 abbrev pub board_at : Table → StreetName → List ℕ
 board_at t street = up_to street t.flop t.turn t.river
+
+-- whether the hand is run twice, and the cards of the second board
+abbrev pub is_twice : Table → Bool
+is_twice t = is_some t.twice
+
+abbrev pub second_board_at : Table → Option (List ℕ)
+second_board_at t = second_by t.second (shared_by t.twice t.flop t.turn t.river) (union (union t.second_flop t.second_turn) t.second_river)
 
 -- what the text gives of a seat's cards
 abbrev pub holding_at : Table → ℕ → Holding

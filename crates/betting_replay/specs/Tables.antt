@@ -7,13 +7,13 @@ use Rattle.betting_replay.specs.declared.points.Point.{Point}
 use Rattle.betting_replay.specs.declared.seats.Chips.{Chips}
 use Rattle.betting_replay.specs.declared.seats.Acts.{Acts}
 use Rattle.betting_replay.specs.Seats.{by_seat, or_else}
-use Rattle.betting_replay.specs.Sums.{street, button, opened, shown_down, last_begun, small_posted, seated, live, dead as dead_chips, paid, stack, folded, acted, brought_in, last_actor}
+use Rattle.betting_replay.specs.Sums.{street, button, opened, last_begun, marker_board, showdowns_of, twice_from, second_street, small_posted, seated, live, dead as dead_chips, paid, stack, folded, acted, brought_in, last_actor}
 use Rattle.betting_replay.specs.Places.{owned, named, thrown}
-use Rattle.betting_replay.specs.Boards.{board_on}
+use Rattle.betting_replay.specs.Boards.{board_on, second_on}
 use Rattle.betting_replay.specs.Hands.{dealt, shown, row}
 use Rattle.betting_replay.specs.Dealing.{deals_of, draws_of}
 use Rattle.betting_replay.specs.AllIn.{point_now, dead_by}
-pub use Rattle.betting_replay.specs.Table.{Table, no_chips, no_acts, no_deals, no_draws, chips_at, acts_at, own_at, dealt_at, shown_at, deals_at, row_at, draws_at, board_at, holding_at, final_at, known_at}
+pub use Rattle.betting_replay.specs.Table.{Table, no_chips, no_acts, no_deals, no_draws, chips_at, acts_at, own_at, dealt_at, shown_at, deals_at, row_at, draws_at, board_at, is_twice, second_board_at, holding_at, final_at, known_at}
 pub use Rattle.betting_replay.specs.AllIn.{dead_at}
 
 -- what the events so far make of a seat
@@ -41,11 +41,17 @@ table_with header players h found = record {
   flop = board_on Flop h;
   turn = board_on Turn h;
   river = board_on River h;
+  second_flop = second_on Flop h;
+  second_turn = second_on Turn h;
+  second_river = second_on River h;
   button = button h;
   street = street header h;
   opened = opened header h;
-  shown_down = shown_down header h;
   last_begun = last_begun header h;
+  marker = marker_board h;
+  showdowns = showdowns_of h;
+  twice = twice_from h;
+  second = second_street h;
   small_posted = small_posted h;
   last = last_actor header h;
   point = found;

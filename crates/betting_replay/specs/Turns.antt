@@ -3,6 +3,7 @@ use Rattle.std.specs.Prelude.{ℕ, ◌-◌, ◌==◌, ◌&&◌, ◌||◌, not, B
 use Rattle.card_sets.specs.PlayerSets.{has_player}
 use Rattle.betting_replay.specs.Seats.{greatest_of, count_seats, first_between, first_after}
 use Rattle.betting_replay.specs.Streets.{is_first}
+use Rattle.betting_replay.specs.declared.points.Showdowns.{Showdowns}
 use Rattle.betting_replay.specs.Table.{Table, chips_at, acts_at}
 
 -- what a seat has put in live on the street, and the greatest of any
@@ -22,9 +23,13 @@ contender_count t = count_seats (is_contender t)
 abbrev pub has_chips : Table → ℕ → Bool
 has_chips t p = nat_lt 0 (chips_at t p).stack
 
--- betting is open from the first marker to the showdown
+-- a showdown's marker stood, of whichever board
+abbrev pub any_shown : Showdowns → Bool
+any_shown s = s.plain || s.first || s.second
+
+-- betting is open from the first street's marker to the first showdown's
 abbrev pub is_open : Table → Bool
-is_open t = t.opened && not t.shown_down
+is_open t = t.opened && not (any_shown t.showdowns)
 
 -- how many other contenders have chips left
 unfoldable pub rivals : Table → ℕ → ℕ

@@ -22,7 +22,7 @@ fn point_on(street: Option<Street>, contenders: u16) -> Option<Point>
 
 impl Replay {
     /// How many contenders have chips left.
-    fn funded_count(&self) -> u8
+    pub(crate) fn funded_count(&self) -> u8
         ensures { result ≡ funded_count self.now }
     {
         PlayerSet::passing(11, |seat| self.is_contender(seat) && self.has_chips(seat)).count()

@@ -29,13 +29,14 @@ pub enum BetFault {
     AllInWord,
     /// A marker, a return, a collection, or the first discard of a draw, while this seat owes an act.
     StreetEarly(u8),
-    /// A marker that isn't the next of its game or comes with one player left, a second showdown, a
+    /// A marker that isn't the next of its game on its board or comes with one player left, a marker of two
+    /// boards where the hand isn't or may not be run twice, a showdown's that stood or is out of order, a
     /// showdown or a summary before the last street with two players left, or a discard off the draw.
     StreetOrder,
     /// A return of another amount than is uncalled, or to another seat. Over the whole hand so much is.
     UncalledAmount(u64),
-    /// This card belongs elsewhere, stands twice in a bracket, was thrown away, or comes to the board
-    /// again. It is the first such of the event.
+    /// This card belongs elsewhere, stands twice in a bracket, was thrown away, or comes to a board again.
+    /// It is the first such of the event.
     CardTwice(Card),
     /// A post behind the first street's marker, or a bring-in anywhere but before the first act there.
     PostLate,

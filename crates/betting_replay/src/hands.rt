@@ -80,7 +80,7 @@ pub(crate) fn row_by(e: &Event) -> Option<[Card; 7]>
 }
 
 impl Replay {
-    /// All cards of the board.
+    /// All cards of the board, of the first where there are two.
     pub fn board(&self) -> CardSet
         ensures { result ≡ own_at self.now 0 }
     {

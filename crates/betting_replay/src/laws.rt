@@ -4,6 +4,7 @@ ghost use Rattle.betting_replay.specs.Accepted.{KeepsChips, ShowsSeats, ShowsDea
 ghost use Rattle.betting_replay.specs.KnownLaws.{KnowsAllDealt, HoldsKept};
 ghost use Rattle.betting_replay.specs.PointLaws.{PointsHaveContenders};
 ghost use Rattle.betting_replay.specs.TurnLaws.{PassesNobodyOver};
+ghost use Rattle.betting_replay.specs.TwiceLaws.{RunsTwice};
 ghost use Rattle.betting_replay.specs.CardLaws.{PlacesAreApart, CardsBelongAfter, WholeBoards};
 
 /// After any accepted events a seat's stack, what it has paid and its dead chips are together what its
@@ -36,25 +37,33 @@ pub fn law_a_table_shows_dead_cards()
     ensures { ShowsDead }
 {}
 
-/// Each card has one place, the board or a seat: two places share none.
+/// Each card has one place, a board or a seat: two places share none.
 pub fn law_places_are_apart()
     ensures { PlacesAreApart }
 {}
 
 /// After any accepted events the cards of a seat that are known belong to it, are as many as the game
-/// gives, and are in no other seat's and not on the board; those of the board belong to the board; and
-/// dead cards are neither the board's nor among the known ones of a player who hadn't folded at the
-/// all-in point.
+/// gives, and are in no other seat's and on no board; those of the board belong to the board; and dead
+/// cards are neither a board's nor among the known ones of a player who hadn't folded at the all-in point.
 pub fn law_cards_belong()
     ensures { CardsBelongAfter }
 {}
 
 /// After any accepted events whose markers have as many cards as come with them, a board has at most
 /// its cards, all of them where the last street has begun, and at the all-in point those of the streets
-/// up to it. Where a showdown's marker or the summary's stood, the last street has begun or fewer than
-/// two players are left.
+/// up to it. So has the second board of a hand that is run twice. Where a showdown's marker or the
+/// summary's stood, the last street has begun, on both boards where there are two, or fewer than two
+/// players are left.
 pub fn law_whole_boards()
     ensures { WholeBoards }
+{}
+
+/// After any accepted events whose markers have as many cards as come with them, a hand that is run twice
+/// has a board, has two of them from a street behind the first on, and was at its all-in point before, so
+/// what lies on the board at that point is among the cards of the streets before. Its boards share exactly
+/// these. A second board comes only in such a hand.
+pub fn law_two_boards()
+    ensures { RunsTwice }
 {}
 
 /// An all-in point has two contenders or more, all of them players, and whoever is a contender after

@@ -6,7 +6,7 @@
 //! it was. Nothing takes memory, and a step takes no longer in a long hand than in a short one.
 //!
 //! Beside its verdict a replay tells what a settlement and a count of equities ask for: what each seat
-//! has put in, its cards that are known at the end and on a street, the cards of the board, and the
+//! has put in, its cards that are known at the end and on a street, the cards of the board and of a second one, and the
 //! all-in point with the players who were in the hand there and the cards that are dead.
 //!
 //! Clauses see a replay as a `Table`: the chips, acts and cards of each seat, and what lies open. What
@@ -40,8 +40,8 @@ pub use laws::{
     law_a_point_has_contenders, law_a_table_shows_dead_cards, law_a_table_shows_each_seat,
     law_cards_belong, law_chips_stay, law_kept_cards_are_held, law_nobody_is_passed_over,
     law_places_are_apart, law_stud_cards_are_all_that_were_dealt, law_turns_are_taken,
-    law_whole_boards,
+    law_two_boards, law_whole_boards,
 };
-pub use points::Point;
+pub use points::{Point, Showdowns};
 pub use replay::Replay;
 pub use seats::{Acts, Chips, Deals, Draws};

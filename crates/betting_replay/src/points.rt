@@ -1,4 +1,4 @@
-//! The moment from which a hand is played out with no more acts.
+//! The moment from which a hand is played out with no more acts, and how it is shown down.
 
 use history_text::Street;
 
@@ -10,4 +10,15 @@ pub struct Point {
     pub street: Street,
     /// The players who hadn't folded there: bit s for seat s.
     pub contenders: u16,
+}
+
+/// Which showdown markers stood.
+#[derive(Clone, Copy, Debug, PartialEq, Eq)]
+pub struct Showdowns {
+    /// That of the only board.
+    pub plain: bool,
+    /// That of the first of two boards.
+    pub first: bool,
+    /// That of the second.
+    pub second: bool,
 }

@@ -10,16 +10,18 @@ ghost use Rattle.betting_replay.specs.Tables.{StandsFor, chips_at};
 ghost use Rattle.betting_replay.specs.Counting.{counted};
 ghost use Rattle.betting_replay.specs.Faults.{verdict, legal};
 
-use crate::boards::cards_on;
+use crate::boards::{cards_on, cards_second};
 use crate::counting::{acts_after, chips_after};
 use crate::dealing::{deals_after, draws_after};
 use crate::faults::BetFault;
 use crate::hands::{cards_dealt, row_by, shown_after};
-use crate::places::{cards_named, cards_thrown, seat_of, with_cards};
+use crate::places::{cards_given, cards_named, cards_thrown, seat_of, with_cards};
+use crate::points::Showdowns;
 use crate::replay::Replay;
 use crate::seats::{Acts, Chips, Deals, Draws};
+use crate::streets::{begins_on, marker_after, showdowns_after};
 use card_sets::{CardSet, PlayerSet};
-use history_text::{Event, Header, PostKind, Street};
+use history_text::{BoardNumber, Event, Header, PostKind, Street};
 
 /// Whether an event posts the small blind.
 fn posts_small(e: &Event) -> bool
@@ -91,11 +93,21 @@ impl Replay {
             flop: CardSet::empty(),
             turn: CardSet::empty(),
             river: CardSet::empty(),
+            second_flop: CardSet::empty(),
+            second_turn: CardSet::empty(),
+            second_river: CardSet::empty(),
             button: 0,
             street: None,
             opened: false,
-            shown_down: false,
             last_begun: false,
+            marker: BoardNumber::Only,
+            showdowns: Showdowns {
+                plain: false,
+                first: false,
+                second: false,
+            },
+            twice: None,
+            second: None,
             small_posted: false,
             last: None,
             point: None,
@@ -114,7 +126,7 @@ impl Replay {
         let cards = cards_named(e);
         self.chips[place] = chips_after(self.header.big, self.small_posted, e, self.chips[place]);
         self.acts[place] = acts_after(e, self.acts[place]);
-        self.own[place] = with_cards(self.own[place], cards);
+        self.own[place] = with_cards(self.own[place], cards_given(e));
         self.dealt[place] = with_cards(self.dealt[place], cards_dealt(e));
         self.shown[place] = shown_after(self.header.game, e, self.shown[place]);
         self.deals[place] = deals_after(self.street, e, self.deals[place]);
@@ -125,7 +137,14 @@ impl Replay {
         self.flop = with_cards(self.flop, cards_on(Street::Flop, e));
         self.turn = with_cards(self.turn, cards_on(Street::Turn, e));
         self.river = with_cards(self.river, cards_on(Street::River, e));
+        self.second_flop = with_cards(self.second_flop, cards_second(Street::Flop, e));
+        self.second_turn = with_cards(self.second_turn, cards_second(Street::Turn, e));
+        self.second_river = with_cards(self.second_river, cards_second(Street::River, e));
         self.button = button_after(e, self.button);
+        self.marker = marker_after(e, self.marker);
+        self.showdowns = showdowns_after(e, self.showdowns);
+        self.twice = self.twice.or(begins_on(BoardNumber::First, e));
+        self.second = begins_on(BoardNumber::Second, e).or(self.second);
         self.small_posted = posts_small(e) || self.small_posted;
         if is_act(e) {
             self.last = Some(seat);

@@ -2,18 +2,20 @@
 
 ghost use Rattle.std.specs.Prelude.{◌≡◌, ℕ, Option, Some, ◌<◌, ◌≤◌};
 ghost use Rattle.betting_replay.specs.Events.{SeatFits};
-ghost use Rattle.betting_replay.specs.Streets.{same_street, begun_by_drawing, is_later, begins};
-ghost use Rattle.betting_replay.specs.Faults.{verdict, fault_with, may_end, marker_stands, draw_stands, street_early, street_order};
-ghost use Rattle.betting_replay.specs.Counting.{cleared, begun_with, begun};
+ghost use Rattle.betting_replay.specs.Streets.{same_street, begun_by_drawing, is_later, is_end, is_number, begins, begins_on, shows_on, marker_after};
+ghost use Rattle.betting_replay.specs.Sums.{is_last_of};
+ghost use Rattle.betting_replay.specs.Faults.{verdict, fault_with, may_part, next_only, next_first, next_second, next_on, all_begun, may_end, shows_next, marker_stands, draw_stands, street_early, street_order};
+ghost use Rattle.betting_replay.specs.Counting.{cleared, begun_with, begun, showdowns_after};
 ghost use Rattle.betting_replay.specs.Turns.{next_to_act};
 ghost use Rattle.betting_replay.specs.declared.faults.BetFault.TheVariants.{StreetEarly};
 
 use crate::counting::{clear_acts, clear_chips};
 use crate::faults::BetFault;
 use crate::judge::fault_if;
+use crate::points::Showdowns;
 use crate::replay::Replay;
 use card_sets::Game;
-use history_text::{Event, Street};
+use history_text::{BoardNumber, Event, Street};
 
 /// The street that the first discard or stand-pat begins.
 fn begun_by_drawing(game: Game, street: Option<Street>) -> Option<Street>
@@ -43,6 +45,123 @@ fn is_later(street: Street) -> bool
     !matches!(street, Street::First | Street::ShowDown | Street::Summary)
 }
 
+/// Whether a street is a showdown or the summary.
+fn is_end(street: Street) -> bool
+    ensures { result ≡ is_end street }
+{
+    matches!(street, Street::ShowDown | Street::Summary)
+}
+
+/// Whether two markers are of the same board.
+fn is_number(number: BoardNumber, other: BoardNumber) -> bool
+    ensures { result ≡ is_number number other }
+{
+    number == other
+}
+
+/// The street that an event begins on a board.
+pub(crate) fn begins_on(number: BoardNumber, e: &Event) -> Option<Street>
+    ensures { result ≡ begins_on number e.now }
+{
+    match *e {
+        Event::Street { street, board, .. } => {
+            if is_number(number, board) && !is_end(street) {
+                Some(street)
+            } else {
+                None
+            }
+        }
+        _ => None,
+    }
+}
+
+/// Whether an event is a showdown's marker of a board.
+fn shows_on(number: BoardNumber, e: &Event) -> bool
+    ensures { result ≡ shows_on number e.now }
+{
+    match *e {
+        Event::Street { street, board, .. } => {
+            is_number(number, board) && street == Street::ShowDown
+        }
+        _ => false,
+    }
+}
+
+/// The board of the last marker, after an event.
+pub(crate) fn marker_after(e: &Event, before: BoardNumber) -> BoardNumber
+    ensures { result ≡ marker_after e.now before }
+{
+    match *e {
+        Event::Street { board, .. } => board,
+        _ => before,
+    }
+}
+
+/// The showdown markers that stood, after an event.
+pub(crate) fn showdowns_after(e: &Event, before: Showdowns) -> Showdowns
+    ensures { result ≡ showdowns_after e.now before }
+{
+    Showdowns {
+        plain: shows_on(BoardNumber::Only, e) || before.plain,
+        first: shows_on(BoardNumber::First, e) || before.first,
+        second: shows_on(BoardNumber::Second, e) || before.second,
+    }
+}
+
+/// Whether a street that the hand may have come to is the last.
+fn is_last_of(game: Game, street: Option<Street>) -> bool
+    ensures { result ≡ is_last_of game street }
+{
+    match street {
+        Some(street) => game.is_last(street),
+        None => false,
+    }
+}
+
+/// The street that comes next on the only board, where this comes next in the game.
+fn next_only(twice: Option<Street>, next: Option<Street>) -> Option<Street>
+    ensures { result ≡ next_only twice next }
+{
+    match twice {
+        None => next,
+        Some(_) => None,
+    }
+}
+
+/// The street that comes next on the first of two boards, which may be the next where none has two yet.
+fn next_first(
+    may: bool,
+    twice: Option<Street>,
+    marker: BoardNumber,
+    next: Option<Street>,
+) -> Option<Street>
+    ensures { result ≡ next_first may twice marker next }
+{
+    match (twice, marker) {
+        (None, _) => { if may { next } else { None } }
+        (Some(_), BoardNumber::First) => next,
+        (Some(_), BoardNumber::Only | BoardNumber::Second) => None,
+    }
+}
+
+/// The street that comes next on the second board: behind the last street of the first board the one from
+/// which on there are two.
+fn next_second(
+    twice: Option<Street>,
+    marker: BoardNumber,
+    last: bool,
+    next: Option<Street>,
+) -> Option<Street>
+    ensures { result ≡ next_second twice marker last next }
+{
+    let from = twice?;
+    match marker {
+        BoardNumber::Only => None,
+        BoardNumber::First => { if last { Some(from) } else { None } }
+        BoardNumber::Second => next,
+    }
+}
+
 /// The street that an event begins.
 fn begins(game: Game, street: Option<Street>, e: &Event) -> Option<Street>
     ensures { result ≡ begins game street e.now }
@@ -70,7 +189,6 @@ impl Replay {
     {
         self.street = Some(street);
         self.opened = street == Street::First || self.opened;
-        self.shown_down = street == Street::ShowDown || self.shown_down;
         self.last_begun = self.header.game.is_last(street) || self.last_begun;
         if is_later(street) {
             self.clear();
@@ -117,24 +235,66 @@ impl Replay {
         }
     }
 
-    /// Whether the hand may end: the last street has begun, or one player is left.
+    /// Whether the hand may be run twice from the next street on: it has a board, and at most one player
+    /// has chips left.
+    #[tactic(auto, unfolding(crate::specs::Faults::may_part))]
+    fn may_part(&self) -> bool
+        ensures { result ≡ may_part self.now }
+    {
+        self.header.game.has_board() && self.opened && self.funded_count() <= 1
+    }
+
+    /// The street that comes next on a board.
+    fn next_on(&self, board: BoardNumber) -> Option<Street>
+        ensures { result ≡ next_on self.now board }
+    {
+        let next = self.header.game.next_street(self.street);
+        match board {
+            BoardNumber::Only => next_only(self.twice, next),
+            BoardNumber::First => next_first(self.may_part(), self.twice, self.marker, next),
+            BoardNumber::Second => {
+                let last = is_last_of(self.header.game, self.street);
+                next_second(self.twice, self.marker, last, next)
+            }
+        }
+    }
+
+    /// Whether the last street has begun, on both boards where there are two.
+    fn all_begun(&self) -> bool
+        ensures { result ≡ all_begun self.now }
+    {
+        self.last_begun && (self.twice.is_none() || is_last_of(self.header.game, self.second))
+    }
+
+    /// Whether the hand may end: all streets have begun, or one player is left.
     fn may_end(&self) -> bool
         ensures { result ≡ may_end self.now }
     {
-        self.last_begun || self.contender_count() < 2
+        self.all_begun() || self.contender_count() < 2
+    }
+
+    /// Whether a showdown's marker comes in its order: once, and of two boards only in a hand that is run
+    /// twice, that of the second behind one of the others.
+    fn shows_next(&self, board: BoardNumber) -> bool
+        ensures { result ≡ shows_next self.now board }
+    {
+        match board {
+            BoardNumber::Only => !self.any_shown(),
+            BoardNumber::First => self.twice.is_some() && !self.any_shown(),
+            BoardNumber::Second => {
+                self.twice.is_some() && self.any_shown() && !self.showdowns.second
+            }
+        }
     }
 
     /// Whether a marker may stand.
-    fn marker_stands(&self, street: Street) -> bool
-        ensures { result ≡ marker_stands self.now street }
+    fn marker_stands(&self, board: BoardNumber, street: Street) -> bool
+        ensures { result ≡ marker_stands self.now board street }
     {
         match street {
-            Street::ShowDown => !self.shown_down && self.may_end(),
-            Street::Summary => self.may_end(),
-            _ => {
-                same_street(street, self.header.game.next_street(self.street))
-                    && self.contender_count() >= 2
-            }
+            Street::ShowDown => self.shows_next(board) && self.may_end(),
+            Street::Summary => is_number(BoardNumber::Only, board) && self.may_end(),
+            _ => same_street(street, self.next_on(board)) && self.contender_count() >= 2,
         }
     }
 
@@ -153,8 +313,8 @@ impl Replay {
         ensures { result ≡ verdict (street_order self.now e.now) }
     {
         match *e {
-            Event::Street { street, .. } => {
-                fault_if(!self.marker_stands(street), BetFault::StreetOrder)
+            Event::Street { street, board, .. } => {
+                fault_if(!self.marker_stands(board, street), BetFault::StreetOrder)
             }
             Event::Discard { .. } | Event::Pat { .. } => {
                 fault_if(!self.draw_stands(), BetFault::StreetOrder)

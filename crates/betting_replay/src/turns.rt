@@ -4,7 +4,7 @@ ghost use Rattle.std.specs.Prelude.{◌≡◌, ℕ, ◌+◌, ◌-◌, ◌<◌, �
 ghost use Rattle.card_sets.specs.PlayerSets.{has_player};
 ghost use Rattle.betting_replay.specs.Seats.{first_from, first_between, first_after};
 ghost use Rattle.betting_replay.specs.Accounts.{contenders};
-ghost use Rattle.betting_replay.specs.Turns.{live_at, greatest, is_contender, contender_count, has_chips, is_open, rivals, is_pending, owes, may_act, owes_before, next_to_act, due, has_level, due_to_level};
+ghost use Rattle.betting_replay.specs.Turns.{live_at, greatest, is_contender, contender_count, has_chips, any_shown, is_open, rivals, is_pending, owes, may_act, owes_before, next_to_act, due, has_level, due_to_level};
 
 use crate::replay::Replay;
 use card_sets::PlayerSet;
@@ -61,11 +61,18 @@ impl Replay {
         self.chips[seat as usize].stack > 0
     }
 
+    /// Whether a showdown's marker stood, of whichever board.
+    pub(crate) fn any_shown(&self) -> bool
+        ensures { result ≡ any_shown self.now.showdowns }
+    {
+        self.showdowns.plain || self.showdowns.first || self.showdowns.second
+    }
+
     /// Whether betting is open.
     pub(crate) fn is_open(&self) -> bool
         ensures { result ≡ is_open self.now }
     {
-        self.opened && !self.shown_down
+        self.opened && !self.any_shown()
     }
 
     /// How many other contenders have chips left.

@@ -1,6 +1,6 @@
 //! Pots, returns and splits, worked out by hand.
 
-use pot_layers::{OddOrder, Paid, Pot, Share, SideWinners, layers, split, uncalled};
+use pot_layers::{OddOrder, Paid, Pot, Share, SideWinners, halves, layers, split, uncalled};
 use std::test::Fail;
 
 /// Three all in, one of them with less than the others.
@@ -129,4 +129,11 @@ fn the_high_half_is_rounded_up(rt: HostRuntime) -> Result<(), Fail> {
     ];
     assert!(rt; shares.items() == expected.as_slice());
     Ok(())
+}
+
+#[test]
+fn the_first_of_two_halves_is_rounded_up(rt: HostRuntime) {
+    assert_eq!(rt; halves(101), [51, 50]);
+    assert_eq!(rt; halves(1), [1, 0]);
+    assert_eq!(rt; halves(u64::MAX), [1 << 63, (1 << 63) - 1]);
 }

@@ -13,7 +13,8 @@ ghost use Rattle.equity_job.specs.Blocks.{block_of, blocks_of};
 use crate::{BLOCK, Job};
 use runout_ranges::{Runout, first_runout};
 use runout_walk::{
-    Boards, Draws, Leaf, Plain, are_boards, are_draws, clear_counts, count_runouts_of,
+    Boards, Draws, Leaf, Plain, Rivers, are_boards, are_draws, are_rivers, clear_counts,
+    count_runouts_of,
 };
 use showdown_tally::{Tally, fill_tally, settle_runout};
 use std::sync::ledger::Ledger;
@@ -82,6 +83,9 @@ pub fn fill_block<L: Ledger>(
         let draws = &mut scratch.draws;
         draws.serve(&job.table, &job.shape);
         count_span(draws, job, span, counts, steps);
+    } else if are_rivers(&job.table, &job.shape) {
+        let mut rivers = Rivers::of(&job.table, &job.shape);
+        count_span(&mut rivers, job, span, counts, steps);
     } else {
         let mut plain = Plain::of(&job.table, &job.shape);
         count_span(&mut plain, job, span, counts, steps);

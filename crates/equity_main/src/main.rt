@@ -3,10 +3,11 @@
 #![tactic(auto)]
 
 use byte_ends::{StdSink, StdSource};
-use run_engine::run_alone;
+use run_engine::run;
 use std::io::ErrorKind;
 use std::process::ExitCode;
 use std::{env, io};
+use steal_pool::OpenGate;
 
 /// The status where memory is refused while the words are taken.
 const NO_MEMORY: u8 = 6;
@@ -31,5 +32,5 @@ fn main(rt: HostRuntime) -> ExitCode {
     };
     let mut source = StdSource::new(rt.stdin());
     let mut sink = StdSink::new(rt.stdout());
-    ExitCode::from(run_alone(rt.alloc(), &words, &mut source, &mut sink))
+    ExitCode::from(run(&rt, rt.alloc(), &words, &mut source, &mut sink, &OpenGate))
 }

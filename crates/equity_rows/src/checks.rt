@@ -8,7 +8,7 @@ use crate::runs::{AMPLE, Change, Edges, Row, each_change_reports, each_reports, 
 use std::test::Fail;
 
 /// What is reported of the hand with side pots.
-const SIDE_POTS_REPORT: &str = "hand 88 accepted holdem rake 0\n\
+pub(crate) const SIDE_POTS_REPORT: &str = "hand 88 accepted holdem rake 0\n\
 pot 0 gross 1500 rake 0 checked\n\
 paid 1500 a\n\
 pot 1 gross 2000 rake 0 checked\n\

@@ -1,4 +1,4 @@
-//! Words in no form, failed reads and writes, and inputs above the limit.
+//! Words in no form, and failed reads and writes.
 
 use crate::runs::{AMPLE, Edges, all_report, ends};
 use std::test::Fail;
@@ -14,12 +14,6 @@ hand 2 ev 0.045\n";
 
 pub(crate) const USAGE: &str =
     "usage: equity MODE [--workers N] [--format text|csv] [--seed S] [--hands H]\n";
-
-/// Ends for large inputs.
-const WIDE: Edges = Edges {
-    piece: 65_536,
-    ..AMPLE
-};
 
 /// Words in no form give the usage line.
 const IN_NO_FORM: &[&[&str]] = &[
@@ -113,31 +107,4 @@ fn a_failed_write_leaves_a_front(rt: HostRuntime) -> Result<(), Fail> {
     }
     let full = Edges { room: 20, ..AMPLE };
     ends(&rt, alloc, &["spots"], SPOT, full, 4, front(20))
-}
-
-/// One byte above the limit ends the run, and what a newline closes within it is answered.
-#[test]
-fn an_input_above_the_limit_is_cut(rt: HostRuntime) -> Result<(), Fail> {
-    let alloc = rt.alloc();
-    let mut input = SPOT.to_vec(alloc)?;
-    input.resize(67_108_865, 0)?;
-    ends(&rt, alloc, &["spots"], &input, WIDE, 5, REPORT.as_bytes())
-}
-
-/// An input of just the limit is read whole.
-#[test]
-fn an_input_of_the_limit_is_read_whole(rt: HostRuntime) -> Result<(), Fail> {
-    let alloc = rt.alloc();
-    let mut input = SPOT.to_vec(alloc)?;
-    input.resize(67_108_864, b' ')?;
-    ends(&rt, alloc, &["spots"], &input, WIDE, 0, REPORT.as_bytes())
-}
-
-/// Above the limit with no newline nothing is answered.
-#[test]
-fn an_input_above_the_limit_with_no_newline_gives_nothing(rt: HostRuntime) -> Result<(), Fail> {
-    let alloc = rt.alloc();
-    let mut input = b"holdem As Ah - Ks Kh".to_vec(alloc)?;
-    input.resize(67_108_865, b' ')?;
-    ends(&rt, alloc, &["spots"], &input, WIDE, 5, b"")
 }

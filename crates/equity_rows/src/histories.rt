@@ -183,6 +183,31 @@ pub(crate) fn with_line(
     Ok(out)
 }
 
+/// A text with other lines in place of those from one to another. Lines count from 1.
+pub(crate) fn with_lines(
+    alloc: Global,
+    text: &str,
+    first: usize,
+    last: usize,
+    lines: &[&str],
+) -> Result<Vec<u8>, AllocError> {
+    let mut out = Vec::new(alloc);
+    for (at, old) in text.lines().enumerate() {
+        let number = at.saturating_add(1);
+        if number == first {
+            for line in lines {
+                out.extend_from_slice(line.as_bytes())?;
+                out.extend_from_slice(b"\n")?;
+            }
+        }
+        if number < first || last < number {
+            out.extend_from_slice(old.as_bytes())?;
+            out.extend_from_slice(b"\n")?;
+        }
+    }
+    Ok(out)
+}
+
 /// The first lines of a text, so many.
 pub(crate) fn first_lines(alloc: Global, text: &str, count: usize) -> Result<Vec<u8>, AllocError> {
     let mut out = Vec::new(alloc);

@@ -3,6 +3,7 @@
 #[test]
 fn the_laws_of_cards_and_pots_can_be_called() {
     card_sets::law_text_is_read();
+    pot_layers::law_two_halves_add_up();
     pot_layers::law_two_sides_share_a_pot();
     pot_layers::law_winners_of_a_side_get_the_same_or_one_more();
 }
@@ -19,6 +20,8 @@ fn the_laws_of_a_replay_can_be_called() {
 fn the_laws_of_a_verdict_can_be_called() {
     hand_audit::law_chips_are_kept();
     hand_audit::law_pots_add_up();
+    hand_audit::law_pots_go_by_boards();
+    hand_audit::law_a_lone_player_wins_a_side_of_each_part();
     hand_audit::law_a_table_has_the_pots_of_the_hand();
     hand_audit::law_a_mark_is_a_card_of_its_player();
 }

@@ -22,6 +22,8 @@ mod limits;
 #[cfg(test)]
 mod listed;
 #[cfg(test)]
+mod long;
+#[cfg(test)]
 mod mixed;
 #[cfg(test)]
 mod other_games;
@@ -34,6 +36,10 @@ mod runs;
 #[cfg(test)]
 mod spots;
 #[cfg(test)]
+mod streams;
+#[cfg(test)]
 mod sums;
+#[cfg(test)]
+mod twice;
 #[cfg(test)]
 mod words;

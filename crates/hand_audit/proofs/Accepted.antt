@@ -171,7 +171,7 @@ accepted_won law apart belong boards shows folded number line lines g read settl
     let a = accepted_is number line lines g settlement all_in names players read is in
     let end = sound_all g players number lines nothing (start g players) a.none in
     let h = events_of g lines in
-    won_pots law shows g players h (decided apart belong boards shows folded g players h end.0.accepted end.0.markers (end.0.part (has_total g players h end.1)))
+    won_pots law shows g players h (belong g players h end.0.accepted) (decided apart belong boards shows folded g players h end.0.accepted end.0.markers (end.0.part (has_total g players h end.1)))
 
 pub accepted_marks : AllowsFives → PlacesAreApart → CardsBelongAfter → WholeBoards → ShowsSeats → ExcludesFolded → (number : ℕ) (line : List ℕ) (lines : List (List ℕ)) (g : Header) → header_of line ≡ Ok g
     → (settlement : Settlement) (all_in : AllIn) (names : List (ℕ × List ℕ)) (players : ℕ)
@@ -195,4 +195,4 @@ accepted_adds orders law fives apart belong boards shows folded number line line
     let fit_settled : (settled s).fits ≡ true = ap (λ (x : Settlement). x.fits) a.made ∙ fit in
     let all = decided apart belong boards shows folded g players h end.0.accepted end.0.markers (end.0.part total) in
     let decided_all = subst (λ (paid : List Paid). AreDecided s (pots paid)) (sym (paid_shown g players h)) all in
-    subst PotsAddUp a.made (add_up orders g players h end.0.accepted end.0.collectors (end.0.chips total) decided_all (won_pots law shows g players h all) (marks_are_cards fives s decided_all) (fit_of s fit_settled))
+    subst PotsAddUp a.made (add_up orders g players h end.0.accepted end.0.collectors (end.0.chips total) decided_all (won_pots law shows g players h (belong g players h end.0.accepted) all) (marks_are_cards fives s decided_all) (fit_of s fit_settled))

@@ -1,7 +1,7 @@
 -- Behind a total line of an accepted hand: where a pot has two players or more, the board is whole, and final cards that are known
 -- are whole hands that share no card with it.
-use Rattle.std.proofs.Common.{◌≡◌, ℕ, zero, suc, ◌+◌, ◌<◌, ◌≤◌, List, [], ◌∷◌, ◌++◌, refl, sym, ap, ◌∙◌, subst, Bool, true, false, ◌==◌, ◌&&◌, ◌||◌, length, length-append, arith}
-use Rattle.std.specs.Prelude.{Option, Some, None, IfSome, if◌then◌else◌, nat_lt, slice_index_or}
+use Rattle.std.proofs.Common.{◌≡◌, ℕ, zero, suc, ◌+◌, ◌<◌, ◌≤◌, List, [], ◌∷◌, ◌++◌, refl, sym, ap, ◌∙◌, subst, Bool, true, false, ◌==◌, ◌&&◌, ◌||◌, inl, inr, length, length-append, arith}
+use Rattle.std.specs.Prelude.{Option, Some, None, is_some, unwrap_or, IfSome, if◌then◌else◌, nat_lt, slice_index_or}
 use Rattle.std.specs.Int.{bit_at}
 use Rattle.std.specs.List.{list_any}
 use Rattle.card_sets.specs.PlayerSets.{has_player, players_from, seats_in}
@@ -15,12 +15,14 @@ use Rattle.history_text.specs.declared.events.Event.{Event}
 use Rattle.history_text.specs.declared.events.Event.TheVariants.{Street, Deal, Act, Show, SeatCards}
 use Rattle.history_text.specs.declared.events.Part.{Part}
 use Rattle.history_text.specs.declared.events.Part.TheVariants.{Preamble, Play, Summary as SummaryPart}
+use Rattle.card_sets.specs.declared.streets.Street.{Street as StreetName}
 use Rattle.card_sets.specs.declared.streets.Street.TheVariants.{First, Flop, Turn, Fourth, Fifth, Sixth, River, Draw, ShowDown, Summary}
 use Rattle.pot_layers.specs.declared.paid.Pot.{Pot}
 use Rattle.pot_layers.specs.Pots.{pots}
 use Rattle.pot_layers.specs.Eligible.{ExcludesFolded, is_contender as contends}
 use Rattle.betting_replay.specs.Accepted.{IsAccepted, ShowsSeats}
 use Rattle.betting_replay.specs.Accounts.{paid_by}
+use Rattle.betting_replay.specs.Boards.{shared, second_own, second_by, second_board}
 use Rattle.betting_replay.specs.CardLaws.{PlacesAreApart, CardsBelong, CardsBelongAfter, Among, MarkersFit, HasBoard, HasEnded, WholeBoards, has_ended, ends}
 use Rattle.betting_replay.specs.Events.{seat_of, SeatFits}
 use Rattle.betting_replay.specs.Hands.{dealt, dealt_by, shown, shown_by, shown_after, whole, is_discard, if_many}
@@ -28,8 +30,8 @@ use Rattle.betting_replay.specs.Known.{final_cards, final_by, holding_of}
 use Rattle.betting_replay.specs.Dealing.{marked, hides}
 use Rattle.betting_replay.specs.Places.{owned, is_at, place, thrown}
 use Rattle.betting_replay.specs.Seats.{by_seat, count_below, or_else}
-use Rattle.betting_replay.specs.Sums.{last_begun}
-use Rattle.betting_replay.specs.Table.{Table, own_at, final_at}
+use Rattle.betting_replay.specs.Sums.{last_begun, is_last_of, runs_twice, second_street, second_begun}
+use Rattle.betting_replay.specs.Table.{Table, final_at}
 use Rattle.betting_replay.specs.Tables.{table_of}
 use Rattle.betting_replay.specs.Turns.{is_contender, contender_count}
 use Rattle.betting_replay.proofs.BySeat.{at_by_seat}
@@ -37,24 +39,24 @@ use Rattle.betting_replay.proofs.Members.{apart_among, no_more}
 use Rattle.showdown_tally.specs.Laws.{IsFull}
 use Rattle.hand_audit.specs.Lines.{part_after, part_of}
 use Rattle.hand_audit.specs.Settle.{Showing}
-use Rattle.hand_audit.specs.Showings.{paid_from, paid_in, showing_at, showing_of}
-use Rattle.hand_audit.specs.Winning.{AreFull, AreDecided}
+use Rattle.hand_audit.specs.Showings.{paid_from, paid_in, second_if, showing_at, showing_of}
+use Rattle.hand_audit.specs.Winning.{AreFullOn, AreFull, AreDecided}
 use Rattle.hand_audit.proofs.Tens.{seats_more}
 
 -- in the summary the hand has ended
 ended_by : (h : List Event) (e : Event) (p : Part) → (p ≡ SummaryPart → has_ended h ≡ true) → part_after e p ≡ SummaryPart → (ends e || has_ended h) ≡ true
-ended_by h (Street Summary cards) p k is = refl
-ended_by h (Street ShowDown cards) p k is = refl
-ended_by h (Street First cards) Preamble k is = cc
-ended_by h (Street First cards) Play k is = k is
-ended_by h (Street First cards) SummaryPart k is = k is
-ended_by h (Street Flop cards) p k is = k is
-ended_by h (Street Turn cards) p k is = k is
-ended_by h (Street Fourth cards) p k is = k is
-ended_by h (Street Fifth cards) p k is = k is
-ended_by h (Street Sixth cards) p k is = k is
-ended_by h (Street River cards) p k is = k is
-ended_by h (Street Draw cards) p k is = k is
+ended_by h (Street Summary number cards) p k is = refl
+ended_by h (Street ShowDown number cards) p k is = refl
+ended_by h (Street First number cards) Preamble k is = cc
+ended_by h (Street First number cards) Play k is = k is
+ended_by h (Street First number cards) SummaryPart k is = k is
+ended_by h (Street Flop number cards) p k is = k is
+ended_by h (Street Turn number cards) p k is = k is
+ended_by h (Street Fourth number cards) p k is = k is
+ended_by h (Street Fifth number cards) p k is = k is
+ended_by h (Street Sixth number cards) p k is = k is
+ended_by h (Street River number cards) p k is = k is
+ended_by h (Street Draw number cards) p k is = k is
 ended_by h _ p k is = k is
 
 ended_in : (h : List Event) → part_of h ≡ SummaryPart → has_ended h ≡ true
@@ -132,23 +134,77 @@ full_hand apart g players h p (Some own) belong size seat is =
     let board : Among (owned h 0) (owned h 0) = record { set = IsCardSet-cards_where (λ card. is_at 0 (place h card)); each = λ card has. has } in
     record { own_cards = among.set; board_cards = board.set; own_size = belong.whole p own is; board_size = size; apart = apart_among own (owned h 0) (owned h p) (owned h 0) among board (apart h p 0 seat) }
 
-any_hand : PlacesAreApart → (g : Header) (players : ℕ) (h : List Event) (p : ℕ) → IsAccepted g players h → CardsBelong g players h → length (owned h 0) ≡ board_size g.game → IfSome (final_cards g h p) (λ own. IsFull g.game own (owned h 0))
-any_hand apart g players h p ok belong size = by (p == 0) refl
+-- where the second board has come to the last street, final cards that are known are whole on it too
+pub record HasSecond (g : Header) (h : List Event) : Type 0 where
+  pub twice : runs_twice h ≡ true → second_begun g h ≡ true
+
+some_again : (o : Option (List ℕ)) (cards : List ℕ) → is_some o ≡ true → Some (unwrap_or o []) ≡ Some cards → o ≡ Some cards
+some_again None cards some is = cc
+some_again (Some found) cards some is = is
+
+second_some : (g : Header) (h : List Event) → second_begun g h ≡ true → is_some (second_board h) ≡ true
+second_some g h begun = by (second_street h) refl begun
   where
-    by : (b : Bool) → (p == 0) ≡ b → IfSome (final_cards g h p) (λ own. IsFull g.game own (owned h 0))
+    by : (o : Option StreetName) → second_street h ≡ o → is_last_of g.game o ≡ true → is_some (second_by o (shared h) (second_own h)) ≡ true
+    by None e last = cc
+    by (Some street) e last = refl
+
+second_is : (g : Header) (h : List Event) (second : List ℕ) → HasSecond g h → second_if (runs_twice h) (second_board h) ≡ Some second → second_board h ≡ Some second
+second_is g h second has is = by (runs_twice h) refl is
+  where
+    by : (b : Bool) → runs_twice h ≡ b → second_if b (second_board h) ≡ Some second → second_board h ≡ Some second
+    by false e is = cc
+    by true e is = some_again (second_board h) second (second_some g h (has.twice e)) is
+
+second_long : (g : Header) (players : ℕ) (h : List Event) (second : List ℕ) → HasBoard g players h → HasSecond g h → second_if (runs_twice h) (second_board h) ≡ Some second → length second ≡ board_size g.game
+second_long g players h second board has is = by (runs_twice h) refl is
+  where
+    by : (b : Bool) → runs_twice h ≡ b → second_if b (second_board h) ≡ Some second → length second ≡ board_size g.game
+    by false e is = cc
+    by true e is = board.second_last (has.twice e) second (some_again (second_board h) second (second_some g h (has.twice e)) is)
+
+second_hand : (g : Header) (players : ℕ) (h : List Event) (p : ℕ) (o : Option (List ℕ)) (second : List ℕ) → CardsBelong g players h → second_board h ≡ Some second → length second ≡ board_size g.game → (p == 0) ≡ false → p < 11
+    → final_cards g h p ≡ o → IfSome o (λ own. IsFull g.game own second)
+second_hand g players h p None second belong is size seat l final = tt
+second_hand g players h p (Some own) second belong is size seat l final =
+    let among : Among own (owned h p) = belong.final p own final in
+    record { own_cards = among.set; board_cards = belong.second_set second is; own_size = belong.whole p own final; board_size = size; apart = belong.final_and_second p seat l own second final is }
+
+-- the hands of all seats, the first of which is no seat
+each_hand : (g : Header) (players : ℕ) (h : List Event) (board : List ℕ) (p : ℕ) → IsAccepted g players h → length (owned h 0) ≡ board_size g.game
+    → ((p == 0) ≡ false → IfSome (final_cards g h p) (λ own. IsFull g.game own board)) → IfSome (final_cards g h p) (λ own. IsFull g.game own board)
+each_hand g players h board p ok size seat = by (p == 0) refl
+  where
+    by : (b : Bool) → (p == 0) ≡ b → IfSome (final_cards g h p) (λ own. IsFull g.game own board)
     by true e =
         let z : p ≡ 0 = grind arith in
         let none : final_cards g h p ≡ None = ap (final_cards g h) z ∙ final_nobody g players h g.game refl ok size in
-        subst (λ (o : Option (List ℕ)). IfSome o (λ own. IsFull g.game own (owned h 0))) (sym none) tt
-    by false e = full_hand apart g players h p (final_cards g h p) belong size e refl
+        subst (λ (o : Option (List ℕ)). IfSome o (λ own. IsFull g.game own board)) (sym none) tt
+    by false e = seat e
 
-all_full : PlacesAreApart → ShowsSeats → (g : Header) (players : ℕ) (h : List Event) → IsAccepted g players h → CardsBelong g players h → length (owned h 0) ≡ board_size g.game → AreFull (showing_of g players h)
+shown_full : ShowsSeats → (g : Header) (players : ℕ) (h : List Event) (board : List ℕ) → ((p : ℕ) → p < 11 → IfSome (final_cards g h p) (λ own. IsFull g.game own board)) → AreFullOn (showing_of g players h) board
 unfolding showing_of showing_at
-all_full apart shows g players h ok belong size p l =
-    let board : own_at (table_of g players h) 0 ≡ owned h 0 = (shows g players h 0 (omega arith)).own in
+shown_full shows g players h board full p l =
     let hand : slice_index_or (by_seat (final_at (table_of g players h))) p None ≡ final_cards g h p = at_by_seat (final_at (table_of g players h)) p None l ∙ (shows g players h p l).final in
-    subst (λ (b : List ℕ). IfSome (slice_index_or (by_seat (final_at (table_of g players h))) p None) (λ own. IsFull g.game own b)) (sym board)
-    (subst (λ (o : Option (List ℕ)). IfSome o (λ own. IsFull g.game own (owned h 0))) (sym hand) (any_hand apart g players h p ok belong size))
+    subst (λ (o : Option (List ℕ)). IfSome o (λ own. IsFull g.game own board)) (sym hand) (full p l)
+
+first_board : ShowsSeats → (g : Header) (players : ℕ) (h : List Event) → (showing_of g players h).board ≡ owned h 0
+unfolding showing_of showing_at
+first_board shows g players h = (shows g players h 0 (omega arith)).own
+
+pub second_shown : (g : Header) (players : ℕ) (h : List Event) → (showing_of g players h).second ≡ second_if (runs_twice h) (second_board h)
+unfolding showing_of showing_at
+second_shown g players h = refl
+
+all_full : PlacesAreApart → ShowsSeats → (g : Header) (players : ℕ) (h : List Event) → IsAccepted g players h → CardsBelong g players h → HasBoard g players h → length (owned h 0) ≡ board_size g.game → HasSecond g h → AreFull (showing_of g players h)
+all_full apart shows g players h ok belong board size has other (inl is) =
+    let first : other ≡ owned h 0 = is ∙ first_board shows g players h in
+    subst (λ (b : List ℕ). AreFullOn (showing_of g players h) b) (sym first)
+    (shown_full shows g players h (owned h 0) (λ p l. each_hand g players h (owned h 0) p ok size (λ seat. full_hand apart g players h p (final_cards g h p) belong size seat refl)))
+all_full apart shows g players h ok belong board size has other (inr is) =
+    let second : second_if (runs_twice h) (second_board h) ≡ Some other = sym (second_shown g players h) ∙ is in
+    shown_full shows g players h other
+    (λ p l. each_hand g players h other p ok size (λ seat. second_hand g players h p (final_cards g h p) other belong (second_is g h other has second) (second_long g players h other board has second) seat l refl))
 
 -- who may win a pot is a contender
 contender_from : (t : Table) (p n seat : ℕ) → list_any (λ x. (x.seat == seat) && x.contender) (paid_from t p n) ≡ true → is_contender t seat ≡ true
@@ -223,6 +279,8 @@ decided apart belong boards shows folded g players h ok markers ended =
     let t = table_of g players h in
     let end : HasEnded g players h = boards.ends g players h ok in
     let board : HasBoard g players h = boards.boards g players h ok markers in
+    let last : 2 ≤ contender_count t → last_begun g h ≡ true = λ many. begun (last_begun g h) (contender_count t) (end.played (ended_in h ended)) many in
+    let second : 2 ≤ contender_count t → HasSecond g h = (λ many. record { twice = λ twice. begun (second_begun g h) (contender_count t) (end.twice (ended_in h ended) twice) many }) in
     in_order (showing_of g players h) t (pots (paid_in t))
-    (λ many. all_full apart shows g players h ok (belong g players h ok) (board.last (begun (last_begun g h) (contender_count t) (end.played (ended_in h ended)) many)))
+    (λ many. all_full apart shows g players h ok (belong g players h ok) board (board.last (last many)) (second many))
     (λ k d l. only_contenders folded t k d l)

@@ -11,7 +11,7 @@ use Rattle.history_text.specs.declared.events.Event.{Event}
 use Rattle.card_sets.specs.declared.streets.Street.{Street}
 use Rattle.betting_replay.specs.Accepted.{IsAccepted, ShowsSeats, ShowsDead}
 use Rattle.betting_replay.specs.AllIn.{point_street, point_contenders}
-use Rattle.betting_replay.specs.Boards.{board_up_to}
+use Rattle.betting_replay.specs.Boards.{board_up_to, second_board}
 use Rattle.betting_replay.specs.CardLaws.{PlacesAreApart, CardsBelongAfter}
 use Rattle.betting_replay.specs.Known.{cards_at}
 use Rattle.betting_replay.specs.Places.{owned}
@@ -117,7 +117,7 @@ pub known_cards : PlacesAreApart → CardsBelongAfter → ShowsSeats → ShowsDe
     → KnowsCards g players h street seats table
 unfolding all_in_by known_there bare_of
 known_cards apart belong shows shows_dead g players h street seats table ok is =
-    record { hands = hands; board = board; dead = dead_is; later = later }
+    record { hands = hands; board = board; dead = dead_is; later = later; second = other }
   where
     t : Replayed
     t = table_of g players h
@@ -171,4 +171,21 @@ known_cards apart belong shows shows_dead g players h street seats table ok is =
           (λ has. from_apart (owned h (slice_index_or seats i 0)) (owned h 0) card (apart h (slice_index_or seats i 0) 0 (seat_some i l)) ((hands i l).own.each card has) here);
       dead = hidden (has_card table.known.dead card) table.known.dead card refl
           (λ has. from_apart (dead g players h) (owned h 0) card (belong g players h ok).dead_and_board (subst (λ (cards : List ℕ). has_card cards card ≡ true) dead_is has) here);
+    }
+
+    seat_few : (i : ℕ) → i < table.known.count → slice_index_or seats i 0 < 11
+    seat_few i l =
+        let count : table.known.count ≡ length xs = ap (λ (b : Bare). b.count) made.bare_is in
+        let inside : i < length xs = omega (arith, l, count) in
+        let range = range_index xs i (range_from (point_contenders t.point) 1 10 (omega arith) (omega arith)) inside in
+        let seat : slice_index_or seats i 0 ≡ slice_index_or xs i 0 = ap (λ s. slice_index_or s i 0) made.seats_are ∙ in_ten 0 xs i 0 inside in
+        omega (arith, seat, range.1)
+
+    other : (second : List ℕ) → second_board h ≡ Some second → (card : ℕ) → has_card second card ≡ true → IsStillHidden table card
+    other second come card here = record {
+      hands = λ i l. hidden (has_card (slice_index_or table.known.hands i []) card) (slice_index_or table.known.hands i []) card refl
+          (λ has. from_apart (slice_index_or table.known.hands i []) second card
+          ((belong g players h ok).seat_and_second (slice_index_or seats i 0) (seat_some i l) (seat_few i l) street (slice_index_or table.known.hands i []) second (hands i l).cards come) has here);
+      dead = hidden (has_card table.known.dead card) table.known.dead card refl
+          (λ has. from_apart (dead g players h) second card ((belong g players h ok).dead_and_second second come) (subst (λ (cards : List ℕ). has_card cards card ≡ true) dead_is has) here);
     }

@@ -25,6 +25,7 @@ pub mod Among
 pub mod Marked
 pub mod MarkFacts
 pub mod Won
+pub mod Lone
 pub mod MorePots
 pub mod MarkerCards
 pub mod Decided

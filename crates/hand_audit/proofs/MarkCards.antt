@@ -27,7 +27,7 @@ use Rattle.hand_audit.specs.Marks.{worth_of_five, best_fives, height, highest, t
 use Rattle.hand_audit.specs.MarkLaws.{IsMarkOf, MarksIn, MarksAreCards}
 use Rattle.hand_audit.specs.MarkNumbers.{number_of_five, top_number}
 use Rattle.hand_audit.specs.Settle.{Showing, hand_of, mark_at, value_on, worth_on, side_winners, first_side, first_winners}
-use Rattle.hand_audit.specs.Winning.{AreFull, AreDecided}
+use Rattle.hand_audit.specs.Winning.{AreFullOn, AreDecided}
 use Rattle.hand_audit.proofs.Among.{among_filter}
 use Rattle.hand_audit.proofs.MarkFacts.{best_below}
 use Rattle.hand_audit.proofs.WonPots.{decided_at}
@@ -171,11 +171,11 @@ razz_mark law own board full = (let f = full_mark law Razz own board full in own
 
 -- in each pot
 marks_in : (game : Game) (side : Side) (s : Showing) → AreDecided s (pots s.paid) → ((own board : List ℕ) → IsFull game own board → IsMarkOf side (allowed game own board) own (mark_of (Some side) game board (Some own))) → MarksIn game side s
-marks_in game side s decided each is number pot at more p l own known =
-    let full : AreFull s = decided_at s (pots s.paid) number pot decided at more in
-    let mine : IsFull s.game own s.board = subst (λ (o : Option (List ℕ)). IfSome o (λ own. IsFull s.game own s.board)) known (full p l) in
-    let mark : mark_at (Some side) s s.board p ≡ mark_of (Some side) game s.board (Some own) = ap (λ o. mark_of (Some side) s.game s.board o) known ∙ ap (λ g. mark_of (Some side) g s.board (Some own)) is in
-    subst (λ (n : ℕ). IsMarkOf side (allowed game own s.board) own n) (sym mark) (each own s.board (subst (λ (g : Game). IsFull g own s.board) is mine))
+marks_in game side s decided each is number pot at more board on p l own known =
+    let full : AreFullOn s board = decided_at s (pots s.paid) number pot decided at more board on in
+    let mine : IsFull s.game own board = subst (λ (o : Option (List ℕ)). IfSome o (λ own. IsFull s.game own board)) known (full p l) in
+    let mark : mark_at (Some side) s board p ≡ mark_of (Some side) game board (Some own) = ap (λ o. mark_of (Some side) s.game board o) known ∙ ap (λ g. mark_of (Some side) g board (Some own)) is in
+    subst (λ (n : ℕ). IsMarkOf side (allowed game own board) own n) (sym mark) (each own board (subst (λ (g : Game). IsFull g own board) is mine))
 
 -- whoever wins has known final cards
 has_hand : (side : Side) (s : Showing) (board : List ℕ) (p : ℕ) → is_some (worth_on (Some side) s board p) ≡ true → is_some (hand_of s p) ≡ true

@@ -15,6 +15,7 @@ use Rattle.history_text.specs.declared.events.Verb.{Verb}
 use Rattle.history_text.specs.declared.events.Verb.TheVariants.{PostsSmall, PostsBig, PostsBoth, PostsAnte, BringsIn, Folds, Checks, Calls, Bets, Raises, Shows, Mucks, DoesntShow, Discards, StandsPat, SitsOut, IsSittingOut}
 use Rattle.history_text.specs.declared.events.Act.TheVariants.{Check}
 use Rattle.card_sets.specs.declared.streets.Street.{Street}
+use Rattle.history_text.specs.declared.events.BoardNumber.{BoardNumber}
 use Rattle.history_text.specs.declared.events.Event.{Event}
 use Rattle.history_text.specs.declared.events.Event.TheVariants as event
 use Rattle.history_text.specs.declared.events.TextFault.{TextFault}
@@ -29,7 +30,7 @@ use Rattle.history_text.specs.Plays.{acted, deal_end, deal_once, deal_again, dea
 use Rattle.history_text.specs.Seats.{seat_opening, free_name, seat_event, seated, button_event, button_end, buttoned, preamble_event}
 use Rattle.history_text.specs.Totals.{total_event, totalled, seat_among, last_shown, shown_event, shown, summary_event}
 use Rattle.card_sets.specs.Streets.{board_count}
-use Rattle.history_text.specs.Markers.{street_event, is_of_two_boards, marker_of, marker_event, marked}
+use Rattle.history_text.specs.Markers.{street_event, marker_of, marker_event, marked}
 use Rattle.history_text.specs.Lines.{line_event}
 use Rattle.betting_replay.specs.CardLaws.{HasCards, MarkerFits}
 
@@ -154,9 +155,9 @@ counted : (n : ℕ) (inner : List ℕ) → IfOk (counted_cards (n ∷ []) inner)
 unfolding counted_cards cards_of
 counted n inner = counted_by n (card_words inner) (words_deck inner)
 
-street_fits : (game : Game) (street : Street) (text : List ℕ) → Ends (MarkerFits game) (street_event game street text)
+street_fits : (game : Game) (number : BoardNumber) (street : Street) (text : List ℕ) → Ends (MarkerFits game) (street_event game number street text)
 unfolding street_event
-street_fits game street text = with_equation (board_count game street == 0)
+street_fits game number street text = with_equation (board_count game street == 0)
     (λ e. says (none (let z : board_count game street ≡ 0 = grind arith in z)))
     (λ e. reads (or_fault BadCards (cut_last (codes "[") text)) (λ last. reads (closed last.1) (λ cut. reads_with (counted_cards (board_count game street ∷ []) cut.0) (IsCounted (board_count game street)) (counted (board_count game street) cut.0) (λ cards q. says (record { many = q.0; deck = q.1 })))))
   where
@@ -165,7 +166,7 @@ street_fits game street text = with_equation (board_count game street == 0)
 
 marker_fits : (g : Header) (text : List ℕ) → Ends (MarkerFits g.game) (marker_event g text)
 unfolding marker_event
-marker_fits g text = either (is_of_two_boards text) fails (reads (or_fault BadMarker (marker_of g.game text)) (λ marker. street_fits g.game marker.0 marker.1))
+marker_fits g text = reads (or_fault BadMarker (marker_of g.game text)) (λ marker. street_fits g.game marker.0.0 marker.0.1 marker.1)
 
 marked_fits : (g : Header) (line : List ℕ) → Says (MarkerFits g.game) (marked g line)
 unfolding marked

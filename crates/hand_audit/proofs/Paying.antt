@@ -1,7 +1,7 @@
 -- What some payments come to is what all seats get, and are due.
-use Rattle.std.proofs.Common.{◌≡◌, ℕ, zero, suc, ◌+◌, ◌≤◌, List, [], ◌∷◌, refl, ap, ◌∙◌, Bool, true, false, ◌==◌, ◌||◌, arith}
+use Rattle.std.proofs.Common.{◌≡◌, ℕ, zero, suc, ◌+◌, ◌≤◌, List, [], ◌∷◌, ◌++◌, refl, ap, ◌∙◌, Bool, true, false, ◌==◌, ◌||◌, arith}
 use Rattle.std.specs.Prelude.{nat_lt, if◌then◌else◌}
-use Rattle.std.proofs.lemmas.List.Sums.{sum_by-cons}
+use Rattle.std.proofs.lemmas.List.Sums.{sum_by-cons, sum_by-append}
 use Rattle.pot_layers.specs.declared.paid.Share.{Share}
 use Rattle.pot_layers.specs.Split.{given_in_all, shares, shares_from, sides_won, side_share, high_half, low_half}
 use Rattle.hand_audit.specs.declared.settlement.Payment.{Payment}
@@ -60,6 +60,14 @@ of_from units high low high_order low_order seat (suc n) l h = by (sides_won hig
 pub of_shares : (units high low : ℕ) (high_order low_order : List ℕ) → OfTable (shares units high low high_order low_order)
 unfolding shares
 of_shares units high low high_order low_order = of_from units high low high_order low_order 1 10 (omega arith) (omega arith)
+
+-- so of some shares with others behind them, and what they give together
+pub of_both : (some others : List Share) → OfTable some → OfTable others → OfTable (some ++ others)
+of_both [] others a b = b
+of_both (share ∷ some) others a b = (a.0, a.1, of_both some others a.2 b)
+
+pub given_both : (some others : List Share) → given_in_all (some ++ others) ≡ given_in_all some + given_in_all others
+given_both some others = sum_by-append (λ (x : Share). x.units) some others
 
 -- what all seats are given is all that is given
 due_cons : (share : Share) (all : List Share) (q : ℕ) → due_of_seat q (share ∷ all) ≡ at_seat share.seat share.units q + due_of_seat q all

@@ -1,6 +1,6 @@
 -- The pots of an accepted hand add up.
-use Rattle.std.proofs.Common.{◌≡◌, ℕ, zero, suc, ◌+◌, ◌-◌, ◌<◌, ◌≤◌, List, [], ◌∷◌, refl, sym, ap, ◌∙◌, subst, Bool, true, false, length, arith}
-use Rattle.std.specs.Prelude.{Some, All, slice_get, slice_index_or}
+use Rattle.std.proofs.Common.{◌≡◌, ℕ, zero, suc, ◌+◌, ◌-◌, ◌<◌, ◌≤◌, List, [], ◌∷◌, refl, sym, ap, ◌∙◌, subst, Bool, true, false, ◌⊎◌, inl, inr, length, arith}
+use Rattle.std.specs.Prelude.{Option, Some, None, All, slice_get, slice_index_or}
 use Rattle.std.proofs.lemmas.Option.{slice_get-get_or}
 use Rattle.card_sets.specs.PlayerSets.{seats_in}
 use Rattle.history_text.specs.declared.events.Header.{Header}
@@ -10,7 +10,7 @@ use Rattle.pot_layers.specs.declared.paid.Share.{Share}
 use Rattle.pot_layers.specs.Pots.{pots, put_in_all}
 use Rattle.pot_layers.specs.Split.{OrdersItsSeats}
 use Rattle.betting_replay.specs.Accepted.{IsAccepted}
-use Rattle.betting_replay.specs.Sums.{button}
+use Rattle.betting_replay.specs.Sums.{button, runs_twice}
 use Rattle.betting_replay.specs.Tables.{table_of}
 use Rattle.hand_audit.specs.declared.pot_names.Source.{Source}
 use Rattle.hand_audit.specs.declared.pot_names.Source.TheVariants.{Numbered}
@@ -20,12 +20,12 @@ use Rattle.hand_audit.specs.Departs.{put_in_by, collected}
 use Rattle.hand_audit.specs.MarkLaws.{MarksAreCards}
 use Rattle.hand_audit.specs.PotNames.{counts_from, fits}
 use Rattle.hand_audit.specs.PotSums.{IsPaidOut, PotsAddUp}
-use Rattle.hand_audit.specs.Settle.{Showing, is_checked, first_winners, net_of, parts_of, shares_if, shares_of_pot, due_of_seat, payment, pay_of, pot_line, pot_lines, settled, settled_of}
+use Rattle.hand_audit.specs.Settle.{Showing, Part, IsBoardOf, is_checked, first_winners, net_of, parts_by, parts_of, shares_if, shares_of_pot, due_of_seat, payment, pay_of, pot_line, pot_lines, settled, settled_of}
 use Rattle.hand_audit.specs.Showings.{rake, showing_at, showing_of}
 use Rattle.hand_audit.specs.Splits.{IsWonBySomebody}
 use Rattle.hand_audit.specs.Verdict.{settlement_by}
 use Rattle.hand_audit.specs.Winning.{AreDecided}
-use Rattle.hand_audit.proofs.Dues.{IsGiven, SmallMarks, parts_given, small_marks}
+use Rattle.hand_audit.proofs.Dues.{IsGiven, IsWon, parts_given, small_marks}
 use Rattle.hand_audit.proofs.OpenPots.{IsOpen, AreOpen, open_in, pots_open}
 use Rattle.hand_audit.proofs.Paying.{got_by_all, due_by_all, due_is_given}
 use Rattle.hand_audit.proofs.Rakes.{net_within, rakes_add_up}
@@ -45,7 +45,7 @@ unfolding shares_of_pot
 shares_known s source pot units known given = subst (λ (b : Bool). IsGiven (shares_if b s pot.eligible (parts_of s (net_of s source))) units) (sym known) given
 
 paid_out : OrdersItsSeats → (s : Showing) (source : Source) (pot : Pot) → AreSeats s.collections → IsOpen pot.eligible → s.button ≤ 10
-    → (is_checked s pot.eligible ≡ true → 2 ≤ length (seats_in pot.eligible) → SmallMarks s × (0 < first_winners s s.board pot.eligible))
+    → (is_checked s pot.eligible ≡ true → 2 ≤ length (seats_in pot.eligible) → (board : List ℕ) → IsBoardOf s board → IsWon s board pot.eligible)
     → net_of s source + (pot.units - net_of s source) ≡ pot.units → IsPaidOut (pot_line s source pot)
 paid_out law s source pot seats some button won rest =
     let got : over_seats (λ p. got_from (counts_from source) p s.collections) ≡ net_of s source = got_is_taken_from (counts_from source) s.collections seats in
@@ -54,6 +54,16 @@ paid_out law s source pot seats some button won rest =
     let all_got = got_by_all (pay_of s source pot) 1 10 ∙ got in
     let all_due = due_by_all (pay_of s source pot) 1 10 ∙ due_by (is_checked s pot.eligible) (λ p. got_from (counts_from source) p s.collections) (shares_of_pot s source pot) (net_of s source) got given in
     record { collected = omega (arith, all_got, rest); due = all_due ∙ sym all_got }
+
+-- where each part of a pot is won, so is each board's
+won_on : (s : Showing) (eligible units : ℕ) (second : Option (List ℕ)) (board : List ℕ) → All (λ (part : Part). 0 < first_winners s part.board eligible) (parts_by second s.board units)
+    → (board ≡ s.board) ⊎ (second ≡ Some board) → 0 < first_winners s board eligible
+won_on s eligible units None board won (inl is) = subst (λ (b : List ℕ). 0 < first_winners s b eligible) (sym is) (won 0 (record { units = units; board = s.board }) (omega arith))
+won_on s eligible units None board won (inr is) = cc
+won_on s eligible units (Some other) board won (inl is) = subst (λ (b : List ℕ). 0 < first_winners s b eligible) (sym is) (won 0 (record { units = units; board = s.board }) (omega arith))
+won_on s eligible units (Some other) board won (inr is) =
+    let same : other ≡ board = cc in
+    subst (λ (b : List ℕ). 0 < first_winners s b eligible) same (won 1 (record { units = units; board = s.board }) (omega arith))
 
 -- so of each of some pots
 each_out : (s : Showing) (count k : ℕ) (all : List Pot) → ((i : ℕ) (d : Pot) → i < length all → IsPaidOut (pot_line s (Numbered count (k + i)) (slice_index_or all i d))) → All IsPaidOut (pot_lines s count k all)
@@ -93,7 +103,7 @@ settled_fits s fit = ap (λ b. settled_of b s (pots s.paid)) (sym fit)
 
 pub add_up : OrdersItsSeats → (g : Header) (players : ℕ) (h : List Event) → IsAccepted g players h → AreSeats (collections h) → IsBalanced g players h
     → AreDecided (showing_of g players h) (pots (showing_of g players h).paid) → IsWonBySomebody (showing_of g players h) → MarksAreCards (showing_of g players h)
-    → fits (pots (showing_of g players h).paid) (showing_of g players h).collections ≡ true → PotsAddUp (settlement_by g (rake h) (settled (showing_of g players h)))
+    → fits (pots (showing_of g players h).paid) (showing_of g players h).collections ≡ true → PotsAddUp (settlement_by g (rake h) (runs_twice h) (settled (showing_of g players h)))
 add_up law g players h ok seats balanced decided won marks fit =
     let s = showing_of g players h in
     let all = pots s.paid in
@@ -108,9 +118,12 @@ add_up law g players h ok seats balanced decided won marks fit =
     let at : slice_get all i ≡ Some pot = slice_get-get_or all i d l in
     let same : 0 + i ≡ i = omega arith in
     paid_out law s (Numbered count (0 + i)) pot collectors (open_in all i d opened l) few
-    (λ known more. (small_marks s i pot marks at more (decided_at s all i pot decided at more), won i pot at known more 0 (record { units = 0; board = s.board }) (omega arith)))
+    (λ known more board on. record {
+      marks = small_marks s board i pot marks on at more (decided_at s all i pot decided at more board on);
+      some = won_on s pot.eligible (net_of s (Numbered count i)) s.second board (won i pot at known more) on;
+    })
     (net_within s count 0 all i d (each_of_fits all s.collections fit) l)) in
-    subst (λ (x : _). PotsAddUp (settlement_by g (rake h) x)) (settled_fits s fit)
+    subst (λ (x : _). PotsAddUp (settlement_by g (rake h) (runs_twice h) x)) (settled_fits s fit)
     (record {
       each = each_out s count 0 all each;
       rakes = λ some. rakes_add_up s (rake h) fit put (let long = lines_long s count 0 all in omega (arith, some, long));

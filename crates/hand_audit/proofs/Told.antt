@@ -1,5 +1,5 @@
 -- Who wins by what is kept is who wins by the rules.
-use Rattle.std.proofs.Common.{◌≡◌, ℕ, zero, suc, length, ◌+◌, ◌<◌, ◌≤◌, List, [], ◌∷◌, refl, sym, ap, ◌∙◌, Bool, true, false, ◌==◌, ◌&&◌, not, arith}
+use Rattle.std.proofs.Common.{◌≡◌, ℕ, zero, suc, length, ◌+◌, ◌<◌, ◌≤◌, List, [], ◌∷◌, refl, sym, ap, ◌∙◌, subst, Bool, true, false, ◌==◌, ◌&&◌, not, arith}
 use Rattle.std.specs.Prelude.{Option, Some, None, is_some, nat_lt, if◌then◌else◌, slice_index_or}
 use Rattle.std.specs.Int.{bit_at}
 use Rattle.std.specs.List.{list_all, list_any}
@@ -9,9 +9,9 @@ use Rattle.card_sets.specs.declared.games.Side.{Side}
 use Rattle.showdown_tally.specs.Settling.{number_of}
 use Rattle.showdown_tally.specs.Showdown.{is_beaten_by, winners_of}
 use Rattle.hand_audit.specs.Orders.{OfSeats}
-use Rattle.hand_audit.specs.Settle.{Showing, set_of, hand_of, value_on, worth_on, first_side, second_side, side_winners, is_alone, is_checked, first_winners, second_winners}
+use Rattle.hand_audit.specs.Settle.{Showing, IsBoardOf, set_of, hand_of, value_on, worth_on, first_side, second_side, side_winners, is_alone, is_checked, first_winners, second_winners}
 use Rattle.hand_audit.specs.Marks.{mark_of}
-use Rattle.hand_audit.specs.Winning.{Ranks, Tells, TellsSide, TellsBoard, AreFull, Decides, full_with, is_beaten, is_unbeaten, is_seat_in, wins, winners_by}
+use Rattle.hand_audit.specs.Winning.{Ranks, Tells, TellsSide, TellsBoard, TellsHands, TellsSecond, IsDecided, Decides, full_with, is_beaten, is_unbeaten, is_seat_in, wins, winners_by}
 use Rattle.hand_audit.specs.declared.standings.Standings.{Standings}
 use Rattle.hand_audit.specs.declared.worths.OnBoard.{OnBoard}
 use Rattle.hand_audit.specs.declared.worths.OnSide.{OnSide}
@@ -20,7 +20,7 @@ use Rattle.betting_replay.specs.Seats.{by_seat}
 use Rattle.betting_replay.specs.Tables.{Table, own_at, final_at}
 use Rattle.betting_replay.proofs.BySeat.{at_by_seat}
 use Rattle.hand_audit.specs.declared.collections.Collection.{Collection}
-use Rattle.hand_audit.specs.Showings.{showing_at}
+use Rattle.hand_audit.specs.Showings.{showing_at, second_at}
 use Rattle.hand_audit.proofs.Among.{among_filter}
 use Rattle.hand_audit.proofs.Seats.{among_seats}
 use Rattle.hand_audit.proofs.Ranked.{same_ranks, same_full}
@@ -148,20 +148,45 @@ same_board w game board hands others same t = record {
   second = same_side w.second (second_side game) game board hands others same t.second;
 }
 
--- what is kept of a hand so far tells who wins
-pub tells : (w : Standings) (game : Game) (t : Table) (all : List Collection) (button : ℕ) (hands : List (Option (List ℕ)))
-    → ((p : ℕ) → p < 11 → slice_index_or hands p None ≡ full_with game (own_at t 0) (final_at t p))
-    → ((p : ℕ) → p < 11 → has_player w.known p ≡ is_some (final_at t p))
-    → TellsBoard w.board game (own_at t 0) hands
-    → w.game ≡ game → w.button ≡ button → Tells w (showing_at game t all button)
-unfolding showing_at AreSame
-tells w game t all button hands are known board g b =
+-- what is kept of the hands that can be shown down on a board is what is kept of all, where all can
+pub tells_hands : (w : OnBoard) (game : Game) (t : Table) (board : List ℕ) (hands : List (Option (List ℕ)))
+    → ((p : ℕ) → p < 11 → slice_index_or hands p None ≡ full_with game board (final_at t p))
+    → TellsBoard w game board hands → TellsHands w game board (by_seat (final_at t))
+unfolding AreSame
+tells_hands w game t board hands are tells full =
     let at : (p : ℕ) → p < 11 → slice_index_or (by_seat (final_at t)) p None ≡ final_at t p = (λ p l. at_by_seat (final_at t) p None l) in
-    let same : AreFull (showing_at game t all button) → AreSame hands (by_seat (final_at t))
-    = (λ full p l. are p l ∙ ap (full_with game (own_at t 0)) (sym (at p l)) ∙ same_full game (own_at t 0) (slice_index_or (by_seat (final_at t)) p None) (full p l)) in
-    record {
-      game = g;
-      known = λ p l. known p l ∙ ap is_some (sym (at p l));
-      board = λ full. same_board w.board game (own_at t 0) hands (by_seat (final_at t)) (same full) board;
-      button = b;
-    }
+    same_board w game board hands (by_seat (final_at t))
+    (λ p l. are p l ∙ ap (full_with game board) (sym (at p l)) ∙ same_full game board (slice_index_or (by_seat (final_at t)) p None) (full p l)) tells
+
+-- what is kept of a hand so far tells who wins
+pub tells : (w : Standings) (game : Game) (t : Table) (all : List Collection) (button : ℕ)
+    → ((p : ℕ) → p < 11 → has_player w.known p ≡ is_some (final_at t p))
+    → TellsHands w.board game (own_at t 0) (by_seat (final_at t)) → TellsSecond w.second game (second_at t) (by_seat (final_at t))
+    → w.game ≡ game → w.button ≡ button → Tells w (showing_at game t all button)
+unfolding showing_at
+tells w game t all button known board other g b =
+    let at : (p : ℕ) → p < 11 → slice_index_or (by_seat (final_at t)) p None ≡ final_at t p = (λ p l. at_by_seat (final_at t) p None l) in
+    record { game = g; known = λ p l. known p l ∙ ap is_some (sym (at p l)); board = board; second = other; button = b }
+
+-- where nothing is kept of a second board there is none
+pub none_told : (kept : Option OnBoard) (game : Game) (second : Option (List ℕ)) (hands : List (Option (List ℕ))) → kept ≡ None → TellsSecond kept game second hands → second ≡ None
+none_told None game None hands e t = refl
+none_told None game (Some board) hands e t = absurd t
+none_told (Some w) game second hands e t = cc
+
+-- and where something is, there is one, and it is kept what the hands are worth on it
+pub record SecondTold (w : OnBoard) (game : Game) (second : Option (List ℕ)) (hands : List (Option (List ℕ))) : Type 0 where
+  pub board : List ℕ
+  pub is : second ≡ Some board
+  pub tells : TellsHands w game board hands
+
+pub some_told : (kept : Option OnBoard) (w : OnBoard) (game : Game) (second : Option (List ℕ)) (hands : List (Option (List ℕ))) → kept ≡ Some w → TellsSecond kept game second hands → SecondTold w game second hands
+some_told None w game second hands some t = cc
+some_told (Some v) w game None hands some t = absurd t
+some_told (Some v) w game (Some board) hands some t =
+    let same : v ≡ w = cc in
+    record { board = board; is = refl; tells = subst (λ (x : OnBoard). TellsHands x game board hands) same t }
+
+-- so in a pot that is decided what is kept of each board tells who wins
+pub decides : (w : OnBoard) (s : Showing) (board : List ℕ) (eligible : ℕ) → IsBoardOf s board → TellsHands w s.game board s.hands → IsDecided s eligible → Decides w s board eligible
+decides w s board eligible is tells decided more = let full = decided more board is in record { full = full; tells = tells full }

@@ -1,5 +1,5 @@
 -- Who has a pot's units.
-use Rattle.std.proofs.Common.{◌≡◌, ℕ, zero, suc, ◌+◌, ◌<◌, ◌≤◌, List, [], ◌∷◌, refl, sym, ap, ◌∙◌, subst, Bool, true, false, ◌==◌, ◌&&◌, ◌||◌, not, length, arith, append-nil}
+use Rattle.std.proofs.Common.{◌≡◌, ℕ, zero, suc, ◌+◌, ◌<◌, ◌≤◌, List, [], ◌∷◌, ◌++◌, refl, sym, ap, ◌∙◌, subst, Bool, true, false, ◌==◌, ◌&&◌, ◌||◌, not, length, arith, append-nil}
 use Rattle.std.specs.Prelude.{Option, Some, None, is_some, unwrap_or, IfSome, map, nat_le, nat_lt}
 use Rattle.std.specs.Int.{bit_at}
 use Rattle.std.specs.List.{list_all, list_any}
@@ -17,8 +17,11 @@ use Rattle.rank_low.proofs.BestFive.{some-choice}
 use Rattle.showdown_tally.specs.Laws.{IsFull}
 use Rattle.hand_audit.specs.declared.worths.OnBoard.{OnBoard}
 use Rattle.pot_layers.specs.declared.paid.Share.{Share}
-use Rattle.pot_layers.specs.Split.{InRange, IsOrder, OrdersItsSeats, shares, shares_from, sides_won, is_among}
-use Rattle.hand_audit.specs.Settle.{Showing, Part, parts_of, value_on, worth_on, set_of, is_alone, is_checked, are_known, hand_of, first_winners, second_winners, first_side, second_side, side_winners, shares_alone, shares_by, shares_if, shares_among, order_of}
+use Rattle.pot_layers.specs.Split.{InRange, IsOrder, OrdersItsSeats, first_half, second_half, shares, shares_from, sides_won, is_among}
+use Rattle.pot_layers.specs.declared.paid.Pot.{Pot}
+use Rattle.hand_audit.specs.declared.pot_names.Source.{Source}
+use Rattle.hand_audit.specs.Splits.{GoesByBoards}
+use Rattle.hand_audit.specs.Settle.{Showing, Part, net_of, shares_of_pot, parts_by, parts_of, value_on, worth_on, set_of, is_alone, is_checked, are_known, hand_of, first_winners, second_winners, first_side, second_side, side_winners, shares_alone, shares_by, shares_if, shares_among, shares_of_parts, order_of}
 use Rattle.hand_audit.specs.Winning.{AreFullOn, Decides, Ranks, TellsBoard, is_beaten, is_unbeaten, is_seat_in, wins, winners_by}
 use Rattle.hand_audit.proofs.Order.{differ_from, range_from}
 use Rattle.showdown_tally.specs.Settling.{number_of}
@@ -92,11 +95,37 @@ if_alone s eligible part one = ap (λ b. shares_among b s eligible part) (sym on
 pub if_others : (s : Showing) (eligible : ℕ) (part : Part) → is_alone eligible ≡ false → shares_by s part (first_winners s part.board eligible) (second_winners s part.board eligible) ≡ shares_among (is_alone eligible) s eligible part
 if_others s eligible part others = ap (λ b. shares_among b s eligible part) (sym others)
 
--- the shares of one part alone are those of all
-pub one_part : (s : Showing) (eligible units : ℕ) (checked : Bool) (all : List Share) → checked ≡ true → all ≡ shares_among (is_alone eligible) s eligible (record { units = units; board = s.board })
+-- the shares of a hand that was run once are those of its one part
+pub once_part : (s : Showing) (eligible units : ℕ) (checked : Bool) (all : List Share) → checked ≡ true → s.second ≡ None
+    → all ≡ shares_among (is_alone eligible) s eligible (record { units = units; board = s.board })
     → all ≡ shares_if checked s eligible (parts_of s units)
-one_part s eligible units checked all known is =
-    is ∙ sym (append-nil (shares_among (is_alone eligible) s eligible (record { units = units; board = s.board }))) ∙ ap (λ b. shares_if b s eligible (parts_of s units)) (sym known)
+once_part s eligible units checked all known once is =
+    is ∙ sym (append-nil (shares_among (is_alone eligible) s eligible (record { units = units; board = s.board })))
+    ∙ ap (λ (o : Option (List ℕ)). shares_of_parts s eligible (parts_by o s.board units)) (sym once)
+    ∙ ap (λ b. shares_if b s eligible (parts_of s units)) (sym known)
+
+-- those of a hand that was run twice are those of the half that goes by the board, and then those of the other
+pub two_parts : (s : Showing) (eligible units up down : ℕ) (board : List ℕ) (some others all : List Share) → s.second ≡ Some board → up ≡ first_half units → down ≡ second_half units
+    → some ≡ shares_among (is_alone eligible) s eligible (record { units = up; board = s.board })
+    → others ≡ shares_among (is_alone eligible) s eligible (record { units = down; board = board })
+    → all ≡ some ++ others → all ≡ shares_of_parts s eligible (parts_of s units)
+two_parts s eligible units up down board some others all twice u d is are joined =
+    let first = λ (n : ℕ). shares_among (is_alone eligible) s eligible (record { units = n; board = s.board }) in
+    let second = λ (n : ℕ). shares_among (is_alone eligible) s eligible (record { units = n; board = board }) in
+    joined ∙ ap (λ xs. xs ++ others) (is ∙ ap first u) ∙ ap (λ xs. first (first_half units) ++ xs) (are ∙ ap second d ∙ sym (append-nil (second (second_half units))))
+    ∙ ap (λ (o : Option (List ℕ)). shares_of_parts s eligible (parts_by o s.board units)) (sym twice)
+
+-- what is split of a pot of which it is known who wins
+pub by_boards : (s : Showing) (source : Source) (pot : Pot) → is_checked s pot.eligible ≡ true → GoesByBoards s source pot
+unfolding shares_of_pot
+by_boards s source pot known =
+    let shares = λ (o : Option (List ℕ)). shares_of_parts s pot.eligible (parts_by o s.board (net_of s source)) in
+    let all : shares_if (is_checked s pot.eligible) s pot.eligible (parts_of s (net_of s source)) ≡ shares s.second = ap (λ b. shares_if b s pot.eligible (parts_of s (net_of s source))) known in
+    let part = λ (units : ℕ) (board : List ℕ). shares_among (is_alone pot.eligible) s pot.eligible (record { units = units; board = board }) in
+    record {
+      once = λ none. all ∙ ap shares none ∙ append-nil (part (net_of s source) s.board);
+      twice = λ second some. all ∙ ap shares some ∙ ap (λ xs. part (first_half (net_of s source)) s.board ++ xs) (append-nil (part (second_half (net_of s source)) second));
+    }
 
 pub unknown_part : (s : Showing) (eligible units : ℕ) (checked : Bool) → checked ≡ false → [] ≡ shares_if checked s eligible (parts_of s units)
 unknown_part s eligible units checked unknown = ap (λ b. shares_if b s eligible (parts_of s units)) (sym unknown)

@@ -17,8 +17,8 @@ use Rattle.betting_replay.specs.Places.{is_at}
 
 -- the part of the next line, by the events so far, the latest first
 abbrev pub part_after : Event → Part → Part
-part_after (Street Summary cards) part = SummaryPart
-part_after (Street First cards) Preamble = Play
+part_after (Street Summary number cards) part = SummaryPart
+part_after (Street First number cards) Preamble = Play
 part_after e part = part
 
 abbrev pub part_of : List Event → Part

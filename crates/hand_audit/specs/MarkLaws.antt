@@ -10,7 +10,7 @@ use Rattle.card_sets.specs.declared.games.Side.TheVariants.{High, Low}
 use Rattle.pot_layers.specs.declared.paid.Pot.{Pot}
 use Rattle.pot_layers.specs.Pots.{pots}
 use Rattle.hand_audit.specs.Marks.{best_fives, height}
-use Rattle.hand_audit.specs.Settle.{Showing, hand_of, mark_at, first_winners}
+use Rattle.hand_audit.specs.Settle.{Showing, IsBoardOf, hand_of, mark_at, first_winners}
 
 -- a mark is how high one of the own cards counts that is in a five of best value, and no card of any such five counts higher
 pub record IsMarkOf (side : Side) (fives : List (List ℕ)) (own : List ℕ) (mark : ℕ) : Type 0 where
@@ -23,11 +23,13 @@ pub record IsMarkOf (side : Side) (fives : List (List ℕ)) (own : List ℕ) (ma
   pub above : (other : List ℕ) → Contains (best_fives side fives) other
       → (k : ℕ) → has_card other k ≡ true → height side k ≤ mark
 
--- in a game, in each pot of two players or more, so is the mark of each player whose final cards are known
+-- in a game, in each pot of two players or more, so is the mark of each player whose final cards are known, on each board that pots
+-- go by
 abbrev pub MarksIn : Game → Side → Showing → Type 0
 MarksIn game side s = s.game ≡ game → (number : ℕ) (pot : Pot) → slice_get (pots s.paid) number ≡ Some pot
-    → 2 ≤ length (seats_in pot.eligible) → (p : ℕ) → p < 11 → (own : List ℕ) → hand_of s p ≡ Some own
-    → IsMarkOf side (allowed game own s.board) own (mark_at (Some side) s s.board p)
+    → 2 ≤ length (seats_in pot.eligible) → (board : List ℕ) → IsBoardOf s board
+    → (p : ℕ) → p < 11 → (own : List ℕ) → hand_of s p ≡ Some own
+    → IsMarkOf side (allowed game own board) own (mark_at (Some side) s board p)
 
 -- in stud, which is played for the high, and in razz, in which the ace is the lowest; and the final cards of whoever wins are
 -- known

@@ -1,5 +1,5 @@
 -- The settlement: what each pot holds, what was collected from it, and what the rules give of it.
-use Rattle.std.specs.Prelude.{ℕ, zero, suc, ◌+◌, ◌-◌, ◌==◌, ◌||◌, nat_lt, Bool, true, false, if◌then◌else◌, List, [], ◌∷◌, ◌++◌, map, length, max, min, sum_by, Option, Some, None, is_some, slice_index_or}
+use Rattle.std.specs.Prelude.{◌≡◌, ◌⊎◌, ℕ, zero, suc, ◌+◌, ◌-◌, ◌==◌, ◌||◌, nat_lt, Bool, true, false, if◌then◌else◌, List, [], ◌∷◌, ◌++◌, map, length, max, min, sum_by, Option, Some, None, is_some, slice_index_or}
 use Rattle.std.specs.List.{list_all, list_any}
 use Rattle.card_sets.specs.PlayerSets.{players_where, seats_in}
 use Rattle.card_sets.specs.declared.games.Game.{Game}
@@ -10,7 +10,7 @@ use Rattle.pot_layers.specs.declared.paid.Paid.{Paid}
 use Rattle.pot_layers.specs.declared.paid.Pot.{Pot}
 use Rattle.pot_layers.specs.declared.paid.Share.{Share}
 use Rattle.pot_layers.specs.Pots.{pots}
-use Rattle.pot_layers.specs.Split.{shares}
+use Rattle.pot_layers.specs.Split.{shares, first_half, second_half}
 use Rattle.betting_replay.specs.Seats.{or_else}
 use Rattle.hand_audit.specs.declared.collections.Collection.{Collection}
 use Rattle.hand_audit.specs.declared.settlement.PotLine.{PotLine}
@@ -22,8 +22,8 @@ use Rattle.hand_audit.specs.declared.pot_names.Source.TheVariants.{Any, Numbered
 use Rattle.hand_audit.specs.Orders.{odd_order, by_marks}
 use Rattle.hand_audit.specs.Marks.{mark_of}
 
--- what a settlement looks at: the game, what each player paid, the collections, the button, the final cards by seat and the
--- board's
+-- what a settlement looks at: the game, what each player paid, the collections, the button, the final cards by seat, the board's
+-- and, of a hand that was run twice, the second board's
 pub record Showing : Type 0 where
   pub game : Game
   pub paid : List Paid
@@ -31,15 +31,26 @@ pub record Showing : Type 0 where
   pub button : ℕ
   pub hands : List (Option (List ℕ))
   pub board : List ℕ
+  pub second : Option (List ℕ)
 
 -- what is split of a pot: so many units, to those who win by the cards of a board
 pub record Part : Type 0 where
   pub units : ℕ
   pub board : List ℕ
 
--- the parts of so many units: one of them all, by the board
+-- the parts of so many units: one of them all, by the board; of a hand that was run twice two halves, the first rounded up by the
+-- board and the second down by the second board
+abbrev pub parts_by : Option (List ℕ) → List ℕ → ℕ → List Part
+parts_by None board units = record { units = units; board = board } ∷ []
+parts_by (Some second) board units =
+    record { units = first_half units; board = board } ∷ record { units = second_half units; board = second } ∷ []
+
 abbrev pub parts_of : Showing → ℕ → List Part
-parts_of s units = record { units = units; board = s.board } ∷ []
+parts_of s units = parts_by s.second s.board units
+
+-- one of the boards that pots go by
+abbrev pub IsBoardOf : Showing → List ℕ → Type 0
+IsBoardOf s board = (board ≡ s.board) ⊎ (s.second ≡ Some board)
 
 -- a seat's final cards
 abbrev pub hand_of : Showing → ℕ → Option (List ℕ)

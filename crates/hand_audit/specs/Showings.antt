@@ -1,5 +1,5 @@
 -- What a settlement looks at, after the events of a hand.
-use Rattle.std.specs.Prelude.{ℕ, zero, suc, ◌+◌, if◌then◌else◌, List, [], ◌∷◌}
+use Rattle.std.specs.Prelude.{ℕ, zero, suc, ◌+◌, if◌then◌else◌, Bool, true, false, List, [], ◌∷◌, unwrap_or, Option, Some, None}
 use Rattle.card_sets.specs.PlayerSets.{has_player}
 use Rattle.card_sets.specs.declared.games.Game.{Game}
 use Rattle.history_text.specs.declared.events.Header.{Header}
@@ -9,7 +9,7 @@ use Rattle.pot_layers.specs.declared.paid.Paid.{Paid}
 use Rattle.betting_replay.specs.Accounts.{paid_by}
 use Rattle.betting_replay.specs.Seats.{by_seat}
 use Rattle.betting_replay.specs.Sums.{button}
-use Rattle.betting_replay.specs.Tables.{Table, table_of, own_at, final_at}
+use Rattle.betting_replay.specs.Tables.{Table, table_of, own_at, final_at, is_twice, second_board_at}
 use Rattle.hand_audit.specs.declared.collections.Collection.{Collection}
 use Rattle.hand_audit.specs.Collections.{collections}
 use Rattle.hand_audit.specs.Settle.{Showing}
@@ -22,6 +22,14 @@ paid_from t p (suc n) = if has_player t.players p then paid_by t p ∷ paid_from
 unfoldable pub paid_in : Table → List Paid
 paid_in t = paid_from t 1 10
 
+-- the second board of a hand that was run twice: with no card where none of its markers stood
+abbrev pub second_if : Bool → Option (List ℕ) → Option (List ℕ)
+second_if false second = None
+second_if true second = Some (unwrap_or second [])
+
+abbrev pub second_at : Table → Option (List ℕ)
+second_at t = second_if (is_twice t) (second_board_at t)
+
 -- what a settlement looks at of a table, with the game, the collections and the button
 unfoldable pub showing_at : Game → Table → List Collection → ℕ → Showing
 showing_at game t all button = record {
@@ -31,6 +39,7 @@ showing_at game t all button = record {
   button = button;
   hands = by_seat (final_at t);
   board = own_at t 0;
+  second = second_at t;
 }
 
 unfoldable pub showing_of : Header → ℕ → List Event → Showing

@@ -1,9 +1,10 @@
 -- The verdict on a hand.
-use Rattle.std.specs.Prelude.{ℕ, false, List, [], ◌∷◌, Result, Ok, Err, Option, Some, None}
+use Rattle.std.specs.Prelude.{ℕ, Bool, false, List, [], ◌∷◌, Result, Ok, Err, Option, Some, None}
 use Rattle.history_text.specs.declared.events.Header.{Header}
 use Rattle.history_text.specs.declared.events.Event.{Event}
 use Rattle.history_text.specs.declared.events.TextFault.{TextFault}
 use Rattle.history_text.specs.Headers.{header_of}
+use Rattle.betting_replay.specs.Sums.{runs_twice}
 use Rattle.hand_audit.specs.AllIns.{all_in_of}
 use Rattle.hand_audit.specs.declared.verdicts.HandAudit.{HandAudit}
 use Rattle.hand_audit.specs.declared.verdicts.HandAudit.TheVariants.{Rejected, Accepted}
@@ -23,11 +24,11 @@ read_all header so_far (line ∷ lines) = read_all header (with_line header so_f
 abbrev pub events_of : Header → List (List ℕ) → List Event
 events_of header lines = (read_all header nothing lines).events
 
-abbrev pub settlement_by : Header → ℕ → Settled → Settlement
-settlement_by header stated s = record { game = header.game; hundredths = header.hundredths; rake = stated; fits = s.fits; pots = s.pots; paid = s.paid }
+abbrev pub settlement_by : Header → ℕ → Bool → Settled → Settlement
+settlement_by header stated twice s = record { game = header.game; hundredths = header.hundredths; rake = stated; fits = s.fits; twice = twice; pots = s.pots; paid = s.paid }
 
 abbrev pub settlement_of : Header → ℕ → List Event → Settlement
-settlement_of header players h = settlement_by header (rake h) (settled (showing_of header players h))
+settlement_of header players h = settlement_by header (rake h) (runs_twice h) (settled (showing_of header players h))
 
 abbrev pub accepted_by : Header → ℕ → SoFar → HandAudit
 accepted_by header players so_far = Accepted (settlement_of header players so_far.events) (all_in_of header players so_far.events) so_far.names players

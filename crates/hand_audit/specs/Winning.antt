@@ -15,7 +15,7 @@ use Rattle.hand_audit.specs.declared.worths.OnSide.{OnSide}
 use Rattle.hand_audit.specs.declared.worths.OnBoard.{OnBoard}
 use Rattle.hand_audit.specs.declared.standings.Standings.{Standings}
 use Rattle.hand_audit.specs.Marks.{mark_of}
-use Rattle.hand_audit.specs.Settle.{Showing, hand_of, value_on, first_side, second_side}
+use Rattle.hand_audit.specs.Settle.{Showing, IsBoardOf, hand_of, value_on, first_side, second_side}
 
 -- whether a number is beaten by another's
 abbrev pub is_beaten : Option ℕ → Option ℕ → Bool
@@ -61,13 +61,16 @@ abbrev pub full_with : Game → List ℕ → Option (List ℕ) → Option (List 
 full_with game board None = None
 full_with game board (Some own) = if is_full game board own then Some own else None
 
--- all final cards that are known can be, on one board
-abbrev pub AreFullOn : Showing → List ℕ → Type 0
-AreFullOn s board = (p : ℕ) → p < 11 → IfSome (hand_of s p) (λ own. IsFull s.game own board)
+-- all hands that are known can be, on one board
+abbrev pub AreFullHands : Game → List ℕ → List (Option (List ℕ)) → Type 0
+AreFullHands game board hands = (p : ℕ) → p < 11 → IfSome (slice_index_or hands p None) (λ own. IsFull game own board)
 
--- and on the board of each part
+abbrev pub AreFullOn : Showing → List ℕ → Type 0
+AreFullOn s board = AreFullHands s.game board s.hands
+
+-- and on each board that pots go by
 abbrev pub AreFull : Showing → Type 0
-AreFull s = AreFullOn s s.board
+AreFull s = (board : List ℕ) → IsBoardOf s board → AreFullOn s board
 
 -- what is kept of some hands, by seat, on a side of a board tells who wins it, and in which order
 pub record TellsSide (w : OnSide) (side : Option Side) (game : Game) (board : List ℕ) (hands : List (Option (List ℕ))) : Type 0 where
@@ -79,11 +82,23 @@ pub record TellsBoard (w : OnBoard) (game : Game) (board : List ℕ) (hands : Li
   pub first : TellsSide w.first (first_side game) game board hands
   pub second : TellsSide w.second (second_side game) game board hands
 
--- what is kept of the final cards does, where they can be shown down
+-- so where the hands can be shown down on the board
+abbrev pub TellsHands : OnBoard → Game → List ℕ → List (Option (List ℕ)) → Type 0
+TellsHands w game board hands = AreFullHands game board hands → TellsBoard w game board hands
+
+-- and on a second board, of which something is kept exactly where there is one
+abbrev pub TellsSecond : Option OnBoard → Game → Option (List ℕ) → List (Option (List ℕ)) → Type 0
+TellsSecond None game None hands = Unit {0}
+TellsSecond None game (Some board) hands = ⊥
+TellsSecond (Some w) game None hands = ⊥
+TellsSecond (Some w) game (Some board) hands = TellsHands w game board hands
+
+-- what is kept of the final cards tells who wins
 pub record Tells (w : Standings) (s : Showing) : Type 0 where
   pub game : w.game ≡ s.game
   pub known : (p : ℕ) → p < 11 → has_player w.known p ≡ is_some (hand_of s p)
-  pub board : AreFull s → TellsBoard w.board s.game s.board s.hands
+  pub board : TellsHands w.board s.game s.board s.hands
+  pub second : TellsSecond w.second s.game s.second s.hands
   pub button : w.button ≡ s.button
 
 -- marks are cards, on each side of a board
@@ -94,10 +109,11 @@ pub record HasBothMarks (w : OnBoard) : Type 0 where
   pub first : HasMarks w.first
   pub second : HasMarks w.second
 
--- and the button is a seat or none
+-- so on each board, and the button is a seat or none
 pub record IsReady (w : Standings) : Type 0 where
   pub button : w.button ≤ 10
   pub board : HasBothMarks w.board
+  pub second : IfSome w.second HasBothMarks
 
 -- where a pot has two players or more, their final cards, where they are known, can be shown down
 abbrev pub IsDecided : Showing → ℕ → Type 0

@@ -34,6 +34,7 @@ fn accepted(header: &Header, players: u16, hand: Hand, settled: HandSettled) -> 
             hundredths: header.hundredths,
             rake: hand.rake,
             fits: settled.fits,
+            twice: hand.replay.is_twice(),
             pots: settled.pots,
             paid: settled.paid,
         },

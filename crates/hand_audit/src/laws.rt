@@ -8,7 +8,7 @@ ghost use Rattle.hand_audit.specs.Chips.{KeepsChips};
 ghost use Rattle.hand_audit.specs.Lines.{nothing, players_of};
 ghost use Rattle.hand_audit.specs.declared.cause.Cause.{Cause};
 ghost use Rattle.hand_audit.specs.Showings.{showing_of};
-ghost use Rattle.hand_audit.specs.Splits.{IsSplitRightly, IsWonBySomebody};
+ghost use Rattle.hand_audit.specs.Splits.{IsSplitRightly, IsWonBySomebody, LoneAreDueAll, PotsGoByBoards};
 ghost use Rattle.hand_audit.specs.Verdict.{audit_of, events_of};
 ghost use Rattle.hand_audit.specs.declared.verdicts.AllIn.{AllIn};
 ghost use Rattle.hand_audit.specs.declared.verdicts.HandAudit.TheVariants.{Accepted, Rejected};
@@ -48,6 +48,19 @@ pub fn law_pots_are_split_by_the_rules()
         → (settlement : Settlement) (all_in : AllIn) (names : List (ℕ × List ℕ)) (players : ℕ)
         → audit_of number (line ∷ lines) ≡ Some (Accepted settlement all_in names players)
         → settlement.fits ≡ true → IsSplitRightly (showing_of header players (events_of header lines)) }
+{}
+
+/// A law on boards. What is split of a pot of which it is known who wins: in a hand that was run once all that
+/// was collected from it, by the board; in a hand that was run twice one half by the board, rounded up, and the
+/// other by the second board, rounded down.
+pub fn law_pots_go_by_boards()
+    ensures { PotsGoByBoards }
+{}
+
+/// A law on lone players. Who is alone in a pot is due all that was collected from it and wins a side of each
+/// part, so one in a hand that was run once and two in a hand that was run twice.
+pub fn law_a_lone_player_wins_a_side_of_each_part()
+    ensures { LoneAreDueAll }
 {}
 
 /// A law on sums. Of a hand that is accepted and whose pot names fit: what was collected from a pot and its
@@ -96,7 +109,8 @@ pub fn law_lines_before_stand()
 
 /// A law on all-ins. Of a hand that is accepted and has an all-in whose cards are known: each hand of the
 /// table is what its seat has there, and its cards belong to the seat; the board is that of the streets
-/// up to the point; and no card that comes to the board later is in a hand or dead.
+/// up to the point; and no card that comes to the board later is in a hand or dead, and none of the second
+/// board of a hand that was run twice.
 pub fn law_all_in_cards()
     ensures { (number : ℕ) (line : List ℕ) (lines : List (List ℕ)) (header : Header) → header_of line ≡ Ok header
         → (settlement : Settlement) (street : Street) (seats : List ℕ) (table : Table) (names : List (ℕ × List ℕ)) (players : ℕ)

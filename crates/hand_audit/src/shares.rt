@@ -1,18 +1,18 @@
 //! What the rules give of a pot.
 
-ghost use Rattle.std.specs.Prelude.{◌≡◌, ◌<◌, ◌≤◌, ℕ, List, true, IfOk};
+ghost use Rattle.std.specs.Prelude.{◌≡◌, ◌<◌, ◌≤◌, ◌++◌, ℕ, List, Some, true, IfOk};
 ghost use Rattle.pot_layers.specs.Split.{given_in_all};
 ghost use Rattle.hand_audit.specs.Orders.{OfSeats};
-ghost use Rattle.hand_audit.specs.Settle.{Showing, parts_of, is_alone, is_checked, shares_alone, shares_by, shares_among, shares_if};
-ghost use Rattle.hand_audit.specs.Winning.{Tells, TellsBoard, Decides, HasBothMarks, IsReady, IsDecided};
+ghost use Rattle.hand_audit.specs.Settle.{Showing, parts_of, is_alone, is_checked, shares_alone, shares_by, shares_among, shares_of_parts, shares_if};
+ghost use Rattle.hand_audit.specs.Winning.{Tells, TellsBoard, TellsHands, Decides, HasBothMarks, IsReady, IsDecided};
 
 use crate::orders::rising_order;
 use crate::standings::Standings;
 use crate::winners::is_alone;
 use crate::worths::OnBoard;
 use card_sets::{Memory, PlayerSet};
-use pot_layers::{OddOrder, Shares, SideWinners, law_a_list_orders_its_seats, split};
-use std::alloc::Global;
+use pot_layers::{OddOrder, Shares, SideWinners, halves, law_a_list_orders_its_seats, split};
+use std::alloc::{AllocError, Global};
 
 /// A player who is alone has all units of a part.
 fn shares_alone(alloc: Global, eligible: PlayerSet, units: u64) -> Result<Shares, Memory>
@@ -82,6 +82,38 @@ fn shares_of_part(
     shares_by(alloc, standings, on, units, first, second)
 }
 
+/// Some shares, and others behind them.
+fn joined(alloc: Global, some: &Shares, others: &Shares) -> Result<Shares, AllocError>
+    ensures { IfOk result (λ all. all ≡ some.now ++ others.now) }
+{
+    let mut all = Vec::new(alloc);
+    all.extend_from_slice(some.items())?;
+    all.extend_from_slice(others.items())?;
+    Ok(Shares::of(all))
+}
+
+/// The rules' shares of a pot's units in a hand that was run twice: a half goes by each board.
+fn shares_of_halves(
+    alloc: Global,
+    standings: &Standings,
+    second: &OnBoard,
+    eligible: PlayerSet,
+    units: u64,
+) -> Result<Shares, Memory>
+    requires ready { IsReady standings.now }
+    requires marks { HasBothMarks second.now }
+    ensures value { IfOk result (λ all. (s : Showing) (board : List ℕ) → Tells standings.now s → IsDecided s eligible
+        → s.second ≡ Some board → TellsHands second.now s.game board s.hands → is_checked s eligible ≡ true
+        → all ≡ shares_of_parts s eligible (parts_of s units)) }
+    ensures few { IfOk result (λ all. given_in_all all ≤ units) }
+{
+    let [rounded_up, rounded_down] = halves(units);
+    let some = shares_of_part(alloc, standings, &standings.board, eligible, rounded_up)?;
+    let others = shares_of_part(alloc, standings, second, eligible, rounded_down)?;
+    let all = joined(alloc, &some, &others)?;
+    Ok(all)
+}
+
 /// The rules' shares of so many units of a pot; none where it isn't known who wins.
 pub(crate) fn shares_if(
     alloc: Global,
@@ -98,5 +130,8 @@ pub(crate) fn shares_if(
     if !checked {
         return Ok(Shares::of(Vec::new(alloc)));
     }
-    shares_of_part(alloc, standings, &standings.board, eligible, units)
+    match &standings.second {
+        None => shares_of_part(alloc, standings, &standings.board, eligible, units),
+        Some(second) => shares_of_halves(alloc, standings, second, eligible, units),
+    }
 }

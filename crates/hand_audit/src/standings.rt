@@ -1,16 +1,19 @@
 //! Who stands how when the cards are shown.
 
-ghost use Rattle.std.specs.Prelude.{◌≡◌, ℕ, ◌<◌, ◌≤◌, List, is_some, Option};
+ghost use Rattle.std.specs.Prelude.{◌≡◌, ℕ, ◌<◌, ◌≤◌, List, is_some, Option, IfSome};
 ghost use Rattle.card_sets.specs.PlayerSets.{has_player};
 ghost use Rattle.card_sets.specs.declared.games.Side.{Side};
+ghost use Rattle.betting_replay.specs.Seats.{by_seat};
 ghost use Rattle.betting_replay.specs.Tables.{final_at};
+ghost use Rattle.hand_audit.specs.Showings.{second_at};
 ghost use Rattle.hand_audit.specs.declared.collections.Collection.{Collection};
+ghost use Rattle.hand_audit.specs.Winning.{TellsHands, TellsSecond, HasBothMarks};
 
 use crate::orders::{by_marks, odd_order};
 use crate::winners::{are_known, is_alone};
 use crate::worths::{OnBoard, OnSide, full_hands};
 use betting_replay::Replay;
-use card_sets::{Game, PlayerSet};
+use card_sets::{CardSet, Game, PlayerSet};
 use pot_layers::OddOrder;
 
 /// What tells who wins: what is kept of the final cards, by seat, and the button.
@@ -22,6 +25,8 @@ pub(crate) struct Standings {
     pub(crate) known: PlayerSet,
     /// What they are worth on the board.
     pub(crate) board: OnBoard,
+    /// What they are worth on the second board, where the hand was run twice.
+    pub(crate) second: Option<OnBoard>,
     /// The seat of the button, 0 where there is none.
     pub(crate) button: u8,
 }
@@ -31,6 +36,34 @@ fn known(replay: &Replay) -> PlayerSet
     ensures { (p : ℕ) → p < 11 → has_player result p ≡ is_some (final_at replay.now p) }
 {
     PlayerSet::passing(11, |seat| replay.final_cards(seat).is_some())
+}
+
+/// The second board of a hand that was run twice: with no card where none of its markers stood.
+fn second_of(replay: &Replay) -> Option<CardSet>
+    ensures { result ≡ second_at replay.now }
+{
+    if !replay.is_twice() {
+        return None;
+    }
+    Some(replay.second_board().unwrap_or(CardSet::empty()))
+}
+
+/// What the final cards are worth on a board.
+fn on_board(replay: &Replay, game: Game, board: CardSet) -> OnBoard
+    ensures tells { TellsHands result game board (by_seat (final_at replay.now)) }
+    ensures marks { HasBothMarks result }
+{
+    let hands = full_hands(replay, game, board);
+    OnBoard::of(game, board, &hands)
+}
+
+/// What they are worth on a second board, where there is one.
+fn on_second(replay: &Replay, game: Game, second: Option<CardSet>) -> Option<OnBoard>
+    ensures tells { TellsSecond result game second (by_seat (final_at replay.now)) }
+    ensures marks { IfSome result HasBothMarks }
+{
+    let board = second?;
+    Some(on_board(replay, game, board))
 }
 
 impl Standings {
@@ -43,12 +76,11 @@ impl Standings {
         ensures tells { (all : List Collection) → Tells result (showing_at game replay.now all button) }
         ensures ready { IsReady result }
     {
-        let board = replay.board();
-        let hands = full_hands(replay, game, board);
         Standings {
             game,
             known: known(replay),
-            board: OnBoard::of(game, board, &hands),
+            board: on_board(replay, game, replay.board()),
+            second: on_second(replay, game, second_of(replay)),
             button,
         }
     }

@@ -5,7 +5,6 @@ use Rattle.std.specs.List.{list_any}
 use Rattle.std.proofs.lemmas.Bool.{eqb-true}
 use Rattle.history_text.specs.Headers.{is_header}
 use Rattle.line_text.specs.Lines.{lines, closed, text_of, front_line, behind_line, has_newline, is_newline}
-use Rattle.line_text.proofs.LineFacts.{cut_lines-front}
 use Rattle.hand_cuts.specs.Units.{UnitLines, up_to_header, hands_from, without_last, units_in}
 use Rattle.hand_cuts.specs.ClosedBytes.{begins_header, holds_header, closed_hands, ClosedHandsByBytes}
 use Rattle.hand_cuts.proofs.Parts.{front_closed, closed-newline, lines-newline, closed-none, behind_none, front_text}

@@ -1,14 +1,14 @@
 -- The steps of a cutter.
-use Rattle.std.proofs.Common.{◌≡◌, ℕ, ◌+◌, ◌-◌, ◌<◌, ◌≤◌, Bool, true, false, List, [], ◌∷◌, ◌++◌, length, take, drop, inl, inr, ◌⊎◌, Option, Some, None, refl, sym, ap, subst, ◌∙◌, arith, append_assoc, append-nil, length-append, length-drop}
+use Rattle.std.proofs.Common.{◌≡◌, ℕ, ◌+◌, ◌-◌, ◌≤◌, List, [], ◌∷◌, ◌++◌, length, take, drop, Option, Some, None, refl, sym, ap, subst, ◌∙◌, arith, append-nil, length-append, length-drop}
 use mathlib.Core.Bool.{true≢false}
 use Rattle.std.specs.Prelude.{slice_range, IsNone, IfNone, IfSome}
 use Rattle.std.specs.List.{copy_within}
 use Rattle.std.proofs.lemmas.List.{drop-append-le, take-append-le, take_at, take_all}
 use Rattle.line_text.specs.Lines.{lines, has_newline}
-use Rattle.hand_cuts.specs.Units.{UnitLines, units_in}
+use Rattle.hand_cuts.specs.Units.{units_in}
 use Rattle.hand_cuts.specs.CutterState.{CutterState}
 use Rattle.hand_cuts.specs.Cutters.{Gives, seen, units_left}
-use Rattle.hand_cuts.specs.Scans.{IsScan, IsHead, HeadIs, HandsOut, NoUnit, number_bound}
+use Rattle.hand_cuts.specs.Scans.{IsScan, HeadIs, HandsOut, NoUnit, number_bound}
 use Rattle.hand_cuts.specs.Sound.{view_of}
 use Rattle.hand_cuts.specs.declared.cutter.Cutter.TheInside.{Inside}
 use Rattle.hand_cuts.specs.declared.scan.Head.{Head}

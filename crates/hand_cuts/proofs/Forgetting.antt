@@ -1,5 +1,5 @@
 -- What is dropped of the bytes that are held, and that the units stay.
-use Rattle.std.proofs.Common.{◌≡◌, ℕ, ◌+◌, ◌-◌, ◌<◌, ◌≤◌, Bool, true, false, List, [], ◌∷◌, ◌++◌, length, take, drop, inl, inr, ◌⊎◌, Option, Some, None, refl, sym, ap, subst, ◌∙◌, arith, append_assoc, append-nil, length-append, length-drop}
+use Rattle.std.proofs.Common.{◌≡◌, ℕ, ◌+◌, ◌-◌, ◌≤◌, Bool, true, false, List, [], ◌∷◌, ◌++◌, length, take, drop, inl, Option, Some, None, refl, sym, ap, ◌∙◌, arith, append_assoc, append-nil, length-append, length-drop}
 use Rattle.std.specs.Prelude.{slice_range}
 use Rattle.std.proofs.lemmas.List.{drop-drop}
 use Rattle.line_text.specs.Lines.{lines, closed, has_newline}
@@ -7,7 +7,7 @@ use Rattle.line_text.specs.Laws.{EndsInNewline}
 use Rattle.hand_cuts.specs.Units.{units_in, closed_units, lines_in, up_to_header, hands_from}
 use Rattle.hand_cuts.specs.CutterState.{CutterState}
 use Rattle.hand_cuts.specs.Cutters.{Forgets, dropped_lines}
-use Rattle.hand_cuts.specs.Scans.{IsScan, IsHead, HeadIs, HasHead, number_bound, shifted, shifted_head, start_of, start_of_rest}
+use Rattle.hand_cuts.specs.Scans.{IsScan, HeadIs, HasHead, number_bound, shifted, shifted_head, start_of, start_of_rest}
 use Rattle.hand_cuts.specs.Sound.{view_of, IsSound}
 use Rattle.hand_cuts.specs.declared.cutter.Cutter.TheInside.{Inside}
 use Rattle.hand_cuts.specs.declared.scan.Head.{Head}

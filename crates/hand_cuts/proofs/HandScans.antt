@@ -1,5 +1,5 @@
 -- Hands that a later header line closes.
-use Rattle.std.proofs.Common.{◌≡◌, ℕ, ◌+◌, ◌-◌, ◌<◌, ◌≤◌, ◌^◌, Bool, true, false, cond, List, [], ◌∷◌, ◌++◌, length, take, drop, inl, inr, ◌⊎◌, Option, Some, None, nat_lt, refl, sym, ap, subst, ◌∙◌, arith, append_assoc, append-nil, length-append, length-drop}
+use Rattle.std.proofs.Common.{◌≡◌, ℕ, ◌+◌, ◌≤◌, Bool, true, false, List, [], ◌∷◌, ◌++◌, length, drop, inl, Option, Some, None, refl, sym, ap, subst, ◌∙◌, arith, append_assoc, append-nil, length-append}
 use Rattle.std.specs.Prelude.{slice_range}
 use Rattle.history_text.specs.Headers.{is_header}
 use Rattle.line_text.specs.Lines.{lines, closed, has_newline}
@@ -9,12 +9,11 @@ use Rattle.hand_cuts.specs.Cutters.{MayFollow}
 use Rattle.hand_cuts.specs.Scans.{LineAt, IsScan, IsHead, HeadIs, Finds, HandsOut, NoUnit, begun}
 use Rattle.hand_cuts.specs.declared.scan.Head.{Head}
 use Rattle.hand_cuts.specs.declared.scan.Scan.{Scan}
-use Rattle.hand_cuts.specs.declared.units.CutKind.{CutKind}
 use Rattle.hand_cuts.specs.declared.units.CutKind.TheVariants.{Hands}
 use Rattle.hand_cuts.specs.declared.units.Unit.{Unit as UnitPlace}
 use Rattle.hand_cuts.proofs.Parts.{lines-split, lines_in-split, closed-none, ends-append, slice-join, slice-rest}
 use Rattle.hand_cuts.proofs.ScanSteps.{head_of}
-use Rattle.hand_cuts.proofs.HandLists.{hand_with, passed-append, stops-at, hands-passed, hands-between, hands-begin, without_last-cons}
+use Rattle.hand_cuts.proofs.HandLists.{hand_with, stops-at, hands-passed, hands-between, hands-begin, without_last-cons}
 
 pub lines_by_line : (whole : Bool) (bytes more : List ℕ) (looked next : ℕ) (text : List ℕ) → LineAt bytes looked next text
     → lines_in whole (drop looked bytes ++ more) ≡ text ∷ lines_in whole (drop next bytes ++ more)

@@ -1,12 +1,12 @@
 -- The steps of a scan over lines, each of which is handed out at once.
-use Rattle.std.proofs.Common.{◌≡◌, ℕ, ◌+◌, ◌-◌, ◌<◌, ◌≤◌, Bool, true, false, cond, List, [], ◌∷◌, ◌++◌, length, take, drop, inl, inr, ◌⊎◌, Option, Some, None, nat_lt, refl, sym, ap, subst, ◌∙◌, arith, append_assoc, append-nil, length-append, length-drop}
+use Rattle.std.proofs.Common.{◌≡◌, ℕ, ◌+◌, ◌<◌, Bool, true, false, cond, List, [], ◌∷◌, ◌++◌, length, drop, inl, inr, refl, sym, ap, ◌∙◌, arith, append-nil, length-drop}
 use Rattle.std.specs.Prelude.{slice_range}
-use Rattle.std.proofs.lemmas.Bool.{ltb-true, ltb-false, lt-ltb}
+use Rattle.std.proofs.lemmas.Bool.{lt-ltb}
 use Rattle.std.proofs.lemmas.List.{drop_all}
 use Rattle.line_text.specs.Lines.{lines, closed, text_of, has_newline}
-use Rattle.hand_cuts.specs.Units.{UnitLines, units_in, closed_units, lines_in, each_from}
+use Rattle.hand_cuts.specs.Units.{UnitLines, units_in, lines_in, each_from}
 use Rattle.hand_cuts.specs.Scans.{LineAt, IsScan, HandsOut, passed, gone_on, finished, number_at_end}
-use Rattle.hand_cuts.specs.declared.units.CutKind.TheVariants.{Hands, Lines}
+use Rattle.hand_cuts.specs.declared.units.CutKind.TheVariants.{Lines}
 use Rattle.hand_cuts.specs.declared.scan.Scan.{Scan}
 use Rattle.hand_cuts.proofs.Parts.{closed-none, no_slice, slice-all, lines-open}
 use Rattle.hand_cuts.proofs.ScanSteps.{nothing_passed, nothing_searched, empty_slice}

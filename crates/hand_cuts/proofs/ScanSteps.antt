@@ -1,15 +1,15 @@
 -- The steps of a scan.
-use Rattle.std.proofs.Common.{◌≡◌, ℕ, ◌+◌, ◌-◌, ◌<◌, ◌≤◌, ◌^◌, Bool, true, false, cond, List, [], ◌∷◌, ◌++◌, length, take, drop, inl, inr, ◌⊎◌, Option, Some, None, nat_lt, refl, sym, ap, subst, ◌∙◌, arith, append_assoc, append-nil, length-append, length-drop}
+use Rattle.std.proofs.Common.{◌≡◌, ℕ, ◌+◌, ◌-◌, ◌<◌, ◌≤◌, Bool, true, false, cond, List, [], ◌∷◌, ◌++◌, length, drop, inl, Option, Some, None, nat_lt, refl, sym, ap, subst, ◌∙◌, arith, length-append}
 use Rattle.std.specs.Prelude.{slice_range, IfNone, IfSome, is_some}
 use Rattle.std.proofs.lemmas.Bool.{ltb-true}
 use Rattle.history_text.specs.Headers.{is_header}
-use Rattle.line_text.specs.Lines.{lines, text_of, front_line, has_newline}
+use Rattle.line_text.specs.Lines.{lines, text_of, front_line, has_newline, is_newline}
 use Rattle.line_text.specs.Laws.{EndsInNewline}
 use Rattle.hand_cuts.specs.Units.{up_to_header}
 use Rattle.hand_cuts.specs.Scans.{EndsLine, LineAt, IsScan, IsHead, HeadIs, Finds, SearchesAll, passed, begun, gone_on, finished, number_at_end, number_bound}
 use Rattle.hand_cuts.specs.declared.scan.Head.{Head}
 use Rattle.hand_cuts.specs.declared.scan.Scan.{Scan}
-use Rattle.hand_cuts.proofs.Parts.{front-slice, lines-split, ends-append, no_slice, slice-join, slice-all}
+use Rattle.hand_cuts.proofs.Parts.{front-slice, front_line-open, lines-split, ends-append, no_slice, slice-join, slice-all}
 use Rattle.hand_cuts.proofs.HandLists.{passed-more}
 
 -- a line more behind a part
@@ -167,11 +167,21 @@ scan_finishes bytes s scan = record {
 }
 
 -- what the code reads of a line
-pub read_text : (bytes told : List ℕ) (looked next : ℕ) (b : Bool) → EndsLine bytes looked (Some next) → told ≡ text_of (slice_range bytes looked (next - 1)) → b ≡ is_header told → is_header (text_of (front_line (drop looked bytes))) ≡ b
-read_text bytes told looked next b e t h = sym (h ∙ ap is_header t ∙ ap (λ l. is_header (text_of l)) (front-slice bytes looked next e))
+front_twice : (xs : List ℕ) → front_line (front_line xs) ≡ front_line xs
+front_twice [] = refl
+front_twice (x ∷ xs) = step (is_newline x) refl (front_twice xs)
+  where
+    step : (v : Bool) → is_newline x ≡ v → front_line (front_line xs) ≡ front_line xs → front_line (cond v [] (x ∷ front_line xs)) ≡ cond v [] (x ∷ front_line xs)
+    step true e same = refl
+    step false e same = rw e (ap (λ later. x ∷ later) same)
 
-pub read_last : (bytes told : List ℕ) (looked : ℕ) (b : Bool) → told ≡ text_of (slice_range bytes looked (length bytes)) → b ≡ is_header told → is_header (text_of (drop looked bytes)) ≡ b
-read_last bytes told looked b t h = sym (h ∙ ap is_header t ∙ ap (λ l. is_header (text_of l)) (slice-all bytes looked))
+pub read_text : (bytes told : List ℕ) (looked next : ℕ) (b : Bool) → EndsLine bytes looked (Some next) → told ≡ text_of (front_line (slice_range bytes looked (next - 1))) → b ≡ is_header told → is_header (text_of (front_line (drop looked bytes))) ≡ b
+read_text bytes told looked next b e t h =
+    sym (h ∙ ap is_header t ∙ ap (λ l. is_header (text_of (front_line l))) (front-slice bytes looked next e) ∙ ap (λ l. is_header (text_of l)) (front_twice (drop looked bytes)))
+
+pub read_last : (bytes told : List ℕ) (looked : ℕ) (b : Bool) → has_newline (drop looked bytes) ≡ false → told ≡ text_of (front_line (slice_range bytes looked (length bytes))) → b ≡ is_header told → is_header (text_of (drop looked bytes)) ≡ b
+read_last bytes told looked b none t h =
+    sym (h ∙ ap is_header t ∙ ap (λ l. is_header (text_of (front_line l))) (slice-all bytes looked) ∙ ap (λ l. is_header (text_of l)) (front_line-open (drop looked bytes) none))
 
 pub head_of : (bytes : List ℕ) (at line looked : ℕ) (head : Option Head) (h : Head) → head ≡ Some h → HeadIs bytes at line looked head → IsHead bytes at line looked h
 head_of bytes at line looked head h e i = subst (λ (x : Option Head). HeadIs bytes at line looked x) e i

@@ -1,12 +1,10 @@
 -- The law of units.
-use Rattle.std.proofs.Common.{◌≡◌, ℕ, ◌+◌, ◌<◌, ◌≤◌, Bool, true, false, cond, List, [], ◌∷◌, ◌++◌, length, refl, sym, ap, ◌∙◌, arith, append_assoc, append-nil}
+use Rattle.std.proofs.Common.{◌≡◌, ℕ, ◌+◌, Bool, true, false, cond, List, [], ◌∷◌, ◌++◌, length, refl, sym, ap, ◌∙◌, arith, append_assoc}
 use Rattle.history_text.specs.Headers.{is_header}
 use Rattle.line_text.specs.Lines.{lines, closed, unclosed}
-use Rattle.line_text.specs.Laws.{ClosesLines}
 use Rattle.line_text.proofs.LawFacts.{all_close_lines}
 use Rattle.hand_cuts.specs.Units.{UnitLines, units_in, closed_units, lines_in, up_to_header, hands_from, each_from, without_last}
 use Rattle.hand_cuts.specs.Laws.{ClosedUnitsStay}
-use Rattle.hand_cuts.specs.declared.units.CutKind.{CutKind}
 use Rattle.hand_cuts.specs.declared.units.CutKind.TheVariants.{Hands, Lines}
 use Rattle.hand_cuts.proofs.Parts.{lines_in-split}
 use Rattle.hand_cuts.proofs.HandLists.{hand_with, without_last-cons}

@@ -1,5 +1,5 @@
 -- What is seen of a cutter's fields, and what is true of them.
-use Rattle.std.specs.Prelude.{◌≡◌, ℕ, ◌+◌, ◌≤◌}
+use Rattle.std.specs.Prelude.{◌≡◌, ◌+◌, ◌≤◌}
 use Rattle.hand_cuts.specs.CutterState.{CutterState}
 use Rattle.hand_cuts.specs.Scans.{IsScan, number_bound}
 use Rattle.hand_cuts.specs.declared.cutter.Cutter.TheInside.{Inside}

@@ -12,6 +12,7 @@ use Rattle.history_text.specs.declared.events.Part.TheVariants as part
 use Rattle.history_text.specs.declared.events.Event.{Event}
 use Rattle.history_text.specs.declared.events.Event.TheVariants as event
 use Rattle.history_text.specs.declared.events.Act.TheVariants as act
+use Rattle.history_text.specs.declared.events.BoardNumber.TheVariants as board
 use Rattle.history_text.specs.declared.events.PostKind.TheVariants as kind
 use Rattle.history_text.specs.declared.events.PotName.TheVariants as pot
 use Rattle.card_sets.specs.declared.streets.Street.TheVariants as street
@@ -21,7 +22,7 @@ use Rattle.history_text.specs.Reading.{money, some_money, follows, all_in_end, s
 use Rattle.history_text.specs.Names.{front_name}
 use Rattle.history_text.specs.Brackets.{cards_of, counted_cards, closed}
 use Rattle.history_text.specs.Acts.{verb_of, post, call, bet, raise, perhaps_cards, fold, show, discard_behind, discard, pat, said, act_event}
-use Rattle.history_text.specs.Markers.{street_event, marker_of, marker_event, marked}
+use Rattle.history_text.specs.Markers.{street_event, street_for, marker_on, marker_of, marker_event, marked}
 use Rattle.history_text.specs.Plays.{acted, deal_once, deal_again, deal_cards, deal, dealt, give_back, returned, pot_of, collect, collected, cancelled, play_event}
 use Rattle.history_text.specs.Seats.{seat_opening, seat_event, seated, buttoned, preamble_event}
 use Rattle.history_text.specs.Totals.{total_event, totalled, last_shown, shown_event, shown, summary_event}
@@ -39,8 +40,8 @@ names_behind names line _ = names
 
 -- the first street's marker and that of the summary begin a part
 part_behind : Part → Result Event TextFault → Part
-part_behind here (Ok (event.Street street.First cards)) = part.Play
-part_behind here (Ok (event.Street street.Summary cards)) = part.Summary
+part_behind here (Ok (event.Street street.First number cards)) = part.Play
+part_behind here (Ok (event.Street street.Summary number cards)) = part.Summary
 part_behind here _ = here
 
 -- what the lines of a hand say, one after the other
@@ -65,7 +66,7 @@ hand_of_six =
     (codes "Seat 6: hero ($97 in chips)", Ok (event.Seat 6 9700 8 12)) ∷
     (codes "dora: posts small blind $0.50", Ok (event.Post 4 kind.Small 50 false)) ∷
     (codes "emil: posts big blind $1", Ok (event.Post 5 kind.Big 100 false)) ∷
-    (codes "*** HOLE CARDS ***", Ok (event.Street street.First [])) ∷
+    (codes "*** HOLE CARDS ***", Ok (event.Street street.First board.Only [])) ∷
     (codes "Dealt to hero [Qc 7d]", Ok (event.Deal 6 (40 ∷ 21 ∷ []) false)) ∷
     (codes "hero: folds", Ok (event.Act 6 act.Fold false [])) ∷
     (codes "anna has timed out", Ok event.Remark) ∷
@@ -75,19 +76,19 @@ hand_of_six =
     (codes "dora: calls $2.50", Ok (event.Act 4 (act.Call 250) false [])) ∷
     (codes "emil: folds", Ok (event.Act 5 act.Fold false [])) ∷
     (codes "emil said, \"gl\"", Ok event.Remark) ∷
-    (codes "*** FLOP *** [2s 9s Jd]", Ok (event.Street street.Flop (3 ∷ 31 ∷ 37 ∷ []))) ∷
+    (codes "*** FLOP *** [2s 9s Jd]", Ok (event.Street street.Flop board.Only (3 ∷ 31 ∷ 37 ∷ []))) ∷
     (codes "dora: checks", Ok (event.Act 4 act.Check false [])) ∷
     (codes "carl: bets $4", Ok (event.Act 3 (act.Bet 400) false [])) ∷
     (codes "dora: calls $4", Ok (event.Act 4 (act.Call 400) false [])) ∷
-    (codes "*** TURN *** [2s 9s Jd] [5h]", Ok (event.Street street.Turn (14 ∷ []))) ∷
+    (codes "*** TURN *** [2s 9s Jd] [5h]", Ok (event.Street street.Turn board.Only (14 ∷ []))) ∷
     (codes "dora: bets $53 and is all-in", Ok (event.Act 4 (act.Bet 5300) true [])) ∷
     (codes "carl: calls $53", Ok (event.Act 3 (act.Call 5300) false [])) ∷
-    (codes "*** RIVER *** [2s 9s Jd 5h] [3c]", Ok (event.Street street.River (4 ∷ []))) ∷
-    (codes "*** SHOW DOWN ***", Ok (event.Street street.ShowDown [])) ∷
+    (codes "*** RIVER *** [2s 9s Jd 5h] [3c]", Ok (event.Street street.River board.Only (4 ∷ []))) ∷
+    (codes "*** SHOW DOWN ***", Ok (event.Street street.ShowDown board.Only [])) ∷
     (codes "carl: shows [Jh Jc] (three of a kind, Jacks)", Ok (event.Show 3 (38 ∷ 36 ∷ []))) ∷
     (codes "dora: mucks hand", Ok (event.Muck 4)) ∷
     (codes "carl collected $118.50 from pot", Ok (event.Collect 3 11850 pot.Only)) ∷
-    (codes "*** SUMMARY ***", Ok (event.Street street.Summary [])) ∷
+    (codes "*** SUMMARY ***", Ok (event.Street street.Summary board.Only [])) ∷
     (codes "Total pot $121 | Rake $2.50", Ok (event.Total 12100 250)) ∷
     (codes "Board [2s 9s Jd 5h 3c]", Ok event.Remark) ∷
     (codes "Seat 1: anna folded before Flop (didn't bet)", Ok event.Remark) ∷
@@ -110,27 +111,27 @@ hand_of_side_pots =
     (codes "Seat 3: c (1500 in chips)", Ok (event.Seat 3 1500 8 9)) ∷
     (codes "b: posts small blind 50", Ok (event.Post 2 kind.Small 50 false)) ∷
     (codes "c: posts big blind 100", Ok (event.Post 3 kind.Big 100 false)) ∷
-    (codes "*** HOLE CARDS ***", Ok (event.Street street.First [])) ∷
+    (codes "*** HOLE CARDS ***", Ok (event.Street street.First board.Only [])) ∷
     (codes "a: calls 100", Ok (event.Act 1 (act.Call 100) false [])) ∷
     (codes "b: calls 50", Ok (event.Act 2 (act.Call 50) false [])) ∷
     (codes "c: checks", Ok (event.Act 3 act.Check false [])) ∷
-    (codes "*** FLOP *** [7h 8h 2c]", Ok (event.Street street.Flop (22 ∷ 26 ∷ 0 ∷ []))) ∷
+    (codes "*** FLOP *** [7h 8h 2c]", Ok (event.Street street.Flop board.Only (22 ∷ 26 ∷ 0 ∷ []))) ∷
     (codes "b: checks", Ok (event.Act 2 act.Check false [])) ∷
     (codes "c: checks", Ok (event.Act 3 act.Check false [])) ∷
     (codes "a: checks", Ok (event.Act 1 act.Check false [])) ∷
-    (codes "*** TURN *** [7h 8h 2c] [Qs]", Ok (event.Street street.Turn (43 ∷ []))) ∷
+    (codes "*** TURN *** [7h 8h 2c] [Qs]", Ok (event.Street street.Turn board.Only (43 ∷ []))) ∷
     (codes "b: bets 400 and is all-in", Ok (event.Act 2 (act.Bet 400) true [])) ∷
     (codes "c: raises 1000 to 1400 and is all-in", Ok (event.Act 3 (act.Raise 1000 1400) true [])) ∷
     (codes "a: raises 2500 to 3900 and is all-in", Ok (event.Act 1 (act.Raise 2500 3900) true [])) ∷
     (codes "Uncalled bet (2500) returned to a", Ok (event.Uncalled 1 2500)) ∷
-    (codes "*** RIVER *** [7h 8h 2c Qs] [3d]", Ok (event.Street street.River (5 ∷ []))) ∷
-    (codes "*** SHOW DOWN ***", Ok (event.Street street.ShowDown [])) ∷
+    (codes "*** RIVER *** [7h 8h 2c Qs] [3d]", Ok (event.Street street.River board.Only (5 ∷ []))) ∷
+    (codes "*** SHOW DOWN ***", Ok (event.Street street.ShowDown board.Only [])) ∷
     (codes "a: shows [As Ad] (a pair of Aces)", Ok (event.Show 1 (51 ∷ 49 ∷ []))) ∷
     (codes "c: shows [9h Th] (high card Queen)", Ok (event.Show 3 (30 ∷ 34 ∷ []))) ∷
     (codes "a collected 2000 from side pot", Ok (event.Collect 1 2000 pot.Side)) ∷
     (codes "b: shows [Kc Kd] (a pair of Kings)", Ok (event.Show 2 (44 ∷ 45 ∷ []))) ∷
     (codes "a collected 1500 from main pot", Ok (event.Collect 1 1500 pot.Main)) ∷
-    (codes "*** SUMMARY ***", Ok (event.Street street.Summary [])) ∷
+    (codes "*** SUMMARY ***", Ok (event.Street street.Summary board.Only [])) ∷
     (codes "Total pot 3500 Main pot 1500. Side pot 2000. | Rake 0", Ok (event.Total 3500 0)) ∷
     (codes "Board [7h 8h 2c Qs 3d]", Ok event.Remark) ∷
     (codes "Seat 1: a (button) showed [As Ad] and won (3500) with a pair of Aces", Ok (event.SeatCards 1 (51 ∷ 49 ∷ []))) ∷
@@ -151,24 +152,24 @@ hand_of_three_winners =
     (codes "Seat 4: p4 (100 in chips)", Ok (event.Seat 4 100 8 10)) ∷
     (codes "p1: posts small blind 5", Ok (event.Post 1 kind.Small 5 false)) ∷
     (codes "p2: posts big blind 10", Ok (event.Post 2 kind.Big 10 false)) ∷
-    (codes "*** HOLE CARDS ***", Ok (event.Street street.First [])) ∷
+    (codes "*** HOLE CARDS ***", Ok (event.Street street.First board.Only [])) ∷
     (codes "p3: calls 10", Ok (event.Act 3 (act.Call 10) false [])) ∷
     (codes "p4: calls 10", Ok (event.Act 4 (act.Call 10) false [])) ∷
     (codes "p1: raises 20 to 30 and is all-in", Ok (event.Act 1 (act.Raise 20 30) true [])) ∷
     (codes "p2: calls 20 and is all-in", Ok (event.Act 2 (act.Call 20) true [])) ∷
     (codes "p3: calls 20 and is all-in", Ok (event.Act 3 (act.Call 20) true [])) ∷
     (codes "p4: folds", Ok (event.Act 4 act.Fold false [])) ∷
-    (codes "*** FLOP *** [Ts Js Qs]", Ok (event.Street street.Flop (35 ∷ 39 ∷ 43 ∷ []))) ∷
-    (codes "*** TURN *** [Ts Js Qs] [Ks]", Ok (event.Street street.Turn (47 ∷ []))) ∷
-    (codes "*** RIVER *** [Ts Js Qs Ks] [As]", Ok (event.Street street.River (51 ∷ []))) ∷
-    (codes "*** SHOW DOWN ***", Ok (event.Street street.ShowDown [])) ∷
+    (codes "*** FLOP *** [Ts Js Qs]", Ok (event.Street street.Flop board.Only (35 ∷ 39 ∷ 43 ∷ []))) ∷
+    (codes "*** TURN *** [Ts Js Qs] [Ks]", Ok (event.Street street.Turn board.Only (47 ∷ []))) ∷
+    (codes "*** RIVER *** [Ts Js Qs Ks] [As]", Ok (event.Street street.River board.Only (51 ∷ []))) ∷
+    (codes "*** SHOW DOWN ***", Ok (event.Street street.ShowDown board.Only [])) ∷
     (codes "p1: shows [2c 3c]", Ok (event.Show 1 (0 ∷ 4 ∷ []))) ∷
     (codes "p2: shows [2d 3d]", Ok (event.Show 2 (1 ∷ 5 ∷ []))) ∷
     (codes "p3: shows [2h 3h]", Ok (event.Show 3 (2 ∷ 6 ∷ []))) ∷
     (codes "p1 collected 34 from pot", Ok (event.Collect 1 34 pot.Only)) ∷
     (codes "p2 collected 33 from pot", Ok (event.Collect 2 33 pot.Only)) ∷
     (codes "p3 collected 33 from pot", Ok (event.Collect 3 33 pot.Only)) ∷
-    (codes "*** SUMMARY ***", Ok (event.Street street.Summary [])) ∷
+    (codes "*** SUMMARY ***", Ok (event.Street street.Summary board.Only [])) ∷
     (codes "Total pot 100 | Rake 0", Ok (event.Total 100 0)) ∷
     (codes "Board [Ts Js Qs Ks As]", Ok event.Remark) ∷
     (codes "Seat 1: p1 (small blind) showed [2c 3c] and won", Ok (event.SeatCards 1 (0 ∷ 4 ∷ []))) ∷
@@ -187,32 +188,32 @@ hand_of_razz =
     (codes "Seat 2: y (500 in chips)", Ok (event.Seat 2 500 8 9)) ∷
     (codes "x: posts the ante 1", Ok (event.Post 1 kind.Ante 1 false)) ∷
     (codes "y: posts the ante 1", Ok (event.Post 2 kind.Ante 1 false)) ∷
-    (codes "*** 3rd STREET ***", Ok (event.Street street.First [])) ∷
+    (codes "*** 3rd STREET ***", Ok (event.Street street.First board.Only [])) ∷
     (codes "Dealt to x [As 2d 3h]", Ok (event.Deal 1 (51 ∷ 1 ∷ 6 ∷ []) false)) ∷
     (codes "Dealt to y [Kc]", Ok (event.Deal 2 (44 ∷ []) false)) ∷
     (codes "y: brings in for 3", Ok (event.Post 2 kind.BringIn 3 false)) ∷
     (codes "x: raises 7 to 10", Ok (event.Act 1 (act.Raise 7 10) false [])) ∷
     (codes "y: calls 7", Ok (event.Act 2 (act.Call 7) false [])) ∷
-    (codes "*** 4th STREET ***", Ok (event.Street street.Fourth [])) ∷
+    (codes "*** 4th STREET ***", Ok (event.Street street.Fourth board.Only [])) ∷
     (codes "Dealt to x [As 2d 3h] [4c]", Ok (event.Deal 1 (8 ∷ []) true)) ∷
     (codes "Dealt to y [Kc] [Kd]", Ok (event.Deal 2 (45 ∷ []) true)) ∷
     (codes "x: checks", Ok (event.Act 1 act.Check false [])) ∷
     (codes "y: checks", Ok (event.Act 2 act.Check false [])) ∷
-    (codes "*** 5th STREET ***", Ok (event.Street street.Fifth [])) ∷
+    (codes "*** 5th STREET ***", Ok (event.Street street.Fifth board.Only [])) ∷
     (codes "Dealt to x [As 2d 3h 4c] [5s]", Ok (event.Deal 1 (15 ∷ []) true)) ∷
     (codes "Dealt to y [Kc Kd] [Qc]", Ok (event.Deal 2 (40 ∷ []) true)) ∷
     (codes "x: bets 20 and is all-in", Ok (event.Act 1 (act.Bet 20) true [])) ∷
     (codes "y: calls 20", Ok (event.Act 2 (act.Call 20) false [])) ∷
-    (codes "*** 6th STREET ***", Ok (event.Street street.Sixth [])) ∷
+    (codes "*** 6th STREET ***", Ok (event.Street street.Sixth board.Only [])) ∷
     (codes "Dealt to x [As 2d 3h 4c 5s] [6d]", Ok (event.Deal 1 (17 ∷ []) true)) ∷
     (codes "Dealt to y [Kc Kd Qc] [Qd]", Ok (event.Deal 2 (41 ∷ []) true)) ∷
-    (codes "*** RIVER ***", Ok (event.Street street.River [])) ∷
+    (codes "*** RIVER ***", Ok (event.Street street.River board.Only [])) ∷
     (codes "Dealt to x [As 2d 3h 4c 5s 6d] [Th]", Ok (event.Deal 1 (34 ∷ []) true)) ∷
-    (codes "*** SHOW DOWN ***", Ok (event.Street street.ShowDown [])) ∷
+    (codes "*** SHOW DOWN ***", Ok (event.Street street.ShowDown board.Only [])) ∷
     (codes "x: shows [As 2d 3h 4c 5s 6d Th] (Lo: 5,4,3,2,A)", Ok (event.Show 1 (51 ∷ 1 ∷ 6 ∷ 8 ∷ 15 ∷ 17 ∷ 34 ∷ []))) ∷
     (codes "y: mucks hand", Ok (event.Muck 2)) ∷
     (codes "x collected 62 from pot", Ok (event.Collect 1 62 pot.Only)) ∷
-    (codes "*** SUMMARY ***", Ok (event.Street street.Summary [])) ∷
+    (codes "*** SUMMARY ***", Ok (event.Street street.Summary board.Only [])) ∷
     (codes "Total pot 62 | Rake 0", Ok (event.Total 62 0)) ∷
     (codes "Seat 1: x showed [As 2d 3h 4c 5s 6d Th] and won (62) with Lo: 5,4,3,2,A", Ok (event.SeatCards 1 (51 ∷ 1 ∷ 6 ∷ 8 ∷ 15 ∷ 17 ∷ 34 ∷ []))) ∷
     (codes "Seat 2: y mucked [8c 8d Kc Kd Qc Qd 9h]", Ok (event.SeatCards 2 (24 ∷ 25 ∷ 44 ∷ 45 ∷ 40 ∷ 41 ∷ 30 ∷ []))) ∷
@@ -229,23 +230,23 @@ hand_of_two =
     (codes "Seat 2: y ($50 in chips)", Ok (event.Seat 2 5000 8 9)) ∷
     (codes "x: posts small blind $0.50", Ok (event.Post 1 kind.Small 50 false)) ∷
     (codes "y: posts big blind $1", Ok (event.Post 2 kind.Big 100 false)) ∷
-    (codes "*** HOLE CARDS ***", Ok (event.Street street.First [])) ∷
+    (codes "*** HOLE CARDS ***", Ok (event.Street street.First board.Only [])) ∷
     (codes "x: calls $0.50", Ok (event.Act 1 (act.Call 50) false [])) ∷
     (codes "y: checks", Ok (event.Act 2 act.Check false [])) ∷
-    (codes "*** FLOP *** [2c 7d 9h]", Ok (event.Street street.Flop (0 ∷ 21 ∷ 30 ∷ []))) ∷
+    (codes "*** FLOP *** [2c 7d 9h]", Ok (event.Street street.Flop board.Only (0 ∷ 21 ∷ 30 ∷ []))) ∷
     (codes "y: bets $2", Ok (event.Act 2 (act.Bet 200) false [])) ∷
     (codes "x: calls $2", Ok (event.Act 1 (act.Call 200) false [])) ∷
-    (codes "*** TURN *** [2c 7d 9h] [4s]", Ok (event.Street street.Turn (11 ∷ []))) ∷
+    (codes "*** TURN *** [2c 7d 9h] [4s]", Ok (event.Street street.Turn board.Only (11 ∷ []))) ∷
     (codes "y: checks", Ok (event.Act 2 act.Check false [])) ∷
     (codes "x: checks", Ok (event.Act 1 act.Check false [])) ∷
-    (codes "*** RIVER *** [2c 7d 9h 4s] [Jc]", Ok (event.Street street.River (36 ∷ []))) ∷
+    (codes "*** RIVER *** [2c 7d 9h 4s] [Jc]", Ok (event.Street street.River board.Only (36 ∷ []))) ∷
     (codes "y: checks", Ok (event.Act 2 act.Check false [])) ∷
     (codes "x: checks", Ok (event.Act 1 act.Check false [])) ∷
-    (codes "*** SHOW DOWN ***", Ok (event.Street street.ShowDown [])) ∷
+    (codes "*** SHOW DOWN ***", Ok (event.Street street.ShowDown board.Only [])) ∷
     (codes "y: shows [Ks Kh]", Ok (event.Show 2 (47 ∷ 46 ∷ []))) ∷
     (codes "x: shows [As Ah]", Ok (event.Show 1 (51 ∷ 50 ∷ []))) ∷
     (codes "x collected $6 from pot", Ok (event.Collect 1 600 pot.Only)) ∷
-    (codes "*** SUMMARY ***", Ok (event.Street street.Summary [])) ∷
+    (codes "*** SUMMARY ***", Ok (event.Street street.Summary board.Only [])) ∷
     (codes "Total pot $6 | Rake $0", Ok (event.Total 600 0)) ∷
     []
 
@@ -273,5 +274,5 @@ hands_are_read :
     × Say header_of_three_winners hand_of_three_winners
     × Say header_of_razz hand_of_razz
     × Say header_of_two hand_of_two
-unfolding Say names_behind part_behind lines_say header_of_six hand_of_six header_of_side_pots hand_of_side_pots header_of_three_winners hand_of_three_winners header_of_razz hand_of_razz header_of_two hand_of_two behind first_place last_place cut_first cut_last money some_money follows all_in_end seat_front front_name cards_of counted_cards closed verb_of post call bet raise perhaps_cards fold show discard_behind discard pat said act_event street_event marker_of marker_event marked acted deal_once deal_again deal_cards deal dealt give_back returned pot_of collect collected cancelled play_event seat_opening seat_event seated buttoned preamble_event total_event totalled last_shown shown_event shown summary_event written card_of_letters
+unfolding Say names_behind part_behind lines_say header_of_six hand_of_six header_of_side_pots hand_of_side_pots header_of_three_winners hand_of_three_winners header_of_razz hand_of_razz header_of_two hand_of_two behind first_place last_place cut_first cut_last money some_money follows all_in_end seat_front front_name cards_of counted_cards closed verb_of post call bet raise perhaps_cards fold show discard_behind discard pat said act_event street_event street_for marker_on marker_of marker_event marked acted deal_once deal_again deal_cards deal dealt give_back returned pot_of collect collected cancelled play_event seat_opening seat_event seated buttoned preamble_event total_event totalled last_shown shown_event shown summary_event written card_of_letters
 hands_are_read = (refl, refl, refl, refl, refl)

@@ -12,6 +12,7 @@ use Rattle.history_text.specs.declared.events.Part.TheVariants as part
 use Rattle.history_text.specs.declared.events.Event.{Event}
 use Rattle.history_text.specs.declared.events.Event.TheVariants as event
 use Rattle.history_text.specs.declared.events.Act.TheVariants as act
+use Rattle.history_text.specs.declared.events.BoardNumber.TheVariants as board
 use Rattle.history_text.specs.declared.events.PostKind.TheVariants as kind
 use Rattle.history_text.specs.declared.events.PotName.TheVariants as pot
 use Rattle.card_sets.specs.declared.streets.Street.TheVariants as street
@@ -22,7 +23,7 @@ use Rattle.history_text.specs.Reading.{money, some_money, follows, all_in_end, s
 use Rattle.history_text.specs.Names.{front_name}
 use Rattle.history_text.specs.Brackets.{cards_of, counted_cards, closed}
 use Rattle.history_text.specs.Acts.{verb_of, post, call, bet, raise, perhaps_cards, fold, show, discard_behind, discard, pat, said, act_event}
-use Rattle.history_text.specs.Markers.{street_event, marker_of, marker_event, marked}
+use Rattle.history_text.specs.Markers.{street_event, street_for, marker_on, marker_of, marker_event, marked}
 use Rattle.history_text.specs.Plays.{acted, deal_once, deal_again, deal_cards, deal, dealt, give_back, returned, pot_of, collect, collected, cancelled, play_event}
 use Rattle.history_text.specs.Seats.{seat_opening, seat_event, seated, buttoned, preamble_event}
 use Rattle.history_text.specs.Totals.{total_event, totalled, last_shown, shown_event, shown, summary_event}
@@ -116,14 +117,29 @@ deals =
     (codes "Dealt to hero [Qc 7d] and so on", Ok event.Remark) ∷
     (codes "Dealt to hero", Ok event.Remark) ∷
     (codes "Dealt to emil [Qc 7d]", Err fault.BadAction) ∷
-    (codes "*** FLOP *** [2s 9s Jd]", Ok (event.Street street.Flop (3 ∷ 31 ∷ 37 ∷ []))) ∷
-    (codes "*** TURN *** [2s 9s Jd] [5h]", Ok (event.Street street.Turn (14 ∷ []))) ∷
-    (codes "*** RIVER *** [2s 9s Jd 5h] [3c]", Ok (event.Street street.River (4 ∷ []))) ∷
+    (codes "*** FLOP *** [2s 9s Jd]", Ok (event.Street street.Flop board.Only (3 ∷ 31 ∷ 37 ∷ []))) ∷
+    (codes "*** TURN *** [2s 9s Jd] [5h]", Ok (event.Street street.Turn board.Only (14 ∷ []))) ∷
+    (codes "*** RIVER *** [2s 9s Jd 5h] [3c]", Ok (event.Street street.River board.Only (4 ∷ []))) ∷
     (codes "*** FLOP ***", Err fault.BadCards) ∷
-    (codes "*** SHOW DOWN ***", Ok (event.Street street.ShowDown [])) ∷
+    (codes "*** SHOW DOWN ***", Ok (event.Street street.ShowDown board.Only [])) ∷
     (codes "*** 4th STREET ***", Err fault.BadMarker) ∷
-    (codes "*** FIRST FLOP *** [2s 9s Jd]", Err fault.TwoBoards) ∷
-    (codes "*** SECOND SHOW DOWN ***", Err fault.TwoBoards) ∷
+    []
+
+-- markers of a hand that is run twice
+markers_of_two : List Saying
+markers_of_two =
+    (codes "*** FIRST FLOP *** [2s 9s Jd]", Ok (event.Street street.Flop board.First (3 ∷ 31 ∷ 37 ∷ []))) ∷
+    (codes "*** SECOND FLOP *** [7h 8h 2c]", Ok (event.Street street.Flop board.Second (22 ∷ 26 ∷ 0 ∷ []))) ∷
+    (codes "*** FIRST TURN *** [2s 9s Jd] [5h]", Ok (event.Street street.Turn board.First (14 ∷ []))) ∷
+    (codes "*** SECOND RIVER *** [7h 8h 2c Qs] [6s]", Ok (event.Street street.River board.Second (19 ∷ []))) ∷
+    (codes "*** FIRST SHOW DOWN ***", Ok (event.Street street.ShowDown board.First [])) ∷
+    (codes "*** SECOND SHOW DOWN ***", Ok (event.Street street.ShowDown board.Second [])) ∷
+    (codes "*** FIRST FLOP ***", Err fault.BadCards) ∷
+    (codes "*** SECOND TURN *** [2s 9s Jd] [5h 3c]", Err fault.BadCards) ∷
+    (codes "*** FIRST HOLE CARDS ***", Err fault.BadMarker) ∷
+    (codes "*** SECOND SUMMARY ***", Err fault.BadMarker) ∷
+    (codes "*** FIRST", Err fault.BadMarker) ∷
+    (codes "*** THIRD RIVER *** [7h 8h 2c Qs] [6s]", Err fault.BadMarker) ∷
     []
 
 -- deals of Omaha
@@ -141,17 +157,19 @@ deals_of_razz =
     (codes "Dealt to hero [As 2d 3h] [4c]", Ok (event.Deal 6 (8 ∷ []) true)) ∷
     (codes "Dealt to hero [As 2d]", Err fault.BadCards) ∷
     (codes "carl: brings in for 3", Ok (event.Post 3 kind.BringIn 3 false)) ∷
-    (codes "*** 3rd STREET ***", Ok (event.Street street.First [])) ∷
-    (codes "*** 6th STREET ***", Ok (event.Street street.Sixth [])) ∷
-    (codes "*** RIVER ***", Ok (event.Street street.River [])) ∷
+    (codes "*** 3rd STREET ***", Ok (event.Street street.First board.Only [])) ∷
+    (codes "*** 6th STREET ***", Ok (event.Street street.Sixth board.Only [])) ∷
+    (codes "*** RIVER ***", Ok (event.Street street.River board.Only [])) ∷
     (codes "*** FLOP *** [2s 9s Jd]", Err fault.BadMarker) ∷
+    (codes "*** FIRST RIVER ***", Err fault.BadMarker) ∷
+    (codes "*** SECOND SHOW DOWN ***", Err fault.BadMarker) ∷
     []
 
 -- deals, discards and stand-pats of single draw
 draws : List Saying
 draws =
-    (codes "*** DEALING HANDS ***", Ok (event.Street street.First [])) ∷
-    (codes "*** DRAW ***", Ok (event.Street street.Draw [])) ∷
+    (codes "*** DEALING HANDS ***", Ok (event.Street street.First board.Only [])) ∷
+    (codes "*** DRAW ***", Ok (event.Street street.Draw board.Only [])) ∷
     (codes "Dealt to hero [7c 5d 4h 3s 2c]", Ok (event.Deal 6 (20 ∷ 13 ∷ 10 ∷ 7 ∷ 0 ∷ []) false)) ∷
     (codes "Dealt to hero [7c 5d 4h] [3s 2c]", Ok (event.Deal 6 (7 ∷ 0 ∷ []) true)) ∷
     (codes "hero: discards 2 cards [Qc 7d]", Ok (event.Discard 6 2 (40 ∷ 21 ∷ []))) ∷
@@ -237,6 +255,8 @@ lines_are_read :
     × Say chips part.Play acts
     × Say chips part.Play others
     × Say cash part.Play deals
+    × Say cash part.Play markers_of_two
+    × Say omaha part.Play markers_of_two
     × Say omaha part.Play deals_of_omaha
     × Say razz part.Play deals_of_razz
     × Say draw part.Play draws
@@ -246,5 +266,5 @@ lines_are_read :
     × Say chips part.Preamble seats_in_chips
     × Say cash part.Summary totals
     × Say chips part.Summary summary
-unfolding Say posts acts others deals deals_of_omaha deals_of_razz draws discards_elsewhere payments seats seats_in_chips totals summary behind first_place last_place cut_first cut_last money some_money follows all_in_end seat_front front_name cards_of counted_cards closed verb_of post call bet raise perhaps_cards fold show discard_behind discard pat said act_event street_event marker_of marker_event marked acted deal_once deal_again deal_cards deal dealt give_back returned pot_of collect collected cancelled play_event seat_opening seat_event seated buttoned preamble_event total_event totalled last_shown shown_event shown summary_event written card_of_letters cash chips razz draw names omaha
-lines_are_read = (refl, refl, refl, refl, refl, refl, refl, refl, refl, refl, refl, refl, refl)
+unfolding Say posts acts others deals markers_of_two deals_of_omaha deals_of_razz draws discards_elsewhere payments seats seats_in_chips totals summary behind first_place last_place cut_first cut_last money some_money follows all_in_end seat_front front_name cards_of counted_cards closed verb_of post call bet raise perhaps_cards fold show discard_behind discard pat said act_event street_event street_for marker_on marker_of marker_event marked acted deal_once deal_again deal_cards deal dealt give_back returned pot_of collect collected cancelled play_event seat_opening seat_event seated buttoned preamble_event total_event totalled last_shown shown_event shown summary_event written card_of_letters cash chips razz draw names omaha
+lines_are_read = (refl, refl, refl, refl, refl, refl, refl, refl, refl, refl, refl, refl, refl, refl, refl)

@@ -9,6 +9,7 @@ use Rattle.card_sets.specs.declared.games.Game.{Game}
 use Rattle.line_text.specs.declared.amounts.AmountFault.TheVariants.{NotAmount, TooLarge}
 use Rattle.line_text.specs.Amounts.{Written, written, greatest, units_of, counted, digit_count, number_of}
 use Rattle.history_text.specs.declared.events.Header.{Header}
+use Rattle.history_text.specs.declared.events.BoardNumber.{BoardNumber}
 use Rattle.history_text.specs.declared.events.Event.{Event}
 use Rattle.history_text.specs.declared.events.Event.TheVariants as event
 use Rattle.history_text.specs.declared.events.Act.TheVariants.{Fold, Check, Call, Bet, Raise}
@@ -18,7 +19,7 @@ use Rattle.history_text.specs.declared.events.PostKind.{PostKind}
 use Rattle.history_text.specs.declared.events.PotName.{PotName}
 use Rattle.card_sets.specs.declared.streets.Street.{Street}
 use Rattle.history_text.specs.declared.events.TextFault.{TextFault}
-use Rattle.history_text.specs.declared.events.TextFault.TheVariants.{Cancelled, TwoBoards, BadMarker, BadAction, BadCards}
+use Rattle.history_text.specs.declared.events.TextFault.TheVariants.{Cancelled, BadMarker, BadAction, BadCards}
 use Rattle.history_text.specs.declared.events.Verb.{Verb}
 use Rattle.history_text.specs.declared.events.Verb.TheVariants.{PostsSmall, PostsBig, PostsBoth, PostsAnte, BringsIn, Folds, Checks, Calls, Bets, Raises, Shows, Mucks, DoesntShow, Discards, StandsPat, SitsOut, IsSittingOut}
 use Rattle.history_text.specs.Texts.{behind, cut_at, cut_last, last_place}
@@ -29,7 +30,7 @@ use Rattle.card_sets.specs.Streets.{board_count}
 use Rattle.history_text.specs.Acts.{post, call, bet, raise, fold, show, discard, discard_behind, is_discarded, pat, said, act_event, at_end, perhaps_cards, behind_card}
 use Rattle.history_text.specs.Brackets.{closed, counted_cards, shown_counts}
 use Rattle.history_text.specs.Plays.{acted, dealt, deal, deal_cards, deal_once, deal_again, deal_end, deal_nothing, dealt_counts, drawn_counts, give_back, returned, collect, collected, pot_of, cancelled, play_event}
-use Rattle.history_text.specs.Markers.{street_event, marker_event, marked, marker_of, is_of_two_boards}
+use Rattle.history_text.specs.Markers.{street_event, marker_event, marked, marker_of}
 use Rattle.history_text.specs.Seats.{seat_opening, free_name, seat_event, seated, button_event, button_end, buttoned, preamble_event}
 use Rattle.history_text.specs.Totals.{total_event, totalled, seat_among, last_shown, shown_event, shown, summary_event}
 use Rattle.history_text.specs.Lines.{line_event}
@@ -251,16 +252,16 @@ collected_good line names header all = says_map FitSeats (Good Play line) _ _ (f
     bind (λ (m : ℕ × List ℕ). m.0 < 10 ^ 15) (Good Play line) _ _ (some_small header.hundredths who.rest) (λ (won : ℕ × List ℕ) h.
     next (Good Play line) (follows (codes " from ") won.1) (λ x'. ◌>>=◌ {B = Event} (or_fault BadAction (pot_of x')) (λ x''. Ok (event.Collect who.seat won.0 x''))) (λ (rest : List ℕ). next (Good Play line) (or_fault BadAction (pot_of rest)) (λ x'. Ok (event.Collect who.seat won.0 x')) (λ (pot : PotName). let g : Good Play line (event.Collect who.seat won.0 pot) = ((s.0, s.1, h), refl) in g))))
 
-street_good : (line : List ℕ) (game : Game) (street : Street) (text : List ℕ) → Reads (Good Play line) (street_event game street text)
+street_good : (line : List ℕ) (game : Game) (number : BoardNumber) (street : Street) (text : List ℕ) → Reads (Good Play line) (street_event game number street text)
 unfolding street_event
-street_good line game street text =
+street_good line game number street text =
     either (Good Play line) (board_count game street == 0) _ _ (tt, refl)
-    (next (Good Play line) (or_fault BadCards (cut_last (codes "[") text)) (λ x'. ◌>>=◌ {B = Event} (closed x'.1) (λ x''. ◌>>=◌ {B = Event} (counted_cards (board_count game street ∷ []) x''.0) (λ x3. Ok (event.Street street x3)))) (λ (last : List ℕ × List ℕ). next (Good Play line) (closed last.1) (λ x'. ◌>>=◌ {B = Event} (counted_cards (board_count game street ∷ []) x'.0) (λ x''. Ok (event.Street street x''))) (λ (cut : List ℕ × List ℕ). next (Good Play line) (counted_cards (board_count game street ∷ []) cut.0) (λ x'. Ok (event.Street street x')) (λ (cards : List ℕ). let g : Good Play line (event.Street street cards) = (tt, refl) in g))))
+    (next (Good Play line) (or_fault BadCards (cut_last (codes "[") text)) (λ x'. ◌>>=◌ {B = Event} (closed x'.1) (λ x''. ◌>>=◌ {B = Event} (counted_cards (board_count game street ∷ []) x''.0) (λ x3. Ok (event.Street street number x3)))) (λ (last : List ℕ × List ℕ). next (Good Play line) (closed last.1) (λ x'. ◌>>=◌ {B = Event} (counted_cards (board_count game street ∷ []) x'.0) (λ x''. Ok (event.Street street number x''))) (λ (cut : List ℕ × List ℕ). next (Good Play line) (counted_cards (board_count game street ∷ []) cut.0) (λ x'. Ok (event.Street street number x')) (λ (cards : List ℕ). let g : Good Play line (event.Street street number cards) = (tt, refl) in g))))
 
 marked_good : (line : List ℕ) (header : Header) → Says (Good Play line) (marked header line)
 unfolding marked marker_event
 marked_good line header = says_any (Good Play line) _ (behind (codes "*** ") line) (λ (text : List ℕ).
-    either (Good Play line) (is_of_two_boards text) (Err TwoBoards) (◌>>=◌ {B = Event} (or_fault BadMarker (marker_of header.game text)) (λ x'. street_event header.game x'.0 x'.1)) (tt {0}) (next (Good Play line) (or_fault BadMarker (marker_of header.game text)) _ (λ (marker : Street × List ℕ). street_good line header.game marker.0 marker.1)))
+    next (Good Play line) (or_fault BadMarker (marker_of header.game text)) _ (λ (marker : (BoardNumber × Street) × List ℕ). street_good line header.game marker.0.0 marker.0.1 marker.1))
 
 cancelled_good : (line : List ℕ) → Says (Good Play line) (cancelled line)
 unfolding cancelled

@@ -96,6 +96,17 @@ pub enum PotName {
     SideNumber(u8),
 }
 
+/// The board of a marker.
+#[derive(Clone, Copy, Debug, PartialEq, Eq)]
+pub enum BoardNumber {
+    /// The only board, or the cards that two boards share.
+    Only,
+    /// The first of two boards, of a hand that is run twice.
+    First,
+    /// The second of two boards.
+    Second,
+}
+
 /// What a player's line may say that he does, by its words.
 #[derive(Clone, Copy, Debug, PartialEq, Eq)]
 pub enum Verb {
@@ -162,9 +173,10 @@ pub enum Event {
         cards: Cards,
         drawn: bool,
     },
-    /// The marker of a street, with the new cards of the board.
+    /// The marker of a street, with the board that it speaks of and that board's new cards.
     Street {
         street: Street,
+        board: BoardNumber,
         cards: Cards,
     },
     /// An act, whether the line says that the player is all-in, and the cards that a fold shows.
@@ -235,8 +247,6 @@ pub enum TextFault {
     BadAmount,
     /// An amount above the greatest.
     AmountTooLarge,
-    /// A marker of a hand that is run twice.
-    TwoBoards,
     /// The hand was cancelled.
     Cancelled,
 }

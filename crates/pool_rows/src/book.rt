@@ -1,15 +1,16 @@
 //! A book of one block, into which two workers post.
 
-ghost use Rattle.std.specs.Prelude.{◌≡◌, ℕ, ◌<◌, ◌≤◌, ◌+◌, true, [], ◌∷◌, length};
+ghost use Rattle.std.specs.Prelude.{◌≡◌, ◌≤◌, true, length};
 ghost use Rattle.card_sets.specs.State.{state_of};
 ghost use Rattle.showdown_tally.specs.Deals.{deal_of};
 ghost use Rattle.showdown_tally.specs.Tallies.{Counts, runouts_after};
 ghost use Rattle.equity_job.specs.Blocks.{block_of, blocks_of};
 ghost use Rattle.tally_book.specs.Pages.{is_marked};
 
-use card_sets::{Card, CardSet, Game, Known, Memory, Side};
+use crate::spots::job_of;
+use card_sets::{Memory, Side};
 use equity_job::{Job, Scratch, count_job};
-use showdown_tally::{Cell, Table, Tally};
+use showdown_tally::{Cell, Tally};
 use std::alloc::Global;
 use std::marker::Brand;
 use std::sync::ledger::Blank;
@@ -23,62 +24,6 @@ struct PostedTwice {
     second: Posted,
     handed: [bool; 2],
     closed: Closed,
-}
-
-/// The card of a number.
-fn card(number: u8) -> Card
-    requires { number < 52 }
-    ensures { result ≡ number }
-{
-    Card::new(number / 4, number % 4).unwrap()
-}
-
-/// A set of two cards.
-fn two(a: u8, b: u8) -> CardSet
-    requires rising { a < b }
-    requires deck { b < 52 }
-    ensures { result ≡ a ∷ b ∷ [] }
-{
-    CardSet::empty().with(card(a)).with(card(b))
-}
-
-/// A set of four cards.
-fn four(a: u8, b: u8, c: u8, d: u8) -> CardSet
-    requires first { a < b }
-    requires second { b < c }
-    requires third { c < d }
-    requires deck { d < 52 }
-    ensures { result ≡ a ∷ b ∷ c ∷ d ∷ [] }
-{
-    two(a, b).with(card(c)).with(card(d))
-}
-
-/// As Ah against Ks Kh, with 2c 4s 7d 9h on the board: 44 rivers, of which two are kings.
-fn turn_table() -> Table {
-    let none = CardSet::empty();
-    let known = Known {
-        game: Game::Holdem,
-        count: 2,
-        hands: [
-            two(50, 51),
-            two(46, 47),
-            none,
-            none,
-            none,
-            none,
-            none,
-            none,
-            none,
-            none,
-        ],
-        board: four(0, 11, 21, 30),
-        dead: none,
-    };
-    Table {
-        known,
-        pots: 1,
-        eligible: [0b11, 0, 0, 0, 0, 0, 0, 0, 0, 0],
-    }
 }
 
 /// Posts the only block of a job.
@@ -133,9 +78,12 @@ fn posted_twice(alloc: Global, job: &Job, tally: &Tally) -> Result<Option<Posted
     Ok(Some(posted))
 }
 
+/// With one card to come there are 44 rivers, of which two are kings.
+const TURN: &[u8] = b"holdem As Ah - Ks Kh -- 2c 7d 9h 4s";
+
 #[test]
 fn a_block_that_is_posted_twice_counts_once(rt: HostRuntime) -> Result<(), Fail> {
-    let job = Job::make(&turn_table()).ok().ok_or("no job")?;
+    let job = job_of(TURN).ok_or("no job")?;
     let mut scratch = Scratch::new();
     let mut tally = Tally::zero();
     count_job(&job, &mut scratch, &mut tally);

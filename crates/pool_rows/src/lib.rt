@@ -5,3 +5,11 @@
 mod book;
 #[cfg(test)]
 mod machine;
+#[cfg(test)]
+mod runs;
+#[cfg(test)]
+mod seats;
+#[cfg(test)]
+mod spots;
+#[cfg(test)]
+mod workers;

@@ -1,10 +1,10 @@
 //! The machine, event by event, and its law for a job of two blocks.
 
-ghost use Rattle.std.specs.Prelude.{◌≡◌, ◌<◌, None, [], ◌∷◌, IfOk};
+ghost use Rattle.std.specs.Prelude.{◌≡◌, None, [], ◌∷◌, IfOk};
 
-use card_sets::{Card, CardSet, Game, Known, Memory};
+use crate::spots::job_of;
+use card_sets::Memory;
 use equity_job::Job;
-use showdown_tally::Table;
 use std::alloc::Global;
 use std::test::Fail;
 use steal_core::{
@@ -95,58 +95,8 @@ fn are_refused(state: &mut State, events: &[CoreEvent]) -> Result<bool, Memory> 
     Ok(true)
 }
 
-/// The card of a number.
-fn card(number: u8) -> Card
-    requires { number < 52 }
-    ensures { result ≡ number }
-{
-    Card::new(number / 4, number % 4).unwrap()
-}
-
-/// A set of one card.
-fn one(a: u8) -> CardSet
-    requires { a < 52 }
-    ensures { result ≡ a ∷ [] }
-{
-    CardSet::empty().with(card(a))
-}
-
-/// A set of two cards.
-fn two(a: u8, b: u8) -> CardSet
-    requires rising { a < b }
-    requires deck { b < 52 }
-    ensures { result ≡ a ∷ b ∷ [] }
-{
-    one(a).with(card(b))
-}
-
-/// As Ah, Ks Kh, Qs Qh and Js Jh, with 2c on the board: 123,410 ways to deal four of 43 cards.
-fn four_pairs() -> Table {
-    let none = CardSet::empty();
-    let known = Known {
-        game: Game::Holdem,
-        count: 4,
-        hands: [
-            two(50, 51),
-            two(46, 47),
-            two(42, 43),
-            two(38, 39),
-            none,
-            none,
-            none,
-            none,
-            none,
-            none,
-        ],
-        board: one(0),
-        dead: none,
-    };
-    Table {
-        known,
-        pots: 1,
-        eligible: [0b1111, 0, 0, 0, 0, 0, 0, 0, 0, 0],
-    }
-}
+/// One hand draws none and the other four of 43 cards, in 123,410 ways.
+const TWO_BLOCKS: &[u8] = b"lowball27 7c 5d 4h 3s 2c - 8d / 2d 2h 2s";
 
 /// What the law gives for a job of two blocks, and none for another.
 fn booked_of_two(alloc: Global, job: &Job) -> Result<Option<State>, Memory> {
@@ -173,7 +123,7 @@ fn a_stolen_block_is_booked_by_the_thief(rt: HostRuntime) -> Result<(), Fail> {
 
 #[test]
 fn both_blocks_of_a_job_are_booked(rt: HostRuntime) -> Result<(), Fail> {
-    let job = Job::make(&four_pairs()).ok().ok_or("no job")?;
+    let job = job_of(TWO_BLOCKS).ok_or("no job")?;
     let last = booked_of_two(rt.alloc(), &job).ok().ok_or("memory")?;
     let last = last.ok_or("not two blocks")?;
     assert!(rt; last.booked.items() == [1, 0].as_slice());

@@ -3,6 +3,6 @@ pub mod Parts
 pub mod Whole
 pub mod Eligible
 pub mod Listed
-pub mod Halves
+pub mod TwoSides
 pub mod Shared
 pub mod Different

@@ -13,12 +13,22 @@ given each extra (s ∷ order) seat = if s == seat then each + min extra 1 else 
 abbrev pub side_share : ℕ → List ℕ → ℕ → ℕ
 side_share units order seat = given (units / length order) (units % length order) order seat
 
+-- two halves of some units, the first rounded up and the second down
+abbrev pub first_half : ℕ → ℕ
+first_half units = (units + 1) / 2
+
+abbrev pub second_half : ℕ → ℕ
+second_half units = units / 2
+
+abbrev pub halves : ℕ → List ℕ
+halves units = first_half units ∷ second_half units ∷ []
+
 -- the halves of the two sides, the high rounded up; the high has all where nobody wins the low
 abbrev pub high_half : ℕ → ℕ → ℕ
-high_half units low = if low == 0 then units else (units + 1) / 2
+high_half units low = if low == 0 then units else first_half units
 
 abbrev pub low_half : ℕ → ℕ → ℕ
-low_half units low = if low == 0 then 0 else units / 2
+low_half units low = if low == 0 then 0 else second_half units
 
 -- how many of the two sides a seat wins
 abbrev pub sides_won : ℕ → ℕ → ℕ → ℕ

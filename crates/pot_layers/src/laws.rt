@@ -2,7 +2,7 @@
 
 ghost use Rattle.pot_layers.specs.Eligible.{ReachesLevels, ExcludesFolded};
 ghost use Rattle.pot_layers.specs.Different.{PotsDiffer};
-ghost use Rattle.pot_layers.specs.Halves.{HalvesAreShared};
+ghost use Rattle.pot_layers.specs.Halves.{HalvesAddUp, HalvesAreShared};
 ghost use Rattle.pot_layers.specs.Shared.{SharesAreEven};
 ghost use Rattle.pot_layers.specs.Split.{OrdersItsSeats};
 
@@ -26,6 +26,11 @@ pub fn law_no_two_pots_have_the_same_players()
 /// A list of different seats of the table is an order of the seats that it lists, as a split asks for.
 pub fn law_a_list_orders_its_seats()
     ensures { OrdersItsSeats }
+{}
+
+/// Two halves of some units add up to them, and the first is as much as the second, or one unit more.
+pub fn law_two_halves_add_up()
+    ensures { HalvesAddUp }
 {}
 
 /// The two sides of a pot get all of it, and the winners of a side all of what it gets. Where both sides

@@ -4,7 +4,8 @@
 //! pot of a level holds from every player what he has in between the level below and this one. Its
 //! eligible players are the contenders who have put in that much. Dead chips go into the first pot, and
 //! what folded players have in above the highest level into the last. `layers` gives the pots,
-//! `uncalled` what goes back to a player whom nobody called, and `split` the parts of a pot's winners.
+//! `uncalled` what goes back to a player whom nobody called, `halves` what goes by each board of a hand
+//! that was run twice, and `split` the parts of a pot's winners.
 //!
 //! Clauses see pots, parts and orders as lists. Sets of seats have bit s for seat s.
 #![tactic(auto)]
@@ -20,9 +21,10 @@ pub use by_level::{Pots, layers};
 pub use laws::{
     law_a_folded_player_is_eligible_nowhere, law_a_list_orders_its_seats,
     law_eligible_players_reach_the_level, law_no_two_pots_have_the_same_players,
-    law_two_sides_share_a_pot, law_winners_of_a_side_get_the_same_or_one_more,
+    law_two_halves_add_up, law_two_sides_share_a_pot,
+    law_winners_of_a_side_get_the_same_or_one_more,
 };
 pub use orders::OddOrder;
 pub use paid::{Paid, Pot, Share, SideWinners};
 pub use returns::uncalled;
-pub use splits::{Shares, split};
+pub use splits::{Shares, halves, split};

@@ -2,7 +2,7 @@
 
 ghost use Rattle.std.specs.Prelude.{◌≡◌, ℕ, ◌+◌, ◌-◌, ◌/◌, ◌%◌, ◌<◌, ◌≤◌, ◌^◌, ◌==◌, IfOk, length, min};
 ghost use Rattle.std.specs.List.{sum_by};
-ghost use Rattle.pot_layers.specs.Split.{given, side_share, high_half, low_half, sides_won, shares_from, shares, IsOrder, given_in_all};
+ghost use Rattle.pot_layers.specs.Split.{given, side_share, halves, high_half, low_half, sides_won, shares_from, shares, IsOrder, given_in_all};
 
 use crate::orders::OddOrder;
 use crate::paid::{Share, SideWinners};
@@ -78,23 +78,34 @@ fn sides_won(winners: SideWinners, seat: u8) -> u8
     PlayerSet::of(winners.high).has(seat) as u8 + PlayerSet::of(winners.low).has(seat) as u8
 }
 
+/// Two halves of some units, the first rounded up and the second down.
+pub fn halves(units: u64) -> [u64; 2]
+    ensures { result ≡ halves units }
+{
+    [units / 2 + units % 2, units / 2]
+}
+
 /// The half of the high, rounded up; all of it where nobody wins the low.
 fn high_half(units: u64, low: u16) -> u64
     ensures value { result ≡ high_half units low }
     ensures within { result ≤ units }
 {
     if low == 0 {
-        units
-    } else {
-        units / 2 + units % 2
+        return units;
     }
+    let [first, _] = halves(units);
+    first
 }
 
 /// The half of the low, rounded down.
 fn low_half(units: u64, low: u16) -> u64
     ensures { result ≡ low_half units low }
 {
-    if low == 0 { 0 } else { units / 2 }
+    if low == 0 {
+        return 0;
+    }
+    let [_, second] = halves(units);
+    second
 }
 
 /// The parts of the winners of a pot.

@@ -4,7 +4,7 @@ use Rattle.card_sets.specs.CardText.{text_of_card}
 use Rattle.betting_replay.specs.declared.faults.BetFault.{BetFault}
 use Rattle.betting_replay.specs.declared.faults.BetFault.TheVariants.{NotInHand, OutOfTurn, NothingOwed, CheckFacingBet, CallAmount, BetFacingBet, RaiseAmount, AboveStack, AllInWord, StreetEarly, StreetOrder, UncalledAmount, CardTwice, PostLate, SeatTwice, TooManyCards}
 use Rattle.history_text.specs.declared.events.TextFault.{TextFault}
-use Rattle.history_text.specs.declared.events.TextFault.TheVariants.{UnknownGame, BadHeader, BadAction, BadMarker, BadCards, BadAmount, AmountTooLarge, TwoBoards, Cancelled}
+use Rattle.history_text.specs.declared.events.TextFault.TheVariants.{UnknownGame, BadHeader, BadAction, BadMarker, BadCards, BadAmount, AmountTooLarge, Cancelled}
 use Rattle.hand_audit.specs.declared.cause.Cause.{Cause}
 use Rattle.hand_audit.specs.declared.cause.Cause.TheVariants.{Text, Bet, Chips, Split, Unfinished}
 use Rattle.report_table.specs.Words.{money}
@@ -18,7 +18,6 @@ text_words BadMarker = codes "BadMarker"
 text_words BadCards = codes "BadCards"
 text_words BadAmount = codes "BadAmount"
 text_words AmountTooLarge = codes "AmountTooLarge"
-text_words TwoBoards = codes "TwoBoards"
 text_words Cancelled = codes "Cancelled"
 
 -- a name and a seat, as `OutOfTurn seat 3`

@@ -34,10 +34,16 @@ rejected_title number line = hand_title number ++ codes "rejected" ∷ codes "li
 unfoldable pub rejected_hand : List ℕ → ℕ → Bool → Cause → Line
 rejected_hand number line hundredths cause = plain (rejected_title number line ++ cause_words hundredths cause)
 
--- the first line of a hand in which no line departs, as `hand 88 accepted holdem rake 0`
+-- that a hand was run twice
+abbrev pub twice_words : Bool → List (List ℕ)
+twice_words twice = if twice then codes "twice" ∷ [] else []
+
+-- the first line of a hand in which no line departs, as `hand 88 accepted holdem rake 0` or, where it was run twice,
+-- `hand 88 accepted holdem rake 0 twice`
 unfoldable pub accepted_line : List ℕ → Settlement → Line
 accepted_line number s =
-    plain (hand_title number ++ codes "accepted" ∷ game_word s.game ∷ codes "rake" ∷ money s.hundredths s.rake ∷ [])
+    plain (hand_title number ++ codes "accepted" ∷ game_word s.game ∷ codes "rake" ∷ money s.hundredths s.rake ∷ []
+    ++ twice_words s.twice)
 
 -- the first words of the line of a pot, with what it holds; pots are numbered from 0
 unfoldable pub pot_title : Bool → ℕ → ℕ → List (List ℕ)

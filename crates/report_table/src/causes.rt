@@ -22,7 +22,6 @@ fn text_words(fault: &TextFault) -> &'static str
         TextFault::BadCards => "BadCards",
         TextFault::BadAmount => "BadAmount",
         TextFault::AmountTooLarge => "AmountTooLarge",
-        TextFault::TwoBoards => "TwoBoards",
         TextFault::Cancelled => "Cancelled",
     }
 }

@@ -1,7 +1,7 @@
 //! The lines of a hand's verdict. Each method appends whole lines, but for those that add words to one.
 
 ghost use Rattle.std.specs.Prelude.{◌≡◌, ℕ, ◌+◌, OnOk};
-ghost use Rattle.report_table.specs.Hands.{accepted_hand, accepted_line, due_words, hand_title, name_text, paid_line, paid_lines, pot_line, pot_lines, pot_state, pot_title, pots_from, rejected_hand, rejected_title, seen_word};
+ghost use Rattle.report_table.specs.Hands.{accepted_hand, accepted_line, due_words, hand_title, name_text, paid_line, paid_lines, pot_line, pot_lines, pot_state, pot_title, pots_from, rejected_hand, rejected_title, seen_word, twice_words};
 ghost use Rattle.report_table.specs.Sheets.{IsBetweenLines, with_line, with_lines, with_words};
 
 use crate::sheet::Sheet;
@@ -64,7 +64,19 @@ impl Sheet {
         self.end()
     }
 
-    /// The first line of a hand in which no line departs, with its game and its rake.
+    /// That a hand was run twice.
+    #[tactic(auto, using(crate::proofs::SheetFacts::word_steps))]
+    fn twice_words(&mut self, twice: bool) -> Result<(), AllocError>
+        ensures { OnOk result (self.new ≡ with_words self.old (twice_words twice)) }
+    {
+        if !twice {
+            return Ok(());
+        }
+        self.text("twice")
+    }
+
+    /// The first line of a hand in which no line departs, with its game and its rake, and whether it was
+    /// run twice.
     #[tactic(auto, using(crate::proofs::SheetFacts::sheet_steps), unfolding(crate::specs::Hands::accepted_line))]
     fn accepted_line(&mut self, number: &[u8], settlement: &Settlement) -> Result<(), AllocError>
         requires { IsBetweenLines self.old }
@@ -75,6 +87,7 @@ impl Sheet {
         self.text(settlement.game.word())?;
         self.text("rake")?;
         self.money(settlement.hundredths, u128::from(settlement.rake))?;
+        self.twice_words(settlement.twice)?;
         self.end()
     }
 

@@ -7,7 +7,8 @@ use Rattle.run_engine.specs.Command.{makes, reads, reads_input, usage_line}
 use Rattle.run_engine.specs.declared.command.Command.{Command}
 use Rattle.run_engine.specs.Reading.{Counted, EndsSo, ReadWhole, ReadToFault, ReadTooMuch, reported}
 use Rattle.run_engine.specs.declared.reading.Ending.{Ending}
-use Rattle.run_engine.specs.declared.reading.Ending.TheVariants.{Whole, Failed, TooLong}
+use Rattle.run_engine.specs.declared.reading.Ending.TheVariants.{Whole, Failed, TooLong, Open}
+use Rattle.run_engine.specs.Laws.{has_blocks}
 use Rattle.run_engine.specs.Report.{blocks, report, rejects}
 
 -- what the ends had before a run, or have after it: the bytes left to read and those taken, where they are told, and the counts of faults
@@ -40,7 +41,7 @@ pub record IsReadFault (limit : ℕ) (command : Command) (old new : Ends) : Type
   pub written : WritesAll old.taken new.taken (report command (closed command.mode bytes))
 
 -- a write failed: a front of the report is written, that of all that was taken where the source was read to its end, and that
--- of its closed part where a read failed or there was more than the limit. Which of the three it was, the ends tell
+-- of its closed part where a read failed, there was more than the limit, or the reading goes on. Which of the four it was, the ends tell
 pub record IsWriteFault (limit : ℕ) (command : Command) (old new : Ends) : Type 0 where
   pub rises : Rises old.write_faults new.write_faults
   pub bytes : List ℕ
@@ -48,6 +49,8 @@ pub record IsWriteFault (limit : ℕ) (command : Command) (old new : Ends) : Typ
   pub ending : Ending
   pub ended : reads_input command.mode ≡ true → EndsSo limit old.left new.left old.read_faults new.read_faults bytes ending
   pub written : WritesFront old.taken new.taken (report command (reported command.mode ending bytes))
+  -- while the reading goes on nothing is written of a report that is one block for all hands
+  pub going : reads_input command.mode ≡ true → ending ≡ Open → has_blocks command.mode ≡ true
 
 -- there was more than the limit: the report of the closed part of the bytes within the limit is written
 pub record IsTooLong (limit : ℕ) (command : Command) (old new : Ends) : Type 0 where
@@ -56,9 +59,9 @@ pub record IsTooLong (limit : ℕ) (command : Command) (old new : Ends) : Type 0
   pub read : ReadTooMuch limit old.left new.left bytes
   pub written : WritesAll old.taken new.taken (report command (closed command.mode bytes))
 
--- memory ran out: the first blocks of the report are written, each whole. Where there is one, the reading had ended: the report
--- is that of all that was taken where the source was read to its end, and that of its closed part where a read failed or there
--- was more than the limit
+-- memory ran out: the first blocks of the report are written, each whole. Where there is one, the report is that of all that was
+-- taken where the source was read to its end, and that of its closed part where a read failed, there was more than the limit, or
+-- the reading goes on
 pub record IsMemoryShort (limit : ℕ) (command : Command) (old new : Ends) : Type 0 where
   pub bytes : List ℕ
   pub counted : Counted limit old.left new.left bytes
@@ -66,6 +69,7 @@ pub record IsMemoryShort (limit : ℕ) (command : Command) (old new : Ends) : Ty
   pub count : ℕ
   pub ended : reads_input command.mode ≡ true → 0 < count → EndsSo limit old.left new.left old.read_faults new.read_faults bytes ending
   pub written : WritesAll old.taken new.taken (concat (take count (blocks command (reported command.mode ending bytes))))
+  pub going : reads_input command.mode ≡ true → 0 < count → ending ≡ Open → has_blocks command.mode ≡ true
 
 -- a run whose words ask for a mode, or for none, that ends with a status, between these ends
 pub record IsRun (limit : ℕ) (asked : Option Command) (status : ℕ) (old new : Ends) : Type 0 where
@@ -100,8 +104,9 @@ pub record IsRun (limit : ℕ) (asked : Option Command) (status : ℕ) (old new 
   -- words in no form and no failed write end in 2, or for want of memory in 6
   pub complete_usage : IsNone asked → ¬ Rises old.write_faults new.write_faults → (status ≡ 2) ⊎ (status ≡ 6)
 
--- the status of a run whose report was written, by how the reading ended and how many spots or hands are rejected
+-- the status of a run whose report was written, by how the reading ended and how many spots or hands are rejected; it has ended
 abbrev pub written_status : Ending → ℕ → ℕ
 written_status Whole rejected = if rejected == 0 then 0 else 1
 written_status Failed rejected = 3
 written_status TooLong rejected = 5
+written_status Open rejected = 5

@@ -1,6 +1,10 @@
 pub use Rattle.byte_ends.specs.Ends
 pub use Rattle.line_text.specs.Lines
 pub use Rattle.history_text.specs.Headers
+pub use Rattle.hand_cuts.specs.Units as Cuts
+pub use Rattle.hand_cuts.specs.ClosedBytes
+pub use Rattle.hand_cuts.specs.CutterState
+pub use Rattle.hand_cuts.specs.Cutters
 pub use Rattle.hand_audit.specs.Verdict
 pub use Rattle.spot_text.specs.Words
 pub use Rattle.spot_text.specs.Spot
@@ -20,3 +24,7 @@ pub mod Laws
 pub mod Reading
 pub mod Writing
 pub mod Headline
+pub mod Units
+pub mod UnitBlocks
+pub mod UnitSums
+pub mod Reporting

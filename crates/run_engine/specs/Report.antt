@@ -3,13 +3,14 @@ use Rattle.std.specs.Prelude.{ℕ, ◌+◌, ◌-◌, Bool, true, false, ◌&&◌
 use Rattle.std.specs.List.{concat, filter_map}
 use Rattle.std.specs.Result.{is_err}
 use Rattle.hand_audit.specs.declared.verdicts.HandAudit.{HandAudit}
+use Rattle.hand_cuts.specs.Units.{hands_from}
 use Rattle.line_text.specs.Lines.{lines}
 use Rattle.made_hands.specs.Made.{made_text}
 use Rattle.report_table.specs.Made.{made_block}
 use Rattle.report_table.specs.Spots.{spot_block}
 use Rattle.report_table.specs.Totals.{is_accepted, totals_block}
 use Rattle.report_table.specs.declared.equity.Form.{Form}
-use Rattle.run_engine.specs.Histories.{hands_from, hand_block, is_rejected_hand, verdict_of}
+use Rattle.run_engine.specs.Histories.{hand_block, is_rejected_hand, verdict_of}
 use Rattle.run_engine.specs.declared.command.Command.{Command}
 use Rattle.run_engine.specs.declared.command.Mode.{Mode}
 use Rattle.run_engine.specs.declared.command.Mode.TheVariants.{Spots, Check, Audit, Totals, Made}

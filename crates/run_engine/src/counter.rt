@@ -1,6 +1,6 @@
 //! Who counts equities, and the last one that was asked for.
 
-ghost use Rattle.std.specs.Prelude.{◌≡◌, OnOk, true};
+ghost use Rattle.std.specs.Prelude.{◌≡◌, ⊤, OnOk, true};
 ghost use Rattle.card_sets.specs.State.{state_of};
 ghost use Rattle.report_table.specs.Equities.{IsEquityOf, IsOfAllIn, IsOfHand, is_asked};
 ghost use Rattle.showdown_tally.specs.Deals.{deal_of};
@@ -14,8 +14,12 @@ use showdown_tally::{Table, Tally};
 
 /// Counts jobs.
 pub(crate) trait Counter {
+    /// What is known of a call that it makes in its turn, if it makes one.
+    ghost ready: { Type 0 } = { ⊤ };
+
     /// Makes a tally that of all runouts of a job, whatever it held, with so many workers at the most.
     fn count(&mut self, job: &Job, workers: u32, tally: &mut Tally) -> Result<(), Memory>
+        requires { ready }
         ensures { OnOk result (Counts (deal_of job.now.table) (runouts_after (state_of job.now.table.known)) tally.new) };
 }
 
@@ -30,8 +34,22 @@ impl Alone {
     pub(crate) fn count_here(&mut self, job: &Job, tally: &mut Tally)
         ensures { Counts (deal_of job.now.table) (runouts_after (state_of job.now.table.known)) tally.new }
     {
-        let scratch = self.scratch.get_or_insert_with(Scratch::new);
-        count_job(job, scratch, tally);
+        if let Some(scratch) = &mut self.scratch {
+            count_job(job, scratch, tally);
+            return;
+        }
+        self.count_first(job, tally);
+    }
+
+    /// The same where the room is still to be made. It has a frame of its own, so that no other call touches the
+    /// megabyte of stack that this takes.
+    #[inline(never)]
+    fn count_first(&mut self, job: &Job, tally: &mut Tally)
+        ensures { Counts (deal_of job.now.table) (runouts_after (state_of job.now.table.known)) tally.new }
+    {
+        let mut scratch = Scratch::new();
+        count_job(job, &mut scratch, tally);
+        self.scratch = Some(scratch);
     }
 }
 
@@ -73,6 +91,7 @@ impl<C: Counter> Desk<C> {
 
     /// Counts a job.
     fn ask_job(&mut self, job: &Job) -> Result<(), Memory>
+        requires ready { C.ready }
         ensures { OnOk result (IsEquityOf (deal_of job.now.table) self.new.equity) }
     {
         if let Equity::Counted(tally) = &mut self.equity {
@@ -86,6 +105,7 @@ impl<C: Counter> Desk<C> {
 
     /// Asks for the equity of a table: counted over all runouts, or why it isn't.
     pub(crate) fn ask_table(&mut self, table: &Table) -> Result<(), Memory>
+        requires ready { C.ready }
         ensures { OnOk result (IsEquityOf (deal_of table.now) self.new.equity) }
     {
         match Job::make(table) {
@@ -99,6 +119,7 @@ impl<C: Counter> Desk<C> {
 
     /// Asks for the equity of an all-in. Where its cards aren't known it is one that nobody looks at.
     fn ask_all_in(&mut self, all_in: &AllIn) -> Result<(), Memory>
+        requires ready { C.ready }
         ensures equity { OnOk result (IsOfAllIn all_in.now self.new.equity) }
         ensures asked { OnOk result (is_asked self.new.equity ≡ true) }
     {
@@ -113,6 +134,7 @@ impl<C: Counter> Desk<C> {
 
     /// Asks for the equity of a hand, where it is wanted.
     pub(crate) fn ask_hand(&mut self, wanted: bool, audit: &HandAudit) -> Result<(), Memory>
+        requires ready { C.ready }
         ensures equity { OnOk result (IsOfHand audit.now self.new.equity) }
         ensures asked { OnOk result (is_asked self.new.equity ≡ wanted) }
     {

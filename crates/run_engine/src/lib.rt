@@ -5,21 +5,22 @@
 mod closing;
 mod command;
 mod counter;
-mod cursor;
 mod hands;
 mod listed;
 mod made;
 mod reading;
 mod report;
-mod run;
+mod runs;
+mod shared;
 mod spots;
 mod sums;
+mod text_source;
 mod totals;
 mod words;
 mod write_fault;
 
 pub use closing::law_closed_blocks_stay;
 pub use command::{Command, Mode};
-pub use reading::INPUT_MAX;
-pub use run::run_alone;
+pub use hand_cuts::INPUT_MAX;
+pub use runs::{run, run_alone};
 pub use words::{WordFault, read_words};

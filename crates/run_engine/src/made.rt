@@ -24,7 +24,8 @@ pub(crate) fn write_made<C: Counter, K: Sink>(
     desk: &mut Desk<C>,
     sink: &mut K,
 ) -> Result<u64, WriteFault>
-    requires { asked.hands ≤ 10000 }
+    requires ready { C.ready }
+    requires few { asked.hands ≤ 10000 }
     ensures rejected { IfOk result (λ n. n ≡ rejects_in Made asked []) }
     ensures written { OnOk result (WritesAll (K.taken sink.old) (K.taken sink.new) (concat (blocks_in Made asked []))) }
     ensures fine { OnOk result (K.faults sink.new ≡ K.faults sink.old) }

@@ -1,22 +1,20 @@
-//! The reading of the input.
+//! The reading of the input, piece by piece, as far as its hands or lines are asked for.
 
-ghost use Rattle.std.specs.Prelude.{◌≡◌, ℕ, ◌+◌, ◌≤◌, ◌<◌, IfOk, OnErr, List, length, vec_len};
-ghost use Rattle.byte_ends.specs.Ends.{Rises};
-ghost use Rattle.run_engine.specs.Reading.{Takes, Counted, EndsSo, piece as piece_size};
+ghost use Rattle.std.specs.Prelude.{◌≡◌, ◌≤◌, ◌<◌, ℕ, List, IfOk, false};
+ghost use Rattle.hand_cuts.specs.Units.{UnitLines};
+ghost use Rattle.hand_cuts.specs.declared.units.CutKind.{CutKind};
+ghost use Rattle.run_engine.specs.Units.{Pulls, Reader, ReadsPiece, Stands};
+ghost use Rattle.run_engine.specs.declared.reading.Ending.TheVariants.{Open};
 
-use crate::closing::closed_part;
-use crate::command::Mode;
 use byte_ends::Source;
 use card_sets::Memory;
+use hand_cuts::{CutKind, Cutter, INPUT_MAX, Unit};
 use std::alloc::Global;
-
-/// The most bytes that a run takes as its input: 64 MiB.
-pub const INPUT_MAX: usize = 67_108_864;
 
 /// How many bytes are asked for in one read.
 const PIECE: usize = 16_384;
 
-/// How the reading ended.
+/// How the reading ended, or that it goes on.
 #[derive(Clone, Copy, Debug, PartialEq, Eq)]
 pub(crate) enum Ending {
     /// At the end of the input.
@@ -25,61 +23,84 @@ pub(crate) enum Ending {
     Failed,
     /// At a byte above the limit.
     TooLong,
+    /// It goes on.
+    Open,
 }
 
-/// What was read: at most `INPUT_MAX` bytes, and how the reading ended.
+/// The input: what is held of it, and how its reading ended.
 #[derive(Drop)]
 pub(crate) struct Input {
-    pub(crate) bytes: Vec<u8>,
+    pub(crate) cutter: Cutter,
     pub(crate) ending: Ending,
-}
-
-/// Reads the source to its end, to a failed read, or to a byte above the limit. Each turn of its
-/// loop takes a byte or is the last.
-pub(crate) fn read_all<S: Source>(alloc: Global, source: &mut S) -> Result<Input, Memory>
-    ensures counted { IfOk result (λ input. Counted INPUT_MAX (S.left source.old) (S.left source.new) input.bytes.items) }
-    ensures ends { IfOk result (λ input. EndsSo INPUT_MAX (S.left source.old) (S.left source.new) (S.faults source.old) (S.faults source.new) input.bytes.items input.ending) }
-    ensures memory { OnErr result ((taken : List ℕ) × Takes (S.left source.old) (S.left source.new) taken × (length taken ≤ INPUT_MAX + piece_size)) }
-{
-    let mut bytes = Vec::new(alloc);
-    let mut piece = [0u8; PIECE];
-    'reading: loop {
-        let Ok(count) = source.read(&mut piece) else {
-            return Ok(Input {
-                bytes,
-                ending: Ending::Failed,
-            });
-        };
-        if count == 0 {
-            return Ok(Input {
-                bytes,
-                ending: Ending::Whole,
-            });
-        }
-        let room = INPUT_MAX - bytes.len();
-        if count > room {
-            bytes.extend_from_slice(&piece[..room])?;
-            return Ok(Input {
-                bytes,
-                ending: Ending::TooLong,
-            });
-        }
-        bytes.extend_from_slice(&piece[..count])?;
-    }
 }
 
 impl Input {
     ghost use Rattle.std.specs.Prelude.{◌≡◌};
-    ghost use Rattle.run_engine.specs.Reading.{reported};
+    ghost use Rattle.run_engine.specs.Units.{started};
 
-    /// What the report is made of: all bytes where the reading came to the end of the input, and else
-    /// the closed part.
-    pub(crate) fn reported(&self, mode: Mode) -> &[u8]
-        ensures { result.now ≡ reported mode self.now.ending self.now.bytes.items }
+    /// Nothing was read.
+    pub(crate) fn start(alloc: Global, kind: CutKind) -> Input
+        ensures { result ≡ started kind }
     {
-        match self.ending {
-            Ending::Whole => &self.bytes,
-            Ending::Failed | Ending::TooLong => closed_part(mode, &self.bytes),
+        Input {
+            cutter: Cutter::new(alloc, kind),
+            ending: Ending::Open,
+        }
+    }
+}
+
+/// Reads one piece, and answers how the reading ended, or that it goes on.
+fn read_piece<S: Source>(source: &mut S, cutter: &mut Cutter) -> Result<Ending, Memory>
+    requires { cutter.old.closed ≡ false }
+    ensures told { (old : Reader) (kind : CutKind) (done : List UnitLines)
+        → Stands INPUT_MAX old (record { left = S.left source.old; faults = S.faults source.old }) kind (record { cutter = cutter.old; ending = Open }) done
+        → ReadsPiece INPUT_MAX old (record { left = S.left source.new; faults = S.faults source.new }) kind cutter.old cutter.new done result }
+    ensures onward { IfOk result (λ ending. ending ≡ Open → (cutter.old.given < cutter.new.given) × (cutter.new.given ≤ INPUT_MAX)) }
+    ensures closed { IfOk result (λ ending. ending ≡ Open → cutter.new.closed ≡ false) }
+{
+    let mut piece = [0u8; PIECE];
+    let Ok(count) = source.read(&mut piece) else {
+        return Ok(Ending::Failed);
+    };
+    if count == 0 {
+        cutter.close();
+        return Ok(Ending::Whole);
+    }
+    let room = INPUT_MAX - cutter.given();
+    if count > room {
+        let Ok(()) = cutter.give(&piece[..room]) else {
+            return Err(Memory);
+        };
+        return Ok(Ending::TooLong);
+    }
+    let Ok(()) = cutter.give(&piece[..count]) else {
+        return Err(Memory);
+    };
+    Ok(Ending::Open)
+}
+
+/// The next hand or line; pieces are read as long as none is closed. None where the reading has ended and
+/// none is left. Each turn of the loop takes a byte or is the last but one.
+pub(crate) fn next_unit<S: Source>(
+    source: &mut S,
+    input: &mut Input,
+) -> Result<Option<Unit>, Memory>
+    requires { input.old.ending ≡ Open → input.old.cutter.closed ≡ false }
+    ensures { (old : Reader) (kind : CutKind) (done : List UnitLines)
+        → Stands INPUT_MAX old (record { left = S.left source.old; faults = S.faults source.old }) kind input.old done
+        → Pulls INPUT_MAX old (record { left = S.left source.new; faults = S.faults source.new }) kind input.old input.new done result }
+{
+    'pieces: loop {
+        if let Some(unit) = input.cutter.next_unit() {
+            return Ok(Some(unit));
+        }
+        let Ending::Open = input.ending else {
+            return Ok(None);
+        };
+        input.cutter.forget();
+        match read_piece(source, &mut input.cutter) {
+            Ok(ending) => input.ending = ending,
+            Err(Memory) => return Err(Memory),
         }
     }
 }

@@ -1,121 +1,123 @@
-//! The report of some bytes.
+//! The report of the input, written while it is read.
 
-ghost use Rattle.std.specs.Prelude.{◌≡◌, ◌<◌, ◌≤◌, [], IfOk, OnOk, IsErrOf, length};
-ghost use Rattle.std.specs.List.{concat};
-ghost use Rattle.byte_ends.specs.Ends.{Rises, WritesAll, WritesFront};
-ghost use Rattle.run_engine.specs.Report.{blocks, report, rejects};
-ghost use Rattle.run_engine.specs.Writing.{IsInside, StepsTo, WritesBlocks, all_blocks, all_rejects};
+ghost use Rattle.std.specs.Prelude.{◌≡◌, ◌<◌, ◌≤◌, ◌+◌, ◌^◌, [], true, IfOk, Some, length};
+ghost use Rattle.hand_audit.specs.Departs.{begins_hand};
+ghost use Rattle.hand_cuts.specs.declared.units.CutKind.TheVariants.{Hands};
+ghost use Rattle.line_text.specs.Lines.{lines};
+ghost use Rattle.run_engine.specs.Command.{reads_input};
+ghost use Rattle.run_engine.specs.Reporting.{Reports};
+ghost use Rattle.run_engine.specs.UnitBlocks.{MakesBlock, listed_in, listed_kind};
+ghost use Rattle.run_engine.specs.Units.{started, unit_kind};
 
-use crate::command::{Command, Mode};
+use crate::command::Command;
 use crate::counter::{Counter, Desk};
-use crate::cursor::Cursor;
-use crate::hands::next_hand;
-use crate::listed::Listed;
-use crate::made::write_made;
-use crate::reading::INPUT_MAX;
-use crate::spots::next_spot;
+use crate::hands::write_lines;
+use crate::listed::{Listed, Numbers, listed_in};
+use crate::reading::{Input, next_unit};
+use crate::spots::write_spot_line;
 use crate::totals::write_totals;
 use crate::write_fault::WriteFault;
-use byte_ends::{Sink, write_all};
+use byte_ends::{Sink, Source, write_all};
 use card_sets::Memory;
+use hand_cuts::INPUT_MAX;
 use report_table::Form;
 use std::alloc::Global;
 
-/// Makes the next block, goes on behind its lines, and answers whether its spot or hand is rejected; none
-/// where no block is left.
-fn next_block<C: Counter>(
+/// Appends the block of a hand or a line, and answers whether the hand or the spot is rejected; none where
+/// a line has no word. The bytes are its lines.
+fn write_unit<C: Counter>(
     alloc: Global,
     form: Form,
     listed: Listed,
+    numbers: Numbers,
     bytes: &[u8],
-    cursor: &mut Cursor,
     desk: &mut Desk<C>,
     block: &mut Vec<u8>,
 ) -> Result<Option<bool>, Memory>
-    requires small { length bytes.now ≤ INPUT_MAX }
-    requires inside { IsInside cursor.old bytes.now }
+    requires ready { C.ready }
     requires empty { block.old.items ≡ [] }
-    ensures { IfOk result (λ next. StepsTo form listed bytes.now block.new.items cursor.old cursor.new next) }
+    requires header { listed_kind listed ≡ Hands → begins_hand (lines bytes.now) ≡ true }
+    requires few { numbers.line + length (lines bytes.now) < 2 ^ 32 }
+    ensures { IfOk result (λ told. MakesBlock form listed numbers.place (record { first = numbers.line; lines = lines bytes.now }) block.new.items told) }
 {
     match listed {
-        Listed::Spots => next_spot(form, bytes, cursor, desk, block),
-        Listed::Hands { asked } => next_hand(alloc, form, asked, bytes, cursor, desk, block),
+        Listed::Spots => write_spot_line(block, form, numbers, bytes, desk),
+        Listed::Hands { asked } => {
+            let rejected = write_lines(alloc, form, asked, bytes, numbers.line, desk, block)?;
+            Ok(Some(rejected))
+        }
     }
 }
 
-/// Writes the blocks of the bytes, one after the other, each made whole before any of it is written.
-/// Answers how many spots or hands are rejected.
-fn write_blocks<C: Counter, K: Sink>(
-    alloc: Global,
-    form: Form,
-    listed: Listed,
-    bytes: &[u8],
-    desk: &mut Desk<C>,
-    sink: &mut K,
-) -> Result<u64, WriteFault>
-    requires { length bytes.now ≤ INPUT_MAX }
-    ensures rejected { IfOk result (λ n. n ≡ all_rejects listed bytes.now) }
-    ensures written { OnOk result (WritesAll (K.taken sink.old) (K.taken sink.new) (concat (all_blocks form listed bytes.now))) }
-    ensures fine { OnOk result (K.faults sink.new ≡ K.faults sink.old) }
-    ensures fault { IsErrOf result WriteFault.Failed → Rises (K.faults sink.old) (K.faults sink.new) }
-    ensures front { IsErrOf result WriteFault.Failed → WritesFront (K.taken sink.old) (K.taken sink.new) (concat (all_blocks form listed bytes.now)) }
-    ensures memory { IsErrOf result WriteFault.Memory → WritesBlocks (K.taken sink.old) (K.taken sink.new) (all_blocks form listed bytes.now) }
-    ensures calm { IsErrOf result WriteFault.Memory → K.faults sink.new ≡ K.faults sink.old }
-{
-    let mut block = Vec::new(alloc);
-    let mut cursor = Cursor::start();
-    let mut rejects = 0;
-    'each: loop {
-        block.clear();
-        let Some(rejected) = next_block(alloc, form, listed, bytes, &mut cursor, desk, &mut block)?
-        else {
-            return Ok(rejects);
-        };
-        rejects += u64::from(rejected);
-        write_all(sink, &block)?;
-    }
-}
-
-/// Writes the report of a command on the bytes, which a command for made hands doesn't look at. Answers how
-/// many spots or hands are rejected.
-#[tactic(auto, unfolding(crate::specs::Report::report, crate::specs::Report::rejects))]
-pub(crate) fn write_report<C: Counter, K: Sink>(
+/// Writes the blocks of the input, one after the other, each made whole before any of it is written, and
+/// written as soon as its spot or hand is closed. Answers how many spots or hands are rejected.
+fn write_blocks<C: Counter, S: Source, K: Sink>(
     alloc: Global,
     asked: Command,
-    bytes: &[u8],
+    listed: Listed,
+    source: &mut S,
+    input: &mut Input,
     desk: &mut Desk<C>,
     sink: &mut K,
 ) -> Result<u64, WriteFault>
-    requires small { length bytes.now ≤ INPUT_MAX }
-    requires few { asked.hands ≤ 10000 }
-    ensures rejected { IfOk result (λ n. n ≡ rejects asked bytes.now) }
-    ensures written { OnOk result (WritesAll (K.taken sink.old) (K.taken sink.new) (report asked bytes.now)) }
-    ensures fine { OnOk result (K.faults sink.new ≡ K.faults sink.old) }
-    ensures fault { IsErrOf result WriteFault.Failed → Rises (K.faults sink.old) (K.faults sink.new) }
-    ensures front { IsErrOf result WriteFault.Failed → WritesFront (K.taken sink.old) (K.taken sink.new) (report asked bytes.now) }
-    ensures memory { IsErrOf result WriteFault.Memory → WritesBlocks (K.taken sink.old) (K.taken sink.new) (blocks asked bytes.now) }
-    ensures calm { IsErrOf result WriteFault.Memory → K.faults sink.new ≡ K.faults sink.old }
+    requires ready { C.ready }
+    requires listed { listed_in asked.mode ≡ Some listed }
+    requires start { input.old ≡ started (listed_kind listed) }
+    ensures { Reports INPUT_MAX asked input.new.ending
+        (record { left = S.left source.old; read_faults = S.faults source.old; taken = K.taken sink.old; write_faults = K.faults sink.old })
+        (record { left = S.left source.new; read_faults = S.faults source.new; taken = K.taken sink.new; write_faults = K.faults sink.new }) result }
 {
-    let form = asked.form;
-    match asked.mode {
-        Mode::Spots => write_blocks(alloc, form, Listed::Spots, bytes, desk, sink),
-        Mode::Check => write_blocks(
-            alloc,
-            form,
-            Listed::Hands { asked: false },
-            bytes,
-            desk,
-            sink,
-        ),
-        Mode::Audit => write_blocks(
-            alloc,
-            form,
-            Listed::Hands { asked: true },
-            bytes,
-            desk,
-            sink,
-        ),
-        Mode::Totals => write_totals(alloc, asked, bytes, desk, sink),
-        Mode::Made => write_made(alloc, asked, desk, sink),
+    let mut block = Vec::new(alloc);
+    let mut place = 1;
+    let mut rejects = 0;
+    'each: loop {
+        let next = match next_unit(source, input) {
+            Ok(next) => next,
+            Err(Memory) => return Err(WriteFault::Memory),
+        };
+        let Some(unit) = next else {
+            return Ok(rejects);
+        };
+        block.clear();
+        let numbers = Numbers {
+            place,
+            line: unit.first_line,
+        };
+        let bytes = &input.cutter.held()[unit.first..unit.end];
+        let told = match write_unit(alloc, asked.form, listed, numbers, bytes, desk, &mut block) {
+            Ok(told) => told,
+            Err(Memory) => return Err(WriteFault::Memory),
+        };
+        let Some(rejected) = told else {
+            continue;
+        };
+        match write_all(sink, &block) {
+            Ok(()) => {}
+            Err(_) => return Err(WriteFault::Failed),
+        }
+        place += 1;
+        rejects += u64::from(rejected);
     }
+}
+
+/// Writes the report of a command that reads its input. Answers how many spots or hands are rejected.
+pub(crate) fn write_report<C: Counter, S: Source, K: Sink>(
+    alloc: Global,
+    asked: Command,
+    source: &mut S,
+    input: &mut Input,
+    desk: &mut Desk<C>,
+    sink: &mut K,
+) -> Result<u64, WriteFault>
+    requires ready { C.ready }
+    requires reads { reads_input asked.mode ≡ true }
+    requires start { input.old ≡ started (unit_kind asked.mode) }
+    ensures { Reports INPUT_MAX asked input.new.ending
+        (record { left = S.left source.old; read_faults = S.faults source.old; taken = K.taken sink.old; write_faults = K.faults sink.old })
+        (record { left = S.left source.new; read_faults = S.faults source.new; taken = K.taken sink.new; write_faults = K.faults sink.new }) result }
+{
+    let Some(listed) = listed_in(asked.mode) else {
+        return write_totals(alloc, asked, source, input, desk, sink);
+    };
+    write_blocks(alloc, asked, listed, source, input, desk, sink)
 }

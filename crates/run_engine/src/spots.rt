@@ -1,17 +1,17 @@
-//! The blocks of the spots of some bytes.
+//! The blocks of spot lines.
 
-ghost use Rattle.std.specs.Prelude.{◌≡◌, ◌<◌, ◌≤◌, ◌+◌, [], ◌++◌, IfOk, OnOk, length};
+ghost use Rattle.std.specs.Prelude.{◌≡◌, [], ◌++◌, IfOk, OnOk};
 ghost use Rattle.std.specs.Result.{is_err};
 ghost use Rattle.card_sets.specs.State.{state_of};
+ghost use Rattle.line_text.specs.Lines.{lines};
 ghost use Rattle.report_table.specs.Equities.{IsEquityOf};
 ghost use Rattle.report_table.specs.Spots.{alone, spot_block};
-ghost use Rattle.run_engine.specs.Writing.{IsInside, StepsTo};
+ghost use Rattle.run_engine.specs.UnitBlocks.{MakesBlock};
 ghost use Rattle.run_engine.specs.declared.listed.Listed.TheVariants.{Spots};
 ghost use Rattle.spot_text.specs.Spot.{spot_of};
 
 use crate::counter::{Counter, Desk};
-use crate::cursor::Cursor;
-use crate::reading::INPUT_MAX;
+use crate::listed::Numbers;
 use card_sets::{Known, Memory};
 use line_text::next_line;
 use report_table::{Form, table_alone, write_spot};
@@ -19,6 +19,7 @@ use spot_text::{SpotFault, has_word, read_spot};
 
 /// Asks for the equity of a spot, but where it is rejected.
 fn ask_spot<C: Counter>(known: &Result<Known, SpotFault>, desk: &mut Desk<C>) -> Result<(), Memory>
+    requires ready { C.ready }
     ensures { OnOk result (IfOk known.now (λ k. IsEquityOf (alone (state_of k)) desk.new.equity)) }
 {
     let Ok(known) = known else {
@@ -31,48 +32,47 @@ fn ask_spot<C: Counter>(known: &Result<Known, SpotFault>, desk: &mut Desk<C>) ->
 fn write_line<C: Counter>(
     block: &mut Vec<u8>,
     form: Form,
-    place: u64,
-    number: u32,
+    numbers: Numbers,
     line: &[u8],
     desk: &mut Desk<C>,
 ) -> Result<bool, Memory>
-    ensures block { OnOk result (block.new.items ≡ block.old.items ++ spot_block form place number (spot_of line.now)) }
+    requires ready { C.ready }
+    ensures block { OnOk result (block.new.items ≡ block.old.items ++ spot_block form numbers.place numbers.line (spot_of line.now)) }
     ensures rejected { IfOk result (λ rejected. rejected ≡ is_err (spot_of line.now)) }
 {
     let known = read_spot(line);
     ask_spot(&known, desk)?;
-    write_spot(block, place, number, &known, &desk.equity, form)?;
+    write_spot(
+        block,
+        numbers.place,
+        numbers.line,
+        &known,
+        &desk.equity,
+        form,
+    )?;
     Ok(known.is_err())
 }
 
-/// Makes the block of the next spot, goes on behind its line, and answers whether the spot is rejected;
-/// none where no spot is left.
-pub(crate) fn next_spot<C: Counter>(
-    form: Form,
-    bytes: &[u8],
-    cursor: &mut Cursor,
-    desk: &mut Desk<C>,
+/// Appends the block of a line that has a word, and answers whether its spot is rejected; none where the
+/// line has no word. The bytes are the line, with its newline or without.
+pub(crate) fn write_spot_line<C: Counter>(
     block: &mut Vec<u8>,
+    form: Form,
+    numbers: Numbers,
+    bytes: &[u8],
+    desk: &mut Desk<C>,
 ) -> Result<Option<bool>, Memory>
-    requires small { length bytes.now ≤ INPUT_MAX }
-    requires inside { IsInside cursor.old bytes.now }
+    requires ready { C.ready }
     requires empty { block.old.items ≡ [] }
-    ensures { IfOk result (λ next. StepsTo form Spots bytes.now block.new.items cursor.old cursor.new next) }
+    ensures { IfOk result (λ told. MakesBlock form Spots numbers.place (record { first = numbers.line; lines = lines bytes.now }) block.new.items told) }
 {
-    'lines: while let Some(line) = next_line(bytes, cursor.at) {
-        let text = &bytes[line.first..line.end];
-        let Cursor {
-            line: number,
-            place,
-            ..
-        } = *cursor;
-        cursor.at = line.next;
-        cursor.line += 1;
-        if has_word(text) {
-            cursor.place += 1;
-            let rejected = write_line(block, form, place, number, text, desk)?;
-            return Ok(Some(rejected));
-        }
+    let Some(line) = next_line(bytes, 0) else {
+        return Ok(None);
+    };
+    let text = &bytes[line.first..line.end];
+    if !has_word(text) {
+        return Ok(None);
     }
-    Ok(None)
+    let rejected = write_line(block, form, numbers, text, desk)?;
+    Ok(Some(rejected))
 }

@@ -1,4 +1,4 @@
-//! Sums over the hands of some bytes, of whatever kind: one loop over the hands serves all.
+//! Sums over hands, of whatever kind: one loop over the hands serves all.
 
 ghost use Rattle.std.specs.Prelude.{◌≡◌, ◌<◌, ◌≤◌, ◌+◌, ◌^◌, ◌++◌, ◌∷◌, [], ℕ, List, OnOk, IsTrue, length, option_to_list, true, refl};
 ghost use Rattle.hand_audit.specs.Departs.{begins_hand};
@@ -8,14 +8,18 @@ ghost use Rattle.report_table.specs.Equities.{IsOfHand, is_asked};
 ghost use Rattle.report_table.specs.Made.{made_sums};
 ghost use Rattle.report_table.specs.Totals.{totals_of};
 ghost use Rattle.run_engine.specs.Histories.{verdict_of};
+ghost use Rattle.hand_cuts.specs.declared.units.CutKind.TheVariants.{Hands as HandUnits};
 ghost use Rattle.run_engine.specs.Report.{verdicts};
+ghost use Rattle.run_engine.specs.UnitSums.{SumsUp};
+ghost use Rattle.run_engine.specs.Units.{started};
 
 use crate::counter::{Counter, Desk};
-use crate::cursor::Cursor;
-use crate::hands::cut_hand;
-use crate::reading::INPUT_MAX;
+use crate::reading::{Input, next_unit};
+use crate::text_source::TextSource;
+use byte_ends::Source;
 use card_sets::Memory;
 use hand_audit::{HandAudit, audit_hand};
+use hand_cuts::{CutKind, INPUT_MAX};
 use report_table::{Equity, MadeSums, Totals};
 use std::alloc::Global;
 
@@ -71,6 +75,7 @@ fn add_lines<C: Counter, H: HandSums>(
     desk: &mut Desk<C>,
     sums: &mut H,
 ) -> Result<(), Memory>
+    requires ready { C.ready }
     requires header { IsTrue (begins_hand (lines bytes.now)) }
     requires numbers { first + length (lines bytes.now) < 2 ^ 32 }
     requires few { H.count sums.old < 2 ^ 32 }
@@ -82,21 +87,48 @@ fn add_lines<C: Counter, H: HandSums>(
     sums.add_hand(&audit, &desk.equity)
 }
 
-/// Adds all hands of the bytes to the sums of none.
-pub(crate) fn add_hands<C: Counter, H: HandSums>(
+/// Adds all hands of the input to the sums of none.
+pub(crate) fn add_units<C: Counter, S: Source, H: HandSums>(
     alloc: Global,
-    bytes: &[u8],
+    source: &mut S,
+    input: &mut Input,
     desk: &mut Desk<C>,
     sums: &mut H,
 ) -> Result<(), Memory>
-    requires small { length bytes.now ≤ INPUT_MAX }
+    requires ready { C.ready }
+    requires start { input.old ≡ started HandUnits }
     requires none { sums.old ≡ H.sums_of [] }
-    ensures { OnOk result (sums.new ≡ H.sums_of (verdicts bytes.now)) }
+    ensures { SumsUp H.sums_of INPUT_MAX (record { left = S.left source.old; faults = S.faults source.old }) (record { left = S.left source.new; faults = S.faults source.new }) input.new.ending sums.new result }
 {
-    let mut cursor = Cursor::start();
-    'hands: while let Some(place) = cut_hand(bytes, &mut cursor) {
-        let hand = &bytes[place.start..place.end];
-        add_lines(alloc, hand, place.line, desk, sums)?;
+    'hands: loop {
+        let next = match next_unit(source, input) {
+            Ok(next) => next,
+            Err(Memory) => return Err(Memory),
+        };
+        let Some(unit) = next else {
+            return Ok(());
+        };
+        let hand = &input.cutter.held()[unit.first..unit.end];
+        match add_lines(alloc, hand, unit.first_line, desk, sums) {
+            Ok(()) => {}
+            Err(Memory) => return Err(Memory),
+        }
     }
-    Ok(())
+}
+
+/// Adds all hands of a text to the sums of none.
+pub(crate) fn add_hands<C: Counter, H: HandSums>(
+    alloc: Global,
+    text: &[u8],
+    desk: &mut Desk<C>,
+    sums: &mut H,
+) -> Result<(), Memory>
+    requires ready { C.ready }
+    requires small { length text.now ≤ INPUT_MAX }
+    requires none { sums.old ≡ H.sums_of [] }
+    ensures { OnOk result (sums.new ≡ H.sums_of (verdicts text.now)) }
+{
+    let mut source = TextSource { left: text };
+    let mut input = Input::start(alloc, CutKind::Hands);
+    add_units(alloc, &mut source, &mut input, desk, sums)
 }

@@ -1,43 +1,51 @@
 //! The totals over all hands of the input.
 
-ghost use Rattle.std.specs.Prelude.{◌≡◌, ◌≤◌, IfOk, OnOk, IsErrOf, length};
-ghost use Rattle.std.specs.List.{concat};
-ghost use Rattle.byte_ends.specs.Ends.{Rises, WritesAll, WritesFront};
-ghost use Rattle.run_engine.specs.Report.{blocks_in, rejects_in};
-ghost use Rattle.run_engine.specs.Writing.{WritesBlocks};
+ghost use Rattle.std.specs.Prelude.{◌≡◌};
+ghost use Rattle.hand_cuts.specs.declared.units.CutKind.TheVariants.{Hands};
+ghost use Rattle.run_engine.specs.Reporting.{Reports};
+ghost use Rattle.run_engine.specs.Units.{started};
 ghost use Rattle.run_engine.specs.declared.command.Mode.TheVariants.{Totals as TotalsMode};
 
 use crate::command::Command;
 use crate::counter::{Counter, Desk};
-use crate::reading::INPUT_MAX;
-use crate::sums::add_hands;
+use crate::reading::Input;
+use crate::sums::add_units;
 use crate::write_fault::WriteFault;
-use byte_ends::{Sink, write_all};
+use byte_ends::{Sink, Source, write_all};
+use card_sets::Memory;
+use hand_cuts::INPUT_MAX;
 use report_table::Totals;
 use std::alloc::Global;
 
-/// Writes the totals as one block, which is made whole before any of it is written. Answers how many hands
-/// are rejected.
-pub(crate) fn write_totals<C: Counter, K: Sink>(
+/// Writes the totals as one block, which is made whole before any of it is written, at the end of the
+/// reading. Answers how many hands are rejected.
+pub(crate) fn write_totals<C: Counter, S: Source, K: Sink>(
     alloc: Global,
     asked: Command,
-    bytes: &[u8],
+    source: &mut S,
+    input: &mut Input,
     desk: &mut Desk<C>,
     sink: &mut K,
 ) -> Result<u64, WriteFault>
-    requires { length bytes.now ≤ INPUT_MAX }
-    ensures rejected { IfOk result (λ n. n ≡ rejects_in TotalsMode asked bytes.now) }
-    ensures written { OnOk result (WritesAll (K.taken sink.old) (K.taken sink.new) (concat (blocks_in TotalsMode asked bytes.now))) }
-    ensures fine { OnOk result (K.faults sink.new ≡ K.faults sink.old) }
-    ensures fault { IsErrOf result WriteFault.Failed → Rises (K.faults sink.old) (K.faults sink.new) }
-    ensures front { IsErrOf result WriteFault.Failed → WritesFront (K.taken sink.old) (K.taken sink.new) (concat (blocks_in TotalsMode asked bytes.now)) }
-    ensures memory { IsErrOf result WriteFault.Memory → WritesBlocks (K.taken sink.old) (K.taken sink.new) (blocks_in TotalsMode asked bytes.now) }
-    ensures calm { IsErrOf result WriteFault.Memory → K.faults sink.new ≡ K.faults sink.old }
+    requires ready { C.ready }
+    requires mode { asked.mode ≡ TotalsMode }
+    requires start { input.old ≡ started Hands }
+    ensures { Reports INPUT_MAX asked input.new.ending
+        (record { left = S.left source.old; read_faults = S.faults source.old; taken = K.taken sink.old; write_faults = K.faults sink.old })
+        (record { left = S.left source.new; read_faults = S.faults source.new; taken = K.taken sink.new; write_faults = K.faults sink.new }) result }
 {
     let mut totals = Totals::new(alloc);
-    add_hands(alloc, bytes, desk, &mut totals)?;
+    match add_units(alloc, source, input, desk, &mut totals) {
+        Ok(()) => {}
+        Err(Memory) => return Err(WriteFault::Memory),
+    }
     let mut block = Vec::new(alloc);
-    totals.write(&mut block, asked.form)?;
-    write_all(sink, &block)?;
-    Ok(totals.rejected())
+    match totals.write(&mut block, asked.form) {
+        Ok(()) => {}
+        Err(Memory) => return Err(WriteFault::Memory),
+    }
+    match write_all(sink, &block) {
+        Ok(()) => Ok(totals.rejected()),
+        Err(_) => Err(WriteFault::Failed),
+    }
 }

@@ -196,7 +196,7 @@ row_there deal pot taken low high place row s of_row at =
     let under : row.least ≤ rank_of low = of_row.from_least low (high ∷ []) choice.1 in
     of_row.right place ((taken ++ low ∷ high ∷ []) ∷ []) (omega arith) (omega arith) (omega arith) (rw (q, r) (dealt_with deal.state taken row.ranks low high s of_row.of_ranks))
 
-outcome_of : (deal : Showdown) (pot : ℕ) (set : List ℕ) → Keeps → IsScene deal.state set → AreBelow (length deal.state.hands) (eligible_in deal pot) → side_outcome High deal pot (set ∷ []) ≡ best_set (high_of deal.state (set ∷ [])) (eligible_in deal pot)
+pub outcome_of : (deal : Showdown) (pot : ℕ) (set : List ℕ) → Keeps → IsScene deal.state set → AreBelow (length deal.state.hands) (eligible_in deal pot) → side_outcome High deal pot (set ∷ []) ≡ best_set (high_of deal.state (set ∷ [])) (eligible_in deal pot)
 outcome_of deal pot set keeps s below = outcome_best deal pot (length deal.state.hands) (set ∷ []) keeps s.game (λ h l. full_of deal.state set h s l) below
 
 -- the row's place is right where suits don't count

@@ -17,6 +17,7 @@ pub mod BoardDealt
 pub mod FirstRanks
 pub mod RowSets
 pub mod PairCounts
+pub mod Waits
 pub mod RankPairs
 pub mod BoardLeaf
 pub mod NoTable
@@ -26,3 +27,4 @@ pub mod DrawSlots
 pub mod DrawWinners
 pub mod DrawOrders
 pub mod DrawLeaf
+pub mod RiverFacts

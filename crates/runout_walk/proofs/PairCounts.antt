@@ -14,7 +14,7 @@ use Rattle.card_sets.specs.declared.games.Side.{Side}
 use Rattle.card_sets.specs.declared.games.Side.TheVariants.{High, Low}
 use Rattle.showdown_tally.specs.Showdown.{Showdown}
 use Rattle.showdown_tally.specs.SideCounts.{CountsFit, CountsGrow, count_at, count_place}
-use Rattle.runout_walk.specs.KeptRows.{CellsGrow, HasNoFlush, IsRowFor, PairsGrow, PairsWait, WaitsFit, pair_place, row_place, so_many, waiting}
+use Rattle.runout_walk.specs.KeptRows.{CellsGrow, HasNoFlush, IsRowFor, PairsGrow, WaitsFit, pair_place, row_place, so_many, waiting}
 use Rattle.runout_walk.specs.Pairs.{cards_of_pair}
 use Rattle.runout_walk.specs.RankPairs.{ChoicesGrow}
 use Rattle.card_sets.specs.Cards.{rank_of}
@@ -139,75 +139,11 @@ pub row_pair : (deal : Showdown) (pot : ℕ) (taken : List ℕ) (pair : Pair) (p
 row_pair deal pot taken pair place row High keeps scene below of_row at plain = plain_main deal pot (taken ++ cards_of_pair pair) _ _ _ keeps scene below (row_there deal pot taken pair.low pair.high place row scene of_row at) plain
 row_pair deal pot taken pair place row Low keeps scene below of_row at plain = (row_there deal pot taken pair.low pair.high place row scene of_row at).low_set
 
-more_times : (b : Bool) (times : ℕ) → cond b (times + 1) 0 ≡ cond b times 0 + cond b 1 0
-more_times true times = refl
-more_times false times = refl
-
--- the pair waits at the same place
-pub waits_too : (deal : Showdown) (taken : List ℕ) (rows : List Row) (pair : Pair) (at times : ℕ) (counts : List (List ℕ)) → ((pot : ℕ) (side : Side) (row : Row) → pot < length deal.pots → slice_get rows pot ≡ Some row → row_place row side at ≡ pair_place deal taken pot side pair)
-    → PairsWait deal taken rows (pair ∷ []) at times at (times + 1) counts counts
-waits_too deal taken rows pair at times counts is pot number side row p has l found =
-    let test : Pair → Bool = λ q. pair_place deal taken pot side q == number in
-    omega (arith, more_times (row_place row side at == number) times, count_one test pair, ap {B = ℕ} (λ (n : ℕ). cond (n == number) 1 0) (is pot side row p found))
-
--- or at another one, where the others were counted
-pub waits_next : (deal : Showdown) (taken : List ℕ) (rows : List Row) (pair : Pair) (was_at was at : ℕ) (old new : List (List ℕ)) → ((pot : ℕ) (side : Side) (row : Row) → pot < length deal.pots → slice_get rows pot ≡ Some row → row_place row side at ≡ pair_place deal taken pot side pair)
-    → ((pot number : ℕ) (side : Side) (row : Row) → pot < length deal.pots → has_side side deal.state.game ≡ true → slice_get rows pot ≡ Some row → count_at new pot side number ≡ count_at old pot side number + waiting row side was_at was number)
-    → PairsWait deal taken rows (pair ∷ []) was_at was at 1 old new
-waits_next deal taken rows pair was_at was at old new is put pot number side row p has l found =
-    let test : Pair → Bool = λ q. pair_place deal taken pot side q == number in
-    omega (arith, put pot number side row p has found, count_one test pair, ap {B = ℕ} (λ (n : ℕ). cond (n == number) 1 0) (is pot side row p found))
-
--- or is counted at once
-pub counted_at_once : (deal : Showdown) (taken : List ℕ) (rows : List Row) (pair : Pair) (at times : ℕ) (old new : List (List ℕ)) → PairsGrow deal taken (pair ∷ []) old new → PairsWait deal taken rows (pair ∷ []) at times at times old new
-counted_at_once deal taken rows pair at times old new grow pot number side row p has l found = omega (arith, grow pot number side p has l)
-
 -- there is a row
 pub some_row : (rows : List Row) (i : ℕ) → i < length rows → (row : Row) × (slice_get rows i ≡ Some row)
 some_row [] i l = absurd (omega arith)
 some_row (row ∷ rows) zero l = (row, refl)
 some_row (row ∷ rows) (suc i) l = some_row rows i (omega arith)
-
-pub fits_at_once : (deal : Showdown) (rows : List Row) (at times : ℕ) (counts : List (List ℕ)) → length rows ≡ length deal.pots → WaitsFit deal rows at times counts 1 → CountsFit deal counts 1
-fits_at_once deal rows at times counts same fits pot number side p has l =
-    let row = some_row rows pot (omega arith) in
-    let f = fits pot number side row.0 p has l row.1 in
-    omega arith
-
--- one pair more
-pub wait_next : (deal : Showdown) (taken : List ℕ) (rows : List Row) (pairs : List Pair) (i next : ℕ) (pair : Pair) (at times to more : ℕ) (old mid new : List (List ℕ)) → next ≡ suc i → slice_get pairs i ≡ Some pair
-    → PairsWait deal taken rows (take i pairs) 0 0 at times old mid → PairsWait deal taken rows (pair ∷ []) at times to more mid new → PairsWait deal taken rows (take next pairs) 0 0 to more old new
-wait_next deal taken rows pairs i next pair at times to more old mid new n found was one pot number side row p has l here =
-    let e : count_by (λ q. pair_place deal taken pot side q == number) (take next pairs) ≡ count_by (λ q. pair_place deal taken pot side q == number) (take i pairs) + count_by (λ q. pair_place deal taken pot side q == number) (pair ∷ []) =
-    ap (λ k. count_by (λ q. pair_place deal taken pot side q == number) (take k pairs)) n ∙ count_next (λ q. pair_place deal taken pot side q == number) pairs i pair found in
-    omega (arith, was pot number side row p has l here, one pot number side row p has l here, e)
-
-none_waits : (row : Row) (side : Side) (at number : ℕ) → waiting row side at 0 number ≡ 0
-none_waits row side at number = both (row_place row side at == number)
-  where
-    both : (b : Bool) → ◌≡◌ {A = ℕ} (cond b 0 0) 0
-    both true = refl
-    both false = refl
-
-pub none_yet : (deal : Showdown) (taken : List ℕ) (rows : List Row) (pairs : List Pair) (counts : List (List ℕ)) → PairsWait deal taken rows (take 0 pairs) 0 0 0 0 counts counts
-none_yet deal taken rows pairs counts pot number side row p has l found = omega (arith, none_waits row side 0 number)
-
-pub fit_wait : (deal : Showdown) (taken : List ℕ) (rows : List Row) (pairs : List Pair) (i at times more : ℕ) (old mid : List (List ℕ)) → CountsFit deal old (length pairs) → i + more ≤ length pairs → PairsWait deal taken rows (take i pairs) 0 0 at times old mid → WaitsFit deal rows at times mid more
-fit_wait deal taken rows pairs i at times more old mid fits inside was pot number side row p has l found =
-    let f = fits pot number side p has l in
-    omega (arith, was pot number side row p has l found, none_waits row side 0 number, count_few (λ q. pair_place deal taken pot side q == number) pairs i)
-
--- when those that wait are counted too
-pub all_put : (deal : Showdown) (taken : List ℕ) (rows : List Row) (pairs : List Pair) (n at times : ℕ) (old mid new : List (List ℕ)) → n ≡ length pairs → length rows ≡ length deal.pots → PairsWait deal taken rows (take n pairs) 0 0 at times old mid
-    → ((pot number : ℕ) (side : Side) (row : Row) → pot < length deal.pots → has_side side deal.state.game ≡ true → slice_get rows pot ≡ Some row → count_at new pot side number ≡ count_at mid pot side number + waiting row side at times number) → PairsGrow deal taken pairs old new
-all_put deal taken rows pairs n at times old mid new e same was put pot number side p has l =
-    let row = some_row rows pot (omega arith) in
-    let all : take n pairs ≡ pairs = ap (λ k. take k pairs) e ∙ take_all pairs in
-    omega (arith, was pot number side row.0 p has l row.1, put pot number side row.0 p has row.1, none_waits row.0 side 0 number, ap (count_by (λ q. pair_place deal taken pot side q == number)) all)
-  where
-    take_all : (xs : List Pair) → take (length xs) xs ≡ xs
-    take_all [] = refl
-    take_all (x ∷ xs) = ap (λ l. x ∷ l) (take_all xs)
 
 -- the same of the counts of the only pot
 pub cells_next : (deal : Showdown) (taken : List ℕ) (pairs : List Pair) (i next : ℕ) (pair : Pair) (old mid new : List ℕ) → next ≡ suc i → slice_get pairs i ≡ Some pair → CellsGrow deal taken 0 High (take i pairs) old mid

@@ -37,3 +37,4 @@ pub mod KeptFlushes
 pub mod Worth
 pub mod Draws
 pub mod Rivals
+pub mod Rivers

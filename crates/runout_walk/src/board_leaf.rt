@@ -7,7 +7,7 @@ ghost use Rattle.showdown_tally.specs.Deals.{deal_of};
 ghost use Rattle.showdown_tally.specs.SideCounts.{CountsFit};
 ghost use Rattle.showdown_tally.specs.Tallies.{runouts_after};
 ghost use Rattle.runout_walk.specs.KeptFlushes.{AreFlushes};
-ghost use Rattle.runout_walk.specs.KeptRows.{AreRowsOf, CellsGrow, HasNoFlush, IsFlushPart, IsRowFor, PairsGrow, PairsWait, WaitsFit, pair_place};
+ghost use Rattle.runout_walk.specs.KeptRows.{AllFit, AreRowsOf, CellsGrow, IsFlushPart, IsRowFor, PairsGrow, PairsWait, pair_place};
 ghost use Rattle.runout_walk.specs.Pairs.{cards_of_pair};
 ghost use Rattle.runout_walk.specs.Suits.{AreFivesWith};
 
@@ -16,8 +16,8 @@ use crate::flush::Suited;
 use crate::flushes::Flushes;
 use crate::front::Front;
 use crate::pair::Pair;
-use crate::places::{Wait, add_place, put_wait};
-use crate::row::Row;
+use crate::places::{add_place, add_times, put_waits};
+use crate::row::{PLACES, Row};
 use crate::spot::Spot;
 use crate::suited::{suited_part, suited_place};
 use card_sets::{CardSet, Side};
@@ -55,47 +55,8 @@ fn count_suited(
     }
 }
 
-/// Makes a runout with a pair as the last two cards, which makes nobody a flush, wait to be counted for each pot. Those that wait at
-/// another place are counted.
-#[inline]
-fn wait_for(
-    spot: &Spot,
-    taken: CardSet,
-    rows: &[Row],
-    pair: &Pair,
-    wait: Wait,
-    counts: &mut [[u32; 2048]],
-) -> Wait
-    requires rows { AreRowsOf (deal_of spot.now.table) taken rows.now }
-    requires pots { length rows.now ≡ spot.now.table.pots }
-    requires member { HasMember (runouts_after (state_of spot.now.table.known)) ((taken ++ cards_of_pair pair.now) ∷ []) }
-    requires plain { HasNoFlush (state_of spot.now.table.known) ((taken ++ cards_of_pair pair.now) ∷ []) }
-    requires inside { wait.ranks < 169 }
-    requires few { wait.times < 2000 }
-    requires counts { 2 * spot.now.table.pots ≤ length counts.old }
-    requires fits { WaitsFit (deal_of spot.now.table) rows.now wait.ranks wait.times counts.old 1 }
-    ensures counts { PairsWait (deal_of spot.now.table) taken rows.now (pair.now ∷ []) wait.ranks wait.times result.ranks result.times counts.old counts.new }
-    ensures same { length counts.new ≡ length counts.old }
-    ensures inside { result.ranks < 169 }
-    ensures few { result.times ≤ wait.times + 1 }
-{
-    law_values_keep_order();
-    all_are_hands(&spot.table);
-    let place = usize::from(pair.ranks);
-    if wait.ranks == place {
-        return Wait {
-            ranks: wait.ranks,
-            times: wait.times + 1,
-        };
-    }
-    put_wait(spot, rows, wait, counts);
-    Wait {
-        ranks: place,
-        times: 1,
-    }
-}
-
-/// Counts a runout with a pair as the last two cards, for each pot, or makes it wait.
+/// Counts a runout with a pair as the last two cards, for each pot. Where the pair makes nobody a flush it waits at the place of its
+/// ranks.
 #[inline]
 fn count_pair(
     spot: &Spot,
@@ -103,30 +64,32 @@ fn count_pair(
     front: &Front,
     rows: &[Row],
     pair: &Pair,
-    wait: Wait,
+    waits: &mut [u32],
     counts: &mut [[u32; 2048]],
-) -> Wait
+)
     requires suits { AreFivesWith spot.now.most front.now.taken front.now.suits }
     requires places { length front.now.suits ≡ 16 }
     requires rows { AreRowsOf (deal_of spot.now.table) front.now.taken rows.now }
     requires pots { length rows.now ≡ spot.now.table.pots }
     requires member { HasMember (runouts_after (state_of spot.now.table.known)) ((front.now.taken ++ cards_of_pair pair.now) ∷ []) }
     requires flushes { AreFlushes (deal_of spot.now.table) flushes.old }
-    requires inside { wait.ranks < 169 }
-    requires few { wait.times < 2000 }
+    requires waits { length waits.old ≡ 169 }
+    requires few { (place : ℕ) → slice_index waits.old place < 2000 }
     requires counts { 2 * spot.now.table.pots ≤ length counts.old }
-    requires fits { WaitsFit (deal_of spot.now.table) rows.now wait.ranks wait.times counts.old 1 }
-    ensures counts { PairsWait (deal_of spot.now.table) front.now.taken rows.now (pair.now ∷ []) wait.ranks wait.times result.ranks result.times counts.old counts.new }
+    requires fits { AllFit (deal_of spot.now.table) rows.now waits.old counts.old 1 }
+    ensures counts { PairsWait (deal_of spot.now.table) front.now.taken rows.now (pair.now ∷ []) waits.old waits.new counts.old counts.new }
     ensures same { length counts.new ≡ length counts.old }
+    ensures waits { length waits.new ≡ 169 }
+    ensures few { (place : ℕ) → slice_index waits.new place ≤ slice_index waits.old place + 1 }
     ensures flushes { AreFlushes (deal_of spot.now.table) flushes.new }
-    ensures inside { result.ranks < 169 }
-    ensures few { result.times ≤ wait.times + 1 }
 {
+    law_values_keep_order();
+    all_are_hands(&spot.table);
     let Some(part) = suited_part(spot, front, pair) else {
-        return wait_for(spot, front.taken, rows, pair, wait, counts);
+        add_times(waits, u16::from(pair.ranks), 1);
+        return;
     };
     count_suited(spot, flushes, front.taken, rows, pair, &part, counts);
-    wait
 }
 
 /// Counts first cards with each of some pairs as the last two, for each pot. It takes a step a pair.
@@ -154,12 +117,12 @@ fn count_pairs<L: Ledger>(
     ensures flushes { AreFlushes (deal_of spot.now.table) flushes.new }
     ensures steps { steps.new ≡ steps.old + length pairs.now }
 {
-    let mut wait = Wait { ranks: 0, times: 0 };
+    let mut waits = [0; PLACES];
     for pair in pairs {
         steps.tick();
-        wait = count_pair(spot, flushes, front, rows, pair, wait, counts);
+        count_pair(spot, flushes, front, rows, pair, &mut waits, counts);
     }
-    put_wait(spot, rows, wait, counts);
+    put_waits(spot, rows, &waits, counts);
 }
 
 /// Where a runout is counted for the only pot of a game with one side, with a pair as the last two cards.

@@ -25,7 +25,7 @@ use std::sync::ledger::Ledger;
 use step_count::Steps;
 
 /// How many cards the board lacks, where nobody else lacks any: 0 elsewhere.
-fn board_lacks(shape: &Shape) -> u32
+pub(crate) fn board_lacks(shape: &Shape) -> u32
     ensures { result ≡ board_lacks (slots_of shape.now) }
 {
     match &shape.slots[..shape.used as usize] {

@@ -16,6 +16,9 @@
 //!    is worked out once while the deal is the same; a new deal gets a new number, and nothing is cleared.
 //! 4. *More pots.* What a hand is worth, by ranks or as a flush, is worked out once for all pots.
 //!
+//! **Rivers** ([`Rivers`]: the same games, where the board lacks one card). By ranks there are thirteen boards, each worked out where
+//! its rank is met first. Cards with which somebody has five of a suit are settled hand by hand.
+//!
 //! **Draws** ([`Draws`]: games without a board whose last slot takes one to three cards). What the last hand is worth with each draw
 //! stands in a table, filled once a spot. The numbers of a whole range are copied into a row, which is compared once for each pot
 //! with the best of the others.
@@ -54,6 +57,7 @@ mod plain;
 mod range;
 mod rank_pairs;
 mod rivals;
+mod rivers;
 mod row;
 mod rows;
 mod sides;
@@ -68,3 +72,4 @@ pub use counts::clear_counts;
 pub use draws::{Draws, are_draws};
 pub use leaf::{Leaf, Tail};
 pub use plain::Plain;
+pub use rivers::{Rivers, are_rivers};

@@ -4,7 +4,7 @@ ghost use Rattle.std.specs.Prelude.{◌≡◌, ℕ, ◌+◌, ◌*◌, ◌^◌, �
 ghost use Rattle.card_sets.specs.Games.{has_side};
 ghost use Rattle.showdown_tally.specs.Deals.{deal_of};
 ghost use Rattle.showdown_tally.specs.SideCounts.{count_at};
-ghost use Rattle.runout_walk.specs.KeptRows.{WaitsFit, so_many, waiting};
+ghost use Rattle.runout_walk.specs.KeptRows.{AllFit, WaitsFit, so_many, waiting, waits_below};
 
 use crate::row::Row;
 use crate::spot::Spot;
@@ -21,7 +21,7 @@ pub(crate) struct Place {
 
 /// So many runouts more at a place.
 #[inline]
-fn add_times(cells: &mut [u32], place: u16, times: u32)
+pub(crate) fn add_times(cells: &mut [u32], place: u16, times: u32)
     requires inside { place < length cells.old }
     requires fits { slice_index cells.old place + times < 2 ^ 32 }
     ensures counts { (other : ℕ) → slice_index cells.new other ≡ slice_index cells.old other + (if place == other then times else 0) }
@@ -55,7 +55,7 @@ pub(crate) fn add_place(
     }
 }
 
-/// So many runouts that wait to be counted at a place of the rows: those of pairs of the same ranks, which stand behind one another.
+/// So many runouts that wait to be counted at a place of the rows: those of pairs of the same ranks.
 #[derive(Clone, Copy, Debug)]
 pub(crate) struct Wait {
     /// The place.
@@ -82,5 +82,27 @@ pub(crate) fn put_wait(spot: &Spot, rows: &[Row], wait: Wait, counts: &mut [[u32
         let low = row.lows[wait.ranks];
         let place = Place { main, low };
         add_place(counts, two_sides, pot, place, wait.times);
+    }
+}
+
+/// Counts the runouts that wait, so many at each place of the rows, for each pot.
+pub(crate) fn put_waits(spot: &Spot, rows: &[Row], waits: &[u32], counts: &mut [[u32; 2048]])
+    requires pots { length rows.now ≡ spot.now.table.pots }
+    requires waits { length waits.now ≡ 169 }
+    requires counts { 2 * spot.now.table.pots ≤ length counts.old }
+    requires fits { AllFit (deal_of spot.now.table) rows.now waits.now counts.old 0 }
+    ensures counts { (pot number : ℕ) (side : Side) (row : Row) → pot < length (deal_of spot.now.table).pots → has_side side spot.now.table.known.game ≡ true → number < 2048 → slice_get rows.now pot ≡ Some row
+        → count_at counts.new pot side number ≡ count_at counts.old pot side number + waits_below row side waits.now number 169 }
+    ensures same { length counts.new ≡ length counts.old }
+{
+    for (ranks, times) in waits.iter().enumerate() {
+        if *times == 0 {
+            continue;
+        }
+        let wait = Wait {
+            ranks,
+            times: *times,
+        };
+        put_wait(spot, rows, wait, counts);
     }
 }

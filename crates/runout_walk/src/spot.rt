@@ -8,6 +8,7 @@ ghost use Rattle.runout_ranges.specs.Shapes.{IsShapeOf};
 ghost use Rattle.runout_ranges.specs.Slots.{unseen};
 ghost use Rattle.showdown_tally.specs.Deals.{deal_of};
 ghost use Rattle.runout_walk.specs.Boards.{IsBoardAlone, are_boards};
+ghost use Rattle.runout_walk.specs.Rivers.{are_rivers};
 ghost use Rattle.runout_walk.specs.Suits.{AreMost};
 
 use crate::bests::ten_places;
@@ -71,6 +72,15 @@ impl Spot {
     pub(crate) fn of(table: &Table, shape: &Shape) -> Spot
         requires shape { IsShapeOf (state_of table.now.known) shape.now }
         requires boards { IsTrue (are_boards table.now shape.now) }
+        ensures { result.table ≡ table.now }
+    {
+        Spot::of_alone(table)
+    }
+
+    /// A table whose board lacks one card.
+    pub(crate) fn of_river(table: &Table, shape: &Shape) -> Spot
+        requires shape { IsShapeOf (state_of table.now.known) shape.now }
+        requires rivers { IsTrue (are_rivers table.now shape.now) }
         ensures { result.table ≡ table.now }
     {
         Spot::of_alone(table)

@@ -48,7 +48,7 @@ fn highs_with(known: &Known, board: CardSet) -> [u32; 10]
 
 /// Who has the best high of a pot with a full board, hand by hand.
 #[inline(never)]
-fn high_set(table: &Table, pot: u8, board: CardSet) -> u16
+pub(crate) fn high_set(table: &Table, pot: u8, board: CardSet) -> u16
     requires dealt { IsTrue (has_board table.now.known.game) }
     requires own { (h : ℕ) → h < length (state_of table.now.known).hands → length (slice_index_or (state_of table.now.known).hands h []) ≡ own_size table.now.known.game }
     requires five { length board ≡ 5 }

@@ -96,7 +96,7 @@ pub(crate) fn most_of(known: &Known) -> [u32; 4]
 
 /// One where the suits are the same, and else none.
 #[inline]
-fn one_of(suit: u8, other: u8) -> u32
+pub(crate) fn one_of(suit: u8, other: u8) -> u32
     ensures { result ≡ one_of suit other }
 {
     if suit == other { 1 } else { 0 }

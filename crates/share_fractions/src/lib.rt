@@ -1,7 +1,7 @@
 //! Fractions of whole numbers, rounded once, and their text with a fixed number of decimal places.
 #![tactic(auto)]
 
-ghost use Rattle.std.specs.Prelude.{◌≡◌, ℕ, ◌+◌, ◌*◌, ◌/◌, ◌<◌, ◌≤◌, ◌^◌, ◌++◌, length, take, drop};
+ghost use Rattle.std.specs.Prelude.{◌≡◌, ℕ, ◌+◌, ◌*◌, ◌/◌, ◌%◌, ◌<◌, ◌≤◌, ◌^◌, ◌++◌, length, take, drop};
 ghost use Rattle.std.specs.Fmt.{decimal};
 ghost use Rattle.std.specs.Str.Parse.{digits_value};
 ghost use Rattle.share_fractions.specs.Round.{round, fixed_text, digit_at, last_digits};
@@ -37,6 +37,33 @@ fn power_of_ten(exponent: u32) -> u128
     }
 }
 
+/// The greatest number that is divided as one of 64 bits, which takes a fraction of the time.
+const SHORT: u128 = 0xffff_ffff_ffff_ffff;
+
+/// The whole part of a fraction.
+#[inline]
+fn quotient(numerator: u128, denominator: u128) -> u128
+    requires { 0 < denominator }
+    ensures { result ≡ numerator / denominator }
+{
+    if numerator <= SHORT && denominator <= SHORT {
+        return u128::from(numerator as u64 / denominator as u64);
+    }
+    numerator / denominator
+}
+
+/// The last digit of a number.
+#[inline]
+fn last_digit(number: u128) -> u8
+    ensures value { result ≡ number % 10 }
+    ensures bound { result < 10 }
+{
+    if number <= SHORT {
+        return (number as u64 % 10) as u8;
+    }
+    (number % 10) as u8
+}
+
 /// The fraction with so many decimal places, rounded once, a half up.
 pub fn rounded(numerator: u128, denominator: u128, places: u32) -> Fixed
     requires some { 0 < denominator }
@@ -46,8 +73,9 @@ pub fn rounded(numerator: u128, denominator: u128, places: u32) -> Fixed
     ensures value { result.whole ≡ round numerator denominator places }
     ensures places { result.places ≡ places }
 {
+    let halves = 2 * numerator * power_of_ten(places) + denominator;
     Fixed {
-        whole: (2 * numerator * power_of_ten(places) + denominator) / (2 * denominator),
+        whole: quotient(halves, 2 * denominator),
         places,
     }
 }
@@ -75,7 +103,7 @@ fn digit(whole: u128, place: u32) -> u8
     requires { place ≤ 4 }
     ensures { result ≡ digit_at place whole }
 {
-    b'0' + (whole / power_of_ten(place) % 10) as u8
+    b'0' + last_digit(quotient(whole, power_of_ten(place)))
 }
 
 /// Puts the last digits, so many, at a place, and answers the place behind them.
@@ -104,7 +132,7 @@ impl Fixed {
         ensures short { result ≤ 44 }
     {
         let mut buffer = Buffer::new();
-        let units = self.whole / power_of_ten(self.places);
+        let units = quotient(self.whole, power_of_ten(self.places));
         let mut end = put_bytes(out, 0, buffer.format(units).as_bytes());
         if self.places > 0 {
             end = put_byte(out, end, b'.');

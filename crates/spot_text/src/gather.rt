@@ -99,14 +99,16 @@ fn dead_cards(words: Words) -> CardSet
     cards
 }
 
-/// The cards of the first ten hands.
-fn hands_of(words: Words) -> [CardSet; 10]
+/// The cards of each hand.
+fn hands_of(words: Words, count: u8) -> [CardSet; 10]
+    requires count { count ≡ length (hand_words (words_left words)) }
+    requires few { count ≤ 10 }
     ensures { (k : ℕ) → k < 10 → slice_index_or result k []
         ≡ set_of (cards_of (slice_index_or (hand_words (words_left words.entry)) k [])) }
 {
     let mut hands = [CardSet::empty(); 10];
-    for (number, hand) in hands.iter_mut().enumerate() {
-        *hand = hand_cards(words, number);
+    for number in 0..usize::from(count) {
+        hands[number] = hand_cards(words, number);
     }
     hands
 }
@@ -124,7 +126,7 @@ pub(crate) fn known(game: Game, words: Words, count: u8) -> Known
     Known {
         game,
         count,
-        hands: hands_of(words),
+        hands: hands_of(words, count),
         board: board_cards(words),
         dead: dead_cards(words),
     }

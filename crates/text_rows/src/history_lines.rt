@@ -212,9 +212,10 @@ const LINE_FAULTS: &[(Part, &[u8], TextFault)] = &[
     (Part::Play, b"*** 3rd STREET ***", TextFault::BadMarker),
     (
         Part::Play,
-        b"*** FIRST FLOP *** [2s 9s Jd]",
-        TextFault::TwoBoards,
+        b"*** FIRST HOLE CARDS ***",
+        TextFault::BadMarker,
     ),
+    (Part::Play, b"*** SECOND FLOP ***", TextFault::BadCards),
     (Part::Play, b"Hand cancelled", TextFault::Cancelled),
     (Part::Summary, b"Total pot $121", TextFault::BadAmount),
     (
@@ -266,9 +267,35 @@ fn lines_are_read(rt: HostRuntime) -> Result<(), Fail> {
         )
     );
     match read_line(&names, &CASH, Part::Play, b"*** FLOP *** [2s 9s Jd]") {
-        Ok(Event::Street { street, cards }) => {
+        Ok(
+            Event::Street {
+                street,
+                board,
+                cards,
+            },
+        ) => {
             assert_eq!(rt; street, Street::Flop);
+            assert_eq!(rt; board, BoardNumber::Only);
             assert_eq!(rt; cards.count(), 3);
+        }
+        _ => assert!(rt; false),
+    }
+    match read_line(
+        &names,
+        &CASH,
+        Part::Play,
+        b"*** SECOND TURN *** [2s 9s Jd] [5h]",
+    ) {
+        Ok(
+            Event::Street {
+                street,
+                board,
+                cards,
+            },
+        ) => {
+            assert_eq!(rt; street, Street::Turn);
+            assert_eq!(rt; board, BoardNumber::Second);
+            assert_eq!(rt; cards.count(), 1);
         }
         _ => assert!(rt; false),
     }

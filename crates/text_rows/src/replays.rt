@@ -11,6 +11,7 @@ use std::alloc::Global;
 use std::test::Fail;
 
 mod all_in;
+mod boards;
 mod posts;
 
 /// Stakes of a half and a dollar.

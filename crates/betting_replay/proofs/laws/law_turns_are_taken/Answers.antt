@@ -13,5 +13,5 @@ returns c = record {
     may = not_not _ (not_failed _ _ (passed (table_of header players h) (Act seat act all_in shown) ok).owed);
     first = no_card _ _ (passed (table_of header players h) (Act seat act all_in shown) ok).in_turn;
   });
-  streets = (λ header players h street cards ok. no_card _ _ (passed (table_of header players h) (Street street cards) ok).early);
+  streets = (λ header players h street number cards ok. no_card _ _ (passed (table_of header players h) (Street street number cards) ok).early);
 }

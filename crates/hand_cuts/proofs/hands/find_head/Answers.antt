@@ -1,4 +1,3 @@
-use Rattle.std.proofs.Common.{◌≡◌, None, rules}
 use Rattle.hand_cuts.proofs.ScanSteps.{head_found, no_head}
 use Rattle.hand_cuts.proofs.hands.find_head.Goals as goal
 

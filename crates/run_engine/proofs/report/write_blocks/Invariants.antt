@@ -1,15 +1,15 @@
-use Rattle.std.proofs.Common.{◌≡◌, ◌≤◌, ◌-◌, ◌+◌, length}
-use Rattle.run_engine.specs.Writing.{IsInside, IsWrittenTo, all_blocks, all_rejects, blocks_at, rejects_at}
+use Rattle.hand_cuts.specs.declared.limits.TheConstants.{INPUT_MAX}
+use Rattle.run_engine.specs.Units.{left_over}
+use Rattle.run_engine.proofs.WritingFacts.{SoFar}
 use Rattle.run_engine.proofs.report.write_blocks.Given as goal
 
 abbrev pub invariant-each : goal.invariant-each
 invariant-each g l = record {
-  inside : IsInside l.cursor l.bytes;
-  few : l.rejects ≤ l.cursor.at;
-  so_far : IsWrittenTo (g.K.Sink.taken l.fn.sink) (g.K.Sink.taken l.sink) (all_blocks l.form l.listed l.bytes) (blocks_at l.form l.listed l.bytes l.cursor);
-  count : l.rejects + rejects_at l.listed l.bytes l.cursor ≡ all_rejects l.listed l.bytes;
-  fine : g.K.Sink.faults l.sink ≡ g.K.Sink.faults l.fn.sink;
+  so_far : SoFar INPUT_MAX l.asked.form l.listed
+      (record { left = g.S.Source.left l.fn.source; read_faults = g.S.Source.faults l.fn.source; taken = g.K.Sink.taken l.fn.sink; write_faults = g.K.Sink.faults l.fn.sink })
+      (record { left = g.S.Source.left l.source; read_faults = g.S.Source.faults l.source; taken = g.K.Sink.taken l.sink; write_faults = g.K.Sink.faults l.sink })
+      l.input l.place l.rejects;
 }
 
 abbrev pub decreases-each : goal.decreases-each
-decreases-each g l = length l.bytes - l.cursor.at
+decreases-each g l = left_over INPUT_MAX l.input

@@ -1,16 +1,17 @@
+use Rattle.std.proofs.Common.{sym, ap, ◌∙◌}
+use Rattle.run_engine.specs.Units.{started, unit_kind}
+use Rattle.run_engine.specs.declared.command.Mode.{Mode}
+use Rattle.run_engine.proofs.UnitFacts.{listed_unit_kind, only_totals}
 use Rattle.run_engine.proofs.report.write_report.Goals as goal
 
-pub returns-in-Spots-clause-memory : goal.returns-in-Spots-clause-memory
-returns-in-Spots-clause-memory g c = λ e. rw c.in-Spots.is (c.write_blocks.ensures.memory e)
+pub write_totals-requires-clause-mode : goal.write_totals-requires-clause-mode
+write_totals-requires-clause-mode g c =
+    only_totals c.args.asked.mode c.requires.reads (sym c.in_default.ensures)
 
-pub returns-in-Check-clause-memory : goal.returns-in-Check-clause-memory
-returns-in-Check-clause-memory g c = λ e. rw c.in-Check.is (c.write_blocks-in-Check.ensures.memory e)
+pub write_totals-requires-clause-start : goal.write_totals-requires-clause-start
+write_totals-requires-clause-start g c =
+    c.requires.start ∙ ap (λ (m : Mode). started (unit_kind m)) (only_totals c.args.asked.mode c.requires.reads (sym c.in_default.ensures))
 
-pub returns-in-Audit-clause-memory : goal.returns-in-Audit-clause-memory
-returns-in-Audit-clause-memory g c = λ e. rw c.in-Audit.is (c.write_blocks-in-Audit.ensures.memory e)
-
-pub returns-in-Totals-clause-memory : goal.returns-in-Totals-clause-memory
-returns-in-Totals-clause-memory g c = λ e. rw c.in-Totals.is (c.write_totals.ensures.memory e)
-
-pub returns-in-Made-clause-memory : goal.returns-in-Made-clause-memory
-returns-in-Made-clause-memory g c = λ e. rw c.in-Made.is (c.write_made.ensures.memory e)
+pub write_blocks-requires-clause-start : goal.write_blocks-requires-clause-start
+write_blocks-requires-clause-start g c =
+    c.requires.start ∙ ap started (listed_unit_kind c.args.asked.mode c.in-Some.listed (sym c.in-Some.ensures))

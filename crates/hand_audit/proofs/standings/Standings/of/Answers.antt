@@ -1,16 +1,17 @@
-use Rattle.std.proofs.Common.{◌∙◌, List, ℕ, ap, subst, refl}
+use Rattle.std.proofs.Common.{List, ℕ, subst, refl}
+use Rattle.std.specs.Prelude.{Option}
+use Rattle.betting_replay.specs.Seats.{by_seat}
 use Rattle.betting_replay.specs.Tables.{final_at}
-use Rattle.hand_audit.specs.Winning.{TellsBoard, full_with}
+use Rattle.hand_audit.specs.Winning.{TellsHands, TellsSecond}
 use Rattle.hand_audit.proofs.Told.{tells}
 use Rattle.hand_audit.proofs.standings.Standings.of.Goals as goal
 
 pub returns-clause-tells : goal.returns-clause-tells
 returns-clause-tells c all =
     let game = c.args.game in
-    let hands = c.full_hands-hands.result in
-    tells _ game c.args.replay.now all c.args.button hands
-    (λ p l. c.full_hands-hands.ensures.value p l ∙ ap (λ board. full_with game board (final_at c.args.replay.now p)) c.board-board.ensures) c.known.ensures
-    (subst (λ (board : List ℕ). TellsBoard c.of.result game board hands) c.board-board.ensures c.of.ensures.tells) refl refl
+    let hands = by_seat (final_at c.args.replay.now) in
+    tells _ game c.args.replay.now all c.args.button c.known.ensures
+    (subst (λ (board : List ℕ). TellsHands c.on_board.result game board hands) c.board.ensures c.on_board.ensures.tells) (subst (λ (o : Option (List ℕ)). TellsSecond c.on_second.result game o hands) c.second_of.ensures c.on_second.ensures.tells) refl refl
 
 pub returns-clause-ready : goal.returns-clause-ready
-returns-clause-ready c = record { button = c.requires; board = c.of.ensures.marks }
+returns-clause-ready c = record { button = c.requires; board = c.on_board.ensures.marks; second = c.on_second.ensures.marks }

@@ -1,10 +1,6 @@
-use Rattle.std.proofs.Common.{◌≡◌, ◌≤◌, ℕ, List, drop, refl, sym, ap, subst, ◌∙◌}
-use Rattle.hand_cuts.specs.CutterState.{CutterState}
-use Rattle.hand_cuts.specs.Cutters.{Forgets}
+use Rattle.std.proofs.Common.{◌≡◌, ◌≤◌, ℕ, drop, refl, ap, ◌∙◌}
 use Rattle.hand_cuts.specs.Scans.{IsScan, HasHead, number_bound, shifted, start_of_rest}
-use Rattle.hand_cuts.specs.Sound.{view_of}
-use Rattle.hand_cuts.specs.declared.scan.Scan.{Scan}
-use Rattle.hand_cuts.proofs.Forgetting.{forgets, forgotten, sound_forgets}
+use Rattle.hand_cuts.proofs.Forgetting.{forgets, sound_forgets}
 use Rattle.hand_cuts.proofs.cutter.Cutter.forget.Goals as goal
 
 pub invariant_of-self : goal.invariant_of-self

@@ -1,4 +1,4 @@
-use Rattle.std.proofs.Common.{◌≡◌, ◌+◌, ◌≤◌, ◌++◌, length, sym, ap, ◌∙◌, arith}
+use Rattle.std.proofs.Common.{◌≡◌, ◌+◌, ◌≤◌, length, ap, arith}
 use Rattle.hand_cuts.specs.CutterState.{CutterState}
 use Rattle.hand_cuts.specs.declared.limits.TheConstants.{INPUT_MAX}
 use Rattle.hand_cuts.proofs.CutterSteps.{bound_given, scan_given}

@@ -1,0 +1,5 @@
+use Rattle.hand_audit.proofs.Told.{tells_hands}
+use Rattle.hand_audit.proofs.standings.on_board.Goals as goal
+
+pub returns-clause-tells : goal.returns-clause-tells
+returns-clause-tells c = tells_hands c.of.result c.args.game c.args.replay.now c.args.board c.full_hands-hands.result c.full_hands-hands.ensures.value c.of.ensures.tells

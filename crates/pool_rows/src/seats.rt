@@ -1,0 +1,102 @@
+//! Aces against kings before the flop, in 27 blocks.
+
+ghost use Rattle.std.specs.Prelude.{◌≡◌, ◌+◌, ◌-◌, ◌<◌, ◌≤◌, [], ◌∷◌};
+ghost use Rattle.showdown_tally.specs.Deals.{deal_of};
+
+use crate::spots::{ACES_AND_KINGS, job_of};
+use card_sets::Memory;
+use equity_job::{Job, Scratch};
+use std::alloc::Global;
+use std::marker::Brand;
+use std::sync::Wait;
+use std::sync::ledger::Blank;
+use std::test::Fail;
+use std::thread::Threads;
+use steal_pool::laws::Seats;
+use steal_pool::{OpenGate, count_alone};
+use tally_book::{Book, Closed, Naming};
+
+/// A count by one worker, of a ledger of its own.
+fn counted_alone<N: Naming>(alloc: Global, job: &Job, blank: Blank) -> Result<Closed, Memory>
+    requires named { deal_of job.now.table ≡ N.deal }
+    requires name { blank.name ≡ N.name }
+    requires parts { blank.parts ≡ N.parts }
+    requires some { 0 < blank.parts }
+{
+    let (book, whole) = Book::<N>::start(alloc, job, blank)?;
+    let mut scratch = Scratch::new();
+    Ok(count_alone(job, book, whole, &mut scratch))
+}
+
+/// A count by one worker.
+fn by_one(alloc: Global, job: &Job) -> Result<Closed, Memory> {
+    counted_alone::<Brand>(alloc, job, Blank::new(1))
+}
+
+/// What two workers did.
+#[derive(Drop)]
+struct Work {
+    /// How many blocks they took, each from both deques.
+    taken: usize,
+    /// Whether each has an end mark of both deques.
+    ended: bool,
+    /// What they counted.
+    closed: Closed,
+}
+
+/// The seats of two workers, step by step.
+fn worked<N: Naming + Send + Sync, R: Threads + Wait + Sync>(
+    rt: &R,
+    alloc: Global,
+    job: &Job,
+    blank: Blank,
+) -> Result<Work, Memory>
+    requires named { deal_of job.now.table ≡ N.deal }
+    requires name { blank.name ≡ N.name }
+    requires parts { blank.parts ≡ N.parts }
+    requires workers { (N.parts ≡ 3) × (N.all ≡ 3) }
+{
+    let mut seats = Seats::<N>::start(alloc, job, blank, 2)?;
+    seats.work(rt, job, &OpenGate);
+    let first = seats
+        .taken(0, 0)
+        .len()
+        .saturating_add(seats.taken(0, 1).len());
+    let second = seats
+        .taken(1, 0)
+        .len()
+        .saturating_add(seats.taken(1, 1).len());
+    let taken = first.saturating_add(second);
+    let ended = seats.ended(0, 0) && seats.ended(0, 1) && seats.ended(1, 0) && seats.ended(1, 1);
+    let closed = seats.finish(job);
+    Ok(Work {
+        taken,
+        ended,
+        closed,
+    })
+}
+
+/// The same with a ledger of their own.
+fn by_two<R: Threads + Wait + Sync>(rt: &R, alloc: Global, job: &Job) -> Result<Work, Memory> {
+    worked::<Brand, R>(rt, alloc, job, Blank::new(3))
+}
+
+#[test]
+fn one_worker_counts_all_blocks(rt: HostRuntime) -> Result<(), Fail> {
+    let job = job_of(ACES_AND_KINGS).ok_or("a job")?;
+    let closed = by_one(rt.alloc(), &job).ok().ok_or("memory")?;
+    assert_eq!(rt; closed.total.runouts(), 1_712_304);
+    assert_eq!(rt; closed.by_workers, 27);
+    Ok(())
+}
+
+#[test]
+fn two_workers_take_all_blocks(rt: HostRuntime) -> Result<(), Fail> {
+    let job = job_of(ACES_AND_KINGS).ok_or("a job")?;
+    let work = by_two(&rt, rt.alloc(), &job).ok().ok_or("memory")?;
+    assert!(rt; work.ended);
+    assert_eq!(rt; work.taken, 27);
+    assert_eq!(rt; work.closed.total.runouts(), 1_712_304);
+    assert_eq!(rt; work.closed.by_workers, 27);
+    Ok(())
+}

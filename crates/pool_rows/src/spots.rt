@@ -1,0 +1,19 @@
+//! Jobs of spot lines.
+
+use equity_job::Job;
+use report_table::table_alone;
+use spot_text::read_spot;
+
+/// Aces against kings before the flop: 1,712,304 runouts in 27 blocks.
+pub(crate) const ACES_AND_KINGS: &[u8] = b"holdem As Ah - Ks Kh";
+
+/// The job of a spot line; none where the line or its number of runouts is refused.
+pub(crate) fn job_of(line: &[u8]) -> Option<Job> {
+    let Ok(known) = read_spot(line) else {
+        return None;
+    };
+    match Job::make(&table_alone(known)) {
+        Ok(job) => Some(job),
+        Err(_) => None,
+    }
+}

@@ -1,0 +1,74 @@
+-- The blocks of the units of an input.
+use Rattle.std.specs.Prelude.{◌≡◌, ℕ, ◌+◌, Bool, true, false, if◌then◌else◌, List, [], ◌∷◌, count_by, Option, Some, None}
+use Rattle.hand_cuts.specs.Units.{UnitLines}
+use Rattle.hand_cuts.specs.declared.units.CutKind.{CutKind}
+use Rattle.hand_cuts.specs.declared.units.CutKind.TheVariants as cut
+use Rattle.report_table.specs.Spots.{spot_block}
+use Rattle.report_table.specs.declared.equity.Form.{Form}
+use Rattle.run_engine.specs.Histories.{hand_block, is_rejected_hand}
+use Rattle.run_engine.specs.Report.{is_rejected_spot}
+use Rattle.run_engine.specs.declared.command.Mode.{Mode}
+use Rattle.run_engine.specs.declared.command.Mode.TheVariants.{Check, Audit, Totals, Made}
+use Rattle.run_engine.specs.declared.command.Mode.TheVariants as mode
+use Rattle.run_engine.specs.declared.listed.Listed.{Listed}
+use Rattle.run_engine.specs.declared.listed.Listed.TheVariants.{Spots, Hands}
+use Rattle.spot_text.specs.Spot.{spot_of}
+use Rattle.spot_text.specs.Words.{is_blank}
+
+-- what has a block each in the report of a mode
+abbrev pub listed_in : Mode → Option Listed
+listed_in mode.Spots = Some Spots
+listed_in Check = Some (Hands false)
+listed_in Audit = Some (Hands true)
+listed_in Totals = None
+listed_in Made = None
+
+-- what it is cut from the input as
+abbrev pub listed_kind : Listed → CutKind
+listed_kind Spots = cut.Lines
+listed_kind (Hands asked) = cut.Hands
+
+-- the block of a line; a line with no word has none
+abbrev pub line_block : Form → ℕ → ℕ → List (List ℕ) → Option (List ℕ)
+line_block form place number [] = None
+line_block form place number (line ∷ later) = if is_blank line then None else Some (spot_block form place number (spot_of line))
+
+abbrev pub is_rejected_line : List (List ℕ) → Bool
+is_rejected_line [] = false
+is_rejected_line (line ∷ later) = is_rejected_spot line
+
+-- the block of a unit, if it has one; given is the place that a spot has
+abbrev pub unit_block : Form → Listed → ℕ → UnitLines → Option (List ℕ)
+unit_block form Spots place unit = line_block form place unit.first unit.lines
+unit_block form (Hands asked) place unit = Some (hand_block form asked unit)
+
+abbrev pub is_rejected_unit : Listed → UnitLines → Bool
+is_rejected_unit Spots unit = is_rejected_line unit.lines
+is_rejected_unit (Hands asked) unit = is_rejected_hand unit
+
+-- the place behind a unit by its block, and the block in front of others
+abbrev pub place_behind : ℕ → Option (List ℕ) → ℕ
+place_behind place None = place
+place_behind place (Some block) = place + 1
+
+abbrev pub before : Option (List ℕ) → List (List ℕ) → List (List ℕ)
+before None blocks = blocks
+before (Some block) blocks = block ∷ blocks
+
+-- the place behind some units, and their blocks
+abbrev pub place_after : Form → Listed → ℕ → List UnitLines → ℕ
+place_after form listed place [] = place
+place_after form listed place (unit ∷ later) = place_after form listed (place_behind place (unit_block form listed place unit)) later
+
+abbrev pub unit_blocks : Form → Listed → ℕ → List UnitLines → List (List ℕ)
+unit_blocks form listed place [] = []
+unit_blocks form listed place (unit ∷ later) =
+    before (unit_block form listed place unit) (unit_blocks form listed (place_behind place (unit_block form listed place unit)) later)
+
+abbrev pub rejected_units : Listed → List UnitLines → ℕ
+rejected_units listed units = count_by (is_rejected_unit listed) units
+
+-- the outcome of making the block of a unit: none, or a block and whether it is rejected
+abbrev pub MakesBlock : Form → Listed → ℕ → UnitLines → List ℕ → Option Bool → Type 0
+MakesBlock form listed place unit block None = (unit_block form listed place unit ≡ None) × (is_rejected_unit listed unit ≡ false)
+MakesBlock form listed place unit block (Some rejected) = (unit_block form listed place unit ≡ Some block) × (is_rejected_unit listed unit ≡ rejected)

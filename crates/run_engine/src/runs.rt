@@ -1,0 +1,191 @@
+//! The top call.
+
+ghost use Rattle.std.specs.Prelude.{◌≡◌, ◌≢◌, ◌≤◌, ◌⊎◌, ℕ, IfOk, List, Option, Some, false, true, map, string_bytes};
+ghost use Rattle.byte_ends.specs.Ends.{Rises, WritesAll, WritesFront};
+ghost use Rattle.card_sets.specs.State.{state_of};
+ghost use Rattle.showdown_tally.specs.Deals.{deal_of};
+ghost use Rattle.showdown_tally.specs.Tallies.{Counts, runouts_after};
+ghost use Rattle.run_engine.specs.Command.{command, reads_input, usage_line};
+ghost use Rattle.run_engine.specs.Headline.{IsRun, written_status};
+ghost use Rattle.run_engine.specs.Units.{unit_kind};
+ghost use Rattle.run_engine.specs.declared.reading.Ending.TheVariants.{Open};
+
+use crate::command::{Command, Mode};
+use crate::counter::{Alone, Counter, Desk};
+use crate::made::write_made;
+use crate::reading::{Ending, Input};
+use crate::report::write_report;
+use crate::shared::{Shared, count_shared};
+use crate::words::{WordFault, read_words};
+use crate::write_fault::WriteFault;
+use byte_ends::{Sink, Source, write_all};
+use card_sets::Memory;
+use equity_job::Job;
+use hand_cuts::{CutKind, INPUT_MAX};
+use report_table::Equity;
+use showdown_tally::Tally;
+use std::alloc::Global;
+use std::sync::Wait;
+use std::thread::Threads;
+use steal_pool::Gate;
+
+/// The line that says how the program is called.
+const USAGE_LINE: &[u8; 76] =
+    b"usage: equity MODE [--workers N] [--format text|csv] [--seed S] [--hands H]\n";
+
+/// Runs the command that the words name: reads the source, unless hands are made, and writes the report to
+/// the sink. Answers the status: 0 where all was read and written, 1 where beside that a spot or a hand was
+/// rejected, 2 where the words are in no form, 3 where a read failed, 4 where a write failed, 5 where the
+/// source gave more than `INPUT_MAX` bytes, 6 for want of memory. It always returns.
+pub fn run_alone<S: Source, K: Sink>(
+    alloc: Global,
+    words: &[String],
+    source: &mut S,
+    sink: &mut K,
+) -> u8
+    ensures { IsRun INPUT_MAX (command (map string_bytes words.now)) result
+        (record { left = S.left source.old; read_faults = S.faults source.old; taken = K.taken sink.old; write_faults = K.faults sink.old })
+        (record { left = S.left source.new; read_faults = S.faults source.new; taken = K.taken sink.new; write_faults = K.faults sink.new }) }
+{
+    let mut desk = Desk {
+        counter: Alone { scratch: None },
+        workers: 1,
+        equity: Equity::NotAsked,
+    };
+    run_at(alloc, words, &mut desk, source, sink)
+}
+
+/// The same with several workers, as many as the words ask for, where an equity has many runouts: threads that
+/// the runtime starts, each of which the gate is told of before it counts a block. What is written and answered
+/// is as `run_alone` says, whatever the workers do. It waits for them, and promises nothing of how long.
+pub fn run<R: Threads + Wait + Sync, S: Source, K: Sink, G: Gate + Sync>(
+    rt: &R,
+    alloc: Global,
+    words: &[String],
+    source: &mut S,
+    sink: &mut K,
+    gate: &G,
+) -> u8
+    ensures { IsRun INPUT_MAX (command (map string_bytes words.now)) result
+        (record { left = S.left source.old; read_faults = S.faults source.old; taken = K.taken sink.old; write_faults = K.faults sink.old })
+        (record { left = S.left source.new; read_faults = S.faults source.new; taken = K.taken sink.new; write_faults = K.faults sink.new }) }
+{
+    let by_workers = |job: &Job, workers: u32| -> Result<Tally, Memory>
+        ensures { IfOk result (λ tally. Counts (deal_of job.entry.now.table) (runouts_after (state_of job.entry.now.table.known)) tally) }
+    { count_shared(rt, alloc, job, workers, gate) };
+    let mut alone = Alone { scratch: None };
+    let mut desk = Desk {
+        counter: Shared {
+            by_workers,
+            alone: &mut alone,
+        },
+        workers: 1,
+        equity: Equity::NotAsked,
+    };
+    run_at(alloc, words, &mut desk, source, sink)
+}
+
+/// The same with whoever counts at a desk.
+fn run_at<C: Counter, S: Source, K: Sink>(
+    alloc: Global,
+    words: &[String],
+    desk: &mut Desk<C>,
+    source: &mut S,
+    sink: &mut K,
+) -> u8
+    requires ready { C.ready }
+    ensures { IsRun INPUT_MAX (command (map string_bytes words.now)) result
+        (record { left = S.left source.old; read_faults = S.faults source.old; taken = K.taken sink.old; write_faults = K.faults sink.old })
+        (record { left = S.left source.new; read_faults = S.faults source.new; taken = K.taken sink.new; write_faults = K.faults sink.new }) }
+{
+    let asked = match read_words(alloc, words) {
+        Ok(asked) => asked,
+        Err(WordFault::Usage) => return write_usage(sink),
+        Err(WordFault::Memory) => return 6,
+    };
+    desk.workers = asked.workers;
+    if asked.mode.reads_input() {
+        run_reading(alloc, asked, desk, source, sink)
+    } else {
+        run_made(alloc, asked, desk, sink)
+    }
+}
+
+/// Runs a command that reads its input.
+fn run_reading<C: Counter, S: Source, K: Sink>(
+    alloc: Global,
+    asked: Command,
+    desk: &mut Desk<C>,
+    source: &mut S,
+    sink: &mut K,
+) -> u8
+    requires ready { C.ready }
+    requires reads { reads_input asked.mode ≡ true }
+    requires few { asked.hands ≤ 10000 }
+    ensures { IsRun INPUT_MAX (Some asked) result
+        (record { left = S.left source.old; read_faults = S.faults source.old; taken = K.taken sink.old; write_faults = K.faults sink.old })
+        (record { left = S.left source.new; read_faults = S.faults source.new; taken = K.taken sink.new; write_faults = K.faults sink.new }) }
+{
+    let mut input = Input::start(alloc, unit_kind(asked.mode));
+    match write_report(alloc, asked, source, &mut input, desk, sink) {
+        Ok(rejected) => status_of(input.ending, rejected),
+        Err(WriteFault::Failed) => 4,
+        Err(WriteFault::Memory) => 6,
+    }
+}
+
+/// What the input of a mode is cut into.
+fn unit_kind(mode: Mode) -> CutKind
+    ensures { result ≡ unit_kind mode }
+{
+    match mode {
+        Mode::Spots => CutKind::Lines,
+        Mode::Check | Mode::Audit | Mode::Totals | Mode::Made => CutKind::Hands,
+    }
+}
+
+/// Runs a command that reads no input.
+fn run_made<C: Counter, K: Sink>(
+    alloc: Global,
+    asked: Command,
+    desk: &mut Desk<C>,
+    sink: &mut K,
+) -> u8
+    requires ready { C.ready }
+    requires makes { reads_input asked.mode ≡ false }
+    requires few { asked.hands ≤ 10000 }
+    ensures { (left : Option (List ℕ)) (faults : ℕ) → IsRun INPUT_MAX (Some asked) result
+        (record { left = left; read_faults = faults; taken = K.taken sink.old; write_faults = K.faults sink.old })
+        (record { left = left; read_faults = faults; taken = K.taken sink.new; write_faults = K.faults sink.new }) }
+{
+    match write_made(alloc, asked, desk, sink) {
+        Ok(rejected) => status_of(Ending::Whole, rejected),
+        Err(WriteFault::Failed) => 4,
+        Err(WriteFault::Memory) => 6,
+    }
+}
+
+/// Writes the usage line, and answers the status of a run whose words are in no form.
+fn write_usage<K: Sink>(sink: &mut K) -> u8
+    ensures fine { result ≡ 2 → WritesAll (K.taken sink.old) (K.taken sink.new) usage_line × (K.faults sink.new ≡ K.faults sink.old) }
+    ensures fault { result ≡ 4 → Rises (K.faults sink.old) (K.faults sink.new) × WritesFront (K.taken sink.old) (K.taken sink.new) usage_line }
+    ensures known { (result ≡ 2) ⊎ (result ≡ 4) }
+{
+    match write_all(sink, USAGE_LINE) {
+        Ok(()) => 2,
+        Err(_) => 4,
+    }
+}
+
+/// The status of a run whose report was written, after its reading had ended.
+fn status_of(ending: Ending, rejected: u64) -> u8
+    requires { ending ≢ Open }
+    ensures { result ≡ written_status ending rejected }
+{
+    match ending {
+        Ending::Whole if rejected == 0 => 0,
+        Ending::Whole => 1,
+        Ending::Failed => 3,
+        Ending::TooLong | Ending::Open => 5,
+    }
+}

@@ -1,0 +1,67 @@
+//! Counting with several workers.
+
+ghost use Rattle.std.specs.Prelude.{◌≡◌, ℕ, ◌<◌, ◌^◌, IfOk};
+ghost use Rattle.card_sets.specs.State.{state_of};
+ghost use Rattle.showdown_tally.specs.Deals.{deal_of};
+ghost use Rattle.showdown_tally.specs.Tallies.{Counts, runouts_after};
+
+use crate::counter::{Alone, Counter};
+use card_sets::Memory;
+use equity_job::Job;
+use showdown_tally::Tally;
+use std::alloc::Global;
+use std::sync::Wait;
+use std::thread::Threads;
+use steal_pool::{Gate, count_with_workers};
+
+/// The most workers that a count has.
+const WORKERS_MAX: u32 = 16;
+
+/// A job of fewer blocks is counted on the thread that asks: to start workers would take longer.
+const BLOCKS_MIN: u32 = 16;
+
+/// Counts with several workers where a job has many blocks, and else on the thread that asks.
+///
+/// Threads are started by a call that is handed in, since a method of a trait can't start any: that the runtime may
+/// be shared is known in the function alone whose bound says so.
+#[derive(Drop)]
+pub(crate) struct Shared<'a, F> {
+    /// Counts a job with so many workers.
+    pub(crate) by_workers: F,
+    /// Counts what is counted on this thread. It is lent, since its room is large.
+    pub(crate) alone: &'a mut Alone,
+}
+
+impl<'a, F: Fn(&Job, u32) -> Result<Tally, Memory>> Counter for Shared<'a, F> {
+    ghost ready = { ((f : F) (job : _) (w : ℕ) → w < 2 ^ 32 → F.pre f job w) × ((f : F) (job : _) (w : ℕ) (r : _) → w < 2 ^ 32 → F.post f job w r
+        → IfOk r (λ tally. Counts (deal_of job.now.table) (runouts_after (state_of job.now.table.known)) tally)) };
+
+    fn count(&mut self, job: &Job, workers: u32, tally: &mut Tally) -> Result<(), Memory> {
+        if workers < 2 || job.blocks() < BLOCKS_MIN {
+            self.alone.count_here(job, tally);
+            return Ok(());
+        }
+        match (self.by_workers)(job, workers) {
+            Ok(total) => {
+                *tally = total;
+                Ok(())
+            }
+            Err(fault) => Err(fault),
+        }
+    }
+}
+
+/// The tally of a job by so many workers, 1 to 16 of them.
+pub(crate) fn count_shared<R: Threads + Wait + Sync, G: Gate + Sync>(
+    rt: &R,
+    alloc: Global,
+    job: &Job,
+    workers: u32,
+    gate: &G,
+) -> Result<Tally, Memory>
+    ensures { IfOk result (λ tally. Counts (deal_of job.now.table) (runouts_after (state_of job.now.table.known)) tally) }
+{
+    let workers = workers.clamp(1, WORKERS_MAX);
+    let closed = count_with_workers(rt, alloc, job, workers, gate)?;
+    Ok(closed.total)
+}

@@ -1,0 +1,9 @@
+pub mod Fair
+pub mod LaneFacts
+pub mod Working
+pub mod Settled
+pub mod Joining
+pub mod Starting
+pub mod Telling
+pub mod Seen
+pub mod Dealt

@@ -1,0 +1,50 @@
+//! What a worker counts with.
+
+ghost use Rattle.std.specs.Prelude.{◌≡◌, ℕ, ◌<◌, ◌||◌, ◌==◌, length};
+ghost use Rattle.showdown_tally.specs.Deals.{deal_of};
+ghost use Rattle.showdown_tally.specs.Tallies.{runouts_after};
+ghost use Rattle.equity_job.specs.Blocks.{blocks_of};
+ghost use Rattle.tally_book.specs.Parts.{is_handed};
+ghost use Rattle.tally_book.specs.declared.limits.TheConstants.{BLOCKS_MAX};
+
+use crate::Gate;
+use crate::blocks::tally_block;
+use equity_job::{Job, Scratch};
+use showdown_tally::Tally;
+use std::sync::{Mutex, Wait};
+use tally_book::{Book, Naming, Part};
+
+/// What one worker counts with: its part in the book, and a room and a tally of its own.
+#[derive(Drop)]
+pub struct Desk<N: Naming> {
+    pub(crate) part: Part<N>,
+    pub(crate) scratch: Scratch,
+    pub(crate) tally: Tally,
+}
+
+impl<N: Naming> Desk<N> {
+    /// Tells the gate of a block, counts it, and posts it under the book's lock.
+    pub(crate) fn count<R: Wait, G: Gate>(
+        &mut self,
+        rt: &R,
+        worker: u32,
+        block: u32,
+        job: &Job,
+        gate: &G,
+        book: &Mutex<Book<N>>,
+    )
+        requires named { deal_of job.now.table ≡ N.deal }
+        requires block { block < blocks_of (length (runouts_after N.deal.state)) }
+        ensures handed { (b : ℕ) → b < BLOCKS_MAX → is_handed self.new.part b ≡ (is_handed self.old.part b || (b == block)) }
+        ensures parts { self.new.part.parts ≡ self.old.part.parts }
+    {
+        let Desk {
+            part,
+            scratch,
+            tally,
+        } = self;
+        gate.enter(worker, block);
+        tally_block(job, block, scratch, tally);
+        let _ = book.lock(rt).post(block, tally, part);
+    }
+}
