@@ -22,43 +22,31 @@ holdem As Ah - Ks Kh -- 2c 7d 9h 4s\n\
 stud As Ad Ah - Ks Kd Kh\n\
 holdem As Ah\n";
 
-/// An all-in on 5th street, with 671,580 runouts.
-const RAZZ: &str =
-    "PokerStars Hand #90: Tournament #9, Freeroll  Razz Limit - Level I (10/20) - 2023/01/15 22:00:00 ET
-Table '9 1' 8-max
-Seat 1: x (31 in chips)
-Seat 2: y (500 in chips)
-x: posts the ante 1
-y: posts the ante 1
-*** 3rd STREET ***
-Dealt to x [As 2d 3h]
-Dealt to y [Kc]
-y: brings in for 3
-x: raises 7 to 10
-y: calls 7
-*** 4th STREET ***
-Dealt to x [As 2d 3h] [4c]
-Dealt to y [Kc] [Kd]
-x: checks
-y: checks
-*** 5th STREET ***
-Dealt to x [As 2d 3h 4c] [5s]
-Dealt to y [Kc Kd] [Qc]
-x: bets 20 and is all-in
-y: calls 20
-*** 6th STREET ***
-Dealt to x [As 2d 3h 4c 5s] [6d]
-Dealt to y [Kc Kd Qc] [Qd]
-*** RIVER ***
-Dealt to x [As 2d 3h 4c 5s 6d] [Th]
+/// An all-in before the flop, with 1,712,304 runouts.
+const ALL_IN: &str =
+    "PokerStars Hand #92: Tournament #9, Freeroll  Hold'em No Limit - Level I (10/20)
+Table '9 3' 2-max Seat #1 is the button
+Seat 1: x (500 in chips)
+Seat 2: y (480 in chips)
+x: posts small blind 10
+y: posts big blind 20
+*** HOLE CARDS ***
+Dealt to x [As Ah]
+x: raises 480 to 500 and is all-in
+y: calls 460 and is all-in
+Uncalled bet (20) returned to x
+*** FLOP *** [2c 7d 9h]
+*** TURN *** [2c 7d 9h] [4s]
+*** RIVER *** [2c 7d 9h 4s] [Jd]
 *** SHOW DOWN ***
-x: shows [As 2d 3h 4c 5s 6d Th] (Lo: 5,4,3,2,A)
-y: mucks hand
-x collected 62 from pot
+x: shows [As Ah] (a pair of Aces)
+y: shows [Ks Kh] (a pair of Kings)
+x collected 960 from pot
 *** SUMMARY ***
-Total pot 62 | Rake 0
-Seat 1: x showed [As 2d 3h 4c 5s 6d Th] and won (62) with Lo: 5,4,3,2,A
-Seat 2: y mucked [8c 8d Kc Kd Qc Qd 9h]
+Total pot 960 | Rake 0
+Board [2c 7d 9h 4s Jd]
+Seat 1: x (button) (small blind) showed [As Ah] and won (960) with a pair of Aces
+Seat 2: y (big blind) showed [Ks Kh] and lost with a pair of Kings
 ";
 
 /// What a run did.
@@ -143,7 +131,7 @@ fn spots_are_the_same_by_any_number_of_workers(rt: HostRuntime) -> Result<(), Fa
 
 #[test]
 fn an_all_in_is_the_same_by_any_number_of_workers(rt: HostRuntime) -> Result<(), Fail> {
-    same_by_workers(&rt, rt.alloc(), &["audit"], RAZZ.as_bytes(), 0)
+    same_by_workers(&rt, rt.alloc(), &["audit"], ALL_IN.as_bytes(), 0)
 }
 
 #[test]
