@@ -10,7 +10,7 @@ use Rattle.history_text.specs.declared.events.BoardNumber.TheVariants as board
 use Rattle.history_text.specs.declared.events.Event.{Event}
 use Rattle.history_text.specs.declared.events.Event.TheVariants.{Street, Discard, Pat}
 use Rattle.card_sets.specs.declared.streets.Street.{Street as StreetName}
-use Rattle.card_sets.specs.declared.streets.Street.TheVariants.{First, Flop, Turn, Fourth, Fifth, Sixth, River, Draw, ShowDown, Summary}
+use Rattle.card_sets.specs.declared.streets.Street.TheVariants.{First, Flop, Turn, Fourth, Fifth, Sixth, River, Draw, FirstDraw, SecondDraw, ThirdDraw, ShowDown, Summary}
 use Rattle.betting_replay.specs.declared.points.Point.{Point}
 use Rattle.betting_replay.specs.Accepted.{IsAccepted}
 use Rattle.betting_replay.specs.CardLaws.{is_end, is_end_of, ends, has_ended}
@@ -155,6 +155,9 @@ only_ends g players Fifth number cards h ok over = absurd (none_stands g players
 only_ends g players Sixth number cards h ok over = absurd (none_stands g players Sixth number h over refl (marker_of g players Sixth number cards h ok))
 only_ends g players River number cards h ok over = absurd (none_stands g players River number h over refl (marker_of g players River number cards h ok))
 only_ends g players Draw number cards h ok over = absurd (none_stands g players Draw number h over refl (marker_of g players Draw number cards h ok))
+only_ends g players FirstDraw number cards h ok over = absurd (none_stands g players FirstDraw number h over refl (marker_of g players FirstDraw number cards h ok))
+only_ends g players SecondDraw number cards h ok over = absurd (none_stands g players SecondDraw number h over refl (marker_of g players SecondDraw number cards h ok))
+only_ends g players ThirdDraw number cards h ok over = absurd (none_stands g players ThirdDraw number h over refl (marker_of g players ThirdDraw number cards h ok))
 
 -- a marker of an end begins no street of a board
 pub ends_nothing : (n : BoardNumber) (s : StreetName) (number : BoardNumber) (cards : List ℕ) → is_end s ≡ true → begins_on n (Street s number cards) ≡ None

@@ -1,12 +1,11 @@
--- What a player of single draw kept, he holds in the end.
-use Rattle.std.proofs.Common.{◌≡◌, ℕ, ◌+◌, ◌<◌, ◌≤◌, List, [], ◌∷◌, refl, sym, ap, ◌∙◌, subst, Bool, true, false, not, ◌||◌, ◌&&◌, ◌==◌, inl, inr, arith, length}
+-- What a player of a game with one draw kept, he holds in the end.
+use Rattle.std.proofs.Common.{◌≡◌, ℕ, ◌+◌, ◌≤◌, List, [], ◌∷◌, refl, sym, ap, ◌∙◌, subst, Bool, true, false, not, ◌||◌, ◌&&◌, ◌==◌, inl, inr, arith, length}
 use Rattle.std.specs.Prelude.{Option, Some, None, if◌then◌else◌}
-use mathlib.Core.Bool.{true≢false}
 use Rattle.card_sets.specs.Cards.{has_card, cards_where, with_card, union, minus, IsCardSet}
 use Rattle.card_sets.specs.Bits.{IsCardSet-cards_where}
 use Rattle.card_sets.specs.Disjoint.{apart}
-use Rattle.card_sets.specs.declared.games.Game.TheVariants.{Lowball27}
-use Rattle.card_sets.specs.Games.{own_size}
+use Rattle.card_sets.specs.declared.games.Family.TheVariants as family
+use Rattle.card_sets.specs.Games.{family_of, own_size, may_come_again, deals_again}
 use Rattle.history_text.specs.declared.events.Header.{Header}
 use Rattle.history_text.specs.declared.events.Event.{Event}
 use Rattle.history_text.specs.declared.events.Event.TheVariants.{Deal}
@@ -16,11 +15,12 @@ use Rattle.betting_replay.specs.CardLaws.{Among}
 use Rattle.betting_replay.specs.Dealing.{gathered, given_by, draws_of}
 use Rattle.betting_replay.specs.Events.{seat_of}
 use Rattle.betting_replay.specs.Hands.{dealt, dealt_by, shown, if_many}
-use Rattle.betting_replay.specs.Known.{holding_of, final_drawn, final_by, draws_openly, kept, known_by, final_cards, cards_at}
+use Rattle.betting_replay.specs.Known.{holding_of, final_drawn, final_in, draws_openly, kept, known_in, final_cards, cards_at}
 use Rattle.betting_replay.specs.KnownLaws.{StillHolds}
 use Rattle.betting_replay.specs.Places.{owned, thrown}
 use Rattle.betting_replay.specs.Seats.{or_else}
-use Rattle.betting_replay.proofs.Members.{in_union, in_minus, union_left, union_right, where_in, no_cards, of_deck, fewer_where, either, length-with_card}
+use Rattle.betting_replay.proofs.Families.{five_own}
+use Rattle.betting_replay.proofs.Members.{in_union, in_minus, in_rest, union_left, union_right, no_cards, of_deck, fewer_where, either, length-with_card}
 use Rattle.betting_replay.proofs.Belong.{given_among, no_card}
 use Rattle.betting_replay.proofs.KnownCards.{if_many_is, shown_holds, final_holds}
 use Rattle.betting_replay.proofs.DeadCards.{shown_not_thrown}
@@ -43,15 +43,6 @@ given_dealt (e ∷ h) p k has = by (seat_of e == p) has (given_dealt h p k)
     ])
     by false has before = before has
 
--- a card of a set that isn't among others
-in_rest : (a b : List ℕ) (k : ℕ) → k < 52 → has_card a k ≡ true → (has_card b k ≡ true → ⊥) → has_card (minus a b) k ≡ true
-in_rest a b k l has gone = where_in (λ j. has_card a j && not (has_card b j)) k l (one (has_card a k) (has_card b k) has gone)
-  where
-    one : (x y : Bool) → x ≡ true → (y ≡ true → ⊥) → (x && not y) ≡ true
-    one true true x out = absurd (out refl)
-    one true false x out = refl
-    one false y x out = absurd (true≢false (sym x))
-
 -- a part of a set that has no fewer cards is all of it
 all_of : (part whole : List ℕ) (k : ℕ) → Among part whole → IsCardSet whole → length whole ≤ length part → has_card whole k ≡ true → has_card part k ≡ true
 all_of part whole k among set few has = by (has_card part k) refl
@@ -66,21 +57,24 @@ all_of part whole k among set few has = by (has_card part k) refl
         ]) in
         absurd (omega (arith, longer, within, few, ap length set))
 
-pub still_holds : (g : Header) (players : ℕ) (h : List Event) → IsAccepted g players h → g.game ≡ Lowball27 → (p : ℕ) (own final : List ℕ) → cards_at g h p First ≡ Some own → final_cards g h p ≡ Some final → StillHolds g h p own final
+pub still_holds : (g : Header) (players : ℕ) (h : List Event) → IsAccepted g players h → family_of g.game ≡ family.Draw → (p : ℕ) (own final : List ℕ) → cards_at g h p First ≡ Some own → final_cards g h p ≡ Some final → StillHolds g h p own final
 still_holds g players h ok game p own final known ends = record {
   not_shown = λ none. held (by_dealt none);
   five_left = λ few. held (by_five few (shown g h p) refl);
   not_openly = λ none. unless none pat (draws_of h p).five is_kept;
 }
   where
+    stays : may_come_again g.game ≡ false
+    stays = ap deals_again game
+
     is_kept : kept (holding_of g h p) ≡ Some own
-    is_kept = ap (λ x. known_by x (holding_of g h p) First) (sym game) ∙ known
+    is_kept = ap (λ f. known_in f (own_size g.game) (holding_of g h p) First) (sym game) ∙ known
 
     is_final : final_drawn (holding_of g h p) ≡ Some final
-    is_final = ap (λ x. final_by x (holding_of g h p)) (sym game) ∙ ends
+    is_final = ap (λ f. final_in f (own_size g.game) (holding_of g h p)) (sym game) ∙ ends
 
     size : own_size g.game ≡ 5
-    size = ap own_size game
+    size = five_own g.game game
 
     left : List ℕ
     left = minus (gathered given_by h p) (thrown h)
@@ -104,16 +98,16 @@ still_holds g players h ok game p own final known ends = record {
     shown_is : (cards : List ℕ) (hidden : Bool) → or_else (Some cards) (if hidden then None else if_many 5 (minus (dealt h p) (thrown h))) ≡ Some final → cards ≡ final
     shown_is cards hidden is = cc
 
-    by_five : length (minus (owned h p) (thrown h)) ≤ 5 → (o : Option (List ℕ)) → shown g h p ≡ o → (k : ℕ) → has_card left k ≡ true → has_card final k ≡ true
+    by_five : length (minus (owned g.game h p) (thrown h)) ≤ 5 → (o : Option (List ℕ)) → shown g h p ≡ o → (k : ℕ) → has_card left k ≡ true → has_card final k ≡ true
     by_five few None s k has = by_dealt s k has
     by_five few (Some cards) s k has =
         let same : cards ≡ final = shown_is cards (draws_of h p).hidden (ap (λ o. or_else o (if (draws_of h p).hidden then None else if_many 5 (minus (dealt h p) (thrown h)))) (sym s) ∙ is_final) in
         let hand = shown_holds g players h p cards ok s in
         let five : length cards ≡ 5 = hand.many ∙ size in
-        let unthrown : Among cards (minus (owned h p) (thrown h)) = record { set = hand.among.set; each = λ j there. in_rest (owned h p) (thrown h) j (of_deck cards j hand.among.set there) (hand.among.each j there) (shown_not_thrown g players h p cards j ok s there) } in
+        let unthrown : Among cards (minus (owned g.game h p) (thrown h)) = record { set = hand.among.set; each = λ j there. in_rest (owned g.game h p) (thrown h) j (of_deck cards j hand.among.set there) (hand.among.each j there) (shown_not_thrown g players h p cards j stays ok s there) } in
         let w = in_minus (gathered given_by h p) (thrown h) k has in
-        let here : has_card (minus (owned h p) (thrown h)) k ≡ true = in_rest (owned h p) (thrown h) k w.0 ((given_among g players h p ok).each k w.1) w.2 in
-        ap (λ xs. has_card xs k) (sym same) ∙ all_of cards (minus (owned h p) (thrown h)) k unthrown (IsCardSet-cards_where (λ j. has_card (owned h p) j && not (has_card (thrown h) j))) (omega (arith, few, five)) here
+        let here : has_card (minus (owned g.game h p) (thrown h)) k ≡ true = in_rest (owned g.game h p) (thrown h) k w.0 ((given_among g players h p stays ok).each k w.1) w.2 in
+        ap (λ xs. has_card xs k) (sym same) ∙ all_of cards (minus (owned g.game h p) (thrown h)) k unthrown (IsCardSet-cards_where (λ j. has_card (owned g.game h p) j && not (has_card (thrown h) j))) (omega (arith, few, five)) here
 
     final_set : IsCardSet final
     final_set = (final_holds g players h p final g.game refl ok ends).among.set
@@ -132,7 +126,7 @@ still_holds g players h ok game p own final known ends = record {
     openly part false b c is = otherwise b c is
 
     pat : Bool
-    pat = (draws_of h p).pat && apart (owned h p) (thrown h)
+    pat = (draws_of h p).pat && apart (owned g.game h p) (thrown h)
 
     held : ((k : ℕ) → has_card left k ≡ true → has_card final k ≡ true) → Among own final
     held part = openly part (draws_openly (holding_of g h p)) pat (draws_of h p).five is_kept

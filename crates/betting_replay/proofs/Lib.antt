@@ -14,11 +14,14 @@ pub mod SamePoint
 pub mod Pointed
 pub mod Stands
 pub mod Belong
+pub mod HeldNow
 pub mod KnownCards
 pub mod DeadCards
+pub mod PlaceFacts
 pub mod SecondCards
 pub mod StreetCards
 pub mod HeldCards
+pub mod LastDraws
 pub mod Ended
 pub mod WholeBoards
 pub mod BoardSizes

@@ -149,3 +149,12 @@ more_below q c (suc n) out l =
 pub length-with_card : (s : List ℕ) (c : ℕ) → IsCardSet s → has_card s c ≡ false → c < 52 → length (with_card s c) ≡ length s + 1
 unfolding cards_where
 length-with_card s c set out l = omega (arith, more_below (has_card s) c 52 out l, ap length set)
+
+-- a card of a set that isn't among others
+pub in_rest : (a b : List ℕ) (k : ℕ) → k < 52 → has_card a k ≡ true → (has_card b k ≡ true → ⊥) → has_card (minus a b) k ≡ true
+in_rest a b k l has gone = where_in (λ j. has_card a j && not (has_card b j)) k l (one (has_card a k) (has_card b k) has gone)
+  where
+    one : (x y : Bool) → x ≡ true → (y ≡ true → ⊥) → (x && not y) ≡ true
+    one true true x out = absurd (out refl)
+    one true false x out = refl
+    one false y x out = absurd (true≢false (sym x))

@@ -8,7 +8,7 @@ use Rattle.card_sets.specs.declared.games.Family.TheVariants as family
 use Rattle.card_sets.specs.Games.{family_of, is_board as is_board_family, has_board, board_size_by, board_size}
 use Rattle.history_text.specs.declared.events.Event.{Event}
 use Rattle.card_sets.specs.declared.streets.Street.{Street as StreetName}
-use Rattle.card_sets.specs.declared.streets.Street.TheVariants.{First, Flop, Turn, Fourth, Fifth, Sixth, River, Draw, ShowDown, Summary}
+use Rattle.card_sets.specs.declared.streets.Street.TheVariants.{First, Flop, Turn, Fourth, Fifth, Sixth, River, Draw, FirstDraw, SecondDraw, ThirdDraw, ShowDown, Summary}
 use Rattle.betting_replay.specs.Boards.{board_on, board_up_to, shared_by, shared}
 use Rattle.betting_replay.specs.CardLaws.{sum_up_to, board_then}
 use Rattle.card_sets.specs.Streets.{streets_by, street_after, next_street, is_last_of, is_last, cards_of_street, board_count}
@@ -192,11 +192,11 @@ at_last OnFirst over = cc
 at_last OnFlop over = cc
 at_last OnTurn over = cc
 
-pub few_cards : (h : List Event) (n : Phase) (s : StreetName) → Sizes h (one_size n) (two_size n) (all_size n) → length (board_up_to h s) ≤ 5
-few_cards h n First x = omega arith
-few_cards h n Flop x = (let is : length (board_on Flop h) ≡ one_size n = x.one in let l : one_size n ≤ 5 = (size_small n).0 in omega arith)
-few_cards h n Turn x = (let is : length (union (board_on Flop h) (board_on Turn h)) ≡ two_size n = x.two in let l : two_size n ≤ 5 = (size_small n).1 in omega arith)
-few_cards h n _ x = (let is : length (union (union (board_on Flop h) (board_on Turn h)) (board_on River h)) ≡ all_size n = x.all in let l : all_size n ≤ 5 = (size_small n).2 in omega arith)
+pub few_cards : (game : Game) (h : List Event) (n : Phase) (s : StreetName) → Sizes game h (one_size n) (two_size n) (all_size n) → length (board_up_to h s) ≤ 5
+few_cards game h n First x = omega arith
+few_cards game h n Flop x = (let is : length (board_on Flop h) ≡ one_size n = x.one in let l : one_size n ≤ 5 = (size_small n).0 in omega arith)
+few_cards game h n Turn x = (let is : length (union (board_on Flop h) (board_on Turn h)) ≡ two_size n = x.two in let l : two_size n ≤ 5 = (size_small n).1 in omega arith)
+few_cards game h n _ x = (let is : length (union (union (board_on Flop h) (board_on Turn h)) (board_on River h)) ≡ all_size n = x.all in let l : all_size n ≤ 5 = (size_small n).2 in omega arith)
 
 pub flop_come : (n : Phase) → has_come n Flop ≡ true → one_size n ≡ 3
 flop_come OnFlop is = refl
@@ -216,17 +216,20 @@ turn_come OnFlop is = cc
 abbrev pub size_on : StreetName → ℕ
 size_on s = sum_up_to cards_of_street s (streets_by family.Board)
 
-pub come_size : (h : List Event) (n : Phase) (s : StreetName) → Sizes h (one_size n) (two_size n) (all_size n) → has_come n s ≡ true → length (board_up_to h s) ≡ size_on s
-come_size h n First x is = refl
-come_size h n Flop x is = x.one ∙ flop_come n is
-come_size h n Turn x is = x.two ∙ turn_come n is
-come_size h n Fourth x is = absurd (by_phase (λ n. has_come n Fourth) refl refl refl refl refl n is)
-come_size h n Fifth x is = absurd (by_phase (λ n. has_come n Fifth) refl refl refl refl refl n is)
-come_size h n Sixth x is = absurd (by_phase (λ n. has_come n Sixth) refl refl refl refl refl n is)
-come_size h n River x is = absurd (by_phase (λ n. has_come n River) refl refl refl refl refl n is)
-come_size h n Draw x is = absurd (by_phase (λ n. has_come n Draw) refl refl refl refl refl n is)
-come_size h n ShowDown x is = absurd (by_phase (λ n. has_come n ShowDown) refl refl refl refl refl n is)
-come_size h n Summary x is = absurd (by_phase (λ n. has_come n Summary) refl refl refl refl refl n is)
+pub come_size : (game : Game) (h : List Event) (n : Phase) (s : StreetName) → Sizes game h (one_size n) (two_size n) (all_size n) → has_come n s ≡ true → length (board_up_to h s) ≡ size_on s
+come_size game h n First x is = refl
+come_size game h n Flop x is = x.one ∙ flop_come n is
+come_size game h n Turn x is = x.two ∙ turn_come n is
+come_size game h n Fourth x is = absurd (by_phase (λ n. has_come n Fourth) refl refl refl refl refl n is)
+come_size game h n Fifth x is = absurd (by_phase (λ n. has_come n Fifth) refl refl refl refl refl n is)
+come_size game h n Sixth x is = absurd (by_phase (λ n. has_come n Sixth) refl refl refl refl refl n is)
+come_size game h n River x is = absurd (by_phase (λ n. has_come n River) refl refl refl refl refl n is)
+come_size game h n Draw x is = absurd (by_phase (λ n. has_come n Draw) refl refl refl refl refl n is)
+come_size game h n FirstDraw x is = absurd (by_phase (λ n. has_come n FirstDraw) refl refl refl refl refl n is)
+come_size game h n SecondDraw x is = absurd (by_phase (λ n. has_come n SecondDraw) refl refl refl refl refl n is)
+come_size game h n ThirdDraw x is = absurd (by_phase (λ n. has_come n ThirdDraw) refl refl refl refl refl n is)
+come_size game h n ShowDown x is = absurd (by_phase (λ n. has_come n ShowDown) refl refl refl refl refl n is)
+come_size game h n Summary x is = absurd (by_phase (λ n. has_come n Summary) refl refl refl refl refl n is)
 
 pub board_is : (game : Game) → has_board game ≡ true → board_size game ≡ 5
 board_is game b = ap board_size_by (board_family (family_of game) b)
@@ -240,10 +243,10 @@ size_before Turn = 3
 size_before River = 4
 size_before _ = 0
 
-pub shared_size : (h : List Event) (n : Phase) (from : StreetName) → Sizes h (one_size n) (two_size n) (all_size n) → twice_from h ≡ Some from → has_begun n from ≡ true → length (shared h) ≡ size_before from
-shared_size h n from x is begun = ap (λ o. length (shared_by o (board_on Flop h) (board_on Turn h) (board_on River h))) is ∙ by n from x begun
+pub shared_size : (game : Game) (h : List Event) (n : Phase) (from : StreetName) → Sizes game h (one_size n) (two_size n) (all_size n) → twice_from h ≡ Some from → has_begun n from ≡ true → length (shared h) ≡ size_before from
+shared_size game h n from x is begun = ap (λ o. length (shared_by o (board_on Flop h) (board_on Turn h) (board_on River h))) is ∙ by n from x begun
   where
-    by : (n : Phase) (s : StreetName) → Sizes h (one_size n) (two_size n) (all_size n) → has_begun n s ≡ true → length (shared_by (Some s) (board_on Flop h) (board_on Turn h) (board_on River h)) ≡ size_before s
+    by : (n : Phase) (s : StreetName) → Sizes game h (one_size n) (two_size n) (all_size n) → has_begun n s ≡ true → length (shared_by (Some s) (board_on Flop h) (board_on Turn h) (board_on River h)) ≡ size_before s
     by OnFlop Flop x b = refl
     by OnTurn Flop x b = refl
     by OnRiver Flop x b = refl

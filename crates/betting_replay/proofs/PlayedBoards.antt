@@ -47,10 +47,10 @@ on_board g players h ok fit b =
     let size : board_size g.game ≡ 5 = board_is g.game b in
     record {
       last = λ over. x.1.sizes.own ∙ at_last x.0 (sym x.1.begun ∙ over) ∙ sym size;
-      few = λ s. (let l : length (board_up_to h s) ≤ 5 = few_cards h x.0 s x.1.sizes in omega (arith, l, size));
+      few = λ s. (let l : length (board_up_to h s) ≤ 5 = few_cards g.game h x.0 s x.1.sizes in omega (arith, l, size));
       second_last = λ over second is. second_whole g players h x.0 second b x.1 over is ∙ sym size;
       second_few = λ second is. (let l : length second ≤ 5 = second_small g players h x.0 second x.1 is in omega (arith, l, size));
-      at_point = λ found is. come_size h x.0 found.street x.1.sizes (x.1.pointed found is) ∙ sym (then_is g.game found.street b);
+      at_point = λ found is. come_size g.game h x.0 found.street x.1.sizes (x.1.pointed found is) ∙ sym (then_is g.game found.street b);
     }
 
 -- in the other games no card comes to a board
@@ -68,16 +68,16 @@ none_up_to many none s (t ∷ ls) = by (is_street s t) (none_up_to many none s l
 none_then : (game : Game) (s : StreetName) → has_board game ≡ false → board_then game s ≡ 0
 none_then game s b = none_up_to (board_count game) (λ t. no_size game t b) s (streets_of game)
 
-bare_board : (g : Header) (players : ℕ) (h : List Event) → IsAccepted g players h → MarkersFit g.game h → has_board g.game ≡ false → Sizes h 0 0 0
-bare_board g players [] ok fit b = record { one = refl; two = ap length no_more; all = rw no_more (ap length no_more); own = ap length nothing_owned }
+bare_board : (g : Header) (players : ℕ) (h : List Event) → IsAccepted g players h → MarkersFit g.game h → has_board g.game ≡ false → Sizes g.game h 0 0 0
+bare_board g players [] ok fit b = record { one = refl; two = ap length no_more; all = rw no_more (ap length no_more); own = ap length (nothing_owned g.game) }
 bare_board g players (Street s number cards ∷ h) ok fit b = bare_sizes g players s number cards h 0 0 0 ok (fit.0.many ∙ no_size g.game s b) (bare_board g players h ok.2 fit.1 b)
 bare_board g players (e ∷ h) ok fit b = quiet_sizes g players e h 0 0 0 ok refl (bare_board g players h ok.2 fit.1 b)
 
-bare_few : (h : List Event) (s : StreetName) → Sizes h 0 0 0 → length (board_up_to h s) ≡ 0
-bare_few h First x = refl
-bare_few h Flop x = x.one
-bare_few h Turn x = x.two
-bare_few h _ x = x.all
+bare_few : (game : Game) (h : List Event) (s : StreetName) → Sizes game h 0 0 0 → length (board_up_to h s) ≡ 0
+bare_few game h First x = refl
+bare_few game h Flop x = x.one
+bare_few game h Turn x = x.two
+bare_few game h _ x = x.all
 
 -- nor is there a second board
 no_second : (g : Header) (players : ℕ) (h : List Event) (second : List ℕ) → IsAccepted g players h → has_board g.game ≡ false → second_board h ≡ Some second → ⊥
@@ -87,13 +87,13 @@ no_second g players h second ok b is =
 
 pub on_no_board : (g : Header) (players : ℕ) (h : List Event) → IsAccepted g players h → MarkersFit g.game h → has_board g.game ≡ false → HasBoard g players h
 on_no_board g players h ok fit b =
-    let x : Sizes h 0 0 0 = bare_board g players h ok fit b in
+    let x : Sizes g.game h 0 0 0 = bare_board g players h ok fit b in
     record {
       last = λ over. x.own ∙ sym (no_board (family_of g.game) b);
-      few = λ s. (let none : length (board_up_to h s) ≡ 0 = bare_few h s x in omega (arith, none));
+      few = λ s. (let none : length (board_up_to h s) ≡ 0 = bare_few g.game h s x in omega (arith, none));
       second_last = λ over second is. absurd (no_second g players h second ok b is);
       second_few = λ second is. absurd (no_second g players h second ok b is);
-      at_point = λ found is. bare_few h found.street x ∙ sym (none_then g.game found.street b);
+      at_point = λ found is. bare_few g.game h found.street x ∙ sym (none_then g.game found.street b);
     }
 
 pub whole_board : (g : Header) (players : ℕ) (h : List Event) → IsAccepted g players h → MarkersFit g.game h → HasBoard g players h
@@ -104,11 +104,11 @@ whole_board g players h ok fit = one (has_board g.game) refl
     one false b = on_no_board g players h ok fit b
 
 -- the two boards share the cards of the streets before
-boards_share : (g : Header) (players : ℕ) (h : List Event) (from : StreetName) (second : List ℕ) → IsAccepted g players h → twice_from h ≡ Some from → second_board h ≡ Some second → ShareBoards h from second
+boards_share : (g : Header) (players : ℕ) (h : List Event) (from : StreetName) (second : List ℕ) → IsAccepted g players h → twice_from h ≡ Some from → second_board h ≡ Some second → ShareBoards g h from second
 boards_share g players h from second ok is come = record {
   before = λ card mine there. elim (in_union (shared h) (second_own h) card (ap (λ cards. has_card cards card) same ∙ there)).1 [
     | inl both ↦ ap (λ cards. has_card cards card) (sym whole) ∙ both
-    | inr own ↦ (let one : 0 ≡ 11 = one_place h 0 11 card mine ((second_among g players h ok).each card own) in absurd (omega (arith, one)))
+    | inr own ↦ (let one : 0 ≡ 11 = one_place g.game h 0 11 card mine ((second_among g players h ok).each card own) in absurd (omega (arith, one)))
   ];
   first = λ card has. (before_among g players from h ok).each card has;
   second = λ card has. (let both : has_card (shared h) card ≡ true = ap (λ cards. has_card cards card) whole ∙ has in

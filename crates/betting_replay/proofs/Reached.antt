@@ -12,7 +12,7 @@ use Rattle.history_text.specs.declared.events.BoardNumber.TheVariants as board
 use Rattle.history_text.specs.declared.events.Event.{Event}
 use Rattle.history_text.specs.declared.events.Event.TheVariants.{Street, Discard, Pat}
 use Rattle.card_sets.specs.declared.streets.Street.{Street as StreetName}
-use Rattle.card_sets.specs.declared.streets.Street.TheVariants.{First, Flop, Turn, Fourth, Fifth, Sixth, River, Draw, ShowDown, Summary}
+use Rattle.card_sets.specs.declared.streets.Street.TheVariants.{First, Flop, Turn, Fourth, Fifth, Sixth, River, Draw, FirstDraw, SecondDraw, ThirdDraw, ShowDown, Summary}
 use Rattle.betting_replay.specs.declared.points.Point.{Point}
 use Rattle.betting_replay.specs.Accepted.{IsAccepted}
 use Rattle.betting_replay.specs.AllIn.{is_point, point_on, point_now}
@@ -66,7 +66,7 @@ pub record Doubled (g : Header) (players : ℕ) (h : List Event) (n : Phase) : T
 pub record Reached (g : Header) (players : ℕ) (h : List Event) (n : Phase) : Type 0 where
   pub at : Stands g h n
   pub begun : last_begun g h ≡ is_over n
-  pub sizes : Sizes h (one_size n) (two_size n) (all_size n)
+  pub sizes : Sizes g.game h (one_size n) (two_size n) (all_size n)
   pub pointed : (found : Point) → point g players h ≡ Some found → has_come n found.street ≡ true
   pub twice : Doubled g players h n
 
@@ -119,7 +119,7 @@ unfolding point
 at_first g players = record {
   at = inl (record { at = refl; marker = refl; none = refl });
   begun = refl;
-  sizes = record { one = refl; two = ap length no_more; all = rw no_more (ap length no_more); own = ap length nothing_owned };
+  sizes = record { one = refl; two = ap length no_more; all = rw no_more (ap length no_more); own = ap length (nothing_owned g.game) };
   pointed = λ found is. cc;
   twice = record {
     begun = λ from is. cc;
@@ -292,7 +292,7 @@ doubled_first g players s number cards h n m ok plain before more here soon x c 
 
 -- the next street begins
 begins_at : (g : Header) (players : ℕ) (s : StreetName) (number : BoardNumber) (cards : List ℕ) (h : List Event) (n m : Phase) → IsAccepted g players (Street s number cards ∷ h) → has_board g.game ≡ true → is_end s ≡ false → Some s ≡ street_at m → ends_board s ≡ is_over m → is_over n ≡ false
-    → Sizes (Street s number cards ∷ h) (one_size m) (two_size m) (all_size m) → ((t : StreetName) → has_come n t ≡ true → has_come m t ≡ true) → ((t : StreetName) → has_begun n t ≡ true → has_begun m t ≡ true) → (may_part (table_of g players h) ≡ true → has_begun m s ≡ true)
+    → Sizes g.game (Street s number cards ∷ h) (one_size m) (two_size m) (all_size m) → ((t : StreetName) → has_come n t ≡ true → has_come m t ≡ true) → ((t : StreetName) → has_begun n t ≡ true → has_begun m t ≡ true) → (may_part (table_of g players h) ≡ true → has_begun m s ≡ true)
     → ((t : StreetName) → has_come n t ≡ true → is_before t s ≡ true) → Reached g players h n → Comes g players s number cards h n → Reached g players (Street s number cards ∷ h) m
 begins_at g players s number cards h n m ok b plain here over before sizes more begun_more begun_here soon x c =
     let e : Event = Street s number cards in
@@ -328,14 +328,14 @@ first_step g players number cards h OnFlop ok b fits x c next = cc
 first_step g players number cards h OnTurn ok b fits x c next = cc
 first_step g players number cards h OnRiver ok b fits x c next = cc
 
-sized : (h : List Event) (a b c a' b' c' : ℕ) → a ≡ a' → b ≡ b' → c ≡ c' → Sizes h a b c → Sizes h a' b' c'
-sized h a b c a' b' c' e f i x = record { one = x.one ∙ e; two = x.two ∙ f; all = x.all ∙ i; own = x.own ∙ i }
+sized : (game : Game) (h : List Event) (a b c a' b' c' : ℕ) → a ≡ a' → b ≡ b' → c ≡ c' → Sizes game h a b c → Sizes game h a' b' c'
+sized game h a b c a' b' c' e f i x = record { one = x.one ∙ e; two = x.two ∙ f; all = x.all ∙ i; own = x.own ∙ i }
 
 flop_step : (g : Header) (players : ℕ) (number : BoardNumber) (cards : List ℕ) (h : List Event) (n : Phase) → IsAccepted g players (Street Flop number cards ∷ h) → has_board g.game ≡ true → HasCards g.game Flop cards → Reached g players h n → Comes g players Flop number cards h n → same_street Flop (next_board (street_at n)) ≡ true
     → (m : Phase) × Reached g players (Street Flop number cards ∷ h) m
 flop_step g players number cards h OnFirst ok b fits x c next =
     let three : length cards ≡ 3 = many g Flop cards 3 b fits refl in
-    (OnFlop, begins_at g players Flop number cards h OnFirst OnFlop ok b refl refl refl refl (sized _ _ _ _ 3 3 3 (omega arith) (omega arith) (omega arith) (flop_sizes g players number cards h 0 0 0 ok c.first fits.deck x.sizes)) first_more (λ t is. absurd (true≢false (sym is))) (λ may. refl) first_early x c)
+    (OnFlop, begins_at g players Flop number cards h OnFirst OnFlop ok b refl refl refl refl (sized g.game _ _ _ _ 3 3 3 (omega arith) (omega arith) (omega arith) (flop_sizes g players number cards h 0 0 0 ok c.first fits.deck x.sizes)) first_more (λ t is. absurd (true≢false (sym is))) (λ may. refl) first_early x c)
 flop_step g players number cards h Before ok b fits x c next = cc
 flop_step g players number cards h OnFlop ok b fits x c next = cc
 flop_step g players number cards h OnTurn ok b fits x c next = cc
@@ -345,7 +345,7 @@ turn_step : (g : Header) (players : ℕ) (number : BoardNumber) (cards : List �
     → (m : Phase) × Reached g players (Street Turn number cards ∷ h) m
 turn_step g players number cards h OnFlop ok b fits x c next =
     let one : length cards ≡ 1 = many g Turn cards 1 b fits refl in
-    (OnTurn, begins_at g players Turn number cards h OnFlop OnTurn ok b refl refl refl refl (sized _ _ _ _ 3 4 4 refl (omega arith) (omega arith) (turn_sizes g players number cards h 3 3 3 ok c.first fits.deck x.sizes)) flop_more flop_begun (λ may. refl) flop_early x c)
+    (OnTurn, begins_at g players Turn number cards h OnFlop OnTurn ok b refl refl refl refl (sized g.game _ _ _ _ 3 4 4 refl (omega arith) (omega arith) (turn_sizes g players number cards h 3 3 3 ok c.first fits.deck x.sizes)) flop_more flop_begun (λ may. refl) flop_early x c)
 turn_step g players number cards h Before ok b fits x c next = cc
 turn_step g players number cards h OnFirst ok b fits x c next = cc
 turn_step g players number cards h OnTurn ok b fits x c next = cc
@@ -355,7 +355,7 @@ river_step : (g : Header) (players : ℕ) (number : BoardNumber) (cards : List �
     → (m : Phase) × Reached g players (Street River number cards ∷ h) m
 river_step g players number cards h OnTurn ok b fits x c next =
     let one : length cards ≡ 1 = many g River cards 1 b fits refl in
-    (OnRiver, begins_at g players River number cards h OnTurn OnRiver ok b refl refl refl refl (sized _ _ _ _ 3 4 5 refl refl (omega arith) (river_sizes g players number cards h 3 4 4 ok c.first fits.deck x.sizes)) turn_more turn_begun (λ may. refl) turn_early x c)
+    (OnRiver, begins_at g players River number cards h OnTurn OnRiver ok b refl refl refl refl (sized g.game _ _ _ _ 3 4 5 refl refl (omega arith) (river_sizes g players number cards h 3 4 4 ok c.first fits.deck x.sizes)) turn_more turn_begun (λ may. refl) turn_early x c)
 river_step g players number cards h Before ok b fits x c next = cc
 river_step g players number cards h OnFirst ok b fits x c next = cc
 river_step g players number cards h OnFlop ok b fits x c next = cc
@@ -407,13 +407,13 @@ again g players h n s b x (Some from) is board.First on true ends stands =
 again g players h n s b x (Some from) is board.Second on last ends stands = again_next g players h n s b x x.at (ap is_some is) (ap is_second on) stands
 
 -- then it has that street's cards too
-named_part : (g : Header) (players : ℕ) (h : List Event) → IsAccepted g players h → Among (union (shared h) (second_own h)) (named h)
-named_part g players h ok = union_among _ _ _ (among_named h 0 (shared h) (shared_among g players h ok)) (among_named h 11 (second_own h) (second_among g players h ok))
+named_part : (g : Header) (players : ℕ) (h : List Event) → IsAccepted g players h → Among (union (shared h) (second_own h)) (named g.game h)
+named_part g players h ok = union_among _ _ _ (among_named g.game h 0 (shared h) (shared_among g players h ok)) (among_named g.game h 11 (second_own h) (second_among g players h ok))
 
 base_size : (g : Header) (players : ℕ) (h : List Event) (n : Phase) (from : StreetName) → IsAccepted g players h → Reached g players h n → twice_from h ≡ Some from → second_street h ≡ None → length (union (shared h) (second_own h)) ≡ size_before from
 base_size g players h n from ok x is none =
     ap length (ap (union (shared h)) (x.twice.none none) ∙ union-nil (shared h) (shared_among g players h ok).set)
-    ∙ shared_size h n from x.sizes is (x.twice.begun from is)
+    ∙ shared_size g.game h n from x.sizes is (x.twice.begun from is)
 
 second_step : (g : Header) (players : ℕ) (s : StreetName) (cards : List ℕ) (h : List Event) (n : Phase) (old : ℕ) → IsAccepted g players (Street s board.Second cards ∷ h) → has_board g.game ≡ true → is_end s ≡ false → ((k : ℕ) → has_card cards k ≡ true → k < 52)
     → second_own (Street s board.Second cards ∷ h) ≡ union (second_own h) cards → length (union (shared h) (second_own h)) ≡ old → old + length cards ≡ size_on s → Reached g players h n → Again g h n s → Reached g players (Street s board.Second cards ∷ h) n
@@ -560,6 +560,18 @@ draw_only : (n : Phase) (t : StreetName) → same_street Draw (Some t) ≡ true 
 draw_only n Draw is begun = by_phase (λ n. has_begun n Draw) refl refl refl refl refl n begun
 draw_only n _ is begun = cc
 
+first_draw_only : (n : Phase) (t : StreetName) → same_street FirstDraw (Some t) ≡ true → has_begun n t ≡ true → ⊥
+first_draw_only n FirstDraw is begun = by_phase (λ n. has_begun n FirstDraw) refl refl refl refl refl n begun
+first_draw_only n _ is begun = cc
+
+second_draw_only : (n : Phase) (t : StreetName) → same_street SecondDraw (Some t) ≡ true → has_begun n t ≡ true → ⊥
+second_draw_only n SecondDraw is begun = by_phase (λ n. has_begun n SecondDraw) refl refl refl refl refl n begun
+second_draw_only n _ is begun = cc
+
+third_draw_only : (n : Phase) (t : StreetName) → same_street ThirdDraw (Some t) ≡ true → has_begun n t ≡ true → ⊥
+third_draw_only n ThirdDraw is begun = by_phase (λ n. has_begun n ThirdDraw) refl refl refl refl refl n begun
+third_draw_only n _ is begun = cc
+
 pub reached : (g : Header) (players : ℕ) (h : List Event) → IsAccepted g players h → MarkersFit g.game h → has_board g.game ≡ true → (n : Phase) × Reached g players h n
 reached g players [] ok fit b = (Before, at_first g players)
 reached g players (Street First number cards ∷ h) ok fit b = (let x = reached g players h ok.2 fit.1 b in first_next g players cards h x.0 b fit.0 x.1 number ok)
@@ -572,4 +584,7 @@ reached g players (Street Fourth number cards ∷ h) ok fit b = (let x = reached
 reached g players (Street Fifth number cards ∷ h) ok fit b = (let x = reached g players h ok.2 fit.1 b in other_next g players Fifth cards h x.0 b refl (by_phase (λ n. same_street Fifth (next_board (street_at n))) refl refl refl refl refl) (fifth_only x.0) (next_in (same_street Fifth) refl refl refl refl) x.1 number ok)
 reached g players (Street Sixth number cards ∷ h) ok fit b = (let x = reached g players h ok.2 fit.1 b in other_next g players Sixth cards h x.0 b refl (by_phase (λ n. same_street Sixth (next_board (street_at n))) refl refl refl refl refl) (sixth_only x.0) (next_in (same_street Sixth) refl refl refl refl) x.1 number ok)
 reached g players (Street Draw number cards ∷ h) ok fit b = (let x = reached g players h ok.2 fit.1 b in other_next g players Draw cards h x.0 b refl (by_phase (λ n. same_street Draw (next_board (street_at n))) refl refl refl refl refl) (draw_only x.0) (next_in (same_street Draw) refl refl refl refl) x.1 number ok)
+reached g players (Street FirstDraw number cards ∷ h) ok fit b = (let x = reached g players h ok.2 fit.1 b in other_next g players FirstDraw cards h x.0 b refl (by_phase (λ n. same_street FirstDraw (next_board (street_at n))) refl refl refl refl refl) (first_draw_only x.0) (next_in (same_street FirstDraw) refl refl refl refl) x.1 number ok)
+reached g players (Street SecondDraw number cards ∷ h) ok fit b = (let x = reached g players h ok.2 fit.1 b in other_next g players SecondDraw cards h x.0 b refl (by_phase (λ n. same_street SecondDraw (next_board (street_at n))) refl refl refl refl refl) (second_draw_only x.0) (next_in (same_street SecondDraw) refl refl refl refl) x.1 number ok)
+reached g players (Street ThirdDraw number cards ∷ h) ok fit b = (let x = reached g players h ok.2 fit.1 b in other_next g players ThirdDraw cards h x.0 b refl (by_phase (λ n. same_street ThirdDraw (next_board (street_at n))) refl refl refl refl refl) (third_draw_only x.0) (next_in (same_street ThirdDraw) refl refl refl refl) x.1 number ok)
 reached g players (e ∷ h) ok fit b = (let x = reached g players h ok.2 fit.1 b in (x.0, quiet g players e h x.0 ok b refl x.1))

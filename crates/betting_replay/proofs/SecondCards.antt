@@ -20,11 +20,11 @@ use Rattle.betting_replay.proofs.DeadCards.{dead_not_board, dead_not_second}
 
 pub record IsApart (g : Header) (players : ℕ) (h : List Event) (second : List ℕ) : Type 0 where
   pub set : IsCardSet second
-  pub seat : (p : ℕ) → (p == 0) ≡ false → p < 11 → (cards : List ℕ) → Among cards (owned h p) → apart cards second ≡ true
+  pub seat : (p : ℕ) → (p == 0) ≡ false → p < 11 → (cards : List ℕ) → Among cards (owned g.game h p) → apart cards second ≡ true
   pub living : (k : ℕ) → has_card (dead g players h) k ≡ true → has_card second k ≡ true → ⊥
 
 -- a card of the second board is the first's too, or of the second alone
-of_second : (g : Header) (players : ℕ) (h : List Event) (k : ℕ) → IsAccepted g players h → has_card (union (shared h) (second_own h)) k ≡ true → (has_card (owned h 0) k ≡ true) ⊎ (has_card (owned h 11) k ≡ true)
+of_second : (g : Header) (players : ℕ) (h : List Event) (k : ℕ) → IsAccepted g players h → has_card (union (shared h) (second_own h)) k ≡ true → (has_card (owned g.game h 0) k ≡ true) ⊎ (has_card (owned g.game h 11) k ≡ true)
 of_second g players h k ok has = elim (in_union (shared h) (second_own h) k has).1 [
   | inl both ↦ inl ((shared_among g players h ok).each k both)
   | inr own ↦ inr ((second_among g players h ok).each k own)
@@ -40,13 +40,13 @@ second_apart g players h ok second is = record { set = rw same (IsCardSet-cards_
     same : second ≡ union (shared h) (second_own h)
     same = whole (second_street h) (shared h) (second_own h) second is
 
-    there : (k : ℕ) → has_card second k ≡ true → (has_card (owned h 0) k ≡ true) ⊎ (has_card (owned h 11) k ≡ true)
+    there : (k : ℕ) → has_card second k ≡ true → (has_card (owned g.game h 0) k ≡ true) ⊎ (has_card (owned g.game h 11) k ≡ true)
     there k has = of_second g players h k ok (ap (λ cards. has_card cards k) (sym same) ∙ has)
 
-    seat : (p : ℕ) → (p == 0) ≡ false → p < 11 → (cards : List ℕ) → Among cards (owned h p) → apart cards second ≡ true
+    seat : (p : ℕ) → (p == 0) ≡ false → p < 11 → (cards : List ℕ) → Among cards (owned g.game h p) → apart cards second ≡ true
     seat p other small cards mine = apart_from cards second (λ k x y. elim (there k y) [
-      | inl first ↦ (let is : p ≡ 0 = one_place h p 0 k (mine.each k x) first in let yes : (p == 0) ≡ true = grind arith in true≢false (sym yes ∙ other))
-      | inr own ↦ (let is : p ≡ 11 = one_place h p 11 k (mine.each k x) own in absurd (omega (arith, is, small)))
+      | inl first ↦ (let is : p ≡ 0 = one_place g.game h p 0 k (mine.each k x) first in let yes : (p == 0) ≡ true = grind arith in true≢false (sym yes ∙ other))
+      | inr own ↦ (let is : p ≡ 11 = one_place g.game h p 11 k (mine.each k x) own in absurd (omega (arith, is, small)))
     ])
 
     none_dead : (k : ℕ) → has_card (dead g players h) k ≡ true → has_card second k ≡ true → ⊥

@@ -1,7 +1,8 @@
 -- After an event that may stand, the table stands for the hand with it.
 use Rattle.std.proofs.Common.{◌≡◌, ℕ, ◌+◌, ◌-◌, ◌<◌, List, [], ◌∷◌, refl, sym, ap, ◌∙◌, Bool, true, false, arith, map, subst, ◌||◌, ◌&&◌, ◌==◌}
 use Rattle.std.specs.Prelude.{Option, Some, None, slice_index_or, slice_set, if◌then◌else◌}
-use Rattle.card_sets.specs.Cards.{union}
+use Rattle.card_sets.specs.Cards.{union, minus, IsCardSet}
+use Rattle.card_sets.specs.declared.games.Game.{Game}
 use Rattle.card_sets.specs.Bits.{IsCardSet-cards_where}
 use Rattle.history_text.specs.declared.events.Header.{Header}
 use Rattle.history_text.specs.declared.events.Event.{Event}
@@ -15,22 +16,23 @@ use Rattle.betting_replay.specs.Seats.{by_seat, or_else}
 use Rattle.betting_replay.specs.Events.{seat_of, button_after, bought, returned, live_in, dead_in, ante_in, put_in, posts_small, brings_in, folds, is_act, is_seat_line, cards_named, SeatFits}
 use Rattle.betting_replay.specs.Streets.{begins, begins_on, marker_after, begins_later_by, is_later, is_first}
 use Rattle.betting_replay.specs.Sums.{street, button, opened, is_later_by, is_last_of, last_begun, twice_from, second_street, marker_board, showdowns_of, small_posted, seated, live, dead, paid, stack, folded, acted, brought_in, last_actor}
-use Rattle.betting_replay.specs.Places.{place_of, cards_given, place, is_at, owned, named, thrown, thrown_by, is_board, is_free, first_twice}
+use Rattle.betting_replay.specs.Places.{place_of, cards_given, place, is_at, owned, named, thrown, thrown_by, barred, with_given, is_board, is_free, first_twice}
 use Rattle.betting_replay.specs.declared.seats.Deals.{Deals}
 use Rattle.betting_replay.specs.declared.seats.Draws.{Draws}
+use Rattle.betting_replay.specs.declared.seats.LastDraw.{LastDraw}
 use Rattle.betting_replay.specs.declared.points.Point.{Point}
-use Rattle.betting_replay.specs.Tables.{Table, StandsFor, table_of, table_with, point, chips_of, acts_of, no_chips, no_acts, no_deals, no_draws, chips_at, acts_at, own_at, dealt_at, shown_at, deals_at, row_at, draws_at}
+use Rattle.betting_replay.specs.Tables.{Table, StandsFor, table_of, table_with, point, chips_of, acts_of, no_chips, no_acts, no_deals, no_draws, no_last_draw, chips_at, acts_at, own_at, dealt_at, held_at, shown_at, deals_at, row_at, draws_at, last_draw_at}
 use Rattle.betting_replay.specs.Boards.{board_on, named_on, second_on, named_second}
 use Rattle.card_sets.specs.declared.streets.Street.TheVariants.{Flop, Turn, River}
-use Rattle.betting_replay.specs.Hands.{dealt as dealt_cards, shown as shown_cards, row as row_cards, dealt_by, shown_after, row_by}
-use Rattle.betting_replay.specs.Dealing.{deals_of, draws_of, deals_after, draws_after}
+use Rattle.betting_replay.specs.Hands.{dealt as dealt_cards, held as held_cards, held_after, shown as shown_cards, row as row_cards, dealt_by, shown_after, row_by}
+use Rattle.betting_replay.specs.Dealing.{deals_of, draws_of, is_late, last_draw_of, deals_after, draws_after, last_draw_after}
 use Rattle.betting_replay.specs.Counting.{chips_after, acts_after, showdowns_after, cleared_chips, cleared_acts, cleared_if, on_street, begun_with, begun, counted, pointed, after}
 use Rattle.betting_replay.specs.Faults.{fault_at, card_twice, fault_with}
 use Rattle.betting_replay.proofs.SamePoint.{same_now}
 use Rattle.betting_replay.proofs.CardSets.{union-nil}
 use Rattle.betting_replay.proofs.BySeat.{at_by_seat, map_by_seat, same_by_seat, set_by_seat, with_at}
 use Rattle.betting_replay.proofs.Passed.{passed}
-use Rattle.betting_replay.proofs.Placed.{named_after, owned_other, owned_here}
+use Rattle.betting_replay.proofs.Placed.{marker_given, named_after, owned_other, owned_here, lost_elsewhere}
 
 -- something cleared, where a later street begins
 abbrev pub cleared_where : {A : Type 0} → Bool → (A → A) → A → A
@@ -84,20 +86,22 @@ step_by_seat {A} later clear old s f d new small same =
     clears false = set_by_seat old (f (old s)) s small
 
 -- the table with an event that counts for its seat, and a street that begins with it or doesn't
-abbrev table_now : Header → ℕ → List Event → Event → List Chips → List Acts → List (List ℕ) → List (List ℕ) → List (Option (List ℕ)) → List Deals → List (Option (List ℕ)) → List Draws → Option Point → List ℕ → Option StreetName → Table
-table_now g players h e chips acts own dealt shown deals rows draws found all o = record {
+abbrev table_now : Header → ℕ → List Event → Event → List Chips → List Acts → List (List ℕ) → List (List ℕ) → List (List ℕ) → List (Option (List ℕ)) → List Deals → List (Option (List ℕ)) → List Draws → List LastDraw → Option Point → List ℕ → Option StreetName → Table
+table_now g players h e chips acts own dealt held shown deals rows draws lasts found all o = record {
   header = g;
   players = players;
   chips = cleared_where (begins_later_by o) (map cleared_chips) chips;
   acts = cleared_where (begins_later_by o) (map cleared_acts) acts;
   own = own;
   dealt = dealt;
+  held = held;
   shown = shown;
   deals = deals;
   rows = rows;
   draws = draws;
+  lasts = lasts;
   named = all;
-  thrown = union (thrown h) (thrown_by e);
+  thrown = union (minus (thrown h) (cards_named e)) (thrown_by e);
   flop = union (board_on Flop h) (named_on Flop e);
   turn = union (board_on Turn h) (named_on Turn e);
   river = union (board_on River h) (named_on River e);
@@ -117,20 +121,22 @@ table_now g players h e chips acts own dealt shown deals rows draws found all o 
   point = found;
 }
 
-abbrev counted_so : Header → ℕ → List Event → Event → List Chips → List Acts → List (List ℕ) → List (List ℕ) → List (Option (List ℕ)) → List Deals → List (Option (List ℕ)) → List Draws → Option Point → List ℕ → Table
-counted_so g players h e chips acts own dealt shown deals rows draws found all = record {
+abbrev counted_so : Header → ℕ → List Event → Event → List Chips → List Acts → List (List ℕ) → List (List ℕ) → List (List ℕ) → List (Option (List ℕ)) → List Deals → List (Option (List ℕ)) → List Draws → List LastDraw → Option Point → List ℕ → Table
+counted_so g players h e chips acts own dealt held shown deals rows draws lasts found all = record {
   header = g;
   players = players;
   chips = chips;
   acts = acts;
   own = own;
   dealt = dealt;
+  held = held;
   shown = shown;
   deals = deals;
   rows = rows;
   draws = draws;
+  lasts = lasts;
   named = all;
-  thrown = union (thrown h) (thrown_by e);
+  thrown = union (minus (thrown h) (cards_named e)) (thrown_by e);
   flop = union (board_on Flop h) (named_on Flop e);
   turn = union (board_on Turn h) (named_on Turn e);
   river = union (board_on River h) (named_on River e);
@@ -150,46 +156,49 @@ counted_so g players h e chips acts own dealt shown deals rows draws found all =
   point = found;
 }
 
-later_case : (g : Header) (players : ℕ) (h : List Event) (e : Event) (chips : List Chips) (acts : List Acts) (own : List (List ℕ)) (dealt : List (List ℕ)) (shown : List (Option (List ℕ))) (deals : List Deals) (rows : List (Option (List ℕ))) (draws : List Draws) (found : Option Point) (all : List ℕ) (s : StreetName) (b : Bool) → is_later s ≡ b
-    → cleared_if b (on_street (counted_so g players h e chips acts own dealt shown deals rows draws found all) s) ≡ table_now g players h e chips acts own dealt shown deals rows draws found all (Some s)
-later_case g players h e chips acts own dealt shown deals rows draws found all s true is = rw is refl
-later_case g players h e chips acts own dealt shown deals rows draws found all s false is = rw is refl
+later_case : (g : Header) (players : ℕ) (h : List Event) (e : Event) (chips : List Chips) (acts : List Acts) (own : List (List ℕ)) (dealt : List (List ℕ)) (held : List (List ℕ)) (shown : List (Option (List ℕ))) (deals : List Deals) (rows : List (Option (List ℕ))) (draws : List Draws) (lasts : List LastDraw) (found : Option Point) (all : List ℕ) (s : StreetName) (b : Bool) → is_later s ≡ b
+    → cleared_if b (on_street (counted_so g players h e chips acts own dealt held shown deals rows draws lasts found all) s) ≡ table_now g players h e chips acts own dealt held shown deals rows draws lasts found all (Some s)
+later_case g players h e chips acts own dealt held shown deals rows draws lasts found all s true is = rw is refl
+later_case g players h e chips acts own dealt held shown deals rows draws lasts found all s false is = rw is refl
 
-begun_case : (g : Header) (players : ℕ) (h : List Event) (e : Event) (chips : List Chips) (acts : List Acts) (own : List (List ℕ)) (dealt : List (List ℕ)) (shown : List (Option (List ℕ))) (deals : List Deals) (rows : List (Option (List ℕ))) (draws : List Draws) (found : Option Point) (all : List ℕ) (o : Option StreetName)
-    → begun_with o (counted_so g players h e chips acts own dealt shown deals rows draws found all) ≡ table_now g players h e chips acts own dealt shown deals rows draws found all o
-begun_case g players h e chips acts own dealt shown deals rows draws found all None = refl
-begun_case g players h e chips acts own dealt shown deals rows draws found all (Some s) = later_case g players h e chips acts own dealt shown deals rows draws found all s (is_later s) refl
+begun_case : (g : Header) (players : ℕ) (h : List Event) (e : Event) (chips : List Chips) (acts : List Acts) (own : List (List ℕ)) (dealt : List (List ℕ)) (held : List (List ℕ)) (shown : List (Option (List ℕ))) (deals : List Deals) (rows : List (Option (List ℕ))) (draws : List Draws) (lasts : List LastDraw) (found : Option Point) (all : List ℕ) (o : Option StreetName)
+    → begun_with o (counted_so g players h e chips acts own dealt held shown deals rows draws lasts found all) ≡ table_now g players h e chips acts own dealt held shown deals rows draws lasts found all o
+begun_case g players h e chips acts own dealt held shown deals rows draws lasts found all None = refl
+begun_case g players h e chips acts own dealt held shown deals rows draws lasts found all (Some s) = later_case g players h e chips acts own dealt held shown deals rows draws lasts found all s (is_later s) refl
 
 pub no_card : (f : ℕ → BetFault) (o : Option ℕ) → fault_with f o ≡ None → o ≡ None
 no_card f None h = refl
 no_card f (Some n) h = cc
 
-pub own_case : (e : Event) (h : List Event) → first_twice (is_free (named h) (owned h (seat_of e)) (is_board e)) (thrown h) (cards_named e) ≡ None
-    → (p : ℕ) (b : Bool) → (place_of e == p) ≡ b → owned (e ∷ h) p ≡ (if b then union (owned h p) (cards_named e) else owned h p)
-own_case e h none p true is = let same : place_of e ≡ p = grind arith in subst (λ (q : ℕ). owned (e ∷ h) q ≡ union (owned h q) (cards_named e)) same (owned_here e h none)
-own_case e h none p false is = owned_other e h p is
+pub own_case : (game : Game) (e : Event) (h : List Event) (before : List ℕ) → first_twice (is_free (named game h) (owned game h (seat_of e)) (is_board e)) before (cards_named e) ≡ None
+    → (p : ℕ) (b : Bool) → (place_of e == p) ≡ b → owned game (e ∷ h) p ≡ (if b then with_given game e (cards_named e) (owned game h p) else owned game h p)
+own_case game e h before none p true is = let same : place_of e ≡ p = grind arith in subst (λ (q : ℕ). owned game (e ∷ h) q ≡ with_given game e (cards_named e) (owned game h q)) same (owned_here game e h before none)
+own_case game e h before none p false is = owned_other game e h p is (λ k l lost. lost_elsewhere game e h before p k none is l lost)
 
 -- what a seat and the first board own, after an event
-own_given : (e : Event) (h : List Event) → first_twice (is_free (named h) (owned h (seat_of e)) (is_board e)) (thrown h) (cards_named e) ≡ None
-    → (p : ℕ) → p < 11 → owned (e ∷ h) p ≡ (if seat_of e == p then union (owned h p) (cards_given e) else owned h p)
-own_given (Street s board.Second cards) h none p small =
+own_given : (game : Game) (e : Event) (h : List Event) (before : List ℕ) → first_twice (is_free (named game h) (owned game h (seat_of e)) (is_board e)) before (cards_named e) ≡ None
+    → (p : ℕ) → p < 11 → owned game (e ∷ h) p ≡ (if seat_of e == p then with_given game e (cards_given e) (owned game h p) else owned game h p)
+own_given game (Street s board.Second cards) h before none p small =
     let other : (11 == p) ≡ false = grind arith in
-    own_case (Street s board.Second cards) h none p false other ∙ sym (by (0 == p))
+    own_case game (Street s board.Second cards) h before none p false other ∙ sym (by (0 == p))
   where
-    by : (b : Bool) → (if b then union (owned h p) [] else owned h p) ≡ owned h p
-    by true = union-nil (owned h p) (IsCardSet-cards_where (λ card. is_at p (place h card)))
+    set : IsCardSet (owned game h p)
+    set = IsCardSet-cards_where (λ card. is_at p (place game h card))
+
+    by : (b : Bool) → (if b then with_given game (Street s board.Second cards) [] (owned game h p) else owned game h p) ≡ owned game h p
+    by true = marker_given game s board.Second cards [] (owned game h p) ∙ union-nil (owned game h p) set
     by false = refl
-own_given (Street s board.Only cards) h none p small = own_case (Street s board.Only cards) h none p (0 == p) refl
-own_given (Street s board.First cards) h none p small = own_case (Street s board.First cards) h none p (0 == p) refl
-own_given e h none p small = own_case e h none p (seat_of e == p) refl
+own_given game (Street s board.Only cards) h before none p small = own_case game (Street s board.Only cards) h before none p (0 == p) refl
+own_given game (Street s board.First cards) h before none p small = own_case game (Street s board.First cards) h before none p (0 == p) refl
+own_given game e h before none p small = own_case game e h before none p (seat_of e == p) refl
 
 -- where an event may stand each of its cards is free
-pub cards_free : (g : Header) (players : ℕ) (h : List Event) (found : Option Point) (e : Event) → seat_of e < 11 → fault_at (table_with g players h found) e ≡ None → first_twice (is_free (named h) (owned h (seat_of e)) (is_board e)) (thrown h) (cards_named e) ≡ None
+pub cards_free : (g : Header) (players : ℕ) (h : List Event) (found : Option Point) (e : Event) → seat_of e < 11 → fault_at (table_with g players h found) e ≡ None → first_twice (is_free (named g.game h) (owned g.game h (seat_of e)) (is_board e)) (barred g.game (thrown h)) (cards_named e) ≡ None
 unfolding card_twice
 cards_free g players h found e small legal =
     let t : Table = table_with g players h found in
-    let free : first_twice (is_free (named h) (own_at t (seat_of e)) (is_board e)) (thrown h) (cards_named e) ≡ None = no_card _ _ (passed t e legal).card in
-    subst (λ (own : List ℕ). first_twice (is_free (named h) own (is_board e)) (thrown h) (cards_named e) ≡ None) (at_by_seat (owned h) (seat_of e) [] small) free
+    let free : first_twice (is_free (named g.game h) (own_at t (seat_of e)) (is_board e)) (barred g.game (thrown h)) (cards_named e) ≡ None = no_card _ _ (passed t e legal).card in
+    subst (λ (own : List ℕ). first_twice (is_free (named g.game h) own (is_board e)) (barred g.game (thrown h)) (cards_named e) ≡ None) (at_by_seat (owned g.game h) (seat_of e) [] small) free
 
 -- the chips, cards and draws of each seat after an event are told by those before it
 deals_case : (g : Header) (h : List Event) (e : Event) (p : ℕ) (here : Bool) → (seat_of e == p) ≡ here → deals_of g (e ∷ h) p ≡ (if here then deals_after (street g h) e (deals_of g h p) else deals_of g h p)
@@ -200,6 +209,13 @@ draws_case : (h : List Event) (e : Event) (p : ℕ) (here : Bool) → (seat_of e
 draws_case h e p true is = rw is refl
 draws_case h e p false is = rw is refl
 
+last_case : (g : Header) (h : List Event) (e : Event) (p : ℕ) (here late : Bool) → (seat_of e == p) ≡ here → is_late g h e ≡ late
+    → last_draw_of g (e ∷ h) p ≡ (if here then last_draw_after late e (last_draw_of g h p) else last_draw_of g h p)
+last_case g h e p true true is when = rw (is, when) refl
+last_case g h e p true false is when = rw (is, when) refl
+last_case g h e p false true is when = rw is refl
+last_case g h e p false false is when = rw is refl
+
 -- the event counts, and its street begins
 moved : (g : Header) (players : ℕ) (h : List Event) (e : Event) (found : Option Point) → seat_of e < 11 → fault_at (table_with g players h found) e ≡ None → begun (counted (table_with g players h found) e) e ≡ table_with g players (e ∷ h) found
 unfolding begun counted
@@ -207,15 +223,19 @@ moved g players h e found small legal =
     let t : Table = table_with g players h found in
     let s : ℕ = seat_of e in
     let later : Bool = is_later_by g h e in
-    let free : first_twice (is_free (named h) (owned h s) (is_board e)) (thrown h) (cards_named e) ≡ None = cards_free g players h found e small legal in
+    let free : first_twice (is_free (named g.game h) (owned g.game h s) (is_board e)) (barred g.game (thrown h)) (cards_named e) ≡ None = cards_free g players h found e small legal in
     let chips : by_seat (chips_of g (e ∷ h)) ≡ cleared_where later (map cleared_chips) (slice_set (by_seat (chips_of g h)) s (chips_after g.big (small_posted h) e (chips_at t s))) =
     step_by_seat later cleared_chips (chips_of g h) s (chips_after g.big (small_posted h) e) no_chips (chips_of g (e ∷ h)) small (λ p low. chips_case g h e p later (s == p)) in
     let acts : by_seat (acts_of g (e ∷ h)) ≡ cleared_where later (map cleared_acts) (slice_set (by_seat (acts_of g h)) s (acts_after e (acts_at t s))) =
     step_by_seat later cleared_acts (acts_of g h) s (acts_after e) no_acts (acts_of g (e ∷ h)) small (λ p low. acts_case g h e p later (s == p)) in
-    let own : by_seat (owned (e ∷ h)) ≡ slice_set (by_seat (owned h)) s (union (own_at t s) (cards_given e)) =
-    step_by_seat false (λ (x : List ℕ). x) (owned h) s (λ (x : List ℕ). union x (cards_given e)) [] (owned (e ∷ h)) small (λ p low. own_given e h free p low) in
+    let own : by_seat (owned g.game (e ∷ h)) ≡ slice_set (by_seat (owned g.game h)) s (with_given g.game e (cards_given e) (own_at t s)) =
+    step_by_seat false (λ (x : List ℕ). x) (owned g.game h) s (λ (x : List ℕ). with_given g.game e (cards_given e) x) [] (owned g.game (e ∷ h)) small (λ p low. own_given g.game e h (barred g.game (thrown h)) free p low) in
     let given : by_seat (dealt_cards (e ∷ h)) ≡ slice_set (by_seat (dealt_cards h)) s (union (dealt_at t s) (dealt_by e)) =
     step_by_seat false (λ (x : List ℕ). x) (dealt_cards h) s (λ (x : List ℕ). union x (dealt_by e)) [] (dealt_cards (e ∷ h)) small (λ p low. refl) in
+    let holds : by_seat (held_cards (e ∷ h)) ≡ slice_set (by_seat (held_cards h)) s (held_after e (held_at t s)) =
+    step_by_seat false (λ (x : List ℕ). x) (held_cards h) s (held_after e) [] (held_cards (e ∷ h)) small (λ p low. refl) in
+    let lasts : by_seat (last_draw_of g (e ∷ h)) ≡ slice_set (by_seat (last_draw_of g h)) s (last_draw_after (is_late g h e) e (last_draw_at t s)) =
+    step_by_seat false (λ (x : LastDraw). x) (last_draw_of g h) s (last_draw_after (is_late g h e) e) no_last_draw (last_draw_of g (e ∷ h)) small (λ p low. last_case g h e p (seat_of e == p) (is_late g h e) refl refl) in
     let seen : by_seat (shown_cards g (e ∷ h)) ≡ slice_set (by_seat (shown_cards g h)) s (shown_after g.game e (shown_at t s)) =
     step_by_seat false (λ (x : Option (List ℕ)). x) (shown_cards g h) s (shown_after g.game e) None (shown_cards g (e ∷ h)) small (λ p low. refl) in
     let deals : by_seat (deals_of g (e ∷ h)) ≡ slice_set (by_seat (deals_of g h)) s (deals_after (street g h) e (deals_at t s)) =
@@ -224,7 +244,7 @@ moved g players h e found small legal =
     step_by_seat false (λ (x : Option (List ℕ)). x) (row_cards h) s (λ (x : Option (List ℕ)). or_else (row_by e) x) None (row_cards (e ∷ h)) small (λ p low. refl) in
     let draws : by_seat (draws_of (e ∷ h)) ≡ slice_set (by_seat (draws_of h)) s (draws_after e (draws_at t s)) =
     step_by_seat false (λ (x : Draws). x) (draws_of h) s (draws_after e) no_draws (draws_of (e ∷ h)) small (λ p low. draws_case h e p (seat_of e == p) refl) in
-    begun_case g players h e _ _ _ _ _ _ _ _ found _ (begins g.game (street g h) e) ∙ sym (rw (chips, acts, own, given, seen, deals, rows, draws, named_after e h) refl)
+    begun_case g players h e _ _ _ _ _ _ _ _ _ _ found _ (begins g.game (street g h) e) ∙ sym (rw (chips, acts, own, given, holds, seen, deals, rows, draws, lasts, named_after g.game e h) refl)
 
 -- then the moment may be the point
 pub stands : (g : Header) (players : ℕ) (h : List Event) (e : Event) → seat_of e < 11 → fault_at (table_of g players h) e ≡ None → after (table_of g players h) e ≡ table_of g players (e ∷ h)

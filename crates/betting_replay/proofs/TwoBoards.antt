@@ -9,7 +9,7 @@ use Rattle.history_text.specs.declared.events.BoardNumber.TheVariants as board
 use Rattle.history_text.specs.declared.events.Event.{Event}
 use Rattle.history_text.specs.declared.events.Event.TheVariants.{Street}
 use Rattle.card_sets.specs.declared.streets.Street.{Street as StreetName}
-use Rattle.card_sets.specs.declared.streets.Street.TheVariants.{First, Flop, Turn, Fourth, Fifth, Sixth, River, Draw, ShowDown, Summary}
+use Rattle.card_sets.specs.declared.streets.Street.TheVariants.{First, Flop, Turn, Fourth, Fifth, Sixth, River, Draw, FirstDraw, SecondDraw, ThirdDraw, ShowDown, Summary}
 use Rattle.betting_replay.specs.declared.points.Point.{Point}
 use Rattle.betting_replay.specs.Accepted.{IsAccepted}
 use Rattle.betting_replay.specs.Accounts.{contenders}
@@ -40,6 +40,9 @@ stands_on g players Fifth number cards h ok plain = both _ _ (marker_of g player
 stands_on g players Sixth number cards h ok plain = both _ _ (marker_of g players Sixth number cards h ok)
 stands_on g players River number cards h ok plain = both _ _ (marker_of g players River number cards h ok)
 stands_on g players Draw number cards h ok plain = both _ _ (marker_of g players Draw number cards h ok)
+stands_on g players FirstDraw number cards h ok plain = both _ _ (marker_of g players FirstDraw number cards h ok)
+stands_on g players SecondDraw number cards h ok plain = both _ _ (marker_of g players SecondDraw number cards h ok)
+stands_on g players ThirdDraw number cards h ok plain = both _ _ (marker_of g players ThirdDraw number cards h ok)
 
 -- no street is the next where there is none
 pub never_none : (s : StreetName) → same_street s None ≡ true → ⊥

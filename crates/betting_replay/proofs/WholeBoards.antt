@@ -13,13 +13,14 @@ use Rattle.betting_replay.specs.Accepted.{IsAccepted}
 use Rattle.betting_replay.specs.Boards.{board_on, named_on, second_on, named_second}
 use Rattle.betting_replay.specs.CardLaws.{Among}
 use Rattle.betting_replay.specs.Events.{seat_of, cards_named, SeatFits}
-use Rattle.betting_replay.specs.Places.{place_of, place, is_at, owned, named, thrown, is_board, is_free, first_twice}
+use Rattle.betting_replay.specs.Places.{place_of, place, is_at, owned, named, thrown, barred, with_given, is_board, is_free, first_twice}
 use Rattle.betting_replay.specs.Tables.{point}
 use Rattle.betting_replay.proofs.CardSets.{union-nil, union-front}
 use Rattle.betting_replay.proofs.Members.{in_where, where_in, either, or_left, or_right, length-with_card}
 use Rattle.betting_replay.proofs.Stands.{cards_free, seat_below}
 use Rattle.betting_replay.proofs.Belong.{own_step, board_among, second_set}
-use Rattle.betting_replay.proofs.Placed.{place_seat}
+use Rattle.betting_replay.proofs.Placed.{place_seat, nothing_given}
+use Rattle.card_sets.specs.declared.games.Game.{Game}
 
 -- a set of named cards grows by each card of a marker
 grown : (all own cards before s : List ℕ) → first_twice (is_free all own true) before cards ≡ None → ((k : ℕ) → has_card cards k ≡ true → k < 52) → IsCardSet s → ((k : ℕ) → k < 52 → has_card s k ≡ true → (has_card all k ≡ true) ⊎ (has_card before k ≡ true))
@@ -56,26 +57,26 @@ grown all own (c ∷ cards) before s none deck set old =
         omega (arith, front, more, go none)
 
 -- what belongs to a place was named
-owned_named : (h : List Event) (p k : ℕ) → has_card (owned h p) k ≡ true → has_card (named h) k ≡ true
-owned_named h p k has = (let w = in_where (λ card. is_at p (place h card)) k has in where_in (λ card. is_some (place h card)) k w.0 (one (place h k) w.1))
+owned_named : (game : Game) (h : List Event) (p k : ℕ) → has_card (owned game h p) k ≡ true → has_card (named game h) k ≡ true
+owned_named game h p k has = (let w = in_where (λ card. is_at p (place game h card)) k has in where_in (λ card. is_some (place game h card)) k w.0 (one (place game h k) w.1))
   where
     one : (o : Option ℕ) → is_at p o ≡ true → is_some o ≡ true
     one None is = absurd (true≢false (sym is))
     one (Some q) is = refl
 
 -- so does a set of named cards with those of a marker
-pub named_grows : (g : Header) (players : ℕ) (s : StreetName) (number : BoardNumber) (cards : List ℕ) (h : List Event) (part : List ℕ) → IsAccepted g players (Street s number cards ∷ h) → ((k : ℕ) → has_card cards k ≡ true → k < 52) → Among part (named h)
+pub named_grows : (g : Header) (players : ℕ) (s : StreetName) (number : BoardNumber) (cards : List ℕ) (h : List Event) (part : List ℕ) → IsAccepted g players (Street s number cards ∷ h) → ((k : ℕ) → has_card cards k ≡ true → k < 52) → Among part (named g.game h)
     → length (union part cards) ≡ length part + length cards
 named_grows g players s number cards h part ok deck a =
-    grown (named h) (owned h 0) cards (thrown h) part (cards_free g players h (point g players h) (Street s number cards) (seat_below (Street s number cards) ok.0.seats) ok.1) deck a.set (λ k l has. inl (a.each k has))
+    grown (named g.game h) (owned g.game h 0) cards (barred g.game (thrown h)) part (cards_free g players h (point g players h) (Street s number cards) (seat_below (Street s number cards) ok.0.seats) ok.1) deck a.set (λ k l has. inl (a.each k has))
 
 -- what is among the cards of a place was named
-pub among_named : (h : List Event) (p : ℕ) (part : List ℕ) → Among part (owned h p) → Among part (named h)
-among_named h p part a = record { set = a.set; each = λ k has. owned_named h p k (a.each k has) }
+pub among_named : (game : Game) (h : List Event) (p : ℕ) (part : List ℕ) → Among part (owned game h p) → Among part (named game h)
+among_named game h p part a = record { set = a.set; each = λ k has. owned_named game h p k (a.each k has) }
 
-pub marker_grows : (g : Header) (players : ℕ) (s : StreetName) (number : BoardNumber) (cards : List ℕ) (h : List Event) (part : List ℕ) → IsAccepted g players (Street s number cards ∷ h) → ((k : ℕ) → has_card cards k ≡ true → k < 52) → Among part (owned h 0)
+pub marker_grows : (g : Header) (players : ℕ) (s : StreetName) (number : BoardNumber) (cards : List ℕ) (h : List Event) (part : List ℕ) → IsAccepted g players (Street s number cards ∷ h) → ((k : ℕ) → has_card cards k ≡ true → k < 52) → Among part (owned g.game h 0)
     → length (union part cards) ≡ length part + length cards
-marker_grows g players s number cards h part ok deck a = named_grows g players s number cards h part ok deck (among_named h 0 part a)
+marker_grows g players s number cards h part ok deck a = named_grows g players s number cards h part ok deck (among_named g.game h 0 part a)
 
 -- an event that is no marker leaves the board
 zero_seat : (seat : ℕ) (cards : List ℕ) → (1 ≤ seat) × (seat ≤ 10) → (seat == 0) ≡ true → cards ≡ []
@@ -90,11 +91,11 @@ no_names (SeatCards seat cards) fits plain here = zero_seat seat cards fits here
 no_names (Discard seat count cards) fits plain here = zero_seat seat cards fits here
 no_names _ fits plain here = refl
 
-pub own_same : (g : Header) (players : ℕ) (e : Event) (h : List Event) → IsAccepted g players (e ∷ h) → is_board e ≡ false → owned (e ∷ h) 0 ≡ owned h 0
+pub own_same : (g : Header) (players : ℕ) (e : Event) (h : List Event) → IsAccepted g players (e ∷ h) → is_board e ≡ false → owned g.game (e ∷ h) 0 ≡ owned g.game h 0
 own_same g players e h ok plain = own_step g players e h 0 ok ∙ one (place_of e == 0) refl
   where
-    one : (b : Bool) → (place_of e == 0) ≡ b → (if b then union (owned h 0) (cards_named e) else owned h 0) ≡ owned h 0
-    one true is = (let none : cards_named e ≡ [] = no_names e ok.0.seats plain (ap (λ q. q == 0) (sym (place_seat e plain)) ∙ is) in rw none (union-nil (owned h 0) (IsCardSet-cards_where (λ card. is_at 0 (place h card)))))
+    one : (b : Bool) → (place_of e == 0) ≡ b → (if b then with_given g.game e (cards_named e) (owned g.game h 0) else owned g.game h 0) ≡ owned g.game h 0
+    one true is = (let none : cards_named e ≡ [] = no_names e ok.0.seats plain (ap (λ q. q == 0) (sym (place_seat e plain)) ∙ is) in nothing_given g.game e (owned g.game h 0) (IsCardSet-cards_where (λ card. is_at 0 (place g.game h card))) none)
     one false is = refl
 
 pub none_on : (s : StreetName) (e : Event) → is_board e ≡ false → named_on s e ≡ []

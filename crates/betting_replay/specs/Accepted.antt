@@ -34,7 +34,7 @@ KeepsChips = (header : Header) (players : ℕ) (h : List Event) (p : ℕ) → Is
 pub record ShowsSeat (header : Header) (players : ℕ) (h : List Event) (p : ℕ) : Type 0 where
   pub chips : chips_at (table_of header players h) p ≡ chips_of header h p
   pub acts : acts_at (table_of header players h) p ≡ acts_of header h p
-  pub own : own_at (table_of header players h) p ≡ owned h p
+  pub own : own_at (table_of header players h) p ≡ owned header.game h p
   pub final : final_at (table_of header players h) p ≡ final_cards header h p
   pub known : (street : StreetName) → known_at (table_of header players h) p street ≡ cards_at header h p street
 

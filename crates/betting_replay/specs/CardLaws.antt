@@ -22,7 +22,7 @@ use Rattle.betting_replay.specs.Turns.{contender_count}
 
 -- two different places share no card
 abbrev pub PlacesAreApart : Type 0
-PlacesAreApart = (h : List Event) (p q : ℕ) → (p == q) ≡ false → apart (owned h p) (owned h q) ≡ true
+PlacesAreApart = (game : Game) (h : List Event) (p q : ℕ) → (p == q) ≡ false → apart (owned game h p) (owned game h q) ≡ true
 
 -- a set of cards, each of which is among others
 pub record Among (cards others : List ℕ) : Type 0 where
@@ -32,19 +32,19 @@ pub record Among (cards others : List ℕ) : Type 0 where
 -- after accepted events the cards of a seat that are known belong to it, are as many as the game gives, and are in no other seat's and on no board;
 -- those of the board belong to the board; and dead cards are neither a board's nor those of a player who hadn't folded at the point
 pub record CardsBelong (header : Header) (players : ℕ) (h : List Event) : Type 0 where
-  pub final : (p : ℕ) (cards : List ℕ) → final_cards header h p ≡ Some cards → Among cards (owned h p)
+  pub final : (p : ℕ) (cards : List ℕ) → final_cards header h p ≡ Some cards → Among cards (owned header.game h p)
   pub whole : (p : ℕ) (cards : List ℕ) → final_cards header h p ≡ Some cards → length cards ≡ own_size header.game
-  pub final_and_board : (p : ℕ) → (p == 0) ≡ false → (cards : List ℕ) → final_cards header h p ≡ Some cards → apart cards (owned h 0) ≡ true
-  pub known : (p : ℕ) (street : StreetName) (cards : List ℕ) → cards_at header h p street ≡ Some cards → Among cards (owned h p)
+  pub final_and_board : (p : ℕ) → (p == 0) ≡ false → (cards : List ℕ) → final_cards header h p ≡ Some cards → apart cards (owned header.game h 0) ≡ true
+  pub known : (p : ℕ) (street : StreetName) (cards : List ℕ) → cards_at header h p street ≡ Some cards → Among cards (owned header.game h p)
   pub few : (p : ℕ) (street : StreetName) (cards : List ℕ) → cards_at header h p street ≡ Some cards → length cards ≤ own_size header.game
   pub two_seats : (p q : ℕ) → (p == q) ≡ false → (street : StreetName) (some others : List ℕ) → cards_at header h p street ≡ Some some → cards_at header h q street ≡ Some others → apart some others ≡ true
-  pub board : (street : StreetName) → Among (board_up_to h street) (owned h 0)
+  pub board : (street : StreetName) → Among (board_up_to h street) (owned header.game h 0)
   pub seat_and_board : (p : ℕ) → (p == 0) ≡ false → (street shown : StreetName) (cards : List ℕ) → cards_at header h p street ≡ Some cards → apart cards (board_up_to h shown) ≡ true
   pub second_set : (second : List ℕ) → second_board h ≡ Some second → IsCardSet second
   pub final_and_second : (p : ℕ) → (p == 0) ≡ false → p < 11 → (cards second : List ℕ) → final_cards header h p ≡ Some cards → second_board h ≡ Some second → apart cards second ≡ true
   pub seat_and_second : (p : ℕ) → (p == 0) ≡ false → p < 11 → (street : StreetName) (cards second : List ℕ) → cards_at header h p street ≡ Some cards → second_board h ≡ Some second → apart cards second ≡ true
   pub dead_set : IsCardSet (dead header players h)
-  pub dead_and_board : apart (dead header players h) (owned h 0) ≡ true
+  pub dead_and_board : apart (dead header players h) (owned header.game h 0) ≡ true
   pub dead_and_shown : (street : StreetName) → apart (dead header players h) (board_up_to h street) ≡ true
   pub dead_and_second : (second : List ℕ) → second_board h ≡ Some second → apart (dead header players h) second ≡ true
   pub dead_and_known : (found : Point) → point header players h ≡ Some found → (p : ℕ) → has_player found.contenders p ≡ true → (street : StreetName) (cards : List ℕ) → cards_at header h p street ≡ Some cards
@@ -91,7 +91,7 @@ has_ended (e ∷ h) = ends e || has_ended h
 -- after accepted events whose markers have their cards a board that has all streets is whole, and never has more cards, and so is the second board of a hand
 -- that is run twice; at the point the board has the cards of the streets up to it
 pub record HasBoard (header : Header) (players : ℕ) (h : List Event) : Type 0 where
-  pub last : last_begun header h ≡ true → length (owned h 0) ≡ board_size header.game
+  pub last : last_begun header h ≡ true → length (owned header.game h 0) ≡ board_size header.game
   pub few : (street : StreetName) → length (board_up_to h street) ≤ board_size header.game
   pub second_last : second_begun header h ≡ true → (second : List ℕ) → second_board h ≡ Some second → length second ≡ board_size header.game
   pub second_few : (second : List ℕ) → second_board h ≡ Some second → length second ≤ board_size header.game

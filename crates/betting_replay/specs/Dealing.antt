@@ -1,5 +1,5 @@
 -- What was dealt to a seat, street by street, and how it drew.
-use Rattle.std.specs.Prelude.{ℕ, ◌==◌, ◌&&◌, ◌||◌, Bool, true, false, if◌then◌else◌, List, [], ◌∷◌, length, Option, None, nat_lt}
+use Rattle.std.specs.Prelude.{ℕ, ◌==◌, ◌&&◌, ◌||◌, not, Bool, true, false, if◌then◌else◌, List, [], ◌∷◌, length, Option, None, nat_lt}
 use Rattle.card_sets.specs.Cards.{union}
 use Rattle.history_text.specs.declared.events.Header.{Header}
 use Rattle.history_text.specs.declared.events.Event.{Event}
@@ -8,10 +8,12 @@ use Rattle.card_sets.specs.declared.streets.Street.{Street as StreetName}
 use Rattle.card_sets.specs.declared.streets.Street.TheVariants.{First, Fourth, Fifth, Sixth}
 use Rattle.betting_replay.specs.declared.seats.Deals.{Deals}
 use Rattle.betting_replay.specs.declared.seats.Draws.{Draws}
+use Rattle.betting_replay.specs.declared.seats.LastDraw.{LastDraw}
 use Rattle.betting_replay.specs.Events.{seat_of}
 use Rattle.betting_replay.specs.Streets.{same_street}
-use Rattle.betting_replay.specs.Sums.{street}
-use Rattle.betting_replay.specs.Hands.{dealt_by}
+use Rattle.betting_replay.specs.Sums.{street, last_begun}
+use Rattle.betting_replay.specs.Hands.{dealt_by, held_after}
+use Rattle.betting_replay.specs.Places.{thrown_by}
 
 -- a deal counts on the street of the hand, and before the first street on that one
 abbrev pub counts_on : StreetName → Option StreetName → Bool
@@ -77,6 +79,40 @@ deals_of header h p = record {
 abbrev pub draws_of : List Event → ℕ → Draws
 draws_of h p = record { hidden = marked hides h p; pat = marked stands_pat h p; five = marked discards_five h p }
 
+-- whether the last street has begun, before an event or with it
+abbrev pub is_late : Header → List Event → Event → Bool
+is_late header h e = last_begun header (e ∷ h)
+
+-- what a seat held by the text when the last street began
+abbrev pub held_before : Header → List Event → ℕ → List ℕ
+held_before header [] p = []
+held_before header (e ∷ h) p = if (seat_of e == p) && not (is_late header h e) then held_after e (held_before header h p) else held_before header h p
+
+-- all cards that it has thrown away face up since
+abbrev pub thrown_late : Header → List Event → ℕ → List ℕ
+thrown_late header [] p = []
+thrown_late header (e ∷ h) p = if (seat_of e == p) && is_late header h e then union (thrown_late header h p) (thrown_by e) else thrown_late header h p
+
+-- whether an event about it passed a test before the last street began, and since
+abbrev pub marked_before : (Event → Bool) → Header → List Event → ℕ → Bool
+marked_before by header [] p = false
+marked_before by header (e ∷ h) p = ((seat_of e == p) && not (is_late header h e) && by e) || marked_before by header h p
+
+abbrev pub marked_late : (Event → Bool) → Header → List Event → ℕ → Bool
+marked_late by header [] p = false
+marked_late by header (e ∷ h) p = ((seat_of e == p) && is_late header h e && by e) || marked_late by header h p
+
+-- how it drew on the last draw
+abbrev pub last_draw_of : Header → List Event → ℕ → LastDraw
+last_draw_of header h p = record {
+  held = held_before header h p;
+  hidden_before = marked_before hides header h p;
+  thrown = thrown_late header h p;
+  hidden = marked_late hides header h p;
+  pat = marked_late stands_pat header h p;
+  five = marked_late discards_five header h p;
+}
+
 -- the same after one event more about the seat
 abbrev pub deals_after : Option StreetName → Event → Deals → Deals
 deals_after now e d = record {
@@ -91,3 +127,14 @@ deals_after now e d = record {
 
 abbrev pub draws_after : Event → Draws → Draws
 draws_after e d = record { hidden = hides e || d.hidden; pat = stands_pat e || d.pat; five = discards_five e || d.five }
+
+-- and of the last draw, where the last street has begun with the event or before it, or hasn't
+abbrev pub last_draw_after : Bool → Event → LastDraw → LastDraw
+last_draw_after late e d = record {
+  held = if late then d.held else held_after e d.held;
+  hidden_before = (not late && hides e) || d.hidden_before;
+  thrown = if late then union d.thrown (thrown_by e) else d.thrown;
+  hidden = (late && hides e) || d.hidden;
+  pat = (late && stands_pat e) || d.pat;
+  five = (late && discards_five e) || d.five;
+}

@@ -1,8 +1,6 @@
 -- Which events may follow: sixteen tests, made in this order. Each gives its fault where it fails.
-use Rattle.std.specs.Prelude.{ℕ, ◌+◌, ◌==◌, ◌&&◌, ◌||◌, not, Bool, true, false, if◌then◌else◌, List, [], ◌∷◌, length, Option, Some, None, is_some, is_none, nat_lt, nat_le, Result, Ok, Err}
-use Rattle.card_sets.specs.declared.games.Game.{Game}
-use Rattle.card_sets.specs.Cards.{union}
-use Rattle.card_sets.specs.Games.{own_size, has_board, has_draw}
+use Rattle.std.specs.Prelude.{ℕ, ◌==◌, ◌&&◌, ◌||◌, not, Bool, true, false, if◌then◌else◌, List, [], ◌∷◌, length, Option, Some, None, is_some, is_none, nat_lt, nat_le, Result, Ok, Err}
+use Rattle.card_sets.specs.Games.{has_board, most_owned}
 use Rattle.history_text.specs.declared.events.Header.{Header}
 use Rattle.history_text.specs.declared.events.BoardNumber.{BoardNumber}
 use Rattle.history_text.specs.declared.events.BoardNumber.TheVariants as board
@@ -11,19 +9,19 @@ use Rattle.history_text.specs.declared.events.Event.TheVariants.{Seat, Post, Str
 use Rattle.history_text.specs.declared.events.Act.{Act as Deed}
 use Rattle.history_text.specs.declared.events.Act.TheVariants.{Fold, Check, Call, Bet, Raise}
 use Rattle.card_sets.specs.declared.streets.Street.{Street as StreetName}
-use Rattle.card_sets.specs.declared.streets.Street.TheVariants.{Draw, ShowDown, Summary}
+use Rattle.card_sets.specs.declared.streets.Street.TheVariants.{ShowDown, Summary}
 use Rattle.betting_replay.specs.declared.faults.BetFault.{BetFault}
 use Rattle.betting_replay.specs.declared.faults.BetFault.TheVariants.{NotInHand, OutOfTurn, NothingOwed, CheckFacingBet, CallAmount, BetFacingBet, RaiseAmount, AboveStack, AllInWord, StreetEarly, StreetOrder, UncalledAmount, CardTwice, PostLate, SeatTwice, TooManyCards}
 use Rattle.betting_replay.specs.Events.{seat_of, act_chips, is_bring_in, cards_named}
 use Rattle.card_sets.specs.Streets.{next_street}
-use Rattle.betting_replay.specs.Streets.{same_street, begun_by_drawing, is_first, is_number}
+use Rattle.betting_replay.specs.Streets.{same_street, is_drawing, begun_by_drawing, is_first, is_number}
 use Rattle.betting_replay.specs.Sums.{is_last_of}
 use Rattle.card_sets.specs.PlayerSets.{has_player}
 use Rattle.betting_replay.specs.Tables.{Table, chips_at, acts_at, own_at, table_of}
 use Rattle.betting_replay.specs.Turns.{live_at, greatest, contender_count, has_chips, any_shown, may_act, owes_before, next_to_act, due, call_fits, raise_fits}
 use Rattle.betting_replay.specs.AllIn.{funded_count}
 use Rattle.betting_replay.specs.Returns.{return_fits, uncalled_due}
-use Rattle.betting_replay.specs.Places.{is_board, is_free, first_twice}
+use Rattle.betting_replay.specs.Places.{is_board, is_free, first_twice, barred, with_given}
 
 -- the fault, where it stands
 abbrev pub fault_if : Bool → BetFault → Option BetFault
@@ -144,7 +142,7 @@ marker_stands t number Summary = is_number board.Only number && may_end t
 marker_stands t number street = same_street street (next_on t number) && nat_le 2 (contender_count t)
 
 abbrev pub draw_stands : Table → Bool
-draw_stands t = same_street Draw t.street || (is_some (begun_by_drawing t.header.game t.street) && nat_le 2 (contender_count t))
+draw_stands t = is_drawing t.street || (is_some (begun_by_drawing t.header.game t.street) && nat_le 2 (contender_count t))
 
 unfoldable pub street_order : Table → Event → Option BetFault
 street_order t (Street street number cards) = fault_if (not (marker_stands t number street)) StreetOrder
@@ -157,9 +155,10 @@ unfoldable pub uncalled_amiss : Table → Event → Option BetFault
 uncalled_amiss t (Uncalled seat units) = fault_if (not (return_fits t seat units)) (UncalledAmount (uncalled_due t))
 uncalled_amiss t _ = None
 
--- 13: a card that belongs elsewhere, stands twice in the bracket, or was named before it comes on the board; the first such
+-- 13: a card that belongs elsewhere, was thrown away face up and may not come again, stands twice in the bracket, or was named before it comes on the
+-- board; the first such
 unfoldable pub card_twice : Table → Event → Option BetFault
-card_twice t e = fault_with CardTwice (first_twice (is_free t.named (own_at t (seat_of e)) (is_board e)) t.thrown (cards_named e))
+card_twice t e = fault_with CardTwice (first_twice (is_free t.named (own_at t (seat_of e)) (is_board e)) (barred t.header.game t.thrown) (cards_named e))
 
 -- 14: a post behind the marker of the first street; a bring-in elsewhere than on the first street before its first act
 unfoldable pub post_late : Table → Event → Option BetFault
@@ -172,14 +171,12 @@ unfoldable pub seat_twice : Table → Event → Option BetFault
 seat_twice t (Seat seat units first end) = fault_if (chips_at t seat).seated SeatTwice
 seat_twice t _ = None
 
--- 16: more cards than the game gives a seat: its own, and in a draw game as many drawn ones
-abbrev pub own_limit : Game → ℕ
-own_limit game = if has_draw game then own_size game + own_size game else own_size game
-
+-- 16: more cards than the game gives a seat: its own, and as many drawn ones at each draw. A card that was thrown away and may come again is no
+-- longer the seat's
 unfoldable pub too_many_cards : Table → Event → Option BetFault
 too_many_cards t e =
     if seat_of e == 0 then None
-    else fault_if (nat_lt (own_limit t.header.game) (length (union (own_at t (seat_of e)) (cards_named e)))) (TooManyCards (seat_of e))
+    else fault_if (nat_lt (most_owned t.header.game) (length (with_given t.header.game e (cards_named e) (own_at t (seat_of e))))) (TooManyCards (seat_of e))
 
 -- the first fault
 abbrev pub first_fault : List (Option BetFault) → Option BetFault

@@ -9,38 +9,46 @@ use Rattle.card_sets.specs.Disjoint.{apart}
 use Rattle.history_text.specs.declared.events.Header.{Header}
 use Rattle.history_text.specs.declared.events.Event.{Event}
 use Rattle.card_sets.specs.declared.streets.Street.{Street as StreetName}
-use Rattle.card_sets.specs.declared.streets.Street.TheVariants.{First, Fourth, Fifth, Sixth}
+use Rattle.card_sets.specs.declared.streets.Street.TheVariants.{First, Fourth, Fifth, Sixth, FirstDraw, SecondDraw}
 use Rattle.betting_replay.specs.declared.seats.Deals.{Deals}
 use Rattle.betting_replay.specs.declared.seats.Draws.{Draws}
+use Rattle.betting_replay.specs.declared.seats.LastDraw.{LastDraw}
 use Rattle.betting_replay.specs.Seats.{or_else}
 use Rattle.betting_replay.specs.Places.{owned, thrown}
-use Rattle.betting_replay.specs.Hands.{dealt, shown, row, if_many}
-use Rattle.betting_replay.specs.Dealing.{deals_of, draws_of}
+use Rattle.betting_replay.specs.Hands.{dealt, held, shown, row, if_many}
+use Rattle.betting_replay.specs.Dealing.{deals_of, draws_of, last_draw_of}
 
--- what the text gives of a seat's cards: all that belong to it, all dealt ones, the last whole hand that it showed, its deals, its last bracket of seven,
--- how it drew; and all cards that anybody threw away face up
+-- what the text gives of a seat's cards: all that belong to it, all dealt ones, those that it holds, the last whole hand that it showed, its deals, its
+-- last bracket of seven, how it drew, and how on the last draw; and all cards that anybody threw away face up
 pub record Holding : Type 0 where
   pub own : List ℕ
   pub dealt : List ℕ
+  pub held : List ℕ
   pub shown : Option (List ℕ)
   pub deals : Deals
   pub row : Option (List ℕ)
   pub draws : Draws
+  pub last : LastDraw
   pub thrown : List ℕ
 
 -- in a draw game: the last whole hand shown, or else what was dealt and drawn less what was thrown away, where these are five and no discard was hidden
 abbrev pub final_drawn : Holding → Option (List ℕ)
 final_drawn x = or_else x.shown (if x.draws.hidden then None else if_many 5 (minus x.dealt x.thrown))
 
+-- with several draws: the last whole hand shown, or else what he holds by the text, where these are five and no discard was hidden
+abbrev pub final_held : Holding → Option (List ℕ)
+final_held x = or_else x.shown (if x.draws.hidden then None else if_many 5 x.held)
+
 -- with a board: the last whole hand shown, or else the dealt cards, where they are so many
 abbrev pub final_with : ℕ → Holding → Option (List ℕ)
 final_with n x = or_else x.shown (if_many n x.dealt)
 
--- a player's final cards; in stud and razz all seven
+-- a player's final cards; in a stud game all seven
 abbrev pub final_in : Family → ℕ → Holding → Option (List ℕ)
 final_in family.Board size x = final_with size x
 final_in family.Stud size x = if_many 7 x.own
 final_in family.Draw size x = final_drawn x
+final_in family.TripleDraw size x = final_held x
 
 abbrev pub final_by : Game → Holding → Option (List ℕ)
 final_by game x = final_in (family_of game) (own_size game) x
@@ -65,7 +73,7 @@ abbrev pub so_many : ℕ → Option (List ℕ) → Option (List ℕ)
 so_many n None = None
 so_many n (Some cards) = if_many n cards
 
--- in stud and razz the cards of the streets up to one; on the last all seven
+-- in a stud game the cards of the streets up to one; on the last all seven
 abbrev pub known_stud : Holding → StreetName → Option (List ℕ)
 known_stud x First = so_many 3 (with_first x x.deals.first)
 known_stud x Fourth = so_many 4 (with_first x (union x.deals.first x.deals.fourth))
@@ -87,18 +95,46 @@ abbrev pub known_drawn : Holding → StreetName → Option (List ℕ)
 known_drawn x First = kept x
 known_drawn x street = final_drawn x
 
+-- the five with which a player came to the last draw are in the text, and so is what he threw away on it
+abbrev pub draws_last_openly : LastDraw → Bool
+draws_last_openly d = (length d.held == 5) && not d.hidden_before && not d.hidden
+
+-- what he keeps when he draws for the last time: his final five, where he stands pat; nothing, where he discards five; or the five less the discards
+abbrev pub kept_last : Holding → Option (List ℕ)
+kept_last x =
+    if x.last.pat then final_held x
+    else (if x.last.five then Some [] else (if draws_last_openly x.last then Some (minus x.last.held x.last.thrown) else None))
+
+-- with three draws what he has is known when he draws for the last time, and in the end
+abbrev pub known_triple : Holding → StreetName → Option (List ℕ)
+known_triple x First = None
+known_triple x FirstDraw = None
+known_triple x SecondDraw = kept_last x
+known_triple x street = final_held x
+
 -- a player's cards on a street, by the whole text: with a board his final cards
 abbrev pub known_in : Family → ℕ → Holding → StreetName → Option (List ℕ)
 known_in family.Board size x street = final_with size x
 known_in family.Stud size x street = known_stud x street
 known_in family.Draw size x street = known_drawn x street
+known_in family.TripleDraw size x street = known_triple x street
 
 abbrev pub known_by : Game → Holding → StreetName → Option (List ℕ)
 known_by game x street = known_in (family_of game) (own_size game) x street
 
 -- what the events so far give of a seat's cards
 abbrev pub holding_of : Header → List Event → ℕ → Holding
-holding_of header h p = record { own = owned h p; dealt = dealt h p; shown = shown header h p; deals = deals_of header h p; row = row h p; draws = draws_of h p; thrown = thrown h }
+holding_of header h p = record {
+  own = owned header.game h p;
+  dealt = dealt h p;
+  held = held h p;
+  shown = shown header h p;
+  deals = deals_of header h p;
+  row = row h p;
+  draws = draws_of h p;
+  last = last_draw_of header h p;
+  thrown = thrown h;
+}
 
 abbrev pub final_cards : Header → List Event → ℕ → Option (List ℕ)
 final_cards header h p = final_by header.game (holding_of header h p)

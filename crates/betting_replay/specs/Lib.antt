@@ -17,8 +17,10 @@ pub mod Tables
 pub mod Faults
 pub mod Accepted
 pub mod CardLaws
+pub mod PlaceLaws
 pub mod PointLaws
 pub mod KnownLaws
+pub mod LastDrawLaws
 pub mod TurnLaws
 pub mod TwiceLaws
 pub mod Counting

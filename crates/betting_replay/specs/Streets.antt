@@ -7,12 +7,17 @@ use Rattle.history_text.specs.declared.events.Event.{Event}
 use Rattle.history_text.specs.declared.events.Event.TheVariants.{Street, Discard, Pat}
 use Rattle.card_sets.specs.declared.streets.Street.{Street as StreetName}
 use Rattle.card_sets.specs.declared.streets.Street.TheVariants.{First, Draw, ShowDown, Summary}
-use Rattle.card_sets.specs.Streets.{is_street, next_street}
+use Rattle.card_sets.specs.Streets.{is_street, is_draw_street, next_street}
 
 -- a street is the one that comes next, or that the hand is on
 abbrev pub same_street : StreetName → Option StreetName → Bool
 same_street street None = false
 same_street street (Some other) = is_street street other
+
+-- the hand is on a street on which there is a draw
+abbrev pub is_drawing : Option StreetName → Bool
+is_drawing None = false
+is_drawing (Some street) = is_draw_street street
 
 abbrev pub is_showdown : StreetName → Bool
 is_showdown ShowDown = true
@@ -35,7 +40,7 @@ is_later ShowDown = false
 is_later Summary = false
 is_later _ = true
 
--- in a draw game the first discard or stand-pat begins the draw, where that comes next and no marker began it
+-- in a game with one draw the first discard or stand-pat begins it, where it comes next and no marker began it
 abbrev pub begun_by_drawing : Game → Option StreetName → Option StreetName
 begun_by_drawing game street = if same_street Draw (next_street game street) then Some Draw else None
 

@@ -9,6 +9,7 @@ use Rattle.betting_replay.specs.declared.seats.Chips.{Chips}
 use Rattle.betting_replay.specs.declared.seats.Acts.{Acts}
 use Rattle.betting_replay.specs.declared.seats.Deals.{Deals}
 use Rattle.betting_replay.specs.declared.seats.Draws.{Draws}
+use Rattle.betting_replay.specs.declared.seats.LastDraw.{LastDraw}
 use Rattle.card_sets.specs.Cards.{union}
 use Rattle.betting_replay.specs.Boards.{up_to, shared_by, second_by}
 use Rattle.betting_replay.specs.Known.{Holding, final_by, known_by}
@@ -23,16 +24,18 @@ pub record Table : Type 0 where
   pub acts : List Acts
   -- the cards that belong to each seat, and to the board at number 0
   pub own : List (List ℕ)
-  -- the cards dealt to each seat, and the last whole hand that it showed
+  -- the cards dealt to each seat, those that it holds by the text, and the last whole hand that it showed
   pub dealt : List (List ℕ)
+  pub held : List (List ℕ)
   pub shown : List (Option (List ℕ))
-  -- what was dealt to each seat street by street, the last bracket of seven that it showed, and how it drew
+  -- what was dealt to each seat street by street, the last bracket of seven that it showed, how it drew, and how on the last draw
   pub deals : List Deals
   pub rows : List (Option (List ℕ))
   pub draws : List Draws
-  -- all cards that were named
+  pub lasts : List LastDraw
+  -- all cards that have a place
   pub named : List ℕ
-  -- those that were thrown away face up
+  -- those that were thrown away face up and weren't named again
   pub thrown : List ℕ
   -- the cards that came to the board on each street, and to the second board
   pub flop : List ℕ
@@ -70,6 +73,9 @@ no_deals = record { first = []; fourth = []; fifth = []; sixth = []; up = []; gi
 abbrev pub no_draws : Draws
 no_draws = record { hidden = false; pat = false; five = false }
 
+abbrev pub no_last_draw : LastDraw
+no_last_draw = record { held = []; hidden_before = false; thrown = []; hidden = false; pat = false; five = false }
+
 -- what a seat of the table has, and has done
 abbrev pub chips_at : Table → ℕ → Chips
 chips_at t p = slice_index_or t.chips p no_chips
@@ -83,6 +89,9 @@ own_at t p = slice_index_or t.own p []
 abbrev pub dealt_at : Table → ℕ → List ℕ
 dealt_at t p = slice_index_or t.dealt p []
 
+abbrev pub held_at : Table → ℕ → List ℕ
+held_at t p = slice_index_or t.held p []
+
 abbrev pub shown_at : Table → ℕ → Option (List ℕ)
 shown_at t p = slice_index_or t.shown p None
 
@@ -94,6 +103,9 @@ row_at t p = slice_index_or t.rows p None
 
 abbrev pub draws_at : Table → ℕ → Draws
 draws_at t p = slice_index_or t.draws p no_draws
+
+abbrev pub last_draw_at : Table → ℕ → LastDraw
+last_draw_at t p = slice_index_or t.lasts p no_last_draw
 
 -- the board's cards of the streets up to one
 abbrev pub board_at : Table → StreetName → List ℕ
@@ -108,7 +120,17 @@ second_board_at t = second_by t.second (shared_by t.twice t.flop t.turn t.river)
 
 -- what the text gives of a seat's cards
 abbrev pub holding_at : Table → ℕ → Holding
-holding_at t p = record { own = own_at t p; dealt = dealt_at t p; shown = shown_at t p; deals = deals_at t p; row = row_at t p; draws = draws_at t p; thrown = t.thrown }
+holding_at t p = record {
+  own = own_at t p;
+  dealt = dealt_at t p;
+  held = held_at t p;
+  shown = shown_at t p;
+  deals = deals_at t p;
+  row = row_at t p;
+  draws = draws_at t p;
+  last = last_draw_at t p;
+  thrown = t.thrown;
+}
 
 -- a seat's final cards, and its cards on a street
 unfoldable pub final_at : Table → ℕ → Option (List ℕ)

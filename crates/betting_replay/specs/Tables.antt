@@ -10,10 +10,10 @@ use Rattle.betting_replay.specs.Seats.{by_seat, or_else}
 use Rattle.betting_replay.specs.Sums.{street, button, opened, last_begun, marker_board, showdowns_of, twice_from, second_street, small_posted, seated, live, dead as dead_chips, paid, stack, folded, acted, brought_in, last_actor}
 use Rattle.betting_replay.specs.Places.{owned, named, thrown}
 use Rattle.betting_replay.specs.Boards.{board_on, second_on}
-use Rattle.betting_replay.specs.Hands.{dealt, shown, row}
-use Rattle.betting_replay.specs.Dealing.{deals_of, draws_of}
+use Rattle.betting_replay.specs.Hands.{dealt, held, shown, row}
+use Rattle.betting_replay.specs.Dealing.{deals_of, draws_of, last_draw_of}
 use Rattle.betting_replay.specs.AllIn.{point_now, dead_by}
-pub use Rattle.betting_replay.specs.Table.{Table, no_chips, no_acts, no_deals, no_draws, chips_at, acts_at, own_at, dealt_at, shown_at, deals_at, row_at, draws_at, board_at, is_twice, second_board_at, holding_at, final_at, known_at}
+pub use Rattle.betting_replay.specs.Table.{Table, no_chips, no_acts, no_deals, no_draws, no_last_draw, chips_at, acts_at, own_at, dealt_at, held_at, shown_at, deals_at, row_at, draws_at, last_draw_at, board_at, is_twice, second_board_at, holding_at, final_at, known_at}
 pub use Rattle.betting_replay.specs.AllIn.{dead_at}
 
 -- what the events so far make of a seat
@@ -30,13 +30,15 @@ table_with header players h found = record {
   players = players;
   chips = by_seat (chips_of header h);
   acts = by_seat (acts_of header h);
-  own = by_seat (owned h);
+  own = by_seat (owned header.game h);
   dealt = by_seat (dealt h);
+  held = by_seat (held h);
   shown = by_seat (shown header h);
   deals = by_seat (deals_of header h);
   rows = by_seat (row h);
   draws = by_seat (draws_of h);
-  named = named h;
+  lasts = by_seat (last_draw_of header h);
+  named = named header.game h;
   thrown = thrown h;
   flop = board_on Flop h;
   turn = board_on Turn h;
@@ -68,7 +70,7 @@ table_of header players h = table_with header players h (point header players h)
 
 -- the cards that are dead at the point, by all events so far
 abbrev pub dead : Header → ℕ → List Event → List ℕ
-dead header players h = dead_by players (point header players h) (owned h) (thrown h)
+dead header players h = dead_by players (point header players h) (owned header.game h) (thrown h)
 
 -- a table stands for a hand so far: its header, its players, and its events, the latest first
 pub record StandsFor (t : Table) (header : Header) (players : ℕ) (h : List Event) : Type 0 where

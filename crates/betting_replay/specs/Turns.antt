@@ -41,6 +41,10 @@ is_pending t p =
     nat_lt (live_at t p) (greatest t)
     || (not (acts_at t p).acted && not (acts_at t p).brought_in && nat_lt 0 (rivals t p))
 
+-- betting is open, and two are in the hand: elsewhere nobody owes an act
+abbrev pub is_played : Table → Bool
+is_played t = is_open t && nat_le 2 (contender_count t)
+
 -- the seat owes an act
 unfoldable pub owes : Table → ℕ → Bool
 owes t p = is_open t && nat_le 2 (contender_count t) && is_contender t p && has_chips t p && is_pending t p

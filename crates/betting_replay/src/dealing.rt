@@ -1,11 +1,11 @@
 //! What was dealt to a seat, street by street, and how it drew.
 
 ghost use Rattle.std.specs.Prelude.{◌≡◌, ℕ, length, []};
-ghost use Rattle.betting_replay.specs.Dealing.{counts_on, dealt_on, up_by, given_by, deals_three, hides, stands_pat, discards_five, deals_after, draws_after};
+ghost use Rattle.betting_replay.specs.Dealing.{counts_on, dealt_on, up_by, given_by, deals_three, hides, stands_pat, discards_five, deals_after, draws_after, last_draw_after};
 
-use crate::hands::cards_dealt;
-use crate::places::with_cards;
-use crate::seats::{Deals, Draws};
+use crate::hands::{cards_dealt, held_after};
+use crate::places::{cards_thrown, with_cards};
+use crate::seats::{Deals, Draws, LastDraw};
 use crate::streets::same_street;
 use card_sets::Card;
 use history_text::{Event, Street};
@@ -106,5 +106,27 @@ pub(crate) fn draws_after(e: &Event, draws: Draws) -> Draws
         hidden: hides(e) || draws.hidden,
         pat: stands_pat(e) || draws.pat,
         five: discards_five(e) || draws.five,
+    }
+}
+
+/// How a player drew on the last draw, after an event about his seat. The last street has begun with the
+/// event or before it, or hasn't.
+pub(crate) fn last_draw_after(late: bool, e: &Event, last: LastDraw) -> LastDraw
+    ensures { result ≡ last_draw_after late e.now last }
+{
+    if late {
+        LastDraw {
+            thrown: with_cards(last.thrown, cards_thrown(e)),
+            hidden: hides(e) || last.hidden,
+            pat: stands_pat(e) || last.pat,
+            five: discards_five(e) || last.five,
+            ..last
+        }
+    } else {
+        LastDraw {
+            held: held_after(e, last.held),
+            hidden_before: hides(e) || last.hidden_before,
+            ..last
+        }
     }
 }

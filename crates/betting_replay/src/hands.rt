@@ -1,10 +1,10 @@
 //! What events deal to the players, and show of their hands.
 
 ghost use Rattle.std.specs.Prelude.{◌≡◌, ℕ, ◌<◌, length};
-ghost use Rattle.betting_replay.specs.Hands.{dealt_by, shown_by, if_many, whole, is_discard, shown_after, row_by};
+ghost use Rattle.betting_replay.specs.Hands.{dealt_by, held_after, shown_by, if_many, whole, is_discard, shown_after, row_by};
 ghost use Rattle.betting_replay.specs.Table.{own_at};
 
-use crate::places::with_cards;
+use crate::places::{cards_thrown, with_cards, without_cards};
 use crate::replay::Replay;
 use card_sets::{Card, CardSet, Game};
 use history_text::Event;
@@ -17,6 +17,13 @@ pub(crate) fn cards_dealt(e: &Event) -> &[Card]
         Event::Deal { cards, .. } => cards.items(),
         _ => &[],
     }
+}
+
+/// What a seat holds by the text, after an event about it.
+pub(crate) fn held_after(e: &Event, cards: CardSet) -> CardSet
+    ensures { result ≡ held_after e.now cards }
+{
+    without_cards(with_cards(cards, cards_dealt(e)), cards_thrown(e))
 }
 
 /// The cards that an event shows.

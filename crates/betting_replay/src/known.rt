@@ -2,8 +2,8 @@
 
 ghost use Rattle.std.specs.Prelude.{◌≡◌, ℕ, ◌<◌};
 ghost use Rattle.card_sets.specs.Cards.{union, minus};
-ghost use Rattle.betting_replay.specs.Known.{final_drawn, final_with, final_in, final_by, first_outside, with_down, with_first, so_many, known_stud, draws_openly, kept, known_drawn, known_in, known_by};
-ghost use Rattle.betting_replay.specs.Table.{holding_at, final_at, known_at};
+ghost use Rattle.betting_replay.specs.Known.{final_drawn, final_held, final_with, final_in, final_by, first_outside, with_down, with_first, so_many, known_stud, draws_openly, kept, known_drawn, draws_last_openly, kept_last, known_triple, known_in, known_by};
+ghost use Rattle.betting_replay.specs.Table.{holding_at, last_draw_at, final_at, known_at};
 
 use crate::hands::if_many;
 use crate::replay::Replay;
@@ -65,8 +65,23 @@ impl Replay {
         if_many(5, self.dealt[place].minus(self.thrown))
     }
 
+    /// The final cards of a game with several draws.
+    fn final_held(&self, seat: u8) -> Option<CardSet>
+        requires { seat < 11 }
+        ensures { result ≡ final_held (holding_at self.now seat) }
+    {
+        let place = seat as usize;
+        if let Some(cards) = self.shown[place] {
+            return Some(cards);
+        }
+        if self.draws[place].hidden {
+            return None;
+        }
+        if_many(5, self.held[place])
+    }
+
     /// A seat's final cards. With a board they are the last whole hand that it showed, or that the
-    /// summary gives, or else its dealt cards, where they are a whole hand. In stud and razz they are
+    /// summary gives, or else its dealt cards, where they are a whole hand. In a stud game they are
     /// all seven. In a draw game they are the last whole hand behind its last discard, or else what it
     /// was dealt and drew less what it threw away, where these are five and each discard was shown.
     /// None exactly where they are unknown.
@@ -80,6 +95,7 @@ impl Replay {
             Family::Board => self.final_with(seat, game.own_size()),
             Family::Stud => if_many(7, self.own[seat as usize]),
             Family::Draw => self.final_drawn(seat),
+            Family::TripleDraw => self.final_held(seat),
         }
     }
 
@@ -98,7 +114,7 @@ impl Replay {
         }
     }
 
-    /// The cards of the streets up to one in stud and razz.
+    /// The cards of the streets up to one in a stud game.
     fn known_stud(&self, seat: u8, street: Street) -> Option<CardSet>
         requires { seat < 11 }
         ensures { result ≡ known_stud (holding_at self.now seat) street }
@@ -156,10 +172,51 @@ impl Replay {
         }
     }
 
+    /// Whether the five with which a player came to the last draw are in the text, and what he threw away
+    /// on it too.
+    fn draws_last_openly(&self, seat: u8) -> bool
+        requires { seat < 11 }
+        ensures { result ≡ draws_last_openly (last_draw_at self.now seat) }
+    {
+        let last = self.lasts[seat as usize];
+        last.held.count() == 5 && !last.hidden_before && !last.hidden
+    }
+
+    /// What a player keeps when he draws for the last time.
+    fn kept_last(&self, seat: u8) -> Option<CardSet>
+        requires { seat < 11 }
+        ensures { result ≡ kept_last (holding_at self.now seat) }
+    {
+        let last = self.lasts[seat as usize];
+        if last.pat {
+            return self.final_held(seat);
+        }
+        if last.five {
+            return Some(CardSet::empty());
+        }
+        if self.draws_last_openly(seat) {
+            return Some(last.held.minus(last.thrown));
+        }
+        None
+    }
+
+    /// The cards of a game with three draws on a street.
+    fn known_triple(&self, seat: u8, street: Street) -> Option<CardSet>
+        requires { seat < 11 }
+        ensures { result ≡ known_triple (holding_at self.now seat) street }
+    {
+        match street {
+            Street::First | Street::FirstDraw => None,
+            Street::SecondDraw => self.kept_last(seat),
+            _ => self.final_held(seat),
+        }
+    }
+
     /// A seat's cards on a street, by the whole text: its final cards with a board and on the last
-    /// street. Before it, in stud and razz, what it was dealt on the streets up to this one, where that
+    /// street. Before it, in a stud game, what it was dealt on the streets up to this one, where that
     /// is as much as the street has dealt, with its two cards face down by a later bracket where they
-    /// weren't dealt in the text; in a draw game what it keeps. None exactly where they are unknown.
+    /// weren't dealt in the text; in a game with one draw what it keeps; with three draws what it keeps on
+    /// the last, and nothing is known before the second. None exactly where they are unknown.
     #[tactic(auto, unfolding(crate::specs::Table::known_at))]
     pub fn cards_at(&self, seat: u8, street: Street) -> Option<CardSet>
         requires { seat < 11 }
@@ -170,6 +227,7 @@ impl Replay {
             Family::Board => self.final_with(seat, game.own_size()),
             Family::Stud => self.known_stud(seat, street),
             Family::Draw => self.known_drawn(seat, street),
+            Family::TripleDraw => self.known_triple(seat, street),
         }
     }
 }

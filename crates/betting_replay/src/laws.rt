@@ -2,6 +2,8 @@
 
 ghost use Rattle.betting_replay.specs.Accepted.{KeepsChips, ShowsSeats, ShowsDead, TakesTurns};
 ghost use Rattle.betting_replay.specs.KnownLaws.{KnowsAllDealt, HoldsKept};
+ghost use Rattle.betting_replay.specs.LastDrawLaws.{PartsLastDraw};
+ghost use Rattle.betting_replay.specs.PlaceLaws.{PlacesCards};
 ghost use Rattle.betting_replay.specs.PointLaws.{PointsHaveContenders};
 ghost use Rattle.betting_replay.specs.TurnLaws.{PassesNobodyOver};
 ghost use Rattle.betting_replay.specs.TwiceLaws.{RunsTwice};
@@ -35,6 +37,13 @@ pub fn law_a_table_shows_each_seat()
 /// The table of some events has the dead cards that these events make.
 pub fn law_a_table_shows_dead_cards()
     ensures { ShowsDead }
+{}
+
+/// A card's place is that of the first event that names it behind the last that threw it away face up. Where
+/// no such card may come again these are all events, and after accepted ones a card that was thrown away
+/// stays so. Where it may, it belongs to nobody until an event names it.
+pub fn law_places_of_cards()
+    ensures { PlacesCards }
 {}
 
 /// Each card has one place, a board or a seat: two places share none.
@@ -72,13 +81,20 @@ pub fn law_a_point_has_contenders()
     ensures { PointsHaveContenders }
 {}
 
-/// A player's cards that are known on a street of stud or razz are all that he was dealt by it: three on
+/// A player's cards that are known on a street of a stud game are all that he was dealt by it: three on
 /// the first street, one more on each of fourth to sixth, and seven on the river.
 pub fn law_stud_cards_are_all_that_were_dealt()
     ensures { KnowsAllDealt }
 {}
 
-/// After any accepted events what a player of single draw kept, where that and his final cards are
+/// How a player drew on the last draw is parted by the event with which the last street begins: what he
+/// held is what he held by the events before it, and what he threw away, and how, is told by it and those
+/// since.
+pub fn law_the_last_draw()
+    ensures { PartsLastDraw }
+{}
+
+/// After any accepted events what a player of a game with one draw kept, where that and his final cards are
 /// known, is a part of his final cards, under one of three conditions. He showed no whole hand behind his
 /// last discard; or of the cards that belong to him five at the most weren't thrown away; or what he kept
 /// isn't told by five dealt cards and the discards, since he stands pat or discards five. Without one of

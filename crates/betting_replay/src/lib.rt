@@ -39,9 +39,9 @@ pub use faults::BetFault;
 pub use laws::{
     law_a_point_has_contenders, law_a_table_shows_dead_cards, law_a_table_shows_each_seat,
     law_cards_belong, law_chips_stay, law_kept_cards_are_held, law_nobody_is_passed_over,
-    law_places_are_apart, law_stud_cards_are_all_that_were_dealt, law_turns_are_taken,
-    law_two_boards, law_whole_boards,
+    law_places_are_apart, law_places_of_cards, law_stud_cards_are_all_that_were_dealt,
+    law_the_last_draw, law_turns_are_taken, law_two_boards, law_whole_boards,
 };
 pub use points::{Point, Showdowns};
 pub use replay::Replay;
-pub use seats::{Acts, Chips, Deals, Draws};
+pub use seats::{Acts, Chips, Deals, Draws, LastDraw};

@@ -57,3 +57,20 @@ pub struct Draws {
     /// He discarded five at once.
     pub five: bool,
 }
+
+/// How the player of a seat drew on the last of several draws.
+#[derive(Clone, Copy, Debug)]
+pub struct LastDraw {
+    /// What he held by the text when it began.
+    pub held: CardSet,
+    /// He discarded cards before it that weren't shown.
+    pub hidden_before: bool,
+    /// What he threw away face up on it.
+    pub thrown: CardSet,
+    /// He discarded cards on it that weren't shown.
+    pub hidden: bool,
+    /// He stood pat on it.
+    pub pat: bool,
+    /// He discarded five at once on it.
+    pub five: bool,
+}

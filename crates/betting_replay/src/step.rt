@@ -12,13 +12,15 @@ ghost use Rattle.betting_replay.specs.Faults.{verdict, legal};
 
 use crate::boards::{cards_on, cards_second};
 use crate::counting::{acts_after, chips_after};
-use crate::dealing::{deals_after, draws_after};
+use crate::dealing::{deals_after, draws_after, last_draw_after};
 use crate::faults::BetFault;
-use crate::hands::{cards_dealt, row_by, shown_after};
-use crate::places::{cards_given, cards_named, cards_thrown, seat_of, with_cards};
+use crate::hands::{cards_dealt, held_after, row_by, shown_after};
+use crate::places::{
+    cards_given, cards_named, cards_thrown, seat_of, with_cards, with_given, without_cards,
+};
 use crate::points::Showdowns;
 use crate::replay::Replay;
-use crate::seats::{Acts, Chips, Deals, Draws};
+use crate::seats::{Acts, Chips, Deals, Draws, LastDraw};
 use crate::streets::{begins_on, marker_after, showdowns_after};
 use card_sets::{CardSet, PlayerSet};
 use history_text::{BoardNumber, Event, Header, PostKind, Street};
@@ -72,6 +74,7 @@ impl Replay {
             }; 11],
             own: [CardSet::empty(); 11],
             dealt: [CardSet::empty(); 11],
+            held: [CardSet::empty(); 11],
             shown: [None; 11],
             deals: [Deals {
                 first: CardSet::empty(),
@@ -84,6 +87,14 @@ impl Replay {
             }; 11],
             rows: [None; 11],
             draws: [Draws {
+                hidden: false,
+                pat: false,
+                five: false,
+            }; 11],
+            lasts: [LastDraw {
+                held: CardSet::empty(),
+                hidden_before: false,
+                thrown: CardSet::empty(),
                 hidden: false,
                 pat: false,
                 five: false,
@@ -123,17 +134,22 @@ impl Replay {
     {
         let seat = seat_of(e);
         let place = seat as usize;
+        let game = self.header.game;
         let cards = cards_named(e);
+        let thrown = cards_thrown(e);
+        let late = self.begins_last(e);
         self.chips[place] = chips_after(self.header.big, self.small_posted, e, self.chips[place]);
         self.acts[place] = acts_after(e, self.acts[place]);
-        self.own[place] = with_cards(self.own[place], cards_given(e));
+        self.own[place] = with_given(game, e, cards_given(e), self.own[place]);
         self.dealt[place] = with_cards(self.dealt[place], cards_dealt(e));
-        self.shown[place] = shown_after(self.header.game, e, self.shown[place]);
+        self.held[place] = held_after(e, self.held[place]);
+        self.shown[place] = shown_after(game, e, self.shown[place]);
         self.deals[place] = deals_after(self.street, e, self.deals[place]);
         self.rows[place] = row_by(e).or(self.rows[place]);
         self.draws[place] = draws_after(e, self.draws[place]);
-        self.named = with_cards(self.named, cards);
-        self.thrown = with_cards(self.thrown, cards_thrown(e));
+        self.lasts[place] = last_draw_after(late, e, self.lasts[place]);
+        self.named = with_given(game, e, cards, self.named);
+        self.thrown = with_cards(without_cards(self.thrown, cards), thrown);
         self.flop = with_cards(self.flop, cards_on(Street::Flop, e));
         self.turn = with_cards(self.turn, cards_on(Street::Turn, e));
         self.river = with_cards(self.river, cards_on(Street::River, e));

@@ -2,10 +2,10 @@
 
 ghost use Rattle.std.specs.Prelude.{◌≡◌, ℕ, Option, Some, ◌<◌, ◌≤◌};
 ghost use Rattle.betting_replay.specs.Events.{SeatFits};
-ghost use Rattle.betting_replay.specs.Streets.{same_street, begun_by_drawing, is_later, is_end, is_number, begins, begins_on, shows_on, marker_after};
+ghost use Rattle.betting_replay.specs.Streets.{same_street, is_drawing, begun_by_drawing, is_later, is_end, is_number, begins, begins_on, shows_on, marker_after};
 ghost use Rattle.betting_replay.specs.Sums.{is_last_of};
 ghost use Rattle.betting_replay.specs.Faults.{verdict, fault_with, may_part, next_only, next_first, next_second, next_on, all_begun, may_end, shows_next, marker_stands, draw_stands, street_early, street_order};
-ghost use Rattle.betting_replay.specs.Counting.{cleared, begun_with, begun, showdowns_after};
+ghost use Rattle.betting_replay.specs.Counting.{begins_last, cleared, begun_with, begun, showdowns_after};
 ghost use Rattle.betting_replay.specs.Turns.{next_to_act};
 ghost use Rattle.betting_replay.specs.declared.faults.BetFault.TheVariants.{StreetEarly};
 
@@ -17,7 +17,7 @@ use crate::replay::Replay;
 use card_sets::Game;
 use history_text::{BoardNumber, Event, Street};
 
-/// The street that the first discard or stand-pat begins.
+/// The street that the first discard or stand-pat begins, in a game with one draw.
 fn begun_by_drawing(game: Game, street: Option<Street>) -> Option<Street>
     ensures { result ≡ begun_by_drawing game street }
 {
@@ -34,6 +34,16 @@ pub(crate) fn same_street(street: Street, next: Option<Street>) -> bool
 {
     match next {
         Some(next) => street == next,
+        None => false,
+    }
+}
+
+/// Whether the hand is on a street on which there is a draw.
+fn is_drawing(street: Option<Street>) -> bool
+    ensures { result ≡ is_drawing street }
+{
+    match street {
+        Some(street) => street.is_draw(),
         None => false,
     }
 }
@@ -205,6 +215,14 @@ impl Replay {
         }
     }
 
+    /// Whether the last street has begun, before an event or with it.
+    pub(crate) fn begins_last(&self, e: &Event) -> bool
+        ensures { result ≡ begins_last self.now e.now }
+    {
+        let game = self.header.game;
+        is_last_of(game, begins(game, self.street, e)) || self.last_begun
+    }
+
     /// Nobody owes an act.
     fn all_acted(&self) -> Result<(), BetFault>
         ensures { result ≡ verdict (fault_with StreetEarly (next_to_act self.now)) }
@@ -302,7 +320,7 @@ impl Replay {
     fn draw_stands(&self) -> bool
         ensures { result ≡ draw_stands self.now }
     {
-        same_street(Street::Draw, self.street)
+        is_drawing(self.street)
             || begun_by_drawing(self.header.game, self.street).is_some()
                 && self.contender_count() >= 2
     }

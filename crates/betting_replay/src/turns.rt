@@ -4,7 +4,7 @@ ghost use Rattle.std.specs.Prelude.{◌≡◌, ℕ, ◌+◌, ◌-◌, ◌<◌, �
 ghost use Rattle.card_sets.specs.PlayerSets.{has_player};
 ghost use Rattle.betting_replay.specs.Seats.{first_from, first_between, first_after};
 ghost use Rattle.betting_replay.specs.Accounts.{contenders};
-ghost use Rattle.betting_replay.specs.Turns.{live_at, greatest, is_contender, contender_count, has_chips, any_shown, is_open, rivals, is_pending, owes, may_act, owes_before, next_to_act, due, has_level, due_to_level};
+ghost use Rattle.betting_replay.specs.Turns.{live_at, greatest, is_contender, contender_count, has_chips, any_shown, is_open, is_played, rivals, is_pending, owes, may_act, owes_before, next_to_act, due, has_level, due_to_level};
 
 use crate::replay::Replay;
 use card_sets::PlayerSet;
@@ -86,15 +86,34 @@ impl Replay {
         .count()
     }
 
-    /// Whether the seat is below the greatest, or has a rival and has neither acted nor brought in.
+    /// Whether the seat is below the greatest, which is given, or has a rival and has neither acted nor
+    /// brought in.
     #[tactic(auto, unfolding(crate::specs::Turns::is_pending))]
-    pub(crate) fn is_pending(&self, seat: u8) -> bool
-        requires { seat < 11 }
+    fn is_pending(&self, seat: u8, most: u64) -> bool
+        requires few { seat < 11 }
+        requires most { most ≡ greatest self.now }
         ensures { result ≡ is_pending self.now seat }
     {
         let acts = self.acts[seat as usize];
-        self.live(seat) < self.greatest()
-            || !acts.acted && !acts.brought_in && self.rivals(seat) > 0
+        self.live(seat) < most || !acts.acted && !acts.brought_in && self.rivals(seat) > 0
+    }
+
+    /// Whether anybody may owe an act: betting is open, and two are in the hand.
+    fn is_played(&self) -> bool
+        ensures { result ≡ is_played self.now }
+    {
+        self.is_open() && self.contender_count() >= 2
+    }
+
+    /// Whether the seat owes an act, where anybody may; the greatest is given.
+    #[tactic(auto, unfolding(crate::specs::Turns::owes))]
+    fn is_owing(&self, seat: u8, most: u64) -> bool
+        requires few { seat < 11 }
+        requires played { is_played self.now ≡ true }
+        requires most { most ≡ greatest self.now }
+        ensures { result ≡ owes self.now seat }
+    {
+        self.is_contender(seat) && self.has_chips(seat) && self.is_pending(seat, most)
     }
 
     /// Whether the seat owes an act.
@@ -103,11 +122,7 @@ impl Replay {
         requires { seat < 11 }
         ensures { result ≡ owes self.now seat }
     {
-        self.is_open()
-            && self.contender_count() >= 2
-            && self.is_contender(seat)
-            && self.has_chips(seat)
-            && self.is_pending(seat)
+        self.is_played() && self.is_owing(seat, self.greatest())
     }
 
     /// Whether the seat may act.
@@ -128,8 +143,12 @@ impl Replay {
         requires few { end ≤ 11 }
         ensures value { result ≡ first_from (owes self.now) from (end - from) }
     {
+        if !self.is_played() {
+            return None;
+        }
+        let most = self.greatest();
         for seat in from..end {
-            if self.owes_act(seat) {
+            if self.is_owing(seat, most) {
                 return Some(seat);
             }
         }

@@ -6,6 +6,8 @@ mod cards;
 #[cfg(test)]
 mod fractions;
 #[cfg(test)]
+mod games;
+#[cfg(test)]
 mod high_hands;
 #[cfg(test)]
 mod low_hands;

@@ -18,7 +18,7 @@ use std::test::Fail;
 use step_count::Steps;
 
 /// The card of a number.
-fn card(number: u8) -> Card
+pub(crate) fn card(number: u8) -> Card
     requires { number < 52 }
     ensures { result ≡ number }
 {
@@ -26,7 +26,7 @@ fn card(number: u8) -> Card
 }
 
 /// A set of two cards.
-fn two(a: u8, b: u8) -> CardSet
+pub(crate) fn two(a: u8, b: u8) -> CardSet
     requires rising { a < b }
     requires deck { b < 52 }
     ensures { result ≡ a ∷ b ∷ [] }
@@ -35,7 +35,7 @@ fn two(a: u8, b: u8) -> CardSet
 }
 
 /// A set of four cards.
-fn four(a: u8, b: u8, c: u8, d: u8) -> CardSet
+pub(crate) fn four(a: u8, b: u8, c: u8, d: u8) -> CardSet
     requires first { a < b }
     requires second { b < c }
     requires third { c < d }
@@ -46,7 +46,7 @@ fn four(a: u8, b: u8, c: u8, d: u8) -> CardSet
 }
 
 /// A set of five cards.
-fn five(a: u8, b: u8, c: u8, d: u8, e: u8) -> CardSet
+pub(crate) fn five(a: u8, b: u8, c: u8, d: u8, e: u8) -> CardSet
     requires first { a < b }
     requires second { b < c }
     requires third { c < d }
@@ -98,7 +98,7 @@ fn two_pots() -> Table
 }
 
 /// How so many wins, ties and losses of a hand are counted.
-fn cell(win: u64, tie: u64, lose: u64) -> Cell {
+pub(crate) fn cell(win: u64, tie: u64, lose: u64) -> Cell {
     Cell { win, tie, lose }
 }
 
@@ -137,7 +137,7 @@ fn settled<L: Ledger>(table: &Table, shape: &Shape, steps: &mut Steps<L>) -> Tal
 }
 
 /// The same with a counter of its own.
-fn all_settled<L: Ledger>(table: &Table, blank: Blank) -> Option<Tally>
+pub(crate) fn all_settled<L: Ledger>(table: &Table, blank: Blank) -> Option<Tally>
     requires name { blank.name ≡ L.name }
     requires parts { blank.parts ≡ L.parts }
     requires some { 0 < blank.parts }

@@ -1,12 +1,12 @@
 -- The streets of the games: their order, and the cards that come with each. Source: the usual rules of poker.
-use Rattle.std.specs.Prelude.{◌≡◌, ◌+◌, ℕ, Bool, true, false, if◌then◌else◌, List, [], ◌∷◌, Option, Some, None, slice_get, sum_by}
-use Rattle.card_sets.specs.Games.{family_of, has_board, own_size, board_size}
+use Rattle.std.specs.Prelude.{◌≡◌, ◌+◌, ℕ, Bool, true, false, if◌then◌else◌, List, [], ◌∷◌, Option, Some, None, slice_get, sum_by, count_by}
+use Rattle.card_sets.specs.Games.{family_of, has_board, own_size, board_size, draw_count}
 use Rattle.card_sets.specs.declared.games.Game.{Game}
 use Rattle.card_sets.specs.declared.games.Family.{Family}
 use Rattle.card_sets.specs.declared.games.Family.TheVariants as family
 use Rattle.card_sets.specs.declared.streets.Dealt.{Dealt}
 use Rattle.card_sets.specs.declared.streets.Street.{Street}
-use Rattle.card_sets.specs.declared.streets.Street.TheVariants.{First, Flop, Turn, Fourth, Fifth, Sixth, River, Draw, ShowDown, Summary}
+use Rattle.card_sets.specs.declared.streets.Street.TheVariants.{First, Flop, Turn, Fourth, Fifth, Sixth, River, Draw, FirstDraw, SecondDraw, ThirdDraw, ShowDown, Summary}
 
 -- whether two streets are the same
 abbrev pub is_street : Street → Street → Bool
@@ -18,6 +18,9 @@ is_street Fifth Fifth = true
 is_street Sixth Sixth = true
 is_street River River = true
 is_street Draw Draw = true
+is_street FirstDraw FirstDraw = true
+is_street SecondDraw SecondDraw = true
+is_street ThirdDraw ThirdDraw = true
 is_street ShowDown ShowDown = true
 is_street Summary Summary = true
 is_street _ _ = false
@@ -27,6 +30,15 @@ abbrev pub streets_by : Family → List Street
 streets_by family.Board = First ∷ Flop ∷ Turn ∷ River ∷ []
 streets_by family.Stud = First ∷ Fourth ∷ Fifth ∷ Sixth ∷ River ∷ []
 streets_by family.Draw = First ∷ Draw ∷ []
+streets_by family.TripleDraw = First ∷ FirstDraw ∷ SecondDraw ∷ ThirdDraw ∷ []
+
+-- whether players discard and draw on a street
+abbrev pub is_draw_street : Street → Bool
+is_draw_street Draw = true
+is_draw_street FirstDraw = true
+is_draw_street SecondDraw = true
+is_draw_street ThirdDraw = true
+is_draw_street _ = false
 
 abbrev pub streets_of : Game → List Street
 streets_of game = streets_by (family_of game)
@@ -77,6 +89,7 @@ abbrev pub dealt_by : Family → ℕ → Street → Dealt
 dealt_by family.Board size street = dealt_at_once size street
 dealt_by family.Stud size street = dealt_in_stud street
 dealt_by family.Draw size street = dealt_at_once size street
+dealt_by family.TripleDraw size street = dealt_at_once size street
 
 abbrev pub dealt_on : Game → Street → Dealt
 dealt_on game street = dealt_by (family_of game) (own_size game) street
@@ -85,3 +98,5 @@ dealt_on game street = dealt_by (family_of game) (own_size game) street
 pub record DealAll (game : Game) : Type 0 where
   pub own : sum_by (λ street. (dealt_on game street).down + (dealt_on game street).up) (streets_of game) ≡ own_size game
   pub board : sum_by (λ street. board_count game street) (streets_of game) ≡ board_size game
+  -- and its draws are the streets on which there is one
+  pub draws : count_by is_draw_street (streets_of game) ≡ draw_count game

@@ -2,7 +2,7 @@
 
 ghost use Rattle.std.specs.Prelude.{◌≡◌, ◌≤◌, slice_get};
 ghost use Rattle.card_sets.specs.Games.{family_of};
-ghost use Rattle.card_sets.specs.Streets.{streets_of, is_street, street_after, next_street, is_last_of, is_last, board_count, cards_of_street, dealt_at_once, dealt_in_stud, dealt_on, DealAll};
+ghost use Rattle.card_sets.specs.Streets.{streets_of, is_draw_street, is_street, street_after, next_street, is_last_of, is_last, board_count, cards_of_street, dealt_at_once, dealt_in_stud, dealt_on, DealAll};
 ghost use Rattle.card_sets.specs.declared.games.Game.{Game};
 
 use crate::{Family, Game};
@@ -22,10 +22,16 @@ pub enum Street {
     Fifth,
     /// 6th street.
     Sixth,
-    /// The river, on a board or the seventh card of stud and razz.
+    /// The river, on a board or the seventh card of a stud game.
     River,
-    /// The draw.
+    /// The draw of a game that has one.
     Draw,
+    /// The first of three draws.
+    FirstDraw,
+    /// The second.
+    SecondDraw,
+    /// The third.
+    ThirdDraw,
     /// The marker of the showdown.
     ShowDown,
     /// The marker of the summary.
@@ -55,6 +61,14 @@ const STUD_STREETS: &[Street] = &[
 
 /// The streets of a game with one draw.
 const DRAW_STREETS: &[Street] = &[Street::First, Street::Draw];
+
+/// The streets of a game with three draws.
+const TRIPLE_DRAW_STREETS: &[Street] = &[
+    Street::First,
+    Street::FirstDraw,
+    Street::SecondDraw,
+    Street::ThirdDraw,
+];
 
 /// Whether two streets are the same.
 fn is_street(street: Street, other: Street) -> bool
@@ -132,6 +146,18 @@ fn cards_of_street(street: Street) -> u8
     }
 }
 
+impl Street {
+    /// Whether players discard and draw on the street.
+    pub fn is_draw(self) -> bool
+        ensures { result ≡ is_draw_street self }
+    {
+        matches!(
+            self,
+            Street::Draw | Street::FirstDraw | Street::SecondDraw | Street::ThirdDraw
+        )
+    }
+}
+
 impl Game {
     /// The streets of the game on which there is betting, in their order.
     pub fn streets(self) -> &'static [Street]
@@ -141,6 +167,7 @@ impl Game {
             Family::Board => BOARD_STREETS,
             Family::Stud => STUD_STREETS,
             Family::Draw => DRAW_STREETS,
+            Family::TripleDraw => TRIPLE_DRAW_STREETS,
         }
     }
 
@@ -169,7 +196,7 @@ impl Game {
     {
         match self.family() {
             Family::Board => cards_of_street(street),
-            Family::Stud | Family::Draw => 0,
+            Family::Stud | Family::Draw | Family::TripleDraw => 0,
         }
     }
 
@@ -180,12 +207,15 @@ impl Game {
     {
         match self.family() {
             Family::Stud => dealt_in_stud(street),
-            Family::Board | Family::Draw => dealt_at_once(self.own_size() as u8, street),
+            Family::Board | Family::Draw | Family::TripleDraw => dealt_at_once(
+                self.own_size() as u8,
+                street,
+            ),
         }
     }
 }
 
-/// The streets of a game together deal all cards of a player, and all of the board.
+/// The streets of a game together deal all cards of a player, and all of the board, and have its draws.
 pub fn law_streets_deal_all()
     ensures { (game : Game) → DealAll game }
 {}

@@ -45,3 +45,43 @@ spot 7 rejected line 7 DeckShort
 fn each_game_has_its_spots(rt: HostRuntime) -> Result<(), Fail> {
     reports(&rt, rt.alloc(), &["spots"], SPOTS, 1, REPORT)
 }
+
+const MORE_SPOTS: &[u8] = b"omaha As 2s Kd Kh - Qc Qd Jc Jd -- 3h 4c 8s 9h
+stud8 3c 3d 7s 8s 6d Kh - 3h 9d Ks 6h Ts 4c Tc
+draw5 As Ad Ah Ac Ks - Kd Kh Kc Qd
+triple27 7c 5d 4h 3s 2c - 7d 5h 4s 3c
+omaha As Ah - Ks Kh
+draw5 As Ad Ah Ac Ks - Kd Kh Kc Qd -- 2c 3c 4c
+";
+
+const MORE_REPORT: &str = "spot 1 omaha runouts 40
+hand 1 high win 32 80.00 tie 0 0.00 lose 8 20.00
+hand 1 ev 0.800
+hand 2 high win 8 20.00 tie 0 0.00 lose 32 80.00
+hand 2 ev 0.200
+spot 2 stud8 runouts 39
+hand 1 high win 11 28.21 tie 0 0.00 lose 28 71.79
+hand 1 low win 15 38.46 tie 0 0.00 lose 24 61.54
+hand 1 ev 0.474
+hand 2 high win 28 71.79 tie 0 0.00 lose 11 28.21
+hand 2 low win 0 0.00 tie 0 0.00 lose 39 100.00
+hand 2 ev 0.526
+spot 3 draw5 runouts 43
+hand 1 high win 43 100.00 tie 0 0.00 lose 0 0.00
+hand 1 ev 1.000
+hand 2 high win 0 0.00 tie 0 0.00 lose 43 100.00
+hand 2 ev 0.000
+spot 4 triple27 runouts 43
+hand 1 low win 40 93.02 tie 3 6.98 lose 0 0.00
+hand 1 ev 0.965
+hand 2 low win 0 0.00 tie 3 6.98 lose 40 93.02
+hand 2 ev 0.035
+spot 5 rejected line 5 HandSize
+spot 6 rejected line 6 BoardSize
+";
+
+/// Omaha for the high alone, stud for both sides, five card draw and triple draw.
+#[test]
+fn four_more_games_have_their_spots(rt: HostRuntime) -> Result<(), Fail> {
+    reports(&rt, rt.alloc(), &["spots"], MORE_SPOTS, 1, MORE_REPORT)
+}

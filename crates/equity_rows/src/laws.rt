@@ -13,6 +13,8 @@ fn the_laws_of_a_replay_can_be_called() {
     betting_replay::law_chips_stay();
     betting_replay::law_two_boards();
     betting_replay::law_nobody_is_passed_over();
+    betting_replay::law_places_of_cards();
+    betting_replay::law_the_last_draw();
     betting_replay::law_stud_cards_are_all_that_were_dealt();
     betting_replay::law_kept_cards_are_held();
 }

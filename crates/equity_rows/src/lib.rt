@@ -26,6 +26,8 @@ mod long;
 #[cfg(test)]
 mod mixed;
 #[cfg(test)]
+mod more_games;
+#[cfg(test)]
 mod other_games;
 #[cfg(test)]
 mod plain;

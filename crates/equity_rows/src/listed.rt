@@ -249,4 +249,137 @@ hand 2 low win 403 22.14 tie 0 0.00 lose 1417 77.86
 hand 2 ev 0.221
 ",
     ),
+    (
+        b"omaha 5d 5h 2d 8c - As 8s Ad Qh - 2h 4c 6d Kc -- 7h 8h 3s",
+        "spot 1 omaha runouts 666
+hand 1 high win 74 11.11 tie 0 0.00 lose 592 88.89
+hand 1 ev 0.111
+hand 2 high win 514 77.18 tie 0 0.00 lose 152 22.82
+hand 2 ev 0.772
+hand 3 high win 78 11.71 tie 0 0.00 lose 588 88.29
+hand 3 ev 0.117
+",
+    ),
+    (
+        b"omaha As Ac 2d 2c - Ks Kh Qd Jc -- 3s 6s 9s Ts",
+        "spot 1 omaha runouts 40
+hand 1 high win 28 70.00 tie 0 0.00 lose 12 30.00
+hand 1 ev 0.700
+hand 2 high win 12 30.00 tie 0 0.00 lose 28 70.00
+hand 2 ev 0.300
+",
+    ),
+    (
+        b"omaha As 2s Kd Kh - Ad 3d Qc Qs - 4c 5c 6d 7d - Ah 8h 9c Tc - Ts Js Jd 9d - 2h 3h 4h 6h -- 5s 7s Kc",
+        "spot 1 omaha runouts 300
+hand 1 high win 214 71.33 tie 0 0.00 lose 86 28.67
+hand 1 ev 0.713
+hand 2 high win 5 1.67 tie 0 0.00 lose 295 98.33
+hand 2 ev 0.017
+hand 3 high win 2 0.67 tie 19 6.33 lose 279 93.00
+hand 3 ev 0.038
+hand 4 high win 29 9.67 tie 4 1.33 lose 267 89.00
+hand 4 ev 0.103
+hand 5 high win 16 5.33 tie 4 1.33 lose 280 93.33
+hand 5 ev 0.060
+hand 6 high win 11 3.67 tie 19 6.33 lose 270 90.00
+hand 6 ev 0.068
+",
+    ),
+    (
+        b"omaha Ac 2c 3c 4c - Ad 2d Kd Kh -- 5h 6h 7s 8s 9s",
+        "spot 1 omaha runouts 1
+hand 1 high win 1 100.00 tie 0 0.00 lose 0 0.00
+hand 1 ev 1.000
+hand 2 high win 0 0.00 tie 0 0.00 lose 1 100.00
+hand 2 ev 0.000
+",
+    ),
+    (
+        b"stud8 3s 7h Js Td 2d 4s - 2s 3h Ts 3d Ks 9s",
+        "spot 1 stud8 runouts 1560
+hand 1 high win 245 15.71 tie 0 0.00 lose 1315 84.29
+hand 1 low win 624 40.00 tie 0 0.00 lose 936 60.00
+hand 1 ev 0.357
+hand 2 high win 1315 84.29 tie 0 0.00 lose 245 15.71
+hand 2 low win 0 0.00 tie 0 0.00 lose 1560 100.00
+hand 2 ev 0.643
+",
+    ),
+    (
+        b"stud8 As 2s 3d Kd Kh 4c - Ad 2d 3c Qc Qh 5h - 8c 7c 6h 9d 9h Js / 2c 3h 3s 4d 5c 5d 6c 6d 7d 7h 8d 8h 9s Tc Td Ts Jc Jd Jh Qd Ks Ah",
+        "spot 1 stud8 runouts 1320
+hand 1 high win 559 42.35 tie 18 1.36 lose 743 56.29
+hand 1 low win 330 25.00 tie 20 1.52 lose 970 73.48
+hand 1 ev 0.431
+hand 2 high win 394 29.85 tie 18 1.36 lose 908 68.79
+hand 2 low win 470 35.61 tie 20 1.52 lose 830 62.88
+hand 2 ev 0.388
+hand 3 high win 349 26.44 tie 0 0.00 lose 971 73.56
+hand 3 low win 0 0.00 tie 0 0.00 lose 1320 100.00
+hand 3 ev 0.180
+",
+    ),
+    (
+        b"stud8 As 2s 3d 4c Kd Kh Qd - Ad 2d 3c / 2c 3h 3s 4d 5c 5d 5h 6c 6d 6h 7c 7d 7h 8c 8d 8h 9d 9h 9s Tc Td Ts Jc Jd Jh Js Qc Qh Ks Ah",
+        "spot 1 stud8 runouts 495
+hand 1 high win 259 52.32 tie 0 0.00 lose 236 47.68
+hand 1 low win 0 0.00 tie 0 0.00 lose 495 100.00
+hand 1 ev 0.333
+hand 2 high win 236 47.68 tie 0 0.00 lose 259 52.32
+hand 2 low win 345 69.70 tie 0 0.00 lose 150 30.30
+hand 2 ev 0.667
+",
+    ),
+    (
+        b"draw5 2h Qd 8c 8s - 2s Js 6c 9d",
+        "spot 1 draw5 runouts 1892
+hand 1 high win 1676 88.58 tie 0 0.00 lose 216 11.42
+hand 1 ev 0.886
+hand 2 high win 216 11.42 tie 0 0.00 lose 1676 88.58
+hand 2 ev 0.114
+",
+    ),
+    (
+        b"draw5 Ah Kh Qh Jh - 9c 9d - 8s 8d 8h / 2c 2d 2s 3c 3d 3s 4c 4d 4h 4s 5c 5d 5h 5s 6c 6d 6h 6s 7c 7d 7h 7s Td Jc Jd Js Qc Qd Qs Kc Kd Ks Ad As",
+        "spot 1 draw5 runouts 5040
+hand 1 high win 2102 41.71 tie 0 0.00 lose 2938 58.29
+hand 1 ev 0.417
+hand 2 high win 1082 21.47 tie 0 0.00 lose 3958 78.53
+hand 2 ev 0.215
+hand 3 high win 1856 36.83 tie 0 0.00 lose 3184 63.17
+hand 3 ev 0.368
+",
+    ),
+    (
+        b"triple27 4s Js 9h As - 3s 4d Kc Ad",
+        "spot 1 triple27 runouts 1892
+hand 1 low win 1416 74.84 tie 0 0.00 lose 476 25.16
+hand 1 ev 0.748
+hand 2 low win 476 25.16 tie 0 0.00 lose 1416 74.84
+hand 2 ev 0.252
+",
+    ),
+    (
+        b"triple27 2h 2c 4d 5h - 4s 9d 8h 6c Kd - Ts 2s Qd 9h",
+        "spot 1 triple27 runouts 1482
+hand 1 low win 0 0.00 tie 0 0.00 lose 1482 100.00
+hand 1 ev 0.000
+hand 2 low win 608 41.03 tie 0 0.00 lose 874 58.97
+hand 2 ev 0.410
+hand 3 low win 874 58.97 tie 0 0.00 lose 608 41.03
+hand 3 ev 0.590
+",
+    ),
+    (
+        b"triple27 9c 5d 4h - 8d 6h 5s 3s - 7c 4s 3c 2d / 2h 3h 4c 4d 5h 6d 6s 7h 7s 8c 8h 9d 9h Tc Td Th Ts Jc Jh Js Qc Qd Qh Qs Kd Kh Ks Ac Ad As",
+        "spot 1 triple27 runouts 3960
+hand 1 low win 917 23.16 tie 0 0.00 lose 3043 76.84
+hand 1 ev 0.232
+hand 2 low win 1358 34.29 tie 0 0.00 lose 2602 65.71
+hand 2 ev 0.343
+hand 3 low win 1685 42.55 tie 0 0.00 lose 2275 57.45
+hand 3 ev 0.426
+",
+    ),
 ];

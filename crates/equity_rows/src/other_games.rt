@@ -149,8 +149,14 @@ const RAZZ_CHANGES: &[Change] = &[
     ),
 ];
 
-/// Lines that single draw refuses.
+/// Lines that single draw refuses. The same hands are judged by the high in five card draw, in which eight high beats
+/// seven high.
 const DRAW_CHANGES: &[Change] = &[
+    (
+        1,
+        "PokerStars Hand #91: Tournament #9, Freeroll  5 Card Draw No Limit - Level I (10/20)\n",
+        "hand 91 rejected line 18 Split seat 1 due 0 got 200\n",
+    ),
     (
         8,
         "Dealt to x [7c 5d 4h 3s]\n",

@@ -8,7 +8,7 @@ const LINES: &[Row] = &[
     (
         "poker As Ah - Ks Kh
 Holdem As Ah - Ks Kh
-omaha As Ah - Ks Kh
+badugi As Ah - Ks Kh
 -
 holdem As A - Ks Kh
 holdem As 1h - Ks Kh
@@ -52,7 +52,7 @@ spot 20 rejected line 20 PlayerCount
     ),
     // Places pass over blank lines, and line numbers don't.
     (
-        "omaha As Ah - Ks Kh
+        "badugi As Ah - Ks Kh
 holdem As Ax - As Kh
 
 holdem As Ah

@@ -73,5 +73,5 @@ fn a_report_as_records(rt: HostRuntime) -> Result<(), Fail> {
 fn a_rejected_spot_as_a_record(rt: HostRuntime) -> Result<(), Fail> {
     let rejected = "spot,1,rejected,line,1,UnknownWord,,,,,,,\n";
     let words = ["spots", "--format=csv"];
-    reports(&rt, rt.alloc(), &words, b"omaha As Ah\n", 1, rejected)
+    reports(&rt, rt.alloc(), &words, b"badugi As Ah\n", 1, rejected)
 }

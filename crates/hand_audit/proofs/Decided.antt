@@ -9,14 +9,14 @@ use Rattle.card_sets.specs.Cards.{cards_where, minus, union}
 use Rattle.card_sets.specs.Bits.{IsCardSet-cards_where}
 use Rattle.card_sets.specs.Games.{board_size}
 use Rattle.card_sets.specs.declared.games.Game.{Game}
-use Rattle.card_sets.specs.declared.games.Game.TheVariants.{Holdem, Omaha8, Stud, Razz, Lowball27}
+use Rattle.card_sets.specs.declared.games.Game.TheVariants.{Holdem, Omaha, Omaha8, Stud, Stud8, Razz, Draw5, Lowball27, Triple27}
 use Rattle.history_text.specs.declared.events.Header.{Header}
 use Rattle.history_text.specs.declared.events.Event.{Event}
 use Rattle.history_text.specs.declared.events.Event.TheVariants.{Street, Deal, Act, Show, SeatCards}
 use Rattle.history_text.specs.declared.events.Part.{Part}
 use Rattle.history_text.specs.declared.events.Part.TheVariants.{Preamble, Play, Summary as SummaryPart}
 use Rattle.card_sets.specs.declared.streets.Street.{Street as StreetName}
-use Rattle.card_sets.specs.declared.streets.Street.TheVariants.{First, Flop, Turn, Fourth, Fifth, Sixth, River, Draw, ShowDown, Summary}
+use Rattle.card_sets.specs.declared.streets.Street.TheVariants.{First, Flop, Turn, Fourth, Fifth, Sixth, River, Draw, FirstDraw, SecondDraw, ThirdDraw, ShowDown, Summary}
 use Rattle.pot_layers.specs.declared.paid.Pot.{Pot}
 use Rattle.pot_layers.specs.Pots.{pots}
 use Rattle.pot_layers.specs.Eligible.{ExcludesFolded, is_contender as contends}
@@ -25,10 +25,10 @@ use Rattle.betting_replay.specs.Accounts.{paid_by}
 use Rattle.betting_replay.specs.Boards.{shared, second_own, second_by, second_board}
 use Rattle.betting_replay.specs.CardLaws.{PlacesAreApart, CardsBelong, CardsBelongAfter, Among, MarkersFit, HasBoard, HasEnded, WholeBoards, has_ended, ends}
 use Rattle.betting_replay.specs.Events.{seat_of, SeatFits}
-use Rattle.betting_replay.specs.Hands.{dealt, dealt_by, shown, shown_by, shown_after, whole, is_discard, if_many}
+use Rattle.betting_replay.specs.Hands.{held, held_after, dealt, dealt_by, shown, shown_by, shown_after, whole, is_discard, if_many}
 use Rattle.betting_replay.specs.Known.{final_cards, final_by, holding_of}
 use Rattle.betting_replay.specs.Dealing.{marked, hides}
-use Rattle.betting_replay.specs.Places.{owned, is_at, place, thrown}
+use Rattle.betting_replay.specs.Places.{owned, is_at, place, thrown, thrown_by}
 use Rattle.betting_replay.specs.Seats.{by_seat, count_below, or_else}
 use Rattle.betting_replay.specs.Sums.{last_begun, is_last_of, runs_twice, second_street, second_begun}
 use Rattle.betting_replay.specs.Table.{Table, final_at}
@@ -57,6 +57,9 @@ ended_by h (Street Fifth number cards) p k is = k is
 ended_by h (Street Sixth number cards) p k is = k is
 ended_by h (Street River number cards) p k is = k is
 ended_by h (Street Draw number cards) p k is = k is
+ended_by h (Street FirstDraw number cards) p k is = k is
+ended_by h (Street SecondDraw number cards) p k is = k is
+ended_by h (Street ThirdDraw number cards) p k is = k is
 ended_by h _ p k is = k is
 
 ended_in : (h : List Event) → part_of h ≡ SummaryPart → has_ended h ≡ true
@@ -84,10 +87,14 @@ nobody_dealt g players (e ∷ h) ok = by (seat_of e == 0) refl (nobody_dealt g p
 
 not_whole : (game : Game) → whole game [] ≡ None
 not_whole Holdem = ap (if_many 2) no_more
+not_whole Omaha = ap (if_many 4) no_more
 not_whole Omaha8 = ap (if_many 4) no_more
 not_whole Stud = ap (if_many 7) no_more
+not_whole Stud8 = ap (if_many 7) no_more
 not_whole Razz = ap (if_many 7) no_more
+not_whole Draw5 = ap (if_many 5) no_more
 not_whole Lowball27 = ap (if_many 5) no_more
+not_whole Triple27 = ap (if_many 5) no_more
 
 nobody_shown : (g : Header) (players : ℕ) (h : List Event) → IsAccepted g players h → shown g h 0 ≡ None
 nobody_shown g players [] ok = refl
@@ -108,31 +115,49 @@ nothing_left : (thrown : List ℕ) → minus [] thrown ≡ []
 unfolding cards_where
 nothing_left thrown = refl
 
-final_nobody : (g : Header) (players : ℕ) (h : List Event) (game : Game) → g.game ≡ game → IsAccepted g players h → length (owned h 0) ≡ board_size game → final_cards g h 0 ≡ None
+not_drawn : (hidden : Bool) (cards : List ℕ) → cards ≡ [] → (if hidden then None else if_many 5 cards) ≡ None
+not_drawn true cards none = refl
+not_drawn false cards none = ap (if_many 5) none
+
+nobody_held : (g : Header) (players : ℕ) (h : List Event) → IsAccepted g players h → held h 0 ≡ []
+nobody_held g players [] ok = refl
+nobody_held g players (e ∷ h) ok = by (seat_of e == 0) refl (nobody_held g players h ok.2)
+  where
+    by : (b : Bool) → (seat_of e == 0) ≡ b → held h 0 ≡ [] → (if b then held_after e (held h 0) else held h 0) ≡ []
+    by true none rest =
+        ap (λ xs. minus (union xs (dealt_by e)) (thrown_by e)) rest
+        ∙ ap (λ xs. minus (union [] xs) (thrown_by e)) (nothing_dealt e ok.0.seats none)
+        ∙ ap (λ xs. minus xs (thrown_by e)) no_more ∙ nothing_left (thrown_by e)
+    by false other rest = rest
+
+final_nobody : (g : Header) (players : ℕ) (h : List Event) (game : Game) → g.game ≡ game → IsAccepted g players h → length (owned g.game h 0) ≡ board_size game → final_cards g h 0 ≡ None
 final_nobody g players h Holdem is ok size =
     ap (λ game. final_by game (holding_of g h 0)) is ∙ ap (λ o. or_else o (if_many 2 (dealt h 0))) (nobody_shown g players h ok) ∙ ap (if_many 2) (nobody_dealt g players h ok)
+final_nobody g players h Omaha is ok size =
+    ap (λ game. final_by game (holding_of g h 0)) is ∙ ap (λ o. or_else o (if_many 4 (dealt h 0))) (nobody_shown g players h ok) ∙ ap (if_many 4) (nobody_dealt g players h ok)
 final_nobody g players h Omaha8 is ok size =
     ap (λ game. final_by game (holding_of g h 0)) is ∙ ap (λ o. or_else o (if_many 4 (dealt h 0))) (nobody_shown g players h ok) ∙ ap (if_many 4) (nobody_dealt g players h ok)
-final_nobody g players h Stud is ok size = ap (λ game. final_by game (holding_of g h 0)) is ∙ not_seven (owned h 0) size
-final_nobody g players h Razz is ok size = ap (λ game. final_by game (holding_of g h 0)) is ∙ not_seven (owned h 0) size
+final_nobody g players h Stud is ok size = ap (λ game. final_by game (holding_of g h 0)) is ∙ not_seven (owned g.game h 0) size
+final_nobody g players h Stud8 is ok size = ap (λ game. final_by game (holding_of g h 0)) is ∙ not_seven (owned g.game h 0) size
+final_nobody g players h Razz is ok size = ap (λ game. final_by game (holding_of g h 0)) is ∙ not_seven (owned g.game h 0) size
+final_nobody g players h Draw5 is ok size =
+    ap (λ game. final_by game (holding_of g h 0)) is ∙ ap (λ o. or_else o (if marked hides h 0 then None else if_many 5 (minus (dealt h 0) (thrown h)))) (nobody_shown g players h ok)
+    ∙ not_drawn (marked hides h 0) (minus (dealt h 0) (thrown h)) (ap (λ cards. minus cards (thrown h)) (nobody_dealt g players h ok) ∙ nothing_left (thrown h))
 final_nobody g players h Lowball27 is ok size =
-    ap (λ game. final_by game (holding_of g h 0)) is ∙ ap (λ o. or_else o (final_drawn_by (marked hides h 0))) (nobody_shown g players h ok) ∙ by (marked hides h 0)
-  where
-    final_drawn_by : Bool → Option (List ℕ)
-    final_drawn_by b = if b then None else if_many 5 (minus (dealt h 0) (thrown h))
-
-    by : (b : Bool) → final_drawn_by b ≡ None
-    by true = refl
-    by false = ap (λ cards. if_many 5 (minus cards (thrown h))) (nobody_dealt g players h ok) ∙ ap (if_many 5) (nothing_left (thrown h))
+    ap (λ game. final_by game (holding_of g h 0)) is ∙ ap (λ o. or_else o (if marked hides h 0 then None else if_many 5 (minus (dealt h 0) (thrown h)))) (nobody_shown g players h ok)
+    ∙ not_drawn (marked hides h 0) (minus (dealt h 0) (thrown h)) (ap (λ cards. minus cards (thrown h)) (nobody_dealt g players h ok) ∙ nothing_left (thrown h))
+final_nobody g players h Triple27 is ok size =
+    ap (λ game. final_by game (holding_of g h 0)) is ∙ ap (λ o. or_else o (if marked hides h 0 then None else if_many 5 (held h 0))) (nobody_shown g players h ok)
+    ∙ not_drawn (marked hides h 0) (held h 0) (nobody_held g players h ok)
 
 -- final cards that are known are whole, on a whole board
-full_hand : PlacesAreApart → (g : Header) (players : ℕ) (h : List Event) (p : ℕ) (o : Option (List ℕ)) → CardsBelong g players h → length (owned h 0) ≡ board_size g.game → (p == 0) ≡ false → final_cards g h p ≡ o
-    → IfSome o (λ own. IsFull g.game own (owned h 0))
+full_hand : PlacesAreApart → (g : Header) (players : ℕ) (h : List Event) (p : ℕ) (o : Option (List ℕ)) → CardsBelong g players h → length (owned g.game h 0) ≡ board_size g.game → (p == 0) ≡ false → final_cards g h p ≡ o
+    → IfSome o (λ own. IsFull g.game own (owned g.game h 0))
 full_hand apart g players h p None belong size seat is = tt
 full_hand apart g players h p (Some own) belong size seat is =
-    let among : Among own (owned h p) = belong.final p own is in
-    let board : Among (owned h 0) (owned h 0) = record { set = IsCardSet-cards_where (λ card. is_at 0 (place h card)); each = λ card has. has } in
-    record { own_cards = among.set; board_cards = board.set; own_size = belong.whole p own is; board_size = size; apart = apart_among own (owned h 0) (owned h p) (owned h 0) among board (apart h p 0 seat) }
+    let among : Among own (owned g.game h p) = belong.final p own is in
+    let board : Among (owned g.game h 0) (owned g.game h 0) = record { set = IsCardSet-cards_where (λ card. is_at 0 (place g.game h card)); each = λ card has. has } in
+    record { own_cards = among.set; board_cards = board.set; own_size = belong.whole p own is; board_size = size; apart = apart_among own (owned g.game h 0) (owned g.game h p) (owned g.game h 0) among board (apart g.game h p 0 seat) }
 
 -- where the second board has come to the last street, final cards that are known are whole on it too
 pub record HasSecond (g : Header) (h : List Event) : Type 0 where
@@ -167,11 +192,11 @@ second_hand : (g : Header) (players : ℕ) (h : List Event) (p : ℕ) (o : Optio
     → final_cards g h p ≡ o → IfSome o (λ own. IsFull g.game own second)
 second_hand g players h p None second belong is size seat l final = tt
 second_hand g players h p (Some own) second belong is size seat l final =
-    let among : Among own (owned h p) = belong.final p own final in
+    let among : Among own (owned g.game h p) = belong.final p own final in
     record { own_cards = among.set; board_cards = belong.second_set second is; own_size = belong.whole p own final; board_size = size; apart = belong.final_and_second p seat l own second final is }
 
 -- the hands of all seats, the first of which is no seat
-each_hand : (g : Header) (players : ℕ) (h : List Event) (board : List ℕ) (p : ℕ) → IsAccepted g players h → length (owned h 0) ≡ board_size g.game
+each_hand : (g : Header) (players : ℕ) (h : List Event) (board : List ℕ) (p : ℕ) → IsAccepted g players h → length (owned g.game h 0) ≡ board_size g.game
     → ((p == 0) ≡ false → IfSome (final_cards g h p) (λ own. IsFull g.game own board)) → IfSome (final_cards g h p) (λ own. IsFull g.game own board)
 each_hand g players h board p ok size seat = by (p == 0) refl
   where
@@ -188,7 +213,7 @@ shown_full shows g players h board full p l =
     let hand : slice_index_or (by_seat (final_at (table_of g players h))) p None ≡ final_cards g h p = at_by_seat (final_at (table_of g players h)) p None l ∙ (shows g players h p l).final in
     subst (λ (o : Option (List ℕ)). IfSome o (λ own. IsFull g.game own board)) (sym hand) (full p l)
 
-first_board : ShowsSeats → (g : Header) (players : ℕ) (h : List Event) → (showing_of g players h).board ≡ owned h 0
+first_board : ShowsSeats → (g : Header) (players : ℕ) (h : List Event) → (showing_of g players h).board ≡ owned g.game h 0
 unfolding showing_of showing_at
 first_board shows g players h = (shows g players h 0 (omega arith)).own
 
@@ -196,11 +221,11 @@ pub second_shown : (g : Header) (players : ℕ) (h : List Event) → (showing_of
 unfolding showing_of showing_at
 second_shown g players h = refl
 
-all_full : PlacesAreApart → ShowsSeats → (g : Header) (players : ℕ) (h : List Event) → IsAccepted g players h → CardsBelong g players h → HasBoard g players h → length (owned h 0) ≡ board_size g.game → HasSecond g h → AreFull (showing_of g players h)
+all_full : PlacesAreApart → ShowsSeats → (g : Header) (players : ℕ) (h : List Event) → IsAccepted g players h → CardsBelong g players h → HasBoard g players h → length (owned g.game h 0) ≡ board_size g.game → HasSecond g h → AreFull (showing_of g players h)
 all_full apart shows g players h ok belong board size has other (inl is) =
-    let first : other ≡ owned h 0 = is ∙ first_board shows g players h in
+    let first : other ≡ owned g.game h 0 = is ∙ first_board shows g players h in
     subst (λ (b : List ℕ). AreFullOn (showing_of g players h) b) (sym first)
-    (shown_full shows g players h (owned h 0) (λ p l. each_hand g players h (owned h 0) p ok size (λ seat. full_hand apart g players h p (final_cards g h p) belong size seat refl)))
+    (shown_full shows g players h (owned g.game h 0) (λ p l. each_hand g players h (owned g.game h 0) p ok size (λ seat. full_hand apart g players h p (final_cards g h p) belong size seat refl)))
 all_full apart shows g players h ok belong board size has other (inr is) =
     let second : second_if (runs_twice h) (second_board h) ≡ Some other = sym (second_shown g players h) ∙ is in
     shown_full shows g players h other

@@ -5,7 +5,7 @@ use Rattle.std.specs.List.{list_all, list_any}
 use Rattle.card_sets.specs.PlayerSets.{seats_in}
 use Rattle.card_sets.specs.Cards.{IsCardSet, has_card}
 use Rattle.card_sets.specs.declared.games.Game.{Game}
-use Rattle.card_sets.specs.declared.games.Game.TheVariants.{Holdem, Omaha8, Stud, Razz, Lowball27}
+use Rattle.card_sets.specs.declared.games.Game.TheVariants.{Holdem, Omaha, Omaha8, Stud, Stud8, Razz, Draw5, Lowball27, Triple27}
 use Rattle.card_sets.specs.declared.games.Side.{Side}
 use Rattle.card_sets.specs.declared.games.Side.TheVariants.{High, Low}
 use Rattle.card_sets.specs.Games.{allowed, has_marks}
@@ -85,16 +85,23 @@ small_marks s board number pot marks on at more full = by s.game refl
   where
     by : (game : Game) → s.game ≡ game → SmallMarks s board
     by Holdem e = unmarked s board (ap has_marks e)
+    by Omaha e = unmarked s board (ap has_marks e)
     by Omaha8 e = unmarked s board (ap has_marks e)
     by Stud e = record {
       first = small_by first_side s board Stud e (marks_on High Stud s board e full (λ p l own known. marks.stud e number pot at more board on p l own known));
       second = small_by second_side s board Stud e (λ p l. omega arith);
     }
+    by Stud8 e = record {
+      first = small_by first_side s board Stud8 e (marks_on High Stud8 s board e full (λ p l own known. marks.stud8_high e number pot at more board on p l own known));
+      second = small_by second_side s board Stud8 e (marks_on Low Stud8 s board e full (λ p l own known. marks.stud8_low e number pot at more board on p l own known));
+    }
     by Razz e = record {
       first = small_by first_side s board Razz e (marks_on Low Razz s board e full (λ p l own known. marks.razz e number pot at more board on p l own known));
       second = small_by second_side s board Razz e (λ p l. omega arith);
     }
+    by Draw5 e = unmarked s board (ap has_marks e)
     by Lowball27 e = unmarked s board (ap has_marks e)
+    by Triple27 e = unmarked s board (ap has_marks e)
 
 -- the order of a side's winners lists each once
 order_is : (side : Option Side) (s : Showing) (board : List ℕ) (winners : ℕ) → OfSeats winners → AreSmall side s board → s.button ≤ 10 → IsOrder winners (order_of side s board winners)

@@ -165,12 +165,12 @@ known_cards apart belong shows shows_dead g players h street seats table ok is =
         let seat : slice_index_or seats i 0 ≡ slice_index_or xs i 0 = ap (λ s. slice_index_or s i 0) made.seats_are ∙ in_ten 0 xs i 0 inside in
         some_seat (slice_index_or seats i 0) (omega (arith, seat, range.0))
 
-    later : (card : ℕ) → has_card (owned h 0) card ≡ true → has_card (board_up_to h street) card ≡ false → IsStillHidden table card
+    later : (card : ℕ) → has_card (owned g.game h 0) card ≡ true → has_card (board_up_to h street) card ≡ false → IsStillHidden table card
     later card here after = record {
       hands = λ i l. hidden (has_card (slice_index_or table.known.hands i []) card) (slice_index_or table.known.hands i []) card refl
-          (λ has. from_apart (owned h (slice_index_or seats i 0)) (owned h 0) card (apart h (slice_index_or seats i 0) 0 (seat_some i l)) ((hands i l).own.each card has) here);
+          (λ has. from_apart (owned g.game h (slice_index_or seats i 0)) (owned g.game h 0) card (apart g.game h (slice_index_or seats i 0) 0 (seat_some i l)) ((hands i l).own.each card has) here);
       dead = hidden (has_card table.known.dead card) table.known.dead card refl
-          (λ has. from_apart (dead g players h) (owned h 0) card (belong g players h ok).dead_and_board (subst (λ (cards : List ℕ). has_card cards card ≡ true) dead_is has) here);
+          (λ has. from_apart (dead g players h) (owned g.game h 0) card (belong g players h ok).dead_and_board (subst (λ (cards : List ℕ). has_card cards card ≡ true) dead_is has) here);
     }
 
     seat_few : (i : ℕ) → i < table.known.count → slice_index_or seats i 0 < 11

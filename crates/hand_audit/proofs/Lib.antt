@@ -11,6 +11,7 @@ pub mod Pays
 pub mod Quiet
 pub mod Chips
 pub mod FirstPass
+pub mod ReadOnce
 pub mod Whole
 pub mod Sound
 pub mod Shown

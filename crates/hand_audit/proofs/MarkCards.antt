@@ -11,7 +11,7 @@ use Rattle.card_sets.specs.Cards.{has_card, union}
 use Rattle.card_sets.specs.Choose.{choose}
 use Rattle.card_sets.specs.Games.{allowed}
 use Rattle.card_sets.specs.declared.games.Game.{Game}
-use Rattle.card_sets.specs.declared.games.Game.TheVariants.{Stud, Razz}
+use Rattle.card_sets.specs.declared.games.Game.TheVariants.{Stud, Stud8, Razz}
 use Rattle.card_sets.specs.declared.games.Side.{Side}
 use Rattle.card_sets.specs.declared.games.Side.TheVariants.{High, Low}
 use Rattle.betting_replay.proofs.Members.{in_union, either, both, or_left, or_right}
@@ -166,6 +166,12 @@ full_mark law game own board full = (law game own board full.own_cards full.boar
 stud_mark : AllowsFives → (own board : List ℕ) → IsFull Stud own board → IsMarkOf High (allowed Stud own board) own (mark_of (Some High) Stud board (Some own))
 stud_mark law own board full = (let f = full_mark law Stud own board full in own_mark High (allowed Stud own board) own board refl f.0 full.own_size full.board_size f.1)
 
+high8_mark : AllowsFives → (own board : List ℕ) → IsFull Stud8 own board → IsMarkOf High (allowed Stud8 own board) own (mark_of (Some High) Stud8 board (Some own))
+high8_mark law own board full = (let f = full_mark law Stud8 own board full in own_mark High (allowed Stud8 own board) own board refl f.0 full.own_size full.board_size f.1)
+
+low8_mark : AllowsFives → (own board : List ℕ) → IsFull Stud8 own board → IsMarkOf Low (allowed Stud8 own board) own (mark_of (Some Low) Stud8 board (Some own))
+low8_mark law own board full = (let f = full_mark law Stud8 own board full in own_mark Low (allowed Stud8 own board) own board refl f.0 full.own_size full.board_size f.1)
+
 razz_mark : AllowsFives → (own board : List ℕ) → IsFull Razz own board → IsMarkOf Low (allowed Razz own board) own (mark_of (Some Low) Razz board (Some own))
 razz_mark law own board full = (let f = full_mark law Razz own board full in own_mark Low (allowed Razz own board) own board refl f.0 full.own_size full.board_size f.1)
 
@@ -200,4 +206,10 @@ unfolding first_winners
 winners_known s board eligible p l won = winner_known (first_side s.game) s board eligible p l won
 
 pub marks_are_cards : AllowsFives → (s : Showing) → AreDecided s (pots s.paid) → MarksAreCards s
-marks_are_cards law s decided = record { stud = marks_in Stud High s decided (stud_mark law); razz = marks_in Razz Low s decided (razz_mark law); winners = winners_known s }
+marks_are_cards law s decided = record {
+  stud = marks_in Stud High s decided (stud_mark law);
+  stud8_high = marks_in Stud8 High s decided (high8_mark law);
+  stud8_low = marks_in Stud8 Low s decided (low8_mark law);
+  razz = marks_in Razz Low s decided (razz_mark law);
+  winners = winners_known s;
+}

@@ -148,22 +148,22 @@ stands places g players h found f known belong boards at each all = record {
     out : List ℕ
     out = dead g players h
 
-    on_board : Among (board_up_to h found.street) (owned h 0)
+    on_board : Among (board_up_to h found.street) (owned g.game h 0)
     on_board = belong.board found.street
 
-    of_seat : (p : ℕ) → 1 ≤ p → p ≤ 10 → known p ≡ true → Among (f p) (owned h p)
+    of_seat : (p : ℕ) → 1 ≤ p → p ≤ 10 → known p ≡ true → Among (f p) (owned g.game h p)
     of_seat p l m k = belong.known p found.street (f p) (each p l m k)
 
     two : (q r : ℕ) → 1 ≤ q → q < r → r ≤ 10 → known q ≡ true → known r ≡ true → apart (f q) (f r) ≡ true
-    two q r l less m kq kr = let ne : (q == r) ≡ false = lower q r less in apart_among (f q) (f r) (owned h q) (owned h r) (of_seat q l (omega (arith, less, m)) kq) (of_seat r (omega (arith, l, less)) m kr) (places h q r ne)
+    two q r l less m kq kr = let ne : (q == r) ≡ false = lower q r less in apart_among (f q) (f r) (owned g.game h q) (owned g.game h r) (of_seat q l (omega (arith, less, m)) kq) (of_seat r (omega (arith, l, less)) m kr) (places g.game h q r ne)
 
     board_dead : apart (board_up_to h found.street) (dead g players h) ≡ true
-    board_dead = apart_from (board_up_to h found.street) (dead g players h) (λ k b d. from_apart (dead g players h) (owned h 0) k belong.dead_and_board d (on_board.each k b))
+    board_dead = apart_from (board_up_to h found.street) (dead g players h) (λ k b d. from_apart (dead g players h) (owned g.game h 0) k belong.dead_and_board d (on_board.each k b))
 
     board_hands : list_all (apart (board_up_to h found.street)) (ten [] (map f (seats_in found.contenders))) ≡ true
     board_hands = all_ten [] (apart (board_up_to h found.street)) (map f (seats_in found.contenders)) (apart_none (board_up_to h found.street))
         (sym (all_mapped f (apart (board_up_to h found.street)) (seats_in found.contenders)) ∙ walked found.contenders 1 10 known (λ q. apart (board_up_to h found.street) (f q)) (omega arith) (omega arith)
-        (λ q l m set k. let ne : (0 == q) ≡ false = lower 0 q (omega (arith, l)) in apart_among (board_up_to h found.street) (f q) (owned h 0) (owned h q) on_board (of_seat q l m k) (places h 0 q ne)) all)
+        (λ q l m set k. let ne : (0 == q) ≡ false = lower 0 q (omega (arith, l)) in apart_among (board_up_to h found.street) (f q) (owned g.game h 0) (owned g.game h q) on_board (of_seat q l m k) (places g.game h 0 q ne)) all)
 
     dead_hands : list_all (apart (dead g players h)) (ten [] (map f (seats_in found.contenders))) ≡ true
     dead_hands = all_ten [] (apart (dead g players h)) (map f (seats_in found.contenders)) (apart_none (dead g players h))

@@ -10,7 +10,7 @@ use Rattle.card_sets.specs.PlayerSets.{players_where, seats_in}
 use Rattle.card_sets.specs.Cards.{union}
 use Rattle.card_sets.specs.Choose.{choose}
 use Rattle.card_sets.specs.declared.games.Game.{Game}
-use Rattle.card_sets.specs.declared.games.Game.TheVariants.{Holdem, Omaha8, Stud, Razz, Lowball27}
+use Rattle.card_sets.specs.declared.games.Game.TheVariants.{Holdem, Omaha, Omaha8, Stud, Stud8, Razz, Draw5, Lowball27, Triple27}
 use Rattle.rank_high.proofs.Sets.{length-union, Apart-apart}
 use Rattle.rank_low.specs.Low.{low_a5, low_27, least_of}
 use Rattle.rank_low.proofs.BestFive.{some-choice}
@@ -144,10 +144,14 @@ some_five n game own board f full enough =
 
 first_some : (game : Game) (own board : List ℕ) → IsFull game own board → is_some (value_on (first_side game) game board (Some own)) ≡ true
 first_some Holdem own board full = refl
+first_some Omaha own board full = refl
 first_some Omaha8 own board full = refl
 first_some Stud own board full = refl
+first_some Draw5 own board full = refl
+first_some Stud8 own board full = refl
 first_some Razz own board full = some_five 5 Razz own board low_a5 full (omega (arith, full.own_size))
 first_some Lowball27 own board full = some_five 5 Lowball27 own board low_27 full (omega (arith, full.own_size))
+first_some Triple27 own board full = some_five 5 Triple27 own board low_27 full (omega (arith, full.own_size))
 
 hand_some : (s : Showing) (board : List ℕ) (o : Option (List ℕ)) → is_some o ≡ true → IfSome o (λ own. IsFull s.game own board) → is_some (value_on (first_side s.game) s.game board o) ≡ true
 hand_some s board None known full = cc

@@ -84,7 +84,7 @@ second_set g players h belong true (Some second) board come is = let same : seco
 
 board_sets : ShowsSeats → (g : Header) (players : ℕ) (h : List Event) → CardsBelong g players h → AreSets (showing_of g players h)
 unfolding showing_of showing_at
-board_sets shows g players h belong board (inl is) = subst IsCardSet (sym (is ∙ (shows g players h 0 (omega arith)).own)) (IsCardSet-cards_where (λ card. is_at 0 (place h card)))
+board_sets shows g players h belong board (inl is) = subst IsCardSet (sym (is ∙ (shows g players h 0 (omega arith)).own)) (IsCardSet-cards_where (λ card. is_at 0 (place g.game h card)))
 board_sets shows g players h belong board (inr is) = second_set g players h belong (runs_twice h) (second_board h) board refl is
 
 pub won_pots : KeepsOrder → ShowsSeats → (g : Header) (players : ℕ) (h : List Event) → CardsBelong g players h → AreDecided (showing_of g players h) (pots (paid_in (table_of g players h))) → IsWonBySomebody (showing_of g players h)

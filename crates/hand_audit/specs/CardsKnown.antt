@@ -17,7 +17,7 @@ use Rattle.showdown_tally.specs.declared.table.Table.{Table}
 -- a hand is what its seat has on the street, by the whole text, and its cards belong to the seat
 pub record IsHandOf (g : Header) (h : List Event) (street : Street) (seat : ℕ) (hand : List ℕ) : Type 0 where
   pub cards : cards_at g h seat street ≡ Some hand
-  pub own : Among hand (owned h seat)
+  pub own : Among hand (owned g.game h seat)
 
 -- a card is in no hand of a table, and isn't dead
 pub record IsStillHidden (table : Table) (card : ℕ) : Type 0 where
@@ -30,7 +30,7 @@ pub record KnowsCards (g : Header) (players : ℕ) (h : List Event) (street : St
   pub hands : (i : ℕ) → i < table.known.count → IsHandOf g h street (slice_index_or seats i 0) (slice_index_or table.known.hands i [])
   pub board : table.known.board ≡ board_up_to h street
   pub dead : table.known.dead ≡ dead g players h
-  pub later : (card : ℕ) → has_card (owned h 0) card ≡ true → has_card (board_up_to h street) card ≡ false → IsStillHidden table card
+  pub later : (card : ℕ) → has_card (owned g.game h 0) card ≡ true → has_card (board_up_to h street) card ≡ false → IsStillHidden table card
   pub second : (second : List ℕ) → second_board h ≡ Some second → (card : ℕ) → has_card second card ≡ true → IsStillHidden table card
 
 -- whether the cards of each contender at an all-in point are known there

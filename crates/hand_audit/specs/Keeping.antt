@@ -1,14 +1,17 @@
 -- What is kept of the lines so far.
-use Rattle.std.specs.Prelude.{◌≡◌, ℕ, ◌≤◌, ◌<◌, ◌^◌, true, List, length, Result, Ok, Err, Option, Some, None, All}
+use Rattle.std.specs.Prelude.{◌≡◌, ℕ, ◌≤◌, ◌<◌, ◌^◌, true, false, List, [], ◌∷◌, length, Result, Ok, Err, Option, Some, None, All, IfOk}
 use Rattle.std.specs.List.{list_any}
 use Rattle.history_text.specs.declared.events.Header.{Header}
 use Rattle.history_text.specs.declared.events.Event.{Event}
 use Rattle.history_text.specs.declared.events.Event.TheVariants.{Seat}
 use Rattle.history_text.specs.declared.events.TextFault.{TextFault}
+use Rattle.history_text.specs.declared.events.Part.{Part}
 use Rattle.history_text.specs.declared.events.Part.TheVariants.{Summary as SummaryPart}
-use Rattle.history_text.specs.Within.{IsSeated}
+use Rattle.history_text.specs.Lines.{line_event}
+use Rattle.history_text.specs.Within.{IsSeated, stands_in}
 use Rattle.betting_replay.specs.Accepted.{IsAccepted}
-use Rattle.betting_replay.specs.CardLaws.{MarkersFit}
+use Rattle.betting_replay.specs.CardLaws.{MarkerFits, MarkersFit}
+use Rattle.betting_replay.specs.Limits.{Fits}
 use Rattle.betting_replay.specs.Sums.{button}
 use Rattle.betting_replay.specs.Tables.{StandsFor}
 use Rattle.hand_audit.specs.declared.cause.Cause.{Cause}
@@ -16,7 +19,7 @@ use Rattle.hand_audit.specs.declared.cause.Cause.TheVariants.{Text}
 use Rattle.hand_audit.specs.declared.hand.Hand.{Hand}
 use Rattle.hand_audit.specs.declared.follow.Followed.{Followed}
 use Rattle.hand_audit.specs.declared.follow.Followed.TheVariants.{Departs, Ends}
-use Rattle.hand_audit.specs.Lines.{SoFar, part_of, with_event, nothing}
+use Rattle.hand_audit.specs.Lines.{SoFar, part_of, part_after, named_by, with_event, nothing}
 use Rattle.hand_audit.specs.Collections.{collections, taken}
 use Rattle.hand_audit.specs.Showings.{rake, showing_of}
 use Rattle.hand_audit.specs.Departs.{is_total, event_cause, end_cause, departs_from}
@@ -28,6 +31,35 @@ use Rattle.hand_audit.specs.Settling.{IsOfHand}
 abbrev pub HasName : Event → List ℕ → Type 0
 HasName (Seat seat units first end) line = (first ≤ end) × (end ≤ length line)
 HasName _ line = Unit {0}
+
+-- a line was read by these names in this part of a hand with this header: what it says, and what holds of it
+pub record IsRead (names : List (ℕ × List ℕ)) (header : Header) (part : Part) (line : List ℕ) (said : Result Event TextFault) : Type 0 where
+  pub value : said ≡ line_event names header part line
+  pub fits : IfOk said (λ e. Fits e)
+  pub name : IfOk said (λ e. HasName e line)
+  pub stands : IfOk said (λ e. stands_in part e ≡ true)
+  pub cards : IfOk said (λ e. MarkerFits header.game e)
+
+-- the names and the part behind a line that was read
+abbrev pub names_by : Result Event TextFault → List ℕ → List (ℕ × List ℕ) → List (ℕ × List ℕ)
+names_by (Ok e) line names = named_by e line names
+names_by (Err fault) line names = names
+
+abbrev pub part_by : Result Event TextFault → Part → Part
+part_by (Ok e) part = part_after e part
+part_by (Err fault) part = part
+
+-- the first of some lines were read, each behind those before it
+abbrev pub AreReads : Header → List (ℕ × List ℕ) → Part → List (Result Event TextFault) → List (List ℕ) → Type 0
+AreReads header names part [] lines = Unit {0}
+AreReads header names part (said ∷ reads) [] = true ≡ false
+AreReads header names part (said ∷ reads) (line ∷ lines) =
+    IsRead names header part line said × AreReads header (names_by said line names) (part_by said part) reads lines
+
+-- the first of some reads and those behind it; none of none
+abbrev pub IsCut : List (Result Event TextFault) → Option (Result Event TextFault) → List (Result Event TextFault) → Type 0
+IsCut reads None others = (reads ≡ []) × (others ≡ [])
+IsCut reads (Some said) others = reads ≡ said ∷ others
 
 -- what is kept stands for the lines so far of a hand with this header and these players
 pub record Keeps (hand : Hand) (header : Header) (players : ℕ) (so_far : SoFar) : Type 0 where

@@ -1,10 +1,10 @@
--- The marks of players in stud and razz are cards of theirs.
+-- The marks of players in the stud games are cards of theirs.
 use Rattle.std.specs.Prelude.{◌≡◌, ◌≤◌, ◌<◌, ℕ, true, List, length, Some, is_some, slice_get, Contains}
 use Rattle.card_sets.specs.PlayerSets.{has_player, seats_in}
 use Rattle.card_sets.specs.Cards.{has_card}
 use Rattle.card_sets.specs.Games.{allowed}
 use Rattle.card_sets.specs.declared.games.Game.{Game}
-use Rattle.card_sets.specs.declared.games.Game.TheVariants.{Stud, Razz}
+use Rattle.card_sets.specs.declared.games.Game.TheVariants.{Stud, Stud8, Razz}
 use Rattle.card_sets.specs.declared.games.Side.{Side}
 use Rattle.card_sets.specs.declared.games.Side.TheVariants.{High, Low}
 use Rattle.pot_layers.specs.declared.paid.Pot.{Pot}
@@ -31,9 +31,11 @@ MarksIn game side s = s.game ≡ game → (number : ℕ) (pot : Pot) → slice_g
     → (p : ℕ) → p < 11 → (own : List ℕ) → hand_of s p ≡ Some own
     → IsMarkOf side (allowed game own board) own (mark_at (Some side) s board p)
 
--- in stud, which is played for the high, and in razz, in which the ace is the lowest; and the final cards of whoever wins are
--- known
+-- in stud, which is played for the high, in stud for both sides, each of which has marks of its own, and in razz; on the low side the
+-- ace is the lowest; and the final cards of whoever wins are known
 pub record MarksAreCards (s : Showing) : Type 0 where
   pub stud : MarksIn Stud High s
+  pub stud8_high : MarksIn Stud8 High s
+  pub stud8_low : MarksIn Stud8 Low s
   pub razz : MarksIn Razz Low s
   pub winners : (board : List ℕ) (eligible p : ℕ) → p < 11 → has_player (first_winners s board eligible) p ≡ true → is_some (hand_of s p) ≡ true

@@ -1,4 +1,4 @@
--- The marks of players in stud and razz, by which winners get odd units. This project's own.
+-- The marks of players in the stud games, by which winners get odd units. This project's own.
 use Rattle.std.specs.Prelude.{ℕ, not, if◌then◌else◌, List, [], ◌∷◌, map, filter, max, Option, Some, None}
 use Rattle.std.specs.List.{list_all}
 use Rattle.card_sets.specs.Games.{allowed, has_marks}
@@ -18,7 +18,7 @@ worth_of_five Low five = low_a5 five
 unfoldable pub best_fives : Side → List (List ℕ) → List (List ℕ)
 best_fives side fives = filter (λ five. list_all (λ other. not (beats side (worth_of_five side other) (worth_of_five side five))) fives) fives
 
--- how high a card counts: by its rank and then its suit, with the ace below the deuce in the low game
+-- how high a card counts: by its rank and then its suit, with the ace below the deuce on the low side
 abbrev pub height : Side → ℕ → ℕ
 height High card = card
 height Low card = ace_low card

@@ -1,5 +1,5 @@
 -- What the first pass over the lines keeps.
-use Rattle.std.specs.Prelude.{◌≡◌, ℕ, ◌+◌, ◌==◌, Bool, true, false, List, All, map}
+use Rattle.std.specs.Prelude.{◌≡◌, ℕ, ◌+◌, ◌<◌, ◌==◌, Bool, true, false, if◌then◌else◌, List, [], ◌∷◌, ◌++◌, length, nat_lt, Result, All, map}
 use Rattle.std.specs.Cmp.Lexicographic.{slice_cmp}
 use Rattle.std.specs.Int.Digits.{digits_of}
 use Rattle.std.specs.Ordering.{nat_cmp}
@@ -7,8 +7,12 @@ use Rattle.std.specs.List.{list_any}
 use Rattle.std.specs.BTreeSet.{BTreeSet, contains_by}
 use denote.Ref.{Bor}
 use Rattle.history_text.specs.declared.events.Header.{Header}
+use Rattle.history_text.specs.declared.events.Event.{Event}
+use Rattle.history_text.specs.declared.events.Part.TheVariants.{Preamble}
+use Rattle.history_text.specs.declared.events.TextFault.{TextFault}
 use Rattle.history_text.specs.Within.{IsSeated}
 use Rattle.hand_audit.specs.declared.first_pass.Pass.{Pass}
+use Rattle.hand_audit.specs.Keeping.{IsRead, AreReads, names_by, part_by}
 use Rattle.hand_audit.specs.Lines.{SoFar, part_of, players_in, with_line, with_seat, seat_at, is_again}
 
 -- a number digit by digit, with no zero before it: 0 has no digit
@@ -32,3 +36,30 @@ abbrev pub Took : Pass → Header → SoFar → List ℕ → List ℕ → Bool �
 Took new header so_far seats line true = (is_again seats (seat_at (part_of so_far.events) line) ≡ true) × Passes new so_far seats
 Took new header so_far seats line false =
     (is_again seats (seat_at (part_of so_far.events) line) ≡ false) × Passes new (with_line header so_far line) (with_seat seats (seat_at (part_of so_far.events) line))
+
+-- how many reads are kept at the most
+abbrev pub READS_MAX : ℕ
+READS_MAX = 256
+
+-- what is kept of the reads, with one more
+abbrev pub with_read : List (Result Event TextFault) → Result Event TextFault → List (Result Event TextFault)
+with_read reads said = if nat_lt (length reads) READS_MAX then reads ++ said ∷ [] else reads
+
+-- a line was read, and the pass goes on behind it
+pub record Noted (old new : Pass) (header : Header) (line : List ℕ) : Type 0 where
+  pub said : Result Event TextFault
+  pub is : IsRead old.names header old.part line said
+  pub names : new.names ≡ names_by said line old.names
+  pub part : new.part ≡ part_by said old.part
+  pub reads : new.reads.items ≡ with_read old.reads.items said
+
+-- a line that doesn't end the pass was read
+abbrev pub Notes : Pass → Pass → Header → List ℕ → Bool → Type 0
+Notes old new header line true = new.reads ≡ old.reads
+Notes old new header line false = Noted old new header line
+
+-- the reads that are kept are those of the first lines; as long as there is room for more, those of the lines that are left may follow them
+pub record HasReads (pass : Pass) (header : Header) (all left : List (List ℕ)) : Type 0 where
+  pub reads : AreReads header [] Preamble pass.reads.items all
+  pub more : length pass.reads.items < READS_MAX → (others : List (Result Event TextFault)) → AreReads header pass.names pass.part others left
+      → AreReads header [] Preamble (pass.reads.items ++ others) all

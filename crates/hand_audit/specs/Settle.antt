@@ -105,7 +105,7 @@ second_winners s board eligible = side_winners (second_side s.game) s board elig
 abbrev pub mark_at : Option Side → Showing → List ℕ → ℕ → ℕ
 mark_at side s board p = mark_of side s.game board (hand_of s p)
 
--- the order in which the winners of a side get odd units: by their marks on it in stud and razz, and by the button in the games with
+-- the order in which the winners of a side get odd units: by their marks on it in the stud games, and by the button in the games with
 -- a board and with a draw
 unfoldable pub order_of : Option Side → Showing → List ℕ → ℕ → List ℕ
 order_of side s board winners = if has_marks s.game then by_marks (mark_at side s board) (seats_in winners) else odd_order s.button winners

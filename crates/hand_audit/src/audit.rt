@@ -65,8 +65,17 @@ pub fn audit_hand(alloc: Global, bytes: &[u8], first_line: u32) -> Result<HandAu
             });
         }
     };
-    let players = players_of(alloc, &header, bytes, head.next)?;
-    match follow(alloc, &header, players, bytes, head.next, first_line)? {
+    let passed = players_of(alloc, &header, bytes, head.next)?;
+    let players = passed.players;
+    match follow(
+        alloc,
+        &header,
+        players,
+        &passed.reads,
+        bytes,
+        head.next,
+        first_line,
+    )? {
         Followed::Departs(line, cause) => Ok(HandAudit::Rejected {
             line,
             cause,

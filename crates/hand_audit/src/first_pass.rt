@@ -4,19 +4,28 @@ ghost use Rattle.std.specs.Prelude.{◌≡◌, ℕ, ◌+◌, ◌≤◌, ◌<◌,
 ghost use Rattle.line_text.specs.Amounts.{digit_count, number_of};
 ghost use Rattle.line_text.specs.Lines.{lines};
 ghost use Rattle.history_text.specs.declared.events.Event.{Event};
+ghost use Rattle.history_text.specs.declared.events.Header.{Header};
+ghost use Rattle.history_text.specs.declared.events.Part.TheVariants.{Preamble};
 ghost use Rattle.history_text.specs.Texts.{behind};
 ghost use Rattle.history_text.specs.Within.{IsSeated};
 ghost use Rattle.betting_replay.specs.Limits.{Fits};
 ghost use Rattle.betting_replay.specs.Seats.{by_seat};
 ghost use Rattle.hand_audit.specs.Lines.{SoFar, nothing, front_number, seat_number, seat_at, is_again, with_seat, player_of, players_in, players_of};
-ghost use Rattle.hand_audit.specs.Passing.{HasNumbers, Passes, Took, digits_text};
+ghost use Rattle.hand_audit.specs.Keeping.{AreReads};
+ghost use Rattle.hand_audit.specs.Passing.{HasNumbers, HasReads, Notes, Passes, Took, digits_text, with_read};
 
-use crate::hand::{part_after, read, seat_name};
+use crate::hand::{Read, part_after, read, seat_name};
 use card_sets::{Memory, PlayerSet};
 use history_text::{Event, Header, Names, Part, seat_line};
 use line_text::{digit_count, next_line};
 use std::alloc::{AllocError, Global};
 use std::collections::BTreeSet;
+
+/// How many reads are kept at the most, so that a hand of very many lines wants no more memory for them.
+const READS_MAX: usize = 256;
+
+/// How many reads there is room for at first: those of most hands.
+const READS_ROOM: usize = 64;
 
 /// What the pass keeps of the lines so far.
 #[derive(Drop)]
@@ -27,6 +36,16 @@ pub(crate) struct Pass<'a> {
     pub(crate) players: PlayerSet,
     /// The numbers of the seat lines that stood, digit by digit: they may be of any length.
     pub(crate) seats: BTreeSet<&'a [u8]>,
+    /// What the first lines were found to say, at most `READS_MAX`.
+    pub(crate) reads: Vec<Read>,
+}
+
+/// What the first pass finds: who plays, and what the first lines say.
+#[derive(Drop)]
+pub(crate) struct Passed {
+    /// Bit s for seat s.
+    pub(crate) players: u16,
+    pub(crate) reads: Vec<Read>,
 }
 
 /// What stands behind the word that begins a seat line.
@@ -125,17 +144,29 @@ fn with_player_of(players: PlayerSet, e: &Event) -> PlayerSet
     }
 }
 
+/// What a line says is kept, where there is room for it.
+fn keep_read(reads: &mut Vec<Read>, said: Read) -> Result<(), AllocError>
+    ensures { OnOk result (reads.new.items ≡ with_read reads.old.items said) }
+{
+    if reads.len() < READS_MAX {
+        reads.push(said)?;
+    }
+    Ok(())
+}
+
 impl<'a> Pass<'a> {
     /// Of no line.
-    fn new(alloc: Global) -> Pass<'a>
-        ensures { Passes result nothing [] }
+    fn new(alloc: Global) -> Result<Pass<'a>, AllocError>
+        ensures passes { IfOk result (λ pass. Passes pass nothing []) }
+        ensures reads { IfOk result (λ pass. (header : Header) (left : List (List ℕ)) → HasReads pass header left left) }
     {
-        Pass {
+        Ok(Pass {
             names: Names::new(alloc),
             part: Part::Preamble,
             players: PlayerSet::empty(),
             seats: BTreeSet::new(alloc),
-        }
+            reads: Vec::with_capacity(alloc, READS_ROOM)?,
+        })
     }
 
     /// Goes on by a line, and says whether it is a second seat line of its number. A line that can't be read
@@ -144,40 +175,57 @@ impl<'a> Pass<'a> {
         requires { All IsSeated self.old.names }
         ensures took { IfOk result (λ ends. (so_far : SoFar) (seats : List ℕ) → Passes self.old so_far seats
             → Took self.new header.now so_far seats line.now ends) }
+        ensures notes { IfOk result (λ ends. Notes self.old self.new header.now line.now ends) }
     {
         let seat = seat_at(self.part, line);
         if is_again(&self.seats, seat) {
             return Ok(true);
         }
         note_seat(&mut self.seats, seat)?;
-        let e = match read(&self.names, header, self.part, line) {
-            Ok(e) => e,
-            Err(_) => return Ok(false),
-        };
-        seat_name(&mut self.names, &e, line)?;
-        self.players = with_player_of(self.players, &e);
-        self.part = part_after(&e, self.part);
-        Ok(false)
+        match read(&self.names, header, self.part, line) {
+            Ok(e) => {
+                seat_name(&mut self.names, &e, line)?;
+                self.players = with_player_of(self.players, &e);
+                self.part = part_after(&e, self.part);
+                keep_read(&mut self.reads, Ok(e))?;
+                Ok(false)
+            }
+            Err(fault) => {
+                keep_read(&mut self.reads, Err(fault))?;
+                Ok(false)
+            }
+        }
+    }
+
+    /// What was found.
+    fn ends(self) -> Passed
+        ensures { result ≡ record { players = self.entry.players; reads = self.entry.reads } }
+    {
+        Passed {
+            players: self.players.bits(),
+            reads: self.reads,
+        }
     }
 }
 
-/// The players of a hand, by the lines from a place on: bit s for seat s.
+/// The players of a hand, by the lines from a place on, and what the first of these lines say.
 pub(crate) fn players_of(
     alloc: Global,
     header: &Header,
     bytes: &[u8],
     start: usize,
-) -> Result<u16, Memory>
+) -> Result<Passed, Memory>
     requires { start ≤ length bytes.now }
-    ensures { IfOk result (λ players. players ≡ players_of header.now (lines (drop start bytes.now))) }
+    ensures players { IfOk result (λ passed. passed.players ≡ players_of header.now (lines (drop start bytes.now))) }
+    ensures reads { IfOk result (λ passed. AreReads header.now [] Preamble passed.reads.items (lines (drop start bytes.now))) }
 {
-    let mut pass = Pass::new(alloc);
+    let mut pass = Pass::new(alloc)?;
     let mut at = start;
     'lines: while let Some(line) = next_line(bytes, at) {
         if pass.take(header, &bytes[line.first..line.end])? {
-            return Ok(pass.players.bits());
+            return Ok(pass.ends());
         }
         at = line.next;
     }
-    Ok(pass.players.bits())
+    Ok(pass.ends())
 }

@@ -1,22 +1,19 @@
 //! What is kept of the lines of a hand so far.
 
-ghost use Rattle.std.specs.Prelude.{◌≡◌, ℕ, ◌+◌, ◌≤◌, ◌<◌, ◌^◌, ◌∷◌, ◌++◌, [], true, IfOk, OnOk, All, IsTrue};
+ghost use Rattle.std.specs.Prelude.{◌≡◌, ℕ, ◌+◌, ◌≤◌, ◌<◌, ◌^◌, ◌∷◌, ◌++◌, [], true, IfOk, IfSome, OnOk, All, IsTrue};
 ghost use Rattle.pot_layers.specs.Pots.{pots, put_in_all};
 ghost use Rattle.hand_audit.specs.Winning.{AreDecided};
 ghost use Rattle.history_text.specs.declared.events.Event.{Event};
 ghost use Rattle.history_text.specs.declared.events.Header.{Header};
-ghost use Rattle.history_text.specs.Lines.{line_event};
-ghost use Rattle.betting_replay.specs.CardLaws.{MarkerFits};
 ghost use Rattle.betting_replay.specs.Events.{button_after};
-ghost use Rattle.betting_replay.specs.Limits.{Fits};
 ghost use Rattle.betting_replay.specs.Tables.{StandsFor};
 ghost use Rattle.hand_audit.specs.Lines.{SoFar, nothing, part_after, read_at, named_by, with_event};
 ghost use Rattle.hand_audit.specs.Collections.{collected_by, taken};
 ghost use Rattle.hand_audit.specs.Settling.{IsOfHand};
 ghost use Rattle.hand_audit.specs.Showings.{paid_in, rake_by, showing_at};
 ghost use Rattle.hand_audit.specs.Departs.{is_total, total_cause, event_cause};
-ghost use Rattle.hand_audit.specs.Keeping.{Keeps, Goes, HasName, IsSound, EndsAs};
-ghost use Rattle.history_text.specs.Within.{IsSeated, stands_in};
+ghost use Rattle.hand_audit.specs.Keeping.{Keeps, Goes, HasName, IsRead, IsSound, EndsAs};
+ghost use Rattle.history_text.specs.Within.{IsSeated};
 
 use crate::cause::Cause;
 use crate::collections::Collection;
@@ -120,20 +117,14 @@ fn collect(all: &mut Vec<Collection>, e: &Event) -> Result<(), AllocError>
     }
 }
 
+/// What a line was found to say, or its fault.
+pub(crate) type Read = Result<Event, TextFault>;
+
 /// What a line says. Its seat is one of the table's, its amounts are within the greatest, and its name
 /// within the line.
-pub(crate) fn read(
-    names: &Names,
-    header: &Header,
-    part: Part,
-    line: &[u8],
-) -> Result<Event, TextFault>
+pub(crate) fn read(names: &Names, header: &Header, part: Part, line: &[u8]) -> Read
     requires { All IsSeated names.now }
-    ensures value { result ≡ line_event names.now header.now part line.now }
-    ensures fits { IfOk result (λ e. Fits e) }
-    ensures name { IfOk result (λ e. HasName e line.now) }
-    ensures part { IfOk result (λ e. stands_in part e ≡ true) }
-    ensures cards { IfOk result (λ e. MarkerFits header.now.game e) }
+    ensures { IsRead names.now header.now part line.now result }
 {
     read_line(names, header, part, line)
 }
@@ -202,36 +193,61 @@ impl Hand {
         None
     }
 
-    /// Goes on by a line, or says why it departs.
-    pub(crate) fn take_line(
+    /// Goes on by a line that says this, or says why it departs.
+    fn take_read(
         &mut self,
         header: &Header,
         line: &[u8],
+        said: &Read,
     ) -> Result<Option<Cause>, Memory>
         requires names { All IsSeated self.old.names }
         requires sound { IsSound self.old }
+        requires said { IsRead self.old.names header.now self.old.part line.now said.now }
         ensures sound { OnOk result (IsSound self.new) }
         ensures goes { IfOk result (λ cause. (players : ℕ) (so_far : SoFar) → Keeps self.old header.now players so_far
             → Goes self.new header.now players so_far line.now (read_at header.now so_far line.now) cause) }
     {
-        let e = match read(&self.names, header, self.part, line) {
+        let e = match said {
             Ok(e) => e,
-            Err(fault) => return Ok(Some(Cause::Text(fault))),
+            Err(fault) => return Ok(Some(Cause::Text(*fault))),
         };
-        let amiss = self.total_cause(&e);
-        if let Err(fault) = self.replay.step(&e) {
+        let amiss = self.total_cause(e);
+        if let Err(fault) = self.replay.step(e) {
             return Ok(Some(Cause::Bet(fault)));
         }
         if let Some(cause) = amiss {
             return Ok(Some(cause));
         }
-        seat_name(&mut self.names, &e, line)?;
-        collect(&mut self.collections, &e)?;
-        self.part = part_after(&e, self.part);
-        self.button = button_after(&e, self.button);
-        self.rake = rake_by(&e, self.rake);
-        self.total = is_total(&e) || self.total;
+        seat_name(&mut self.names, e, line)?;
+        collect(&mut self.collections, e)?;
+        self.part = part_after(e, self.part);
+        self.button = button_after(e, self.button);
+        self.rake = rake_by(e, self.rake);
+        self.total = is_total(e) || self.total;
         Ok(None)
+    }
+
+    /// Goes on by a line, or says why it departs. What it says is given where it was read before.
+    pub(crate) fn take_line(
+        &mut self,
+        header: &Header,
+        line: &[u8],
+        said: Option<&Read>,
+    ) -> Result<Option<Cause>, Memory>
+        requires names { All IsSeated self.old.names }
+        requires sound { IsSound self.old }
+        requires said { IfSome said (λ said. IsRead self.old.names header.now self.old.part line.now said.now) }
+        ensures sound { OnOk result (IsSound self.new) }
+        ensures goes { IfOk result (λ cause. (players : ℕ) (so_far : SoFar) → Keeps self.old header.now players so_far
+            → Goes self.new header.now players so_far line.now (read_at header.now so_far line.now) cause) }
+    {
+        match said {
+            Some(said) => self.take_read(header, line, said),
+            None => {
+                let said = read(&self.names, header, self.part, line);
+                self.take_read(header, line, &said)
+            }
+        }
     }
 
     /// What became of the chips, behind a total line.

@@ -148,10 +148,10 @@ pub fn law_a_table_has_the_pots_of_the_hand()
         → HasPotsOf settlement seats table }
 {}
 
-/// A law on marks. Of a hand of stud or razz that is accepted: in each pot of two players or more the
-/// mark of a player whose final cards are known is one of these seven, which is in a five of his of best
-/// value, and no card of any such five counts higher. In razz the ace counts lowest. The final cards of
-/// whoever wins are known.
+/// A law on marks. Of a hand of a stud game that is accepted: in each pot of two players or more the mark
+/// on a side of a player whose final cards are known is one of these seven, which is in a five of his of
+/// best value on that side, and no card of any such five counts higher. On the low side the ace counts
+/// lowest. The final cards of whoever wins are known.
 pub fn law_a_mark_is_a_card_of_its_player()
     ensures { (number : ℕ) (line : List ℕ) (lines : List (List ℕ)) (header : Header) → header_of line ≡ Ok header
         → (settlement : Settlement) (all_in : AllIn) (names : List (ℕ × List ℕ)) (players : ℕ)

@@ -1,4 +1,4 @@
-//! The marks of players in stud and razz, by which winners get odd units.
+//! The marks of players in the stud games, by which winners get odd units.
 
 ghost use Rattle.std.specs.Prelude.{◌≡◌, ℕ, ◌<◌, ◌==◌, filter, map, length, true, None, IfSome, slice_index_or};
 ghost use Rattle.card_sets.specs.Games.{allowed, has_marks};
@@ -35,7 +35,7 @@ fn top_number(side: Side, fives: Fives) -> u32
     top
 }
 
-/// How high a card counts: by its rank and then its suit, with the ace below the deuce in the low game.
+/// How high a card counts: by its rank and then its suit, with the ace below the deuce on the low side.
 fn height(side: Side, card: Card) -> u8
     ensures value { result ≡ height side card }
     ensures card { result < 52 }

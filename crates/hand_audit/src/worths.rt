@@ -19,7 +19,7 @@ pub(crate) struct OnSide {
     /// Their values, as numbers that are greater for better; none where a hand is unknown or has no value, or the game
     /// hasn't the side.
     pub(crate) values: [Option<u32>; 11],
-    /// By what winners get odd units in stud and razz: how high their highest cards count.
+    /// By what winners get odd units in the stud games: how high their highest cards count.
     pub(crate) marks: [u8; 11],
 }
 

@@ -7,7 +7,7 @@ use Rattle.card_sets.specs.Choose.{choose}
 use Rattle.card_sets.specs.Disjoint.{apart}
 use Rattle.card_sets.specs.Games.{allowed}
 use Rattle.card_sets.specs.declared.games.Game.{Game}
-use Rattle.card_sets.specs.declared.games.Game.TheVariants.{Holdem, Omaha8, Stud, Razz, Lowball27}
+use Rattle.card_sets.specs.declared.games.Game.TheVariants.{Holdem, Omaha, Omaha8, Stud, Stud8, Razz, Draw5, Lowball27, Triple27}
 use Rattle.rank_high.proofs.Sublists.{IsPart, AreParts, AreParts-choose}
 use Rattle.rank_high.proofs.Sets.{Apart, Apart-apart, length-union}
 use Rattle.rank_high.proofs.SetParts.{set-part, Apart-parts, union-IsCardSet}
@@ -39,10 +39,14 @@ with_twos own board (two ∷ ls) x y h p =
 
 pub allowed-AreFives : (game : Game) (own board : List ℕ) → IsCardSet own → IsCardSet board → apart own board ≡ true → AreFives (allowed game own board)
 allowed-AreFives Holdem own board x y h = choose-AreFives (union own board) (union-IsCardSet own board)
+allowed-AreFives Omaha own board x y h = with_twos own board (choose 2 own) x y (Apart-apart own board h) (AreParts-choose 2 own)
 allowed-AreFives Omaha8 own board x y h = with_twos own board (choose 2 own) x y (Apart-apart own board h) (AreParts-choose 2 own)
 allowed-AreFives Stud own board x y h = choose-AreFives (union own board) (union-IsCardSet own board)
+allowed-AreFives Stud8 own board x y h = choose-AreFives (union own board) (union-IsCardSet own board)
 allowed-AreFives Razz own board x y h = choose-AreFives (union own board) (union-IsCardSet own board)
+allowed-AreFives Draw5 own board x y h = choose-AreFives (union own board) (union-IsCardSet own board)
 allowed-AreFives Lowball27 own board x y h = choose-AreFives (union own board) (union-IsCardSet own board)
+allowed-AreFives Triple27 own board x y h = choose-AreFives (union own board) (union-IsCardSet own board)
 
 pub filter-AreFives : (p : List ℕ → Bool) (ls : List (List ℕ)) → AreFives ls → AreFives (filter p ls)
 filter-AreFives p [] h = tt

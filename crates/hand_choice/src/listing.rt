@@ -4,8 +4,7 @@ ghost use Rattle.std.specs.Prelude.{◌≡◌, ◌≤◌, ◌+◌, length, IsTru
 ghost use Rattle.card_sets.specs.Cards.{union};
 ghost use Rattle.card_sets.specs.Choose.{choose};
 ghost use Rattle.card_sets.specs.Disjoint.{apart};
-ghost use Rattle.card_sets.specs.Games.{allowed, own_size, board_size};
-ghost use Rattle.card_sets.specs.declared.games.Game.TheVariants.{Omaha8};
+ghost use Rattle.card_sets.specs.Games.{two_and_three, allowed, own_size, board_size};
 
 use crate::choices::{FiveList, push_choices, push_pairs};
 use crate::iterator::Fives;
@@ -26,7 +25,7 @@ fn any_five(cards: CardSet) -> Fives
 pub fn two_and_three(own: CardSet, board: CardSet) -> Fives
     requires own { length own ≤ 4 }
     requires board { length board ≤ 5 }
-    ensures { result ≡ allowed Omaha8 own board }
+    ensures { result ≡ two_and_three own board }
 {
     board.rising();
     let mut threes = FiveList::new();
@@ -56,9 +55,13 @@ pub fn fives(game: Game, own: CardSet, board: CardSet) -> Fives
     ensures { result ≡ allowed game own board }
 {
     match game {
-        Game::Omaha8 => two_and_three(own, board),
-        Game::Holdem | Game::Stud | Game::Razz | Game::Lowball27 => {
-            any_five(all_cards(own, board))
-        }
+        Game::Omaha | Game::Omaha8 => two_and_three(own, board),
+        Game::Holdem
+        | Game::Stud
+        | Game::Stud8
+        | Game::Razz
+        | Game::Draw5
+        | Game::Lowball27
+        | Game::Triple27 => any_five(all_cards(own, board)),
     }
 }

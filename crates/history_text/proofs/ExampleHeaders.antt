@@ -32,12 +32,17 @@ headings =
     (codes "PokerStars Zoom Hand #5: 8-Game (Hold'em Pot Limit, 20/40)", chips game.Holdem limit.PotLimit 40) ∷
     (codes "PokerStars Game #5: 7 Card Stud Limit ($0.10/$0.20)", money game.Stud limit.Fixed 10) ∷
     (codes "PokerStars Hand #9999999999999999999: Single Draw 2-7 Lowball No Limit (50/100)", chips game.Lowball27 limit.NoLimit 100) ∷
+    (codes "PokerStars Hand #5: Omaha Pot Limit (50/100)", chips game.Omaha limit.PotLimit 100) ∷
+    (codes "PokerStars Hand #5: 7 Card Stud Hi/Lo Limit ($2/$4)", money game.Stud8 limit.Fixed 200) ∷
+    (codes "PokerStars Hand #5: 5 Card Draw No Limit (50/100)", chips game.Draw5 limit.NoLimit 100) ∷
+    (codes "PokerStars Hand #5: Triple Draw 2-7 Lowball Limit (10/20)", chips game.Triple27 limit.Fixed 10) ∷
     (codes "PokerStars Hand #10000000000000000000: Hold'em No Limit (50/100)", Err fault.BadHeader) ∷
     (codes "PokerStars Home Game Hand #5: Hold'em No Limit (50/100)", Err fault.BadHeader) ∷
     (codes "PokerStars Hand #5 Hold'em No Limit (50/100)", Err fault.BadHeader) ∷
     (codes "PokerStars Hand #5: 6+ Hold'em No Limit (50/100)", Err fault.UnknownGame) ∷
     (codes "PokerStars Hand #5: Fusion Hold'em No Limit (50/100)", Err fault.UnknownGame) ∷
-    (codes "PokerStars Hand #5: Omaha Pot Limit (50/100)", Err fault.UnknownGame) ∷
+    (codes "PokerStars Hand #5: 5 Card Omaha Pot Limit (50/100)", Err fault.UnknownGame) ∷
+    (codes "PokerStars Hand #5: Badugi Limit (50/100)", Err fault.UnknownGame) ∷
     (codes "PokerStars Hand #5: Hold'em (50/100)", Err fault.UnknownGame) ∷
     (codes "PokerStars Hand #5: Hold'em No Limit 50/100", Err fault.BadHeader) ∷
     (codes "PokerStars Hand #5: Hold'em No Limit (0/100)", Err fault.BadHeader) ∷

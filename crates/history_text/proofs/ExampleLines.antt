@@ -33,7 +33,7 @@ use Rattle.history_text.specs.Lines.{line_event}
 abbrev Saying : Type 0
 Saying = List ℕ × Result Event TextFault
 
--- hands of hold'em for money and for chips, of Omaha Hi/Lo, of razz and of single draw
+-- hands of hold'em for money and for chips, of Omaha Hi/Lo, of razz, of triple draw and of single draw
 cash : Header
 cash = record { game = game.Holdem; limit = limit.NoLimit; hundredths = true; big = 100 }
 
@@ -45,6 +45,9 @@ omaha = record { game = game.Omaha8; limit = limit.PotLimit; hundredths = false;
 
 razz : Header
 razz = record { game = game.Razz; limit = limit.Fixed; hundredths = false; big = 10 }
+
+triple : Header
+triple = record { game = game.Triple27; limit = limit.Fixed; hundredths = false; big = 10 }
 
 draw : Header
 draw = record { game = game.Lowball27; limit = limit.NoLimit; hundredths = false; big = 20 }
@@ -181,6 +184,22 @@ draws =
     (codes "hero: stands pat again", Err fault.BadAction) ∷
     []
 
+-- markers, deals and discards of triple draw
+triple_draws : List Saying
+triple_draws =
+    (codes "*** DEALING HANDS ***", Ok (event.Street street.First board.Only [])) ∷
+    (codes "*** FIRST DRAW ***", Ok (event.Street street.FirstDraw board.Only [])) ∷
+    (codes "*** SECOND DRAW ***", Ok (event.Street street.SecondDraw board.Only [])) ∷
+    (codes "*** THIRD DRAW ***", Ok (event.Street street.ThirdDraw board.Only [])) ∷
+    (codes "*** SHOW DOWN ***", Ok (event.Street street.ShowDown board.Only [])) ∷
+    (codes "*** DRAW ***", Err fault.BadMarker) ∷
+    (codes "*** FIRST SHOW DOWN ***", Err fault.BadMarker) ∷
+    (codes "Dealt to hero [7c 5d 4h 3s 2c]", Ok (event.Deal 6 (20 ∷ 13 ∷ 10 ∷ 7 ∷ 0 ∷ []) false)) ∷
+    (codes "Dealt to hero [7c 5d 4h] [3s 2c]", Ok (event.Deal 6 (7 ∷ 0 ∷ []) true)) ∷
+    (codes "hero: discards 2 cards [Qc 7d]", Ok (event.Discard 6 2 (40 ∷ 21 ∷ []))) ∷
+    (codes "hero: stands pat", Ok (event.Pat 6)) ∷
+    []
+
 -- discards in a game with no draw
 discards_elsewhere : List Saying
 discards_elsewhere =
@@ -260,11 +279,12 @@ lines_are_read :
     × Say omaha part.Play deals_of_omaha
     × Say razz part.Play deals_of_razz
     × Say draw part.Play draws
+    × Say triple part.Play triple_draws
     × Say cash part.Play discards_elsewhere
     × Say chips part.Play payments
     × Say cash part.Preamble seats
     × Say chips part.Preamble seats_in_chips
     × Say cash part.Summary totals
     × Say chips part.Summary summary
-unfolding Say posts acts others deals markers_of_two deals_of_omaha deals_of_razz draws discards_elsewhere payments seats seats_in_chips totals summary behind first_place last_place cut_first cut_last money some_money follows all_in_end seat_front front_name cards_of counted_cards closed verb_of post call bet raise perhaps_cards fold show discard_behind discard pat said act_event street_event street_for marker_on marker_of marker_event marked acted deal_once deal_again deal_cards deal dealt give_back returned pot_of collect collected cancelled play_event seat_opening seat_event seated buttoned preamble_event total_event totalled last_shown shown_event shown summary_event written card_of_letters cash chips razz draw names omaha
-lines_are_read = (refl, refl, refl, refl, refl, refl, refl, refl, refl, refl, refl, refl, refl, refl, refl)
+unfolding Say posts acts others deals markers_of_two deals_of_omaha deals_of_razz draws triple_draws discards_elsewhere payments seats seats_in_chips totals summary behind first_place last_place cut_first cut_last money some_money follows all_in_end seat_front front_name cards_of counted_cards closed verb_of post call bet raise perhaps_cards fold show discard_behind discard pat said act_event street_event street_for marker_on marker_of marker_event marked acted deal_once deal_again deal_cards deal dealt give_back returned pot_of collect collected cancelled play_event seat_opening seat_event seated buttoned preamble_event total_event totalled last_shown shown_event shown summary_event written card_of_letters cash chips razz draw triple names omaha
+lines_are_read = (refl, refl, refl, refl, refl, refl, refl, refl, refl, refl, refl, refl, refl, refl, refl, refl)

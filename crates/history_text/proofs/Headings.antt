@@ -1,6 +1,6 @@
 -- The game and the stakes of a header, place by place.
-use Rattle.std.proofs.Common.{◌≡◌, ℕ, suc, ◌+◌, ◌-◌, ◌*◌, ◌<◌, ◌^◌, min, Bool, true, false, List, [], ◌∷◌, ◌++◌, length, drop, get_or, Option, Some, None, refl, ap, sym, ◌∙◌, arith, add-one}
-use Rattle.std.specs.Prelude.{option_map, option_and_then}
+use Rattle.std.proofs.Common.{◌≡◌, ℕ, suc, ◌+◌, ◌-◌, ◌*◌, ◌<◌, ◌^◌, min, Bool, true, false, List, ◌∷◌, length, drop, get_or, Option, Some, None, refl, ap, sym, ◌∙◌, arith, add-one}
+use Rattle.std.specs.Prelude.{option_map}
 use Rattle.std.proofs.Math.Seq.{drop-cons}
 use Rattle.line_text.specs.declared.amounts.WrittenAmount.{WrittenAmount}
 use Rattle.line_text.specs.Amounts.{Written, units_of, greatest}
@@ -12,9 +12,8 @@ use Rattle.card_sets.specs.declared.games.Game.{Game}
 use Rattle.history_text.specs.declared.events.Limit.{Limit}
 use Rattle.history_text.specs.declared.events.TextFault.TheVariants.{BadHeader}
 use Rattle.history_text.specs.Reading.{◌otherwise◌, ◌>>=◌, or_fault}
-use Rattle.history_text.specs.declared.events.GameName.{GameName}
-use Rattle.history_text.specs.Acts.{first_opening}
-use Rattle.history_text.specs.Headers.{Named, behind_name, limit_words, limits, Found, found_first, first_game, first_stakes, game_at, game_names, one_on, stakes_at, staked, with_stakes, header_behind}
+use Rattle.card_sets.specs.Games.{all_games}
+use Rattle.history_text.specs.Headers.{Named, Found, found_first, first_game, first_stakes, game_at, one_on, stakes_at, staked, with_stakes, header_behind}
 use Rattle.history_text.specs.Games.{places_on, capped_stakes, kept_header}
 
 -- a text from a place on is its byte there and what stands behind
@@ -22,11 +21,11 @@ from_place : (text : List ℕ) (place : ℕ) → place < length text → drop pl
 from_place text place h = rw (add-one, drop-cons text place 0) refl
 
 -- a game that stands at the front
-game_first : (byte : ℕ) (text : List ℕ) (game : Named) → game_at game_names (byte ∷ text) ≡ Some game
+game_first : (byte : ℕ) (text : List ℕ) (game : Named) → game_at all_games (byte ∷ text) ≡ Some game
     → first_game (byte ∷ text) ≡ Some (record { place = 0; named = game })
 game_first byte text game h = ap (λ g. option_map found_first g otherwise one_on (first_game text)) h
 
-game_later : (byte : ℕ) (text : List ℕ) → game_at game_names (byte ∷ text) ≡ None → first_game (byte ∷ text) ≡ one_on (first_game text)
+game_later : (byte : ℕ) (text : List ℕ) → game_at all_games (byte ∷ text) ≡ None → first_game (byte ∷ text) ≡ one_on (first_game text)
 game_later byte text h = ap (λ g. option_map found_first g otherwise one_on (first_game text)) h
 
 later_place : (place : ℕ) (found : Option Found) → places_on place (one_on found) ≡ places_on (place + 1) found
@@ -36,39 +35,23 @@ later_place place (Some found) =
     ap (λ n. Some (let f : Found = record { place = n; named = found.named } in f)) e
 
 pub game_here : (text : List ℕ) (place : ℕ) (game : Named) → place < length text
-    → Some game ≡ game_at game_names (drop place text)
+    → Some game ≡ game_at all_games (drop place text)
     → Some (let f : Found = record { place = place; named = game } in f) ≡ places_on place (first_game (drop place text))
 game_here text place game within found =
     let cut : drop place text ≡ get_or text place 0 ∷ drop (place + 1) text = from_place text place within in
     let here : first_game (get_or text place 0 ∷ drop (place + 1) text) ≡ Some (record { place = 0; named = game }) =
-    game_first _ _ game (sym (found ∙ ap (game_at game_names) cut)) in
+    game_first _ _ game (sym (found ∙ ap (game_at all_games) cut)) in
     let none : place ≡ place + 0 = omega arith in
     ap (λ n. Some (let f : Found = record { place = n; named = game } in f)) none
     ∙ sym (ap (places_on place) (ap first_game cut ∙ here))
 
-pub game_on : (text : List ℕ) (place : ℕ) → place < length text → None ≡ game_at game_names (drop place text)
+pub game_on : (text : List ℕ) (place : ℕ) → place < length text → None ≡ game_at all_games (drop place text)
     → places_on (place + 1) (first_game (drop (place + 1) text)) ≡ places_on place (first_game (drop place text))
 game_on text place within none =
     let cut : drop place text ≡ get_or text place 0 ∷ drop (place + 1) text = from_place text place within in
     let later : first_game (get_or text place 0 ∷ drop (place + 1) text) ≡ one_on (first_game (drop (place + 1) text)) =
-    game_later _ _ (sym (none ∙ ap (game_at game_names) cut)) in
+    game_later _ _ (sym (none ∙ ap (game_at all_games) cut)) in
     sym (ap (places_on place) (ap first_game cut ∙ later) ∙ later_place place (first_game (drop (place + 1) text)))
-
--- the first of some names is the first of their front, or else of the others
-join_step : (game : GameName) (here : Option (Limit × List ℕ)) (later both others : Option Named) →
-    both ≡ (option_map (λ (found : Named). Some found) later otherwise others) →
-    (option_map (λ (l : Limit × List ℕ). Some (let named : Named = record { name = game; limit = l.0; rest = l.1 } in named)) here otherwise both)
-    ≡ (option_map (λ (found : Named). Some found)
-    (option_map (λ (l : Limit × List ℕ). Some (let named : Named = record { name = game; limit = l.0; rest = l.1 } in named)) here otherwise later) otherwise others)
-join_step game None later both others h = h
-join_step game (Some l) later both others h = refl
-
-pub game_at-append : (front others : List GameName) (text : List ℕ) →
-    game_at (front ++ others) text ≡ (option_map (λ (found : Named). Some found) (game_at front text) otherwise game_at others text)
-game_at-append [] others text = refl
-game_at-append (game ∷ front) others text =
-    join_step game (option_and_then (λ tail. first_opening limit_words limits tail) (behind_name game text))
-    (game_at front text) (game_at (front ++ others) text) (game_at others text) (game_at-append front others text)
 
 -- the same of stakes
 pub stakes_here : (text : List ℕ) (place : ℕ) → place < length text → (read : Option (Written × Written)) → read ≡ stakes_at (drop place text)

@@ -2,6 +2,7 @@ pub mod Places
 pub mod Words
 pub mod Counts
 pub mod Headings
+pub mod Openings
 pub mod Longest
 pub mod Within
 pub mod ExampleHands

@@ -11,7 +11,7 @@ use Rattle.history_text.specs.declared.events.Limit.{Limit}
 use Rattle.history_text.specs.declared.events.TextFault.{TextFault}
 
 abbrev pub seen_named : NamedGame → Named
-seen_named game = record { name = game.name; limit = game.limit; rest = game.rest.now }
+seen_named game = record { game = game.game; limit = game.limit; rest = game.rest.now }
 
 abbrev pub seen_found : ℕ × NamedGame → Found
 seen_found found = record { place = found.0; named = seen_named found.1 }

@@ -1,5 +1,5 @@
 -- Header lines.
-use Rattle.std.specs.Prelude.{ℕ, suc, ◌+◌, ◌-◌, ◌==◌, ◌&&◌, ◌||◌, nat_le, nat_lt, nat_eq, if◌then◌else◌, Bool, false, List, [], ◌∷◌, ◌++◌, map, length, take, drop, codes, Option, Some, None, option_map, option_and_then, Result, Ok, Err}
+use Rattle.std.specs.Prelude.{ℕ, suc, ◌+◌, ◌-◌, ◌==◌, ◌&&◌, ◌||◌, nat_le, nat_lt, nat_eq, if◌then◌else◌, Bool, false, List, [], ◌∷◌, length, take, drop, codes, Option, Some, None, option_map, option_and_then, Result, Ok, Err}
 use Rattle.std.specs.List.{list_all, list_any, ends_with}
 use Rattle.std.specs.Char.{is_ascii_alphabetic}
 use Rattle.std.specs.Str.{bytes_eq}
@@ -9,8 +9,6 @@ use Rattle.line_text.specs.Amounts.{Written, written, units_of, greatest, digit_
 use Rattle.history_text.specs.declared.events.Header.{Header}
 use Rattle.history_text.specs.declared.events.Limit.{Limit}
 use Rattle.history_text.specs.declared.events.Limit.TheVariants.{NoLimit, PotLimit, Fixed}
-use Rattle.history_text.specs.declared.events.GameName.{GameName}
-use Rattle.history_text.specs.declared.events.GameName.TheVariants as name
 use Rattle.history_text.specs.declared.events.TextFault.{TextFault}
 use Rattle.history_text.specs.declared.events.TextFault.TheVariants.{BadHeader, UnknownGame, AmountTooLarge}
 use Rattle.history_text.specs.Texts.{behind, cut_first, cut_last}
@@ -57,23 +55,9 @@ behind_start line =
     if is_start cut.0 && nat_le (digit_count cut.1) 19 then behind (codes ": ") (drop (digit_count cut.1) cut.1) else None)
     (title line)
 
--- the names of games, of those that are read and of others
-abbrev pub name_words : GameName → List ℕ
-name_words (name.Played game) = header_name game
-name_words name.Omaha = codes "Omaha"
-name_words name.SevenCardStudHiLo = codes "7 Card Stud Hi/Lo"
-name_words name.TripleDraw = codes "Triple Draw 2-7 Lowball"
-name_words name.FiveCardDraw = codes "5 Card Draw"
-
-abbrev pub other_names : List GameName
-other_names = name.Omaha ∷ name.SevenCardStudHiLo ∷ name.TripleDraw ∷ name.FiveCardDraw ∷ []
-
-abbrev pub game_names : List GameName
-game_names = map (λ (game : Game). name.Played game) all_games ++ other_names
-
--- what stands behind a name and a space
-abbrev pub behind_name : GameName → List ℕ → Option (List ℕ)
-behind_name game text = option_and_then (λ rest. behind (codes " ") rest) (behind (name_words game) text)
+-- what stands behind a game's name and a space
+abbrev pub behind_name : Game → List ℕ → Option (List ℕ)
+behind_name game text = option_and_then (λ rest. behind (codes " ") rest) (behind (header_name game) text)
 
 -- the limits by their words
 abbrev pub limit_words : Limit → List ℕ
@@ -86,14 +70,14 @@ limits = NoLimit ∷ PotLimit ∷ Fixed ∷ []
 
 -- a game's name, a space and a limit, and what stands behind them
 pub record Named : Type 0 where
-  pub name : GameName
+  pub game : Game
   pub limit : Limit
   pub rest : List ℕ
 
-abbrev pub game_at : List GameName → List ℕ → Option Named
+abbrev pub game_at : List Game → List ℕ → Option Named
 game_at [] text = None
 game_at (game ∷ games) text =
-    option_map (λ l. Some (let named : Named = record { name = game; limit = l.0; rest = l.1 } in named))
+    option_map (λ l. Some (let named : Named = record { game = game; limit = l.0; rest = l.1 } in named))
     (option_and_then (λ tail. first_opening limit_words limits tail) (behind_name game text))
     otherwise game_at games text
 
@@ -112,7 +96,7 @@ found_first named = Some (record { place = 0; named = named })
 abbrev pub first_game : List ℕ → Option Found
 first_game [] = None
 first_game (byte ∷ text) =
-    option_map found_first (game_at game_names (byte ∷ text)) otherwise one_on (first_game text)
+    option_map found_first (game_at all_games (byte ∷ text)) otherwise one_on (first_game text)
 
 -- the word that ends at one space right before a place
 abbrev pub last_word : List ℕ → List ℕ
@@ -126,19 +110,12 @@ abbrev pub other_words : List (List ℕ)
 other_words =
     codes "6+" ∷ codes "Card" ∷ codes "Split" ∷ codes "Tempest" ∷ codes "Unfolded" ∷ codes "Showtime" ∷ codes "Fusion" ∷ []
 
--- the game that is played under a name, if it is one of those that are read
-abbrev pub played : GameName → Option Game
-played (name.Played game) = Some game
-played name.Omaha = None
-played name.SevenCardStudHiLo = None
-played name.TripleDraw = None
-played name.FiveCardDraw = None
-
 abbrev pub is_other_word : List ℕ → Bool
 is_other_word word = list_any (λ other. bytes_eq word other) other_words
 
-unfoldable pub game_of : List ℕ → GameName → Option Game
-game_of before game = if is_other_word (word_before before) then None else played game
+-- the game of a name, unless the word before it makes it another's
+unfoldable pub game_of : List ℕ → Game → Option Game
+game_of before game = if is_other_word (word_before before) then None else Some game
 
 -- two amounts with a slash between, behind `(` or `, `
 abbrev pub second_stake : Written → List ℕ → Option (Written × Written)
@@ -186,5 +163,5 @@ unfoldable pub header_of : List ℕ → Result Header TextFault
 header_of line = do
   text ← or_fault BadHeader (behind_start line)
   found ← or_fault UnknownGame (first_game text)
-  game ← or_fault UnknownGame (game_of (take found.place text) (found.named.name))
+  game ← or_fault UnknownGame (game_of (take found.place text) found.named.game)
   header_behind game found.named.limit found.named.rest

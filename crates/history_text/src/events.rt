@@ -14,21 +14,6 @@ pub enum Limit {
     Fixed,
 }
 
-/// The games whose names are known in a header, played or not.
-#[derive(Clone, Copy, Debug, PartialEq, Eq)]
-pub enum GameName {
-    /// A game that is read, under its name.
-    Played(Game),
-    /// `Omaha`, for the high alone.
-    Omaha,
-    /// `7 Card Stud Hi/Lo`.
-    SevenCardStudHiLo,
-    /// `Triple Draw 2-7 Lowball`.
-    TripleDraw,
-    /// `5 Card Draw`.
-    FiveCardDraw,
-}
-
 /// What a header line says.
 #[derive(Clone, Copy, Debug, PartialEq, Eq)]
 pub struct Header {
@@ -64,7 +49,7 @@ pub enum PostKind {
     Both,
     /// The ante.
     Ante,
-    /// The bring-in of stud and razz.
+    /// The bring-in of a stud game.
     BringIn,
 }
 
@@ -233,7 +218,7 @@ pub enum Event {
 /// Why a line is refused.
 #[derive(Clone, Copy, Debug, PartialEq, Eq, Drop)]
 pub enum TextFault {
-    /// A header whose game and limit aren't found, or aren't played.
+    /// A header whose game and limit aren't found, or whose name stands behind a word that makes it another game's.
     UnknownGame,
     /// A header or a seat line that isn't in its form.
     BadHeader,

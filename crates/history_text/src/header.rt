@@ -3,12 +3,12 @@
 ghost use Rattle.std.specs.Prelude.{◌≡◌, ◌==◌, ◌||◌, ◌≤◌, ◌+◌, ◌-◌, [], ◌∷◌, drop, length, map, option_map, take, IfOk, IfSome, IsTrue, MatchOption};
 ghost use Rattle.std.specs.List.{list_all};
 ghost use Rattle.history_text.specs.Acts.{first_opening};
-ghost use Rattle.history_text.specs.Headers.{behind_name, behind_start, big_of, first_game, first_stakes, game_at, game_names, game_of, hand_number, header_behind, header_of, is_header, is_letter_or_space, is_other_word, is_start, is_title, last_word, limit_words, limits, name_words, opened, played, stakes_at, stakes_of, title, word_before};
-ghost use Rattle.history_text.specs.declared.events.GameName.TheVariants.{Played};
+ghost use Rattle.history_text.specs.Headers.{behind_name, behind_start, big_of, first_game, first_stakes, game_at, game_of, hand_number, header_behind, header_of, is_header, is_letter_or_space, is_other_word, is_start, is_title, last_word, limit_words, limits, opened, stakes_at, stakes_of, title, word_before};
+ghost use Rattle.card_sets.specs.Games.{all_games};
 ghost use Rattle.history_text.specs.Games.{capped_stakes, kept_header, seen_found, seen_named};
 
 use crate::texts::{behind, cut_first, cut_last};
-use crate::{GameName, Header, Limit, TextFault};
+use crate::{Header, Limit, TextFault};
 use card_sets::Game;
 use line_text::{GREATEST, WrittenAmount, digit_count, written};
 
@@ -92,44 +92,8 @@ fn behind_start(line: &[u8]) -> Option<&[u8]>
     behind(text, b": ")
 }
 
-/// The games whose names are known, and that aren't read.
-const OTHER_NAMES: &[GameName] = &[
-    GameName::Omaha,
-    GameName::SevenCardStudHiLo,
-    GameName::TripleDraw,
-    GameName::FiveCardDraw,
-];
-
 /// The limits.
 const LIMITS: [Limit; 3] = [Limit::NoLimit, Limit::PotLimit, Limit::Fixed];
-
-impl GameName {
-    /// The name.
-    fn words(self) -> &'static [u8]
-        ensures { result.now ≡ name_words self }
-    {
-        match self {
-            GameName::Played(game) => game.header_name().as_bytes(),
-            GameName::Omaha => b"Omaha",
-            GameName::SevenCardStudHiLo => b"7 Card Stud Hi/Lo",
-            GameName::TripleDraw => b"Triple Draw 2-7 Lowball",
-            GameName::FiveCardDraw => b"5 Card Draw",
-        }
-    }
-
-    /// The game that is played under the name, if it is read.
-    fn played(self) -> Option<Game>
-        ensures { result ≡ played self }
-    {
-        match self {
-            GameName::Played(game) => Some(game),
-            GameName::Omaha
-            | GameName::SevenCardStudHiLo
-            | GameName::TripleDraw
-            | GameName::FiveCardDraw => None,
-        }
-    }
-}
 
 impl Limit {
     /// The words that say it.
@@ -147,7 +111,7 @@ impl Limit {
 /// A game's name and its limit, and what stands behind them.
 #[derive(Clone, Copy, Debug)]
 struct NamedGame<'a> {
-    name: GameName,
+    game: Game,
     limit: Limit,
     rest: &'a [u8],
 }
@@ -166,39 +130,27 @@ fn first_limit<'a>(limits: &[Limit], text: &'a [u8]) -> Option<(Limit, &'a [u8])
 }
 
 /// What stands behind a game's name and a space.
-fn behind_name(name: GameName, text: &[u8]) -> Option<&[u8]>
-    ensures { option_map (λ rest. rest.now) result ≡ behind_name name text.now }
+fn behind_name(game: Game, text: &[u8]) -> Option<&[u8]>
+    ensures { option_map (λ rest. rest.now) result ≡ behind_name game text.now }
 {
-    behind(behind(text, name.words())?, b" ")
+    behind(behind(text, game.header_name().as_bytes())?, b" ")
 }
 
 /// One game's name with a limit, at the front of the text.
-fn named_at(name: GameName, text: &[u8]) -> Option<NamedGame<'_>>
-    ensures { option_map seen_named result ≡ game_at (name ∷ []) text.now }
+fn named_at(game: Game, text: &[u8]) -> Option<NamedGame<'_>>
+    ensures { option_map seen_named result ≡ game_at (game ∷ []) text.now }
 {
-    let (limit, rest) = first_limit(&LIMITS, behind_name(name, text)?)?;
-    Some(NamedGame { name, limit, rest })
+    let (limit, rest) = first_limit(&LIMITS, behind_name(game, text)?)?;
+    Some(NamedGame { game, limit, rest })
 }
 
-/// The first of some games that are read that the text begins with, with a limit.
-fn played_at<'a>(games: &[Game], text: &'a [u8]) -> Option<NamedGame<'a>>
-    ensures { option_map seen_named result ≡ game_at (map (λ game. Played game) games.now) text.now }
+/// The first of some games that the text begins with, with a limit.
+fn game_at<'a>(games: &[Game], text: &'a [u8]) -> Option<NamedGame<'a>>
+    ensures { option_map seen_named result ≡ game_at games.now text.now }
 {
     for game in games {
-        if let Some(found) = named_at(GameName::Played(*game), text) {
+        if let Some(found) = named_at(*game, text) {
             return Some(found);
-        }
-    }
-    None
-}
-
-/// The first of some names that the text begins with, with a limit.
-fn game_at<'a>(names: &[GameName], text: &'a [u8]) -> Option<NamedGame<'a>>
-    ensures { option_map seen_named result ≡ game_at names.now text.now }
-{
-    for name in names {
-        if let Some(game) = named_at(*name, text) {
-            return Some(game);
         }
     }
     None
@@ -206,12 +158,9 @@ fn game_at<'a>(names: &[GameName], text: &'a [u8]) -> Option<NamedGame<'a>>
 
 /// The game that the text begins with, with a limit.
 fn named_game(text: &[u8]) -> Option<NamedGame<'_>>
-    ensures { option_map seen_named result ≡ game_at game_names text.now }
+    ensures { option_map seen_named result ≡ game_at all_games text.now }
 {
-    match played_at(Game::all(), text) {
-        Some(found) => Some(found),
-        None => game_at(OTHER_NAMES, text),
-    }
+    game_at(Game::all(), text)
 }
 
 /// The first place at which a game and a limit stand.
@@ -279,13 +228,13 @@ fn is_other_word(word: &[u8]) -> bool
 
 /// The game of a name, by what stands before it.
 #[tactic(auto, unfolding(crate::specs::Headers::game_of))]
-fn game_of(before: &[u8], name: GameName) -> Option<Game>
-    ensures { result ≡ game_of before.now name }
+fn game_of(before: &[u8], game: Game) -> Option<Game>
+    ensures { result ≡ game_of before.now game }
 {
     if is_other_word(word_before(before)) {
         None
     } else {
-        name.played()
+        Some(game)
     }
 }
 
@@ -389,6 +338,6 @@ pub fn read_header(line: &[u8]) -> Result<Header, TextFault>
     let text = behind_start(line).ok_or(TextFault::BadHeader)?;
     let (place, found) = first_game(text).ok_or(TextFault::UnknownGame)?;
     let (before, _) = text.split_at(place);
-    let game = game_of(before, found.name).ok_or(TextFault::UnknownGame)?;
+    let game = game_of(before, found.game).ok_or(TextFault::UnknownGame)?;
     header_behind(game, found.limit, found.rest)
 }

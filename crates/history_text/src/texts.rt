@@ -1,6 +1,6 @@
 //! Fronts and cuts of texts.
 
-ghost use Rattle.std.specs.Prelude.{◌≡◌, ◌<◌, ◌≤◌, ◌+◌, true, false, nat_eq, option_map, length, IfSome};
+ghost use Rattle.std.specs.Prelude.{◌≡◌, ◌<◌, ◌≤◌, ◌+◌, true, false, nat_eq, option_map, drop, length, IfSome};
 ghost use Rattle.std.specs.List.{starts_with};
 ghost use Rattle.history_text.specs.Texts.{behind, first_place, last_place, cut_first, cut_last};
 
@@ -39,13 +39,29 @@ fn first_place(text: &[u8], mark: &[u8]) -> Option<usize>
     memmem::find(text, mark)
 }
 
-/// The last place at which a mark stands.
+/// Whether a mark stands at a place.
+fn stands_at(text: &[u8], mark: &[u8], place: usize) -> bool
+    requires { place ≤ length text.now }
+    ensures { result ≡ starts_with nat_eq (drop place text.now) mark.now }
+{
+    let rest = &text[place..];
+    !begin_apart(rest, mark) && rest.starts_with(mark)
+}
+
+/// The last place at which a mark stands. Texts are short, so the places are tried one by one from the end.
 fn last_place(text: &[u8], mark: &[u8]) -> Option<usize>
     requires { 0 < length mark.now }
     ensures value { result ≡ last_place mark.now text.now }
     ensures within { IfSome result (λ place. place + length mark.now ≤ length text.now) }
 {
-    memmem::rfind(text, mark)
+    let mut place = (text.len() + 1).saturating_sub(mark.len());
+    'places: while place > 0 {
+        place -= 1;
+        if stands_at(text, mark, place) {
+            return Some(place);
+        }
+    }
+    None
 }
 
 /// What stands before the first place at which a mark stands, and what stands behind the mark.

@@ -3,8 +3,7 @@ use Rattle.std.specs.Prelude.{◌≡◌, ◌<◌, true, ℕ, Bool, ◌||◌, nat
 use Rattle.std.specs.Option.{option_map}
 use Rattle.card_sets.specs.Cards.{IsCardSet}
 use Rattle.card_sets.specs.Disjoint.{apart}
-use Rattle.card_sets.specs.Games.{allowed}
-use Rattle.card_sets.specs.declared.games.Game.TheVariants.{Omaha8}
+use Rattle.card_sets.specs.Games.{two_and_three}
 use Rattle.rank_high.specs.High.{high, value_of, greatest_of, count_of_rank}
 use Rattle.rank_high.specs.Parts.{of_suit, plain_high}
 use Rattle.rank_low.specs.Low.{low_a5, qualifies, least_of, ace_number}
@@ -23,7 +22,7 @@ eight_number fives = option_map ace_number (least_of (map low_a5 (filter qualifi
 
 -- the fives that two own cards make with three of the board
 abbrev pub fives : List ℕ → List ℕ → List (List ℕ)
-fives own board = allowed Omaha8 own board
+fives own board = two_and_three own board
 
 -- what the best of them is worth as a high hand
 unfoldable pub omaha_high : List ℕ → List ℕ → List ℕ

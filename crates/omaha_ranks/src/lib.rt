@@ -1,5 +1,5 @@
-//! What the hands of Omaha Hi/Lo are worth: two own cards make each five with three of the board,
-//! chosen for the high and for the low apart.
+//! What the hands of Omaha and of Omaha Hi/Lo are worth: two own cards make each five with three of the
+//! board, chosen for the high and for the low apart.
 #![tactic(auto)]
 
 mod best_choice;

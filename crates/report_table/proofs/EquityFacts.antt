@@ -10,7 +10,7 @@ use Rattle.card_sets.specs.Games.{has_side}
 use Rattle.card_sets.specs.Rising.{IsRising-cards_where}
 use Rattle.card_sets.specs.State.{State}
 use Rattle.card_sets.specs.declared.games.Game.{Game}
-use Rattle.card_sets.specs.declared.games.Game.TheVariants.{Holdem, Omaha8, Stud, Razz, Lowball27}
+use Rattle.card_sets.specs.declared.games.Game.TheVariants.{Holdem, Omaha, Omaha8, Stud, Stud8, Razz, Draw5, Lowball27, Triple27}
 use Rattle.card_sets.specs.declared.games.Side.{Side}
 use Rattle.card_sets.specs.declared.games.Side.TheVariants.{High, Low}
 use Rattle.equity_job.specs.Jobs.{IsDeckShort, IsAboveLimit}
@@ -70,9 +70,13 @@ pot_hand_same : (form : Form) (game : Game) (a b : Figures) (k : ℕ) (name : Li
 unfolding pot_hand_lines
 pot_hand_same form Holdem a b k name hand same p h = rw (same.cell k hand High p h, same.units k hand p h, same.all) refl
 pot_hand_same form Omaha8 a b k name hand same p h = rw (same.cell k hand High p h, same.cell k hand Low p h, same.units k hand p h, same.all) refl
+pot_hand_same form Stud8 a b k name hand same p h = rw (same.cell k hand High p h, same.cell k hand Low p h, same.units k hand p h, same.all) refl
 pot_hand_same form Stud a b k name hand same p h = rw (same.cell k hand High p h, same.units k hand p h, same.all) refl
+pot_hand_same form Draw5 a b k name hand same p h = rw (same.cell k hand High p h, same.units k hand p h, same.all) refl
+pot_hand_same form Omaha a b k name hand same p h = rw (same.cell k hand High p h, same.units k hand p h, same.all) refl
 pot_hand_same form Razz a b k name hand same p h = rw (same.cell k hand Low p h, same.units k hand p h, same.all) refl
 pot_hand_same form Lowball27 a b k name hand same p h = rw (same.cell k hand Low p h, same.units k hand p h, same.all) refl
+pot_hand_same form Triple27 a b k name hand same p h = rw (same.cell k hand Low p h, same.units k hand p h, same.all) refl
 
 pot_same : (form : Form) (deal : Showdown) (mask : ℕ) (a b : Figures) (names : Seated) (seats : List ℕ) (k : ℕ) → eligible_in deal k ≡ hands_of mask → Agree a b → k < 10 →
     pot_equity form deal a names seats k ≡ pot_equity form deal b names seats k

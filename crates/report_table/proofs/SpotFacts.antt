@@ -6,7 +6,7 @@ use Rattle.std.proofs.Math.Numerals.{add-one}
 use Rattle.card_sets.specs.Rising.{IsRising-cards_where}
 use Rattle.card_sets.specs.State.{State}
 use Rattle.card_sets.specs.declared.games.Game.{Game}
-use Rattle.card_sets.specs.declared.games.Game.TheVariants.{Holdem, Omaha8, Stud, Razz, Lowball27}
+use Rattle.card_sets.specs.declared.games.Game.TheVariants.{Holdem, Omaha, Omaha8, Stud, Stud8, Razz, Draw5, Lowball27, Triple27}
 use Rattle.card_sets.specs.declared.games.Side.{Side}
 use Rattle.card_sets.specs.declared.games.Side.TheVariants.{High, Low}
 use Rattle.runout_ranges.specs.Slots.{unseen, slots, counts_of}
@@ -26,9 +26,13 @@ hand_lines_same : (form : Form) (game : Game) (all hand : ℕ) (cell cell' : ℕ
 unfolding hand_lines
 hand_lines_same form Holdem all hand cell cell' units units' same same_units = rw (same High, same_units) refl
 hand_lines_same form Omaha8 all hand cell cell' units units' same same_units = rw (same High, same Low, same_units) refl
+hand_lines_same form Stud8 all hand cell cell' units units' same same_units = rw (same High, same Low, same_units) refl
 hand_lines_same form Stud all hand cell cell' units units' same same_units = rw (same High, same_units) refl
+hand_lines_same form Draw5 all hand cell cell' units units' same same_units = rw (same High, same_units) refl
+hand_lines_same form Omaha all hand cell cell' units units' same same_units = rw (same High, same_units) refl
 hand_lines_same form Razz all hand cell cell' units units' same same_units = rw (same Low, same_units) refl
 hand_lines_same form Lowball27 all hand cell cell' units units' same same_units = rw (same Low, same_units) refl
+hand_lines_same form Triple27 all hand cell cell' units units' same same_units = rw (same Low, same_units) refl
 
 -- equal cells and units give some first hands equal lines
 every_hand_same : (form : Form) (game : Game) (all n : ℕ) (cell cell' : ℕ → Side → Cell) (units units' : ℕ → ℕ) →

@@ -8,7 +8,7 @@ use Rattle.card_sets.specs.declared.games.Family.TheVariants as family
 use Rattle.card_sets.specs.declared.games.Side.{Side}
 use Rattle.card_sets.specs.declared.games.Side.TheVariants.{High, Low}
 use Rattle.card_sets.specs.declared.streets.Street.{Street}
-use Rattle.card_sets.specs.declared.streets.Street.TheVariants.{First, Flop, Turn, Fourth, Fifth, Sixth, River, Draw, ShowDown, Summary}
+use Rattle.card_sets.specs.declared.streets.Street.TheVariants.{First, Flop, Turn, Fourth, Fifth, Sixth, River, Draw, FirstDraw, SecondDraw, ThirdDraw, ShowDown, Summary}
 use Rattle.share_fractions.specs.Round.{fixed_text}
 use Rattle.spot_text.specs.declared.faults.SpotFault.{SpotFault}
 use Rattle.spot_text.specs.declared.faults.SpotFault.TheVariants.{UnknownWord, BadCard, TwiceCard, HandSize, BoardSize, PlayerCount, DeckShort}
@@ -23,8 +23,10 @@ abbrev pub first_word : Family → List ℕ
 first_word family.Board = codes "preflop"
 first_word family.Stud = codes "3rd"
 first_word family.Draw = codes "predraw"
+first_word family.TripleDraw = codes "predraw"
 
--- how the street of an all-in is written; on the last street no card is to come, so there is none
+-- how the street of an all-in is written; on the last street no card is to come, and nobody's cards are known on the first of three draws, so there
+-- is none
 abbrev pub street_word : Game → Street → Option (List ℕ)
 street_word game First = Some (first_word (family_of game))
 street_word game Flop = Some (codes "flop")
@@ -34,6 +36,9 @@ street_word game Fifth = Some (codes "5th")
 street_word game Sixth = Some (codes "6th")
 street_word game River = None
 street_word game Draw = None
+street_word game FirstDraw = None
+street_word game SecondDraw = Some (codes "2nd-draw")
+street_word game ThirdDraw = None
 street_word game ShowDown = None
 street_word game Summary = None
 

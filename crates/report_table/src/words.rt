@@ -13,7 +13,7 @@ use spot_text::SpotFault;
 use std::alloc::AllocError;
 
 /// How the street of an all-in is written. None where no card is to come: from the last street on no
-/// all-in lies.
+/// all-in lies. None either on the first of three draws, where nobody's cards are known.
 pub fn street_word(game: Game, street: Street) -> Option<&'static str>
     ensures { option_map (λ word. word.now) result ≡ street_word game street }
 {
@@ -24,7 +24,13 @@ pub fn street_word(game: Game, street: Street) -> Option<&'static str>
         Street::Fourth => Some("4th"),
         Street::Fifth => Some("5th"),
         Street::Sixth => Some("6th"),
-        Street::River | Street::Draw | Street::ShowDown | Street::Summary => None,
+        Street::SecondDraw => Some("2nd-draw"),
+        Street::River
+        | Street::Draw
+        | Street::FirstDraw
+        | Street::ThirdDraw
+        | Street::ShowDown
+        | Street::Summary => None,
     }
 }
 
@@ -35,7 +41,7 @@ fn first_word(family: Family) -> &'static str
     match family {
         Family::Board => "preflop",
         Family::Stud => "3rd",
-        Family::Draw => "predraw",
+        Family::Draw | Family::TripleDraw => "predraw",
     }
 }
 

@@ -6,7 +6,7 @@ use Rattle.std.specs.List.{list_all}
 use Rattle.std.proofs.lemmas.Bool.{cases_eq, cases_lt}
 use Rattle.card_sets.specs.State.{State}
 use Rattle.card_sets.specs.declared.games.Game.{Game}
-use Rattle.card_sets.specs.declared.games.Game.TheVariants.{Holdem, Omaha8, Stud, Razz, Lowball27}
+use Rattle.card_sets.specs.declared.games.Game.TheVariants.{Holdem, Omaha, Omaha8, Stud, Stud8, Razz, Draw5, Lowball27, Triple27}
 use Rattle.card_sets.specs.Games.{allowed, has_board}
 use Rattle.card_sets.specs.declared.games.Side.{Side}
 use Rattle.card_sets.specs.declared.games.Side.TheVariants.{High}
@@ -117,10 +117,14 @@ best_five game own board = greatest_of (map high (allowed game own board))
 
 best_is : (game : Game) (own board : List ℕ) → has_board game ≡ true → best High game own board ≡ Some (best_five game own board)
 best_is Holdem own board is = refl
+best_is Omaha own board is = refl
 best_is Omaha8 own board is = refl
 best_is Stud own board is = absurd (true≢false (sym is))
+best_is Stud8 own board is = absurd (true≢false (sym is))
 best_is Razz own board is = absurd (true≢false (sym is))
+best_is Draw5 own board is = absurd (true≢false (sym is))
 best_is Lowball27 own board is = absurd (true≢false (sym is))
+best_is Triple27 own board is = absurd (true≢false (sym is))
 
 beaten : (st : State) (runout : List (List ℕ)) (n i j : ℕ) → Keeps → has_board st.game ≡ true → ((h : ℕ) → h < n → IsFull st.game (own_after st runout h) (board_after st runout)) → i < n → j < n
     → is_beaten_by High (value_after High st runout i) (value_after High st runout j) ≡ nat_lt (high_of st runout i) (high_of st runout j)

@@ -1,5 +1,5 @@
 -- The runouts of a leaf of draws: each gives the last hand a draw, and the others what they have.
-use Rattle.std.proofs.Common.{◌≡◌, ℕ, suc, ◌<◌, ◌≤◌, ◌==◌, ◌&&◌, not, true, false, List, [], ◌∷◌, ◌++◌, length, length-append, map, take, refl, sym, ap, ◌∙◌, arith, subst, inl, inr}
+use Rattle.std.proofs.Common.{◌≡◌, ℕ, suc, ◌<◌, ◌≤◌, ◌==◌, ◌&&◌, not, Bool, true, false, List, [], ◌∷◌, ◌++◌, length, length-append, map, take, refl, sym, ap, ◌∙◌, arith, subst, inl, inr}
 use Rattle.std.specs.Prelude.{slice_index, nat_le, nat_lt}
 use Rattle.std.specs.List.{count_by, slice_range}
 use Rattle.std.proofs.lemmas.Bool.{cases_eq, cases_lt}
@@ -12,7 +12,7 @@ use Rattle.card_sets.specs.PlayerSets.{AreBelow}
 use Rattle.card_sets.specs.Rising.{IsRising-cards_where}
 use Rattle.card_sets.specs.State.{State}
 use Rattle.card_sets.specs.declared.games.Game.{Game}
-use Rattle.card_sets.specs.declared.games.Game.TheVariants.{Holdem, Omaha8, Stud, Razz, Lowball27}
+use Rattle.card_sets.specs.declared.games.Game.TheVariants.{Holdem, Omaha, Omaha8, Stud, Stud8, Razz, Draw5, Lowball27, Triple27}
 use Rattle.rank_high.proofs.Sets.{both}
 use Rattle.card_sets.specs.declared.games.Side.{Side}
 use Rattle.runout_ranges.proofs.NextChoice.{choose_length}
@@ -23,11 +23,11 @@ use Rattle.runout_ranges.specs.declared.shapes.Slot.{Slot}
 use Rattle.showdown_tally.proofs.Dealt.{Deals, runout_deals}
 use Rattle.showdown_tally.proofs.Full.{hand_of, hand_IsFull}
 use Rattle.showdown_tally.specs.Laws.{IsFull}
-use Rattle.showdown_tally.specs.Showdown.{Showdown, own_after, board_after, eligible_in}
+use Rattle.showdown_tally.specs.Showdown.{Showdown, has_two_sides, own_after, board_after, eligible_in}
 use Rattle.showdown_tally.specs.SideCounts.{count_place}
 use Rattle.showdown_tally.specs.Tallies.{runouts_after}
 use Rattle.runout_walk.specs.Bests.{best_set}
-use Rattle.runout_walk.specs.Draws.{last_hand}
+use Rattle.runout_walk.specs.Draws.{plays_one, last_hand}
 use Rattle.runout_walk.specs.Listing.{last_count}
 use Rattle.runout_walk.specs.Rivals.{value_with}
 use Rattle.runout_walk.specs.Worth.{IsDraw, AreNumbers, full_worth, number_of, worth, worth_after}
@@ -39,16 +39,28 @@ use Rattle.runout_walk.proofs.DrawWinners.{outcome_is, set_same}
 -- what is asked of draws
 no_board_size : (game : Game) → not (has_board game) ≡ true → board_size game ≡ 0
 no_board_size Holdem e = absurd (true≢false (sym e))
+no_board_size Omaha e = absurd (true≢false (sym e))
 no_board_size Omaha8 e = absurd (true≢false (sym e))
 no_board_size Stud e = refl
+no_board_size Stud8 e = refl
 no_board_size Razz e = refl
+no_board_size Draw5 e = refl
 no_board_size Lowball27 e = refl
+no_board_size Triple27 e = refl
 
-pub draws_parts : (game : Game) (count : ℕ) → (not (has_board game) && nat_lt 0 count && nat_le count 3) ≡ true → (board_size game ≡ 0) × (0 < count) × (count ≤ 3)
+pub one_sided : (game : Game) (count : ℕ) → (plays_one game && nat_lt 0 count && nat_le count 3) ≡ true → has_two_sides game ≡ false
+one_sided game count e =
+    not_true (has_two_sides game) (both (not (has_board game)) (not (has_two_sides game)) (both (plays_one game) (nat_lt 0 count) (both (plays_one game && nat_lt 0 count) (nat_le count 3) e).0).0).1
+  where
+    not_true : (b : Bool) → not b ≡ true → b ≡ false
+    not_true true e = cc
+    not_true false e = refl
+
+pub draws_parts : (game : Game) (count : ℕ) → (plays_one game && nat_lt 0 count && nat_le count 3) ≡ true → (board_size game ≡ 0) × (0 < count) × (count ≤ 3)
 draws_parts game count e =
-    let two = both (not (has_board game) && nat_lt 0 count) (nat_le count 3) e in
-    let one = both (not (has_board game)) (nat_lt 0 count) two.0 in
-    (no_board_size game one.0, some count one.1, few count two.1)
+    let two = both (plays_one game && nat_lt 0 count) (nat_le count 3) e in
+    let one = both (plays_one game) (nat_lt 0 count) two.0 in
+    (no_board_size game (both (not (has_board game)) (not (has_two_sides game)) one.0).0, some count one.1, few count two.1)
   where
     some : (n : ℕ) → nat_lt 0 n ≡ true → 0 < n
     some n h = elim (cases_lt 0 n) [ inl l ↦ l | inr ge ↦ (let f : nat_lt 0 n ≡ false = grind arith in absurd (true≢false (sym h ∙ f))) ]
@@ -121,11 +133,11 @@ numbers_agree st front draw numbers last h at is others l = elim (cases_eq h las
 ]
 
 -- how often each set wins a pot, by the numbers of the last hand
-pub leaf_counts : (side : Side) (deal : Showdown) (pot set last : ℕ) (front : List (List ℕ)) (taken numbers values : List ℕ) (range : List (List ℕ)) → board_size deal.state.game ≡ 0 → has_side side deal.state.game ≡ true
+pub leaf_counts : (side : Side) (deal : Showdown) (pot set last : ℕ) (front : List (List ℕ)) (taken numbers values : List ℕ) (range : List (List ℕ)) → board_size deal.state.game ≡ 0 → has_two_sides deal.state.game ≡ false → has_side side deal.state.game ≡ true
     → AreBelow (length deal.state.hands) (eligible_in deal pot) → last ≡ last_hand (slots deal.state) → taken ≡ [] → AreOthers deal.state front numbers
     → ((more : List ℕ) → HasMember range more → IsLeafDraw deal.state front (taken ++ more)) → values ≡ map (worth deal.state.game (hand_of deal.state last)) range
     → count_by (λ value. best_set (value_with numbers last value) (eligible_in deal pot) == set) values ≡ count_by (λ runout. count_place deal pot side runout == set) (map (λ more. front ++ (taken ++ more) ∷ []) range)
-leaf_counts side deal pot set last front taken numbers values range none has below at empty others all is =
+leaf_counts side deal pot set last front taken numbers values range none one has below at empty others all is =
     let st : State = deal.state in
     ap (count_by (λ value. best_set (value_with numbers last value) (eligible_in deal pot) == set)) is
     ∙ count_map (λ value. best_set (value_with numbers last value) (eligible_in deal pot) == set) (worth st.game (hand_of st last)) range
@@ -137,7 +149,7 @@ leaf_counts side deal pot set last front taken numbers values range none has bel
     ap (λ d. best_set (value_with numbers last (worth st.game (hand_of st last) d)) (eligible_in deal pot)) (sym draw)
     ∙ set_same (value_with numbers last (worth st.game (hand_of st last) (taken ++ more))) (worth_after st (front ++ (taken ++ more) ∷ [])) (length st.hands) (eligible_in deal pot) below
     (λ h l. numbers_agree st front (taken ++ more) numbers last h at leaf others l)
-    ∙ sym (outcome_is side deal pot (front ++ (taken ++ more) ∷ []) none has leaf.full below)))
+    ∙ sym (outcome_is side deal pot (front ++ (taken ++ more) ∷ []) none one has leaf.full below)))
     ∙ sym (count_map (λ runout. count_place deal pot side runout == set) (λ more. front ++ (taken ++ more) ∷ []) range)
 
 -- the numbers of a range of draws are what the last hand is worth with them

@@ -4,6 +4,7 @@ use Rattle.std.specs.Prelude.{filter, nat_lt, is_some, slice_index}
 use Rattle.std.specs.List.{list_all}
 use Rattle.std.specs.Option.{option_map}
 use Rattle.std.proofs.lemmas.Bool.{cases_eq, cases_lt, cases_order}
+use mathlib.Core.Bool.{true≢false}
 use Rattle.std.proofs.lemmas.List.{length-map}
 use Rattle.std.proofs.lemmas.List.Elements.{filter-append}
 use Rattle.std.proofs.lemmas.List.Sums.{sum_by-cons}
@@ -14,7 +15,7 @@ use Rattle.card_sets.specs.PlayerSets.{AreBelow, set_of_players, hands_below, ha
 use Rattle.card_sets.specs.PlayerSetLaws.{has_player-without}
 use Rattle.card_sets.specs.State.{State}
 use Rattle.card_sets.specs.declared.games.Game.{Game}
-use Rattle.card_sets.specs.declared.games.Game.TheVariants.{Holdem, Omaha8, Stud, Razz, Lowball27}
+use Rattle.card_sets.specs.declared.games.Game.TheVariants.{Holdem, Omaha, Omaha8, Stud, Stud8, Razz, Draw5, Lowball27, Triple27}
 use Rattle.card_sets.specs.declared.games.Side.{Side}
 use Rattle.card_sets.specs.declared.games.Side.TheVariants.{High, Low}
 use Rattle.rank_low.specs.Low.{low_a5, low_27, least_of}
@@ -23,7 +24,7 @@ use Rattle.showdown_tally.proofs.KeptOrder.{best-KeepOrder}
 use Rattle.showdown_tally.proofs.PotFacts.{no_side}
 use Rattle.showdown_tally.specs.Laws.{IsFull}
 use Rattle.showdown_tally.specs.Numbers.{side_number}
-use Rattle.showdown_tally.specs.Showdown.{Showdown, best, is_beaten_by, winners, own_after, board_after, value_after, eligible_in}
+use Rattle.showdown_tally.specs.Showdown.{has_two_sides, Showdown, best, is_beaten_by, winners, own_after, board_after, value_after, eligible_in}
 use Rattle.showdown_tally.specs.SideCounts.{count_place, low_mark}
 use Rattle.showdown_tally.specs.Sides.{side_outcome}
 use Rattle.runout_walk.specs.Bests.{best_value, best_set}
@@ -326,10 +327,14 @@ some_five low full h = omega (arith, length-map (choose 5 full) low, length_choo
 number_is : (game : Game) (full : List ℕ) → board_size game ≡ 0 → length full ≡ own_size game → IsCardSet full
     → option_map (side_number (only_side game) game) (best (only_side game) game full []) ≡ Some (full_worth game full)
 number_is Holdem full e n is = absurd (omega arith)
+number_is Omaha full e n is = absurd (omega arith)
 number_is Omaha8 full e n is = absurd (omega arith)
 number_is Stud full e n is = refl
+number_is Stud8 full e n is = refl
 number_is Razz full e n is = some_least _ (map low_a5 (choose 5 (union full []))) (some_five low_a5 (union full []) (omega (arith, ap length (union-none full is))))
+number_is Draw5 full e n is = refl
 number_is Lowball27 full e n is = some_least _ (map low_27 (choose 5 (union full []))) (some_five low_27 (union full []) (omega (arith, ap length (union-none full is))))
+number_is Triple27 full e n is = some_least _ (map low_27 (choose 5 (union full []))) (some_five low_27 (union full []) (omega (arith, ap length (union-none full is))))
 
 no_cards : (cards : List ℕ) → length cards ≡ 0 → cards ≡ []
 no_cards [] e = refl
@@ -367,34 +372,46 @@ worth_ordered st runout n none full = record {
         ∙ number_is st.game (own_after st runout h) none f.own_size f.own_cards)
 
 -- the place of a runout among the counts of the only side
-pub only_one : (game : Game) (side : Side) → board_size game ≡ 0 → has_side side game ≡ true → side ≡ only_side game
-only_one Holdem side e h = absurd (omega arith)
-only_one Omaha8 side e h = absurd (omega arith)
+pub only_one : (game : Game) (side : Side) → has_two_sides game ≡ false → has_side side game ≡ true → side ≡ only_side game
+only_one Holdem High e h = refl
+only_one Holdem Low e h = cc
+only_one Omaha High e h = refl
+only_one Omaha Low e h = cc
+only_one Omaha8 side e h = absurd (true≢false e)
 only_one Stud High e h = refl
 only_one Stud Low e h = cc
+only_one Stud8 side e h = absurd (true≢false e)
 only_one Razz High e h = cc
 only_one Razz Low e h = refl
+only_one Draw5 High e h = refl
+only_one Draw5 Low e h = cc
 only_one Lowball27 High e h = cc
 only_one Lowball27 Low e h = refl
+only_one Triple27 High e h = cc
+only_one Triple27 Low e h = refl
 
-no_low : (game : Game) → board_size game ≡ 0 → only_side game ≡ High → has_side Low game ≡ false
-no_low Holdem e h = absurd (omega arith)
-no_low Omaha8 e h = absurd (omega arith)
+no_low : (game : Game) → has_two_sides game ≡ false → only_side game ≡ High → has_side Low game ≡ false
+no_low Holdem e h = refl
+no_low Omaha e h = refl
+no_low Omaha8 e h = absurd (true≢false e)
 no_low Stud e h = refl
+no_low Stud8 e h = absurd (true≢false e)
 no_low Razz e h = cc
+no_low Draw5 e h = refl
 no_low Lowball27 e h = cc
+no_low Triple27 e h = cc
 
-pub only_place : (side : Side) (deal : Showdown) (pot : ℕ) (runout : List (List ℕ)) → board_size deal.state.game ≡ 0 → has_side side deal.state.game ≡ true → count_place deal pot side runout ≡ side_outcome side deal pot runout
-only_place High deal pot runout none has =
-    let lows : winners deal pot Low runout ≡ [] = no_side Low deal pot runout (no_low deal.state.game none (sym (only_one deal.state.game High none has))) in
+pub only_place : (side : Side) (deal : Showdown) (pot : ℕ) (runout : List (List ℕ)) → has_two_sides deal.state.game ≡ false → has_side side deal.state.game ≡ true → count_place deal pot side runout ≡ side_outcome side deal pot runout
+only_place High deal pot runout one has =
+    let lows : winners deal pot Low runout ≡ [] = no_side Low deal pot runout (no_low deal.state.game one (sym (only_one deal.state.game High one has))) in
     ap (λ ws. side_outcome High deal pot runout + low_mark (set_of_players ws)) lows ∙ omega arith
-only_place Low deal pot runout none has = refl
+only_place Low deal pot runout one has = refl
 
 -- who wins a pot after a runout
-pub outcome_is : (side : Side) (deal : Showdown) (pot : ℕ) (runout : List (List ℕ)) → board_size deal.state.game ≡ 0 → has_side side deal.state.game ≡ true
+pub outcome_is : (side : Side) (deal : Showdown) (pot : ℕ) (runout : List (List ℕ)) → board_size deal.state.game ≡ 0 → has_two_sides deal.state.game ≡ false → has_side side deal.state.game ≡ true
     → ((h : ℕ) → h < length deal.state.hands → IsFull deal.state.game (own_after deal.state runout h) (board_after deal.state runout)) → AreBelow (length deal.state.hands) (eligible_in deal pot)
     → count_place deal pot side runout ≡ best_set (worth_after deal.state runout) (eligible_in deal pot)
-outcome_is side deal pot runout none has full below =
-    only_place side deal pot runout none has
-    ∙ ap (λ s. side_outcome s deal pot runout) (only_one deal.state.game side none has)
+outcome_is side deal pot runout none one has full below =
+    only_place side deal pot runout one has
+    ∙ ap (λ s. side_outcome s deal pot runout) (only_one deal.state.game side one has)
     ∙ outcome_best (only_side deal.state.game) deal pot (length deal.state.hands) runout (worth_after deal.state runout) (worth_ordered deal.state runout (length deal.state.hands) none full) below

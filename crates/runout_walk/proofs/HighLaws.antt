@@ -7,7 +7,7 @@ use Rattle.std.proofs.lemmas.Bool.{cases_lt}
 use Rattle.card_sets.specs.Cards.{suit_of, union}
 use Rattle.card_sets.specs.Games.{has_board, own_size, board_size}
 use Rattle.card_sets.specs.declared.games.Game.{Game}
-use Rattle.card_sets.specs.declared.games.Game.TheVariants.{Holdem, Omaha8, Stud, Razz, Lowball27}
+use Rattle.card_sets.specs.declared.games.Game.TheVariants.{Holdem, Omaha, Omaha8, Stud, Stud8, Razz, Draw5, Lowball27, Triple27}
 use Rattle.card_sets.specs.declared.games.Side.TheVariants.{High, Low}
 use Rattle.rank_high.specs.High.{value_of, best_high}
 use Rattle.rank_high.specs.Parts.{of_suit, count_of_suit, best_plain, suited}
@@ -31,12 +31,28 @@ use Rattle.runout_walk.proofs.SuitParts.{suit_count, suit_fewer, suit_union, sui
 -- a game with a board has five cards on it
 pub board_is_five : (game : Game) → has_board game ≡ true → board_size game ≡ 5
 board_is_five Holdem is = refl
+board_is_five Omaha is = refl
 board_is_five Omaha8 is = refl
 board_is_five Stud is = absurd (true≢false (sym is))
+board_is_five Stud8 is = absurd (true≢false (sym is))
 board_is_five Razz is = absurd (true≢false (sym is))
+board_is_five Draw5 is = absurd (true≢false (sym is))
 board_is_five Lowball27 is = absurd (true≢false (sym is))
+board_is_five Triple27 is = absurd (true≢false (sym is))
 
--- in hold'em any five of the own cards and the board, in Omaha Hi/Lo two and three
+-- the games in which two own cards and three of the board make a hand
+abbrev pub is_omaha : Game → Bool
+is_omaha Holdem = false
+is_omaha Omaha = true
+is_omaha Omaha8 = true
+is_omaha Stud = false
+is_omaha Stud8 = false
+is_omaha Razz = false
+is_omaha Draw5 = false
+is_omaha Lowball27 = false
+is_omaha Triple27 = false
+
+-- in hold'em any five of the own cards and the board, in Omaha and Omaha Hi/Lo two and three
 pub holdem_high : (own board : List ℕ) → high_number Holdem own board ≡ value_of (best_high (union own board))
 unfolding high_number best_high
 holdem_high own board = refl
@@ -49,16 +65,32 @@ pub holdem_suited : (own board : List ℕ) (suit : ℕ) → ArePlaced own board 
 holdem_suited own board suit placed =
     holdem_high (of_suit own suit) (of_suit board suit) ∙ ap (λ l. value_of (best_high l)) (sym (suit_union own board suit placed.own_cards placed.board_cards))
 
-pub omaha_high_is : (own board : List ℕ) → high_number Omaha8 own board ≡ value_of (omaha_high own board)
+pub omaha_high_is : (game : Game) → is_omaha game ≡ true → (own board : List ℕ) → high_number game own board ≡ value_of (omaha_high own board)
 unfolding high_number omaha_high
-omaha_high_is own board = refl
+omaha_high_is Omaha is own board = refl
+omaha_high_is Omaha8 is own board = refl
+omaha_high_is Holdem is own board = absurd (true≢false (sym is))
+omaha_high_is Stud is own board = absurd (true≢false (sym is))
+omaha_high_is Stud8 is own board = absurd (true≢false (sym is))
+omaha_high_is Razz is own board = absurd (true≢false (sym is))
+omaha_high_is Draw5 is own board = absurd (true≢false (sym is))
+omaha_high_is Lowball27 is own board = absurd (true≢false (sym is))
+omaha_high_is Triple27 is own board = absurd (true≢false (sym is))
 
-pub omaha_plain_is : (own board : List ℕ) → plain_number Omaha8 own board ≡ value_of (omaha_plain own board)
+pub omaha_plain_is : (game : Game) → is_omaha game ≡ true → (own board : List ℕ) → plain_number game own board ≡ value_of (omaha_plain own board)
 unfolding plain_number omaha_plain
-omaha_plain_is own board = refl
+omaha_plain_is Omaha is own board = refl
+omaha_plain_is Omaha8 is own board = refl
+omaha_plain_is Holdem is own board = absurd (true≢false (sym is))
+omaha_plain_is Stud is own board = absurd (true≢false (sym is))
+omaha_plain_is Stud8 is own board = absurd (true≢false (sym is))
+omaha_plain_is Razz is own board = absurd (true≢false (sym is))
+omaha_plain_is Draw5 is own board = absurd (true≢false (sym is))
+omaha_plain_is Lowball27 is own board = absurd (true≢false (sym is))
+omaha_plain_is Triple27 is own board = absurd (true≢false (sym is))
 
-pub omaha_suited_is : (own board : List ℕ) (suit : ℕ) → suited_number Omaha8 own board suit ≡ omaha_suited own board suit
-omaha_suited_is own board suit = omaha_high_is (of_suit own suit) (of_suit board suit)
+pub omaha_suited_is : (game : Game) → is_omaha game ≡ true → (own board : List ℕ) (suit : ℕ) → suited_number game own board suit ≡ omaha_suited own board suit
+omaha_suited_is game is own board suit = omaha_high_is game is (of_suit own suit) (of_suit board suit)
 
 -- the best high is the best by ranks alone, or the best of one suit
 pub high_parts : (game : Game) (own board : List ℕ) → has_board game ≡ true → length own ≡ own_size game → ArePlaced own board
@@ -74,35 +106,59 @@ high_parts Holdem own board is size placed =
       holdem_suited own board 2 placed,
       holdem_suited own board 3 placed,
     )
+high_parts Omaha own board is size placed =
+    omega (
+      arith,
+      omaha_high_is Omaha refl own board,
+      omaha_plain_is Omaha refl own board,
+      ranks_or_a_suit own board placed,
+      omaha_suited_is Omaha refl own board 0,
+      omaha_suited_is Omaha refl own board 1,
+      omaha_suited_is Omaha refl own board 2,
+      omaha_suited_is Omaha refl own board 3,
+    )
 high_parts Omaha8 own board is size placed =
     omega (
       arith,
-      omaha_high_is own board,
-      omaha_plain_is own board,
+      omaha_high_is Omaha8 refl own board,
+      omaha_plain_is Omaha8 refl own board,
       ranks_or_a_suit own board placed,
-      omaha_suited_is own board 0,
-      omaha_suited_is own board 1,
-      omaha_suited_is own board 2,
-      omaha_suited_is own board 3,
+      omaha_suited_is Omaha8 refl own board 0,
+      omaha_suited_is Omaha8 refl own board 1,
+      omaha_suited_is Omaha8 refl own board 2,
+      omaha_suited_is Omaha8 refl own board 3,
     )
 high_parts Stud own board is size placed = absurd (true≢false (sym is))
+high_parts Stud8 own board is size placed = absurd (true≢false (sym is))
 high_parts Razz own board is size placed = absurd (true≢false (sym is))
+high_parts Draw5 own board is size placed = absurd (true≢false (sym is))
 high_parts Lowball27 own board is size placed = absurd (true≢false (sym is))
+high_parts Triple27 own board is size placed = absurd (true≢false (sym is))
 
 -- with four cards for a flush of a suit there is none
 pub few_suited : (game : Game) (own board : List ℕ) (suit : ℕ) → has_board game ≡ true → ArePlaced own board → flush_part game (count_of_suit own suit) + count_of_suit board suit ≤ 4 → suit < 4 → suited_number game own board suit ≡ 0
 few_suited Holdem own board suit is placed few l =
     holdem_suited own board suit placed ∙ suited-short (union own board) suit (omega (arith, suit_both own board suit placed, few))
+few_suited Omaha own board suit is placed few l = elim (cases_lt (count_of_suit own suit) 2) [
+  | inl short ↦ omaha_suited_is Omaha refl own board suit ∙ few_own (of_suit own suit) (of_suit board suit) (omega (arith, suit_count own suit, short))
+  | inr enough ↦
+      let f : nat_lt (count_of_suit own suit) 2 ≡ false = grind arith in
+      let two : flush_part Omaha (count_of_suit own suit) ≡ 2 = rw f refl in
+      omaha_suited_is Omaha refl own board suit ∙ few_board (of_suit own suit) (of_suit board suit) (omega (arith, suit_count board suit, two, few))
+]
 few_suited Omaha8 own board suit is placed few l = elim (cases_lt (count_of_suit own suit) 2) [
-  | inl short ↦ omaha_suited_is own board suit ∙ few_own (of_suit own suit) (of_suit board suit) (omega (arith, suit_count own suit, short))
+  | inl short ↦ omaha_suited_is Omaha8 refl own board suit ∙ few_own (of_suit own suit) (of_suit board suit) (omega (arith, suit_count own suit, short))
   | inr enough ↦
       let f : nat_lt (count_of_suit own suit) 2 ≡ false = grind arith in
       let two : flush_part Omaha8 (count_of_suit own suit) ≡ 2 = rw f refl in
-      omaha_suited_is own board suit ∙ few_board (of_suit own suit) (of_suit board suit) (omega (arith, suit_count board suit, two, few))
+      omaha_suited_is Omaha8 refl own board suit ∙ few_board (of_suit own suit) (of_suit board suit) (omega (arith, suit_count board suit, two, few))
 ]
 few_suited Stud own board suit is placed few l = absurd (true≢false (sym is))
+few_suited Stud8 own board suit is placed few l = absurd (true≢false (sym is))
 few_suited Razz own board suit is placed few l = absurd (true≢false (sym is))
+few_suited Draw5 own board suit is placed few l = absurd (true≢false (sym is))
 few_suited Lowball27 own board suit is placed few l = absurd (true≢false (sym is))
+few_suited Triple27 own board suit is placed few l = absurd (true≢false (sym is))
 
 -- fewer than five cards are worth nothing
 best_of_few : (cards : List ℕ) → length cards < 5 → value_of (best_high cards) ≡ 0
@@ -114,10 +170,14 @@ thin_suited Holdem own board suit is size thin =
     let two : length own ≡ 2 = size in
     let few : length (union (of_suit own suit) (of_suit board suit)) < 5 = omega (arith, union_most (of_suit own suit) (of_suit board suit), suit_fewer own suit, two, thin) in
     holdem_high (of_suit own suit) (of_suit board suit) ∙ best_of_few (union (of_suit own suit) (of_suit board suit)) few
-thin_suited Omaha8 own board suit is size thin = omaha_suited_is own board suit ∙ few_board (of_suit own suit) (of_suit board suit) (omega (arith, thin))
+thin_suited Omaha own board suit is size thin = omaha_suited_is Omaha refl own board suit ∙ few_board (of_suit own suit) (of_suit board suit) (omega (arith, thin))
+thin_suited Omaha8 own board suit is size thin = omaha_suited_is Omaha8 refl own board suit ∙ few_board (of_suit own suit) (of_suit board suit) (omega (arith, thin))
 thin_suited Stud own board suit is size thin = absurd (true≢false (sym is))
+thin_suited Stud8 own board suit is size thin = absurd (true≢false (sym is))
 thin_suited Razz own board suit is size thin = absurd (true≢false (sym is))
+thin_suited Draw5 own board suit is size thin = absurd (true≢false (sym is))
 thin_suited Lowball27 own board suit is size thin = absurd (true≢false (sym is))
+thin_suited Triple27 own board suit is size thin = absurd (true≢false (sym is))
 
 -- where nobody has five cards for a flush the ranks alone count
 pub high_of_few : (game : Game) (own board : List ℕ) → has_board game ≡ true → length own ≡ own_size game → ArePlaced own board → ((suit : ℕ) → suit < 4 → flush_part game (count_of_suit own suit) + count_of_suit board suit ≤ 4) → high_number game own board ≡ plain_number game own board
@@ -172,10 +232,14 @@ suited_again game own board suit = ap (λ l. high_number game (of_suit own suit)
 pub high_is : (game : Game) (own board : List ℕ) → has_board game ≡ true → option_map (side_number High game) (best High game own board) ≡ Some (high_number game own board)
 unfolding high_number
 high_is Holdem own board is = refl
+high_is Omaha own board is = refl
 high_is Omaha8 own board is = refl
 high_is Stud own board is = absurd (true≢false (sym is))
+high_is Stud8 own board is = absurd (true≢false (sym is))
 high_is Razz own board is = absurd (true≢false (sym is))
+high_is Draw5 own board is = absurd (true≢false (sym is))
 high_is Lowball27 own board is = absurd (true≢false (sym is))
+high_is Triple27 own board is = absurd (true≢false (sym is))
 
 -- boards with the same ranks are worth the same by ranks alone
 pub same_plain : (game : Game) (own board other : List ℕ) → has_board game ≡ true → ArePlaced own board → ArePlaced own other → SameRanks board other → plain_number game own board ≡ plain_number game own other
@@ -184,10 +248,14 @@ same_plain Holdem own board other is placed also same =
     ∙ seven_decide (union own board) (union own other) (union-IsCardSet own board) (union-IsCardSet own other) (λ rank l.
     omega (arith, same rank l, count-union own board rank placed.own_cards placed.board_cards (Apart-apart own board placed.apart), count-union own other rank also.own_cards also.board_cards (Apart-apart own other also.apart)))
     ∙ sym (holdem_plain own other)
-same_plain Omaha8 own board other is placed also same = omaha_plain_is own board ∙ ranks_decide own board own other placed also (λ rank l. refl) same ∙ sym (omaha_plain_is own other)
+same_plain Omaha own board other is placed also same = omaha_plain_is Omaha refl own board ∙ ranks_decide own board own other placed also (λ rank l. refl) same ∙ sym (omaha_plain_is Omaha refl own other)
+same_plain Omaha8 own board other is placed also same = omaha_plain_is Omaha8 refl own board ∙ ranks_decide own board own other placed also (λ rank l. refl) same ∙ sym (omaha_plain_is Omaha8 refl own other)
 same_plain Stud own board other is placed also same = absurd (true≢false (sym is))
+same_plain Stud8 own board other is placed also same = absurd (true≢false (sym is))
 same_plain Razz own board other is placed also same = absurd (true≢false (sym is))
+same_plain Draw5 own board other is placed also same = absurd (true≢false (sym is))
 same_plain Lowball27 own board other is placed also same = absurd (true≢false (sym is))
+same_plain Triple27 own board other is placed also same = absurd (true≢false (sym is))
 
 composed : (f : ℕ → ℕ) (h : List ℕ → ℕ) (o : Option (List ℕ)) → option_map f (option_map h o) ≡ option_map (λ x. f (h x)) o
 composed f h None = refl
@@ -196,8 +264,12 @@ composed f h (Some x) = refl
 -- and have the same low
 pub same_low : (game : Game) (own board other : List ℕ) → has_board game ≡ true → ArePlaced own board → ArePlaced own other → SameRanks board other → low_number game own board ≡ low_number game own other
 same_low Holdem own board other is placed also same = refl
+same_low Omaha own board other is placed also same = refl
 same_low Omaha8 own board other is placed also same =
     sym (composed turned ace_number (best Low Omaha8 own board)) ∙ ap (option_map turned) (low_ranks_decide own board own other placed also (λ rank l. refl) same) ∙ composed turned ace_number (best Low Omaha8 own other)
 same_low Stud own board other is placed also same = absurd (true≢false (sym is))
+same_low Stud8 own board other is placed also same = absurd (true≢false (sym is))
 same_low Razz own board other is placed also same = absurd (true≢false (sym is))
+same_low Draw5 own board other is placed also same = absurd (true≢false (sym is))
 same_low Lowball27 own board other is placed also same = absurd (true≢false (sym is))
+same_low Triple27 own board other is placed also same = absurd (true≢false (sym is))

@@ -2,7 +2,7 @@
 use Rattle.std.specs.Prelude.{ℕ, if◌then◌else◌, nat_lt, List, map}
 use Rattle.card_sets.specs.Games.{allowed}
 use Rattle.card_sets.specs.declared.games.Game.{Game}
-use Rattle.card_sets.specs.declared.games.Game.TheVariants.{Holdem, Omaha8, Stud, Razz, Lowball27}
+use Rattle.card_sets.specs.declared.games.Game.TheVariants.{Holdem, Omaha, Omaha8, Stud, Stud8, Razz, Draw5, Lowball27, Triple27}
 use Rattle.rank_high.specs.High.{high, value_of, greatest_of}
 use Rattle.rank_high.specs.Parts.{of_suit, plain_high}
 
@@ -21,7 +21,11 @@ suited_number game own board suit = high_number game (of_suit own suit) (of_suit
 -- how many own cards of a suit a flush may have, by how many there are
 abbrev pub flush_part : Game → ℕ → ℕ
 flush_part Holdem own = own
+flush_part Omaha own = if nat_lt own 2 then 0 else 2
 flush_part Omaha8 own = if nat_lt own 2 then 0 else 2
 flush_part Stud own = own
+flush_part Stud8 own = own
 flush_part Razz own = own
+flush_part Draw5 own = own
 flush_part Lowball27 own = own
+flush_part Triple27 own = own

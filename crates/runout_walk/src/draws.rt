@@ -1,6 +1,6 @@
 //! The leaf of draws: the last slot is a hand's, and all its draws are counted at once.
 
-ghost use Rattle.std.specs.Prelude.{◌≡◌, ℕ, ◌+◌, ◌<◌, ◌≤◌, [], length, if◌then◌else◌, nat_lt, slice_index, slice_index_or, IsTrue};
+ghost use Rattle.std.specs.Prelude.{◌≡◌, ℕ, ◌+◌, ◌<◌, ◌≤◌, [], false, length, if◌then◌else◌, nat_lt, slice_index, slice_index_or, IsTrue};
 ghost use Rattle.card_sets.specs.Cards.{IsCardSet, union};
 ghost use Rattle.card_sets.specs.Games.{board_size, own_size};
 ghost use Rattle.card_sets.specs.State.{state_of};
@@ -9,7 +9,8 @@ ghost use Rattle.runout_ranges.specs.Slots.{dealt, slots};
 ghost use Rattle.runout_ranges.specs.declared.shapes.Receiver.TheVariants.{Hand};
 ghost use Rattle.showdown_tally.specs.Cells.{side_place};
 ghost use Rattle.showdown_tally.specs.Deals.{deal_of};
-ghost use Rattle.runout_walk.specs.Draws.{are_draws, hand_at, last_hand};
+ghost use Rattle.showdown_tally.specs.Showdown.{has_two_sides};
+ghost use Rattle.runout_walk.specs.Draws.{plays_one, are_draws, hand_at, last_hand};
 ghost use Rattle.runout_walk.specs.Listing.{last_count};
 ghost use Rattle.runout_walk.specs.Worth.{AreNumbers, full_worth};
 
@@ -69,13 +70,21 @@ fn last_slot(shape: &Shape) -> Last
     last_of(&shape.slots[..shape.used as usize])
 }
 
-/// Whether the runouts of a table end with a draw that can be counted at once: a game without a board, in which somebody lacks cards, and
-/// the last hand that does lacks one to three.
+/// Whether a game has no board and is played for one side.
+#[inline]
+fn plays_one(game: Game) -> bool
+    ensures { result ≡ plays_one game }
+{
+    !game.has_board() && !(game.has_side(Side::High) && game.has_side(Side::Low))
+}
+
+/// Whether the runouts of a table end with a draw that can be counted at once: a game without a board, played for one side, in which
+/// somebody lacks cards, and the last hand that does lacks one to three.
 pub fn are_draws(table: &Table, shape: &Shape) -> bool
     ensures { result ≡ are_draws table.now shape.now }
 {
     let last = last_slot(shape);
-    !table.known.game.has_board() && 0 < last.count && last.count <= 3
+    plays_one(table.known.game) && 0 < last.count && last.count <= 3
 }
 
 /// The leaf of draws, about 380 kB. It is made once and lent to each walk, and keeps what the next walk of the same hands can use; what
@@ -92,6 +101,8 @@ pub struct Draws {
     values: [u32; DRAWS],
     /// The game has no board.
     ghost no_board: { board_size table.known.game ≡ 0 },
+    /// And is played for one side.
+    ghost one_side: { has_two_sides table.known.game ≡ false },
     /// The hand is that of the last slot.
     ghost last_is: { last ≡ last_hand (slots (state_of table.known)) },
     /// It draws so many cards.
@@ -106,6 +117,7 @@ pub struct Draws {
 fn no_table() -> Table
     ensures nobody { result.known.count ≡ 0 }
     ensures no_board { board_size result.known.game ≡ 0 }
+    ensures one_side { has_two_sides result.known.game ≡ false }
 {
     let none = CardSet::empty();
     let known = Known {

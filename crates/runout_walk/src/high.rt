@@ -21,10 +21,14 @@ pub(crate) fn plain_value(game: Game, own: CardSet, board: CardSet) -> u32
     own.rising();
     board.rising();
     match game {
-        Game::Omaha8 => omaha_plain_value(own, board),
-        Game::Holdem | Game::Stud | Game::Razz | Game::Lowball27 => {
-            high_by_ranks(own.union(board)).number()
-        }
+        Game::Omaha | Game::Omaha8 => omaha_plain_value(own, board),
+        Game::Holdem
+        | Game::Stud
+        | Game::Stud8
+        | Game::Razz
+        | Game::Draw5
+        | Game::Lowball27
+        | Game::Triple27 => { high_by_ranks(own.union(board)).number() }
     }
 }
 
@@ -41,10 +45,14 @@ pub(crate) fn suited_value(game: Game, own: CardSet, cards: CardSet, suit: u8) -
     own.rising();
     cards.rising();
     match game {
-        Game::Omaha8 => omaha_suited_value(own, cards, suit),
-        Game::Holdem | Game::Stud | Game::Razz | Game::Lowball27 => {
-            high_of_suit(own.union(cards), suit).number()
-        }
+        Game::Omaha | Game::Omaha8 => omaha_suited_value(own, cards, suit),
+        Game::Holdem
+        | Game::Stud
+        | Game::Stud8
+        | Game::Razz
+        | Game::Draw5
+        | Game::Lowball27
+        | Game::Triple27 => { high_of_suit(own.union(cards), suit).number() }
     }
 }
 
@@ -59,9 +67,13 @@ pub(crate) fn high_value(game: Game, own: CardSet, board: CardSet) -> u32
     own.rising();
     board.rising();
     match game {
-        Game::Omaha8 => omaha_high(own, board),
-        Game::Holdem | Game::Stud | Game::Razz | Game::Lowball27 => {
-            high_of_set(own.union(board)).number()
-        }
+        Game::Omaha | Game::Omaha8 => omaha_high(own, board),
+        Game::Holdem
+        | Game::Stud
+        | Game::Stud8
+        | Game::Razz
+        | Game::Draw5
+        | Game::Lowball27
+        | Game::Triple27 => { high_of_set(own.union(board)).number() }
     }
 }

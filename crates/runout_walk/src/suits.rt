@@ -49,7 +49,7 @@ fn greater(a: [u32; 4], b: [u32; 4]) -> [u32; 4]
     ]
 }
 
-/// How many own cards of a suit a flush may have: all, and in Omaha Hi/Lo two, where there are two.
+/// How many own cards of a suit a flush may have: all, and in Omaha and Omaha Hi/Lo two, where there are two.
 #[inline]
 fn flush_part(game: Game, own: CardSet, suit: u8) -> u32
     requires { suit < 4 }
@@ -58,8 +58,14 @@ fn flush_part(game: Game, own: CardSet, suit: u8) -> u32
 {
     let count = own.of_suit(suit).count();
     match game {
-        Game::Omaha8 => if count < 2 { 0 } else { 2 },
-        Game::Holdem | Game::Stud | Game::Razz | Game::Lowball27 => count,
+        Game::Omaha | Game::Omaha8 => if count < 2 { 0 } else { 2 },
+        Game::Holdem
+        | Game::Stud
+        | Game::Stud8
+        | Game::Razz
+        | Game::Draw5
+        | Game::Lowball27
+        | Game::Triple27 => count,
     }
 }
 

@@ -8,7 +8,7 @@ use Rattle.std.proofs.lemmas.List.Folds.{list_any-append}
 use mathlib.Core.Bool.{true≢false}
 use Rattle.card_sets.specs.Games.{has_side}
 use Rattle.card_sets.specs.declared.games.Game.{Game}
-use Rattle.card_sets.specs.declared.games.Game.TheVariants.{Holdem, Omaha8, Stud, Razz, Lowball27}
+use Rattle.card_sets.specs.declared.games.Game.TheVariants.{Holdem, Omaha, Omaha8, Stud, Stud8, Razz, Draw5, Lowball27, Triple27}
 use Rattle.card_sets.specs.declared.games.Side.{Side}
 use Rattle.card_sets.specs.declared.games.Side.TheVariants.{High, Low}
 use Rattle.showdown_tally.specs.Cells.{no_runout}
@@ -63,9 +63,13 @@ no_best : (side : Side) (game : Game) (own board : List ℕ) → has_side side g
 no_best High game own board e = rw e refl
 no_best Low Holdem own board e = refl
 no_best Low Omaha8 own board e = absurd (true≢false e)
+no_best Low Stud8 own board e = absurd (true≢false e)
 no_best Low Stud own board e = refl
+no_best Low Draw5 own board e = refl
+no_best Low Omaha own board e = refl
 no_best Low Razz own board e = absurd (true≢false e)
 no_best Low Lowball27 own board e = absurd (true≢false e)
+no_best Low Triple27 own board e = absurd (true≢false e)
 
 -- where the game hasn't the side, nobody wins it
 pub no_side : (side : Side) (deal : Showdown) (pot : ℕ) (runout : List (List ℕ)) → has_side side deal.state.game ≡ false → winners deal pot side runout ≡ []

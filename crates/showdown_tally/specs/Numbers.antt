@@ -1,7 +1,7 @@
 -- The numbers that values are kept as.
 use Rattle.std.specs.Prelude.{ℕ, ◌-◌, ◌^◌, List}
 use Rattle.card_sets.specs.declared.games.Game.{Game}
-use Rattle.card_sets.specs.declared.games.Game.TheVariants.{Holdem, Omaha8, Stud, Razz, Lowball27}
+use Rattle.card_sets.specs.declared.games.Game.TheVariants.{Holdem, Omaha, Omaha8, Stud, Stud8, Razz, Draw5, Lowball27, Triple27}
 use Rattle.card_sets.specs.declared.games.Side.{Side}
 use Rattle.card_sets.specs.declared.games.Side.TheVariants.{High, Low}
 use Rattle.rank_high.specs.High.{value_of}
@@ -15,7 +15,11 @@ turned n = 2 ^ 32 - 1 - n
 abbrev pub side_number : Side → Game → List ℕ → ℕ
 side_number High game value = value_of value
 side_number Low Lowball27 value = turned (value_of value)
+side_number Low Triple27 value = turned (value_of value)
 side_number Low Holdem value = turned (ace_number value)
+side_number Low Omaha value = turned (ace_number value)
 side_number Low Omaha8 value = turned (ace_number value)
 side_number Low Stud value = turned (ace_number value)
+side_number Low Stud8 value = turned (ace_number value)
 side_number Low Razz value = turned (ace_number value)
+side_number Low Draw5 value = turned (ace_number value)

@@ -9,7 +9,7 @@ use Rattle.card_sets.specs.CardText.{card_of_text, text_of_card}
 use Rattle.card_sets.specs.CardTextLaws.{card_of_text-text_of_card}
 use Rattle.card_sets.specs.State.{State}
 use Rattle.card_sets.specs.declared.games.Game.{Game}
-use Rattle.card_sets.specs.declared.games.Game.TheVariants.{Holdem, Omaha8, Stud, Razz, Lowball27}
+use Rattle.card_sets.specs.declared.games.Game.TheVariants.{Holdem, Omaha, Omaha8, Stud, Stud8, Razz, Draw5, Lowball27, Triple27}
 use Rattle.spot_text.specs.declared.faults.SpotFault.TheVariants.{BadCard, HandSize, BoardSize, PlayerCount, DeckShort}
 use Rattle.spot_text.specs.Parts.{is_slash, is_dashes, is_dash, hand_words, board_words, dead_words, all_cards, in_form, cards_of, set_of}
 use Rattle.card_sets.specs.Games.{game_word}
@@ -248,10 +248,14 @@ written_passes game first hands board dead h =
 
 named_word : (game : Game) → (is_word (game_word game) ≡ true) × (game_named (game_word game) ≡ Some game)
 named_word Holdem = (refl, refl)
+named_word Omaha = (refl, refl)
 named_word Omaha8 = (refl, refl)
 named_word Stud = (refl, refl)
+named_word Stud8 = (refl, refl)
 named_word Razz = (refl, refl)
+named_word Draw5 = (refl, refl)
 named_word Lowball27 = (refl, refl)
+named_word Triple27 = (refl, refl)
 
 pub written_is_read : (game : Game) (hands : List (List ℕ)) (board dead : List ℕ) → MayBeWritten game hands board dead →
     spot_of (spot_line game hands board dead) ≡ Ok (state_of_cards game hands board dead)

@@ -4,8 +4,9 @@
 //! and the board, and then `/` and the dead cards, as in
 //! `holdem As Ah - Kd Qd - 9c 9d -- Jd Td 2c / 3h`. Words stand between spaces and tabs.
 //!
-//! A hand is two cards in `holdem`, four in `omaha8`, three to seven in `stud` and `razz`, and up to
-//! five that are kept in `lowball27`. Only the first two have a board, of three, four or five cards.
+//! A hand is two cards in `holdem`, four in `omaha` and `omaha8`, three to seven in `stud`, `stud8` and
+//! `razz`, and up to five that are kept in `draw5`, `lowball27` and `triple27`. Only the first three have
+//! a board, of three, four or five cards.
 #![tactic(auto)]
 
 mod counts;

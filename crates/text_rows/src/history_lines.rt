@@ -14,12 +14,6 @@ const CASH: Header = Header {
 const CASH_TITLE: &[u8] =
     b"PokerStars Hand #240000000001: Hold'em No Limit ($0.50/$1.00 USD) - 2023/01/15 20:11:05 ET";
 
-const TOURNAMENT_TITLE: &[u8] =
-    b"PokerStars Hand #88: Tournament #7, $4.40+$0.60 USD Hold'em No Limit - Level V (50/100)";
-
-const RAZZ_TITLE: &[u8] =
-    b"PokerStars Hand #90: Tournament #9, Freeroll  Razz Limit - Level I (10/20)";
-
 fn seated(alloc: std::alloc::Global) -> Result<Names, card_sets::Memory> {
     let mut names = Names::new(alloc);
     names.add(3, b"carl")?;
@@ -36,47 +30,108 @@ fn header(line: &[u8]) -> Option<Result<Header, TextFault>> {
     }
 }
 
+/// Whether each of these lines says its header.
+fn all_headers(table: &[(&[u8], Game, Limit, bool, u64)]) -> bool {
+    for (line, game, limit, hundredths, big) in table {
+        let wanted = Header {
+            game: *game,
+            limit: *limit,
+            hundredths: *hundredths,
+            big: *big,
+        };
+        if header(line) != Some(Ok(wanted)) {
+            return false;
+        }
+    }
+    true
+}
+
 #[test]
 fn headers_are_read(rt: HostRuntime) {
-    assert_eq!(rt; header(CASH_TITLE), Some(Ok(CASH)));
-    assert_eq!(rt;
-        header(TOURNAMENT_TITLE),
-        Some(Ok(Header {
-            game: Game::Holdem,
-            limit: Limit::NoLimit,
-            hundredths: false,
-            big: 100
-        }))
-    );
-    assert_eq!(rt;
-        header(b"PokerStars Zoom Hand #5: 8-Game (Hold'em Pot Limit, 20/40) - 2023/01/15"),
-        Some(Ok(Header {
-            game: Game::Holdem,
-            limit: Limit::PotLimit,
-            hundredths: false,
-            big: 40
-        }))
-    );
-    assert_eq!(rt;
-        header(b"PokerStars Game #5: Hold'em Limit (5/10)"),
-        Some(Ok(Header {
-            game: Game::Holdem,
-            limit: Limit::Fixed,
-            hundredths: false,
-            big: 5
-        }))
-    );
-    assert_eq!(rt;
-        header(RAZZ_TITLE),
-        Some(Ok(Header {
-            game: Game::Razz,
-            limit: Limit::Fixed,
-            hundredths: false,
-            big: 10
-        }))
-    );
-    assert_eq!(rt; header(b"PokerStars Hand #x"), None);
+    assert!(rt; all_headers(HEADERS));
+    assert!(rt; header(b"PokerStars Hand #x").is_none());
 }
+
+const HEADERS: &[(&[u8], Game, Limit, bool, u64)] = &[
+    (CASH_TITLE, Game::Holdem, Limit::NoLimit, true, 100),
+    (
+        b"PokerStars Hand #88: Tournament #7, $4.40+$0.60 USD Hold'em No Limit - Level V (50/100)",
+        Game::Holdem,
+        Limit::NoLimit,
+        false,
+        100,
+    ),
+    (
+        b"PokerStars Zoom Hand #5: 8-Game (Hold'em Pot Limit, 20/40) - 2023/01/15",
+        Game::Holdem,
+        Limit::PotLimit,
+        false,
+        40,
+    ),
+    (
+        b"PokerStars Game #5: Hold'em Limit (5/10)",
+        Game::Holdem,
+        Limit::Fixed,
+        false,
+        5,
+    ),
+    (
+        b"PokerStars Hand #6: Omaha Pot Limit ($1/$2 USD) - 2026/06/06 20:31:17 ET",
+        Game::Omaha,
+        Limit::PotLimit,
+        true,
+        200,
+    ),
+    (
+        b"PokerStars Hand #6: Omaha Hi/Lo Pot Limit (1/2)",
+        Game::Omaha8,
+        Limit::PotLimit,
+        false,
+        2,
+    ),
+    (
+        b"PokerStars Hand #6: 7 Card Stud Limit (1/2)",
+        Game::Stud,
+        Limit::Fixed,
+        false,
+        1,
+    ),
+    (
+        b"PokerStars Hand #6: HORSE (7 Card Stud Hi/Lo Limit, 1/2)",
+        Game::Stud8,
+        Limit::Fixed,
+        false,
+        1,
+    ),
+    (
+        b"PokerStars Hand #90: Tournament #9, Freeroll  Razz Limit - Level I (10/20)",
+        Game::Razz,
+        Limit::Fixed,
+        false,
+        10,
+    ),
+    (
+        b"PokerStars Hand #6: 5 Card Draw No Limit (1/2)",
+        Game::Draw5,
+        Limit::NoLimit,
+        false,
+        2,
+    ),
+    (
+        b"PokerStars Hand #6: Single Draw 2-7 Lowball No Limit (1/2)",
+        Game::Lowball27,
+        Limit::NoLimit,
+        false,
+        2,
+    ),
+    (
+        b"PokerStars Hand #6: Triple Draw 2-7 Lowball Limit ($0.02/$0.04)",
+        Game::Triple27,
+        Limit::Fixed,
+        true,
+        2,
+    ),
+];
 
 #[test]
 fn the_number_of_a_hand_is_found(rt: HostRuntime) {
@@ -122,7 +177,11 @@ const HEADER_FAULTS: &[(&[u8], TextFault)] = &[
         TextFault::UnknownGame,
     ),
     (
-        b"PokerStars Hand #1: Omaha Pot Limit (1/2)",
+        b"PokerStars Hand #1: 5 Card Omaha Pot Limit (1/2)",
+        TextFault::UnknownGame,
+    ),
+    (
+        b"PokerStars Hand #1: Badugi Limit (1/2)",
         TextFault::UnknownGame,
     ),
     (
@@ -225,31 +284,234 @@ const LINE_FAULTS: &[(Part, &[u8], TextFault)] = &[
     ),
 ];
 
+/// The seat of a deal, a discard, a stand-pat or a post of a game, and how many cards the line names. None of another
+/// line.
+fn cards_in(names: &Names, game: Game, line: &[u8]) -> Option<Result<(u8, usize), TextFault>> {
+    let header = Header {
+        game,
+        limit: Limit::Fixed,
+        hundredths: false,
+        big: 10,
+    };
+    match read_line(names, &header, Part::Play, line) {
+        Ok(Event::Deal { seat, cards, .. }) => Some(Ok((seat, cards.count()))),
+        Ok(Event::Discard { seat, cards, .. }) => Some(Ok((seat, cards.count()))),
+        Ok(Event::Pat { seat }) => Some(Ok((seat, 0))),
+        Ok(Event::Post { seat, .. }) => Some(Ok((seat, 0))),
+        Ok(_) => None,
+        Err(fault) => Some(Err(fault)),
+    }
+}
+
+/// Whether each of these lines says this of a seat's cards.
+fn all_dealt(names: &Names, table: &[(Game, &[u8], Result<(u8, usize), TextFault>)]) -> bool {
+    for (game, line, wanted) in table {
+        if cards_in(names, *game, line) != Some(*wanted) {
+            return false;
+        }
+    }
+    true
+}
+
+#[test]
+fn each_game_has_its_deals_and_draws(rt: HostRuntime) -> Result<(), Fail> {
+    let names = seated(rt.alloc()).ok().ok_or("memory")?;
+    assert!(rt; all_dealt(&names, DEALS));
+    Ok(())
+}
+
+const DEALS: &[(Game, &[u8], Result<(u8, usize), TextFault>)] = &[
+    (Game::Omaha, b"Dealt to carl [As Ks Qs Js]", Ok((3, 4))),
+    (
+        Game::Omaha,
+        b"Dealt to carl [As Ks]",
+        Err(TextFault::BadCards),
+    ),
+    (
+        Game::Omaha,
+        b"Dealt to carl [As Ks Qs Js] [Ts]",
+        Err(TextFault::BadCards),
+    ),
+    (
+        Game::Omaha,
+        b"carl: discards 1 card [As]",
+        Err(TextFault::BadAction),
+    ),
+    (Game::Stud8, b"Dealt to carl [As Ks Qs]", Ok((3, 3))),
+    (Game::Stud8, b"Dealt to dora [As]", Ok((4, 1))),
+    (Game::Stud8, b"Dealt to carl [As Ks Qs] [Js]", Ok((3, 1))),
+    (Game::Stud8, b"carl: brings in for 3", Ok((3, 0))),
+    (
+        Game::Stud8,
+        b"Dealt to carl [As Ks]",
+        Err(TextFault::BadCards),
+    ),
+    (Game::Stud8, b"carl: stands pat", Err(TextFault::BadAction)),
+    (Game::Draw5, b"Dealt to carl [As Ks Qs Js Ts]", Ok((3, 5))),
+    (Game::Draw5, b"Dealt to carl [As Ks Qs] [Js Ts]", Ok((3, 2))),
+    (
+        Game::Draw5,
+        b"carl: discards 3 cards [2c 3c 4c]",
+        Ok((3, 3)),
+    ),
+    (
+        Game::Draw5,
+        b"carl: discards 3 cards [2c 3c]",
+        Err(TextFault::BadCards),
+    ),
+    (
+        Game::Draw5,
+        b"carl: discards 6 cards",
+        Err(TextFault::BadAction),
+    ),
+    (
+        Game::Draw5,
+        b"carl: brings in for 3",
+        Err(TextFault::BadAction),
+    ),
+    (
+        Game::Triple27,
+        b"Dealt to carl [7c 5d 4h] [3s 2c]",
+        Ok((3, 2)),
+    ),
+    (Game::Triple27, b"carl: discards 2 cards", Ok((3, 0))),
+    (Game::Triple27, b"dora: stands pat", Ok((4, 0))),
+    (
+        Game::Triple27,
+        b"Dealt to carl [7c 5d 4h 3s]",
+        Err(TextFault::BadCards),
+    ),
+    (
+        Game::Triple27,
+        b"carl: brings in for 3",
+        Err(TextFault::BadAction),
+    ),
+];
+
+/// The street that a marker begins in a game. None where the line is no marker of it.
+fn street_in(names: &Names, game: Game, line: &[u8]) -> Option<Street> {
+    let header = Header {
+        game,
+        limit: Limit::Fixed,
+        hundredths: false,
+        big: 10,
+    };
+    match read_line(names, &header, Part::Play, line) {
+        Ok(Event::Street { street, .. }) => Some(street),
+        _ => None,
+    }
+}
+
+/// Whether each of these markers begins its street.
+fn all_marked(names: &Names, table: &[(Game, &[u8], Option<Street>)]) -> bool {
+    for (game, line, wanted) in table {
+        if street_in(names, *game, line) != *wanted {
+            return false;
+        }
+    }
+    true
+}
+
+#[test]
+fn each_game_has_its_markers(rt: HostRuntime) -> Result<(), Fail> {
+    let names = seated(rt.alloc()).ok().ok_or("memory")?;
+    assert!(rt; all_marked(&names, MARKERS));
+    Ok(())
+}
+
+const MARKERS: &[(Game, &[u8], Option<Street>)] = &[
+    (Game::Omaha, b"*** HOLE CARDS ***", Some(Street::First)),
+    (Game::Omaha, b"*** FLOP *** [2s 9s Jd]", Some(Street::Flop)),
+    (
+        Game::Omaha,
+        b"*** SECOND RIVER *** [2s 9s Jd 5h] [3c]",
+        Some(Street::River),
+    ),
+    (
+        Game::Omaha,
+        b"*** FIRST SHOW DOWN ***",
+        Some(Street::ShowDown),
+    ),
+    (Game::Omaha, b"*** 3rd STREET ***", None),
+    (Game::Stud8, b"*** 3rd STREET ***", Some(Street::First)),
+    (Game::Stud8, b"*** 6th STREET ***", Some(Street::Sixth)),
+    (Game::Stud8, b"*** RIVER ***", Some(Street::River)),
+    (Game::Stud8, b"*** FIRST RIVER ***", None),
+    (Game::Draw5, b"*** DEALING HANDS ***", Some(Street::First)),
+    (Game::Draw5, b"*** DRAW ***", Some(Street::Draw)),
+    (Game::Draw5, b"*** FIRST DRAW ***", None),
+    (
+        Game::Triple27,
+        b"*** DEALING HANDS ***",
+        Some(Street::First),
+    ),
+    (
+        Game::Triple27,
+        b"*** FIRST DRAW ***",
+        Some(Street::FirstDraw),
+    ),
+    (
+        Game::Triple27,
+        b"*** SECOND DRAW ***",
+        Some(Street::SecondDraw),
+    ),
+    (
+        Game::Triple27,
+        b"*** THIRD DRAW ***",
+        Some(Street::ThirdDraw),
+    ),
+    (Game::Triple27, b"*** SUMMARY ***", Some(Street::Summary)),
+    (Game::Triple27, b"*** DRAW ***", None),
+    (Game::Triple27, b"*** HOLE CARDS ***", None),
+];
+
+/// Whether an event is this act of a seat.
+fn is_act(names: &Names, line: &[u8], of: u8, wanted: Act, last: bool) -> bool {
+    match read_line(names, &CASH, Part::Play, line) {
+        Ok(
+            Event::Act {
+                seat,
+                act,
+                all_in,
+                ..
+            },
+        ) => seat == of && act == wanted && all_in == last,
+        _ => false,
+    }
+}
+
+/// Whether a line is the marker of a street, on a board with so many new cards.
+fn is_marker(names: &Names, line: &[u8], at: Street, on: BoardNumber, new: usize) -> bool {
+    match read_line(names, &CASH, Part::Play, line) {
+        Ok(
+            Event::Street {
+                street,
+                board,
+                cards,
+            },
+        ) => { street == at && board == on && cards.count() == new }
+        _ => false,
+    }
+}
+
 #[test]
 fn lines_are_read(rt: HostRuntime) -> Result<(), Fail> {
     let names = seated(rt.alloc()).ok().ok_or("memory")?;
+    let raise = Act::Raise { by: 200, to: 300 };
+    assert!(rt; is_act(&names, b"carl: raises $2 to $3", 3, raise, false));
     assert!(rt;
-        matches!(
-            read_line(&names, &CASH, Part::Play, b"carl: raises $2 to $3"),
-            Ok(Event::Act {
-                seat: 3,
-                act: Act::Raise { by: 200, to: 300 },
-                all_in: false,
-                ..
-            })
+        is_act(
+            &names,
+            b"dora: bets $53 and is all-in",
+            4,
+            Act::Bet(5300),
+            true
         )
     );
-    assert!(rt;
-        matches!(
-            read_line(&names, &CASH, Part::Play, b"dora: bets $53 and is all-in"),
-            Ok(Event::Act {
-                seat: 4,
-                act: Act::Bet(5300),
-                all_in: true,
-                ..
-            })
-        )
-    );
+    let flop = b"*** FLOP *** [2s 9s Jd]";
+    assert!(rt; is_marker(&names, flop, Street::Flop, BoardNumber::Only, 3));
+    let turn = b"*** SECOND TURN *** [2s 9s Jd] [5h]";
+    assert!(rt; is_marker(&names, turn, Street::Turn, BoardNumber::Second, 1));
     assert!(rt;
         matches!(
             read_line(
@@ -264,45 +526,6 @@ fn lines_are_read(rt: HostRuntime) -> Result<(), Fail> {
                 name_first: 8,
                 name_end: 12
             })
-        )
-    );
-    match read_line(&names, &CASH, Part::Play, b"*** FLOP *** [2s 9s Jd]") {
-        Ok(
-            Event::Street {
-                street,
-                board,
-                cards,
-            },
-        ) => {
-            assert_eq!(rt; street, Street::Flop);
-            assert_eq!(rt; board, BoardNumber::Only);
-            assert_eq!(rt; cards.count(), 3);
-        }
-        _ => assert!(rt; false),
-    }
-    match read_line(
-        &names,
-        &CASH,
-        Part::Play,
-        b"*** SECOND TURN *** [2s 9s Jd] [5h]",
-    ) {
-        Ok(
-            Event::Street {
-                street,
-                board,
-                cards,
-            },
-        ) => {
-            assert_eq!(rt; street, Street::Turn);
-            assert_eq!(rt; board, BoardNumber::Second);
-            assert_eq!(rt; cards.count(), 1);
-        }
-        _ => assert!(rt; false),
-    }
-    assert!(rt;
-        matches!(
-            read_line(&names, &CASH, Part::Play, b"carl: shows [Jh Jx]"),
-            Err(TextFault::BadCards)
         )
     );
     assert!(rt;

@@ -14,24 +14,36 @@ fn has_texts(bytes: &[u8], texts: &[&[u8]]) -> bool {
     next_line(bytes, at).is_none()
 }
 
+/// Whether each of these texts has the lines beside it.
+fn all_cut(table: &[(&[u8], &[&[u8]])]) -> bool {
+    for (bytes, texts) in table {
+        if !has_texts(bytes, texts) {
+            return false;
+        }
+    }
+    true
+}
+
 #[test]
 fn each_text_is_cut_into_its_lines(rt: HostRuntime) {
-    assert!(rt; has_texts(b"", &[]));
-    assert!(rt; has_texts(b"\n", &[b""]));
-    assert!(rt; has_texts(b"a", &[b"a"]));
-    assert!(rt; has_texts(b"a\n", &[b"a"]));
-    assert!(rt; has_texts(b"a\n\nb", &[b"a", b"", b"b"]));
-    assert!(rt; has_texts(b"a \r\n b\r \r\nc", &[b"a", b" b", b"c"]));
-    assert!(rt; has_texts(b"a\rb\tc\t\n", &[b"a\rb\tc\t"]));
-    assert!(rt;
-        has_texts(
-            b"\xef\xbb\xbfa\n\xef\xbb\xbf \r\n\xef\xbb",
-            &[b"a", b"", b"\xef\xbb"]
-        )
-    );
-    assert!(rt; has_texts(b"\xef\xbb\xbf\xef\xbb\xbfa", &[b"\xef\xbb\xbfa"]));
-    assert!(rt; has_texts(b" \xef\xbb\xbfa", &[b" \xef\xbb\xbfa"]));
+    assert!(rt; all_cut(TEXTS));
 }
+
+const TEXTS: &[(&[u8], &[&[u8]])] = &[
+    (b"", &[]),
+    (b"\n", &[b""]),
+    (b"a", &[b"a"]),
+    (b"a\n", &[b"a"]),
+    (b"a\n\nb", &[b"a", b"", b"b"]),
+    (b"a \r\n b\r \r\nc", &[b"a", b" b", b"c"]),
+    (b"a\rb\tc\t\n", &[b"a\rb\tc\t"]),
+    (
+        b"\xef\xbb\xbfa\n\xef\xbb\xbf \r\n\xef\xbb",
+        &[b"a", b"", b"\xef\xbb"],
+    ),
+    (b"\xef\xbb\xbf\xef\xbb\xbfa", &[b"\xef\xbb\xbfa"]),
+    (b" \xef\xbb\xbfa", &[b" \xef\xbb\xbfa"]),
+];
 
 #[test]
 fn a_line_tells_where_its_text_and_the_next_line_begin(rt: HostRuntime) {
@@ -53,29 +65,44 @@ fn a_line_tells_where_its_text_and_the_next_line_begin(rt: HostRuntime) {
     assert_eq!(rt; next_line(bytes, 10), None);
 }
 
-fn reads(text: &[u8], hundredths: bool) -> Option<(u64, usize)> {
-    let amount = read_amount(text, 0, hundredths).ok()?;
-    Some((amount.units, amount.next))
+/// Whether each of these texts begins with its amount, of so many units and bytes, or has its fault.
+fn all_read(table: &[(&[u8], bool, Result<(u64, usize), AmountFault>)]) -> bool {
+    for (text, hundredths, wanted) in table {
+        let read = match read_amount(text, 0, *hundredths) {
+            Ok(amount) => Ok((amount.units, amount.next)),
+            Err(fault) => Err(fault),
+        };
+        if read != *wanted {
+            return false;
+        }
+    }
+    true
 }
 
 #[test]
 fn amounts_are_read(rt: HostRuntime) {
-    assert_eq!(rt; reads(b"$0.50", true), Some((50, 5)));
-    assert_eq!(rt; reads(b"$1 USD", true), Some((100, 2)));
-    assert_eq!(rt; reads(b"4000 in chips", false), Some((4000, 4)));
-    assert_eq!(rt; reads("€2.05)".as_bytes(), true), Some((205, 7)));
-    assert_eq!(rt; reads(b"999999999999999", false), Some((GREATEST, 15)));
-    assert_eq!(rt;
-        read_amount(b"1000000000000000", 0, false),
-        Err(AmountFault::TooLarge)
-    );
-    assert_eq!(rt;
-        read_amount(b"99999999999999999999999999", 0, true),
-        Err(AmountFault::TooLarge)
-    );
-    for text in [b"".as_slice(), b"$", b"x", b"1.", b"1.5", b"1.505", b"-1"] {
-        assert_eq!(rt; read_amount(text, 0, true), Err(AmountFault::NotAmount));
-    }
-    assert_eq!(rt; read_amount(b"1.50", 0, false), Err(AmountFault::NotAmount));
-    assert_eq!(rt; read_amount(b"1", 2, false), Err(AmountFault::NotAmount));
+    assert!(rt; all_read(AMOUNTS));
+    assert!(rt; read_amount(b"1", 2, false) == Err(AmountFault::NotAmount));
 }
+
+const AMOUNTS: &[(&[u8], bool, Result<(u64, usize), AmountFault>)] = &[
+    (b"$0.50", true, Ok((50, 5))),
+    (b"$1 USD", true, Ok((100, 2))),
+    (b"4000 in chips", false, Ok((4000, 4))),
+    (b"\xe2\x82\xac2.05)", true, Ok((205, 7))),
+    (b"999999999999999", false, Ok((GREATEST, 15))),
+    (b"1000000000000000", false, Err(AmountFault::TooLarge)),
+    (
+        b"99999999999999999999999999",
+        true,
+        Err(AmountFault::TooLarge),
+    ),
+    (b"", true, Err(AmountFault::NotAmount)),
+    (b"$", true, Err(AmountFault::NotAmount)),
+    (b"x", true, Err(AmountFault::NotAmount)),
+    (b"1.", true, Err(AmountFault::NotAmount)),
+    (b"1.5", true, Err(AmountFault::NotAmount)),
+    (b"1.505", true, Err(AmountFault::NotAmount)),
+    (b"-1", true, Err(AmountFault::NotAmount)),
+    (b"1.50", false, Err(AmountFault::NotAmount)),
+];

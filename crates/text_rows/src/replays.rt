@@ -127,6 +127,16 @@ fn step_lines(
     Some((lines.len(), None))
 }
 
+/// Whether all of some lines may stand.
+fn all_stand(replay: &mut Replay, names: &Names, lines: &[&[u8]]) -> bool {
+    step_lines(replay, names, lines) == Some((lines.len(), None))
+}
+
+/// Whether all of some lines may stand but the last, which is refused for this.
+fn is_refused(replay: &mut Replay, names: &Names, lines: &[&[u8]], fault: &BetFault) -> bool {
+    step_lines(replay, names, lines) == Some((lines.len().saturating_sub(1), Some(*fault)))
+}
+
 /// The card of a number.
 fn card(number: u8) -> Card
     requires { number < 52 }
@@ -166,31 +176,33 @@ const REST: [&[u8]; 9] = [
     b"*** SUMMARY ***",
 ];
 
+/// Whether this is the state of the hand behind its flop.
+fn is_behind_the_flop(replay: &Replay) -> bool {
+    replay.owes() == Some(1) && replay.street() == Some(Street::Turn) && replay.stack(1) == 4700
+}
+
+/// Whether the board has this many cards on its streets.
+fn has_boards(replay: &Replay) -> bool {
+    replay.board_at(Street::First).count() == 0
+        && replay.board_at(Street::Flop).count() == 3
+        && replay.board_at(Street::Turn).count() == 4
+        && !replay.board_at(Street::Turn).has(card(37))
+        && replay.board_at(Street::River).has(card(36))
+}
+
 #[test]
 fn a_hand_of_two_is_stepped_through(rt: HostRuntime) -> Result<(), Fail> {
     let names = three_names(rt.alloc()).ok().ok_or("memory")?;
     let mut replay = Replay::new(&DOLLARS, 6);
-    assert_eq!(rt;
-        step_lines(&mut replay, &names, &TWO_SEATS),
-        Some((8, None))
-    );
-    assert_eq!(rt; replay.owes(), None);
-    assert_eq!(rt; replay.button(), 1);
-    assert_eq!(rt; step_lines(&mut replay, &names, &FLOP), Some((5, None)));
-    assert_eq!(rt; replay.owes(), Some(1));
-    assert_eq!(rt; replay.street(), Some(Street::Turn));
-    assert_eq!(rt; replay.stack(1), 4700);
-    assert_eq!(rt; step_lines(&mut replay, &names, &REST), Some((9, None)));
-    assert_eq!(rt; replay.contenders(), 6);
-    assert_eq!(rt; replay.paid(2).live, 300);
-    assert_eq!(rt; replay.board_at(Street::First).count(), 0);
-    assert_eq!(rt; replay.board_at(Street::Flop).count(), 3);
-    assert_eq!(rt; replay.board_at(Street::Turn).count(), 4);
-    assert!(rt; !replay.board_at(Street::Turn).has(card(37)));
-    assert!(rt; replay.board_at(Street::River).has(card(36)));
+    assert!(rt; all_stand(&mut replay, &names, &TWO_SEATS));
+    assert!(rt; replay.owes().is_none() && replay.button() == 1);
+    assert!(rt; all_stand(&mut replay, &names, &FLOP));
+    assert!(rt; is_behind_the_flop(&replay));
+    assert!(rt; all_stand(&mut replay, &names, &REST));
+    assert!(rt; replay.contenders() == 6 && replay.paid(2).live == 300);
+    assert!(rt; has_boards(&replay));
     let shown = replay.final_cards(1).ok_or("unknown")?;
-    assert_eq!(rt; shown.count(), 2);
-    assert!(rt; shown.has(card(50)));
+    assert!(rt; shown.count() == 2 && shown.has(card(50)));
     Ok(())
 }
 
@@ -204,119 +216,75 @@ const THREE_SEATS: [&[u8]; 6] = [
     b"*** HOLE CARDS ***",
 ];
 
-/// Lines behind those, of which the last that isn't empty is refused.
-#[derive(Drop)]
-struct Refused {
-    lines: [&'static [u8]; 4],
-    fault: BetFault,
-}
-
-/// Each refusal once.
-fn refusals() -> [Refused; 16] {
-    [
-        Refused {
-            lines: [b"cat: folds", b"cat: calls $1", b"", b""],
-            fault: BetFault::NotInHand,
-        },
-        Refused {
-            lines: [b"cat: calls $1", b"bob: checks", b"", b""],
-            fault: BetFault::OutOfTurn(1),
-        },
-        Refused {
-            lines: [
-                b"cat: calls $1",
-                b"ann: calls $0.50",
-                b"bob: checks",
-                b"cat: checks",
-            ],
-            fault: BetFault::NothingOwed,
-        },
-        Refused {
-            lines: [b"cat: checks", b"", b"", b""],
-            fault: BetFault::CheckFacingBet(100),
-        },
-        Refused {
-            lines: [b"cat: calls $0.50", b"", b"", b""],
-            fault: BetFault::CallAmount(100),
-        },
-        Refused {
-            lines: [b"cat: bets $2", b"", b"", b""],
-            fault: BetFault::BetFacingBet,
-        },
-        Refused {
-            lines: [b"cat: raises $1 to $3", b"", b"", b""],
-            fault: BetFault::RaiseAmount(100),
-        },
-        Refused {
-            lines: [b"cat: raises $2 to $3", b"", b"", b""],
-            fault: BetFault::AboveStack(250),
-        },
-        Refused {
-            lines: [b"cat: raises $1.50 to $2.50", b"", b"", b""],
-            fault: BetFault::AllInWord,
-        },
-        Refused {
-            lines: [b"*** FLOP *** [2c 7d 9h]", b"", b"", b""],
-            fault: BetFault::StreetEarly(1),
-        },
-        Refused {
-            lines: [
-                b"cat: calls $1",
-                b"ann: calls $0.50",
-                b"bob: checks",
-                b"*** TURN *** [2c 7d 9h] [4s]",
-            ],
-            fault: BetFault::StreetOrder,
-        },
-        Refused {
-            lines: [
-                b"cat: folds",
-                b"ann: folds",
-                b"Uncalled bet ($1) returned to bob",
-                b"",
-            ],
-            fault: BetFault::UncalledAmount(50),
-        },
-        Refused {
-            lines: [b"Dealt to ann [As Ks]", b"Dealt to bob [Qs As]", b"", b""],
-            fault: BetFault::CardTwice(card(51)),
-        },
-        Refused {
-            lines: [b"bob: posts the ante $1", b"", b"", b""],
-            fault: BetFault::PostLate,
-        },
-        Refused {
-            lines: [b"Seat 3: dan ($5 in chips)", b"", b"", b""],
-            fault: BetFault::SeatTwice,
-        },
-        Refused {
-            lines: [b"Dealt to ann [As Ks]", b"ann: shows [Qs Js]", b"", b""],
-            fault: BetFault::TooManyCards(1),
-        },
-    ]
-}
-
-/// How many of the lines aren't empty.
-fn line_count(lines: &[&[u8]]) -> usize {
-    lines.iter().filter(|line| !line.is_empty()).count()
+/// Whether lines like these are refused at their last behind those of three seats.
+fn all_refused(names: &Names, table: &[(&[&[u8]], BetFault)]) -> bool {
+    for (lines, fault) in table {
+        let mut replay = Replay::new(&DOLLARS, 14);
+        if !all_stand(&mut replay, names, &THREE_SEATS)
+            || !is_refused(&mut replay, names, lines, fault)
+        {
+            return false;
+        }
+    }
+    true
 }
 
 #[test]
 fn each_refusal_comes_with_what_it_carries(rt: HostRuntime) -> Result<(), Fail> {
     let names = three_names(rt.alloc()).ok().ok_or("memory")?;
-    for refused in refusals().iter() {
-        let mut replay = Replay::new(&DOLLARS, 14);
-        assert_eq!(rt;
-            step_lines(&mut replay, &names, &THREE_SEATS),
-            Some((6, None))
-        );
-        let last = line_count(&refused.lines).saturating_sub(1);
-        assert_eq!(rt;
-            step_lines(&mut replay, &names, &refused.lines),
-            Some((last, Some(refused.fault)))
-        );
-    }
+    assert!(rt; all_refused(&names, &refusals()));
     Ok(())
+}
+
+/// Each refusal once.
+fn refusals() -> [(&'static [&'static [u8]], BetFault); 16] {
+    [
+        (&[b"cat: folds", b"cat: calls $1"], BetFault::NotInHand),
+        (&[b"cat: calls $1", b"bob: checks"], BetFault::OutOfTurn(1)),
+        (
+            &[
+                b"cat: calls $1",
+                b"ann: calls $0.50",
+                b"bob: checks",
+                b"cat: checks",
+            ],
+            BetFault::NothingOwed,
+        ),
+        (&[b"cat: checks"], BetFault::CheckFacingBet(100)),
+        (&[b"cat: calls $0.50"], BetFault::CallAmount(100)),
+        (&[b"cat: bets $2"], BetFault::BetFacingBet),
+        (&[b"cat: raises $1 to $3"], BetFault::RaiseAmount(100)),
+        (&[b"cat: raises $2 to $3"], BetFault::AboveStack(250)),
+        (&[b"cat: raises $1.50 to $2.50"], BetFault::AllInWord),
+        (&[b"*** FLOP *** [2c 7d 9h]"], BetFault::StreetEarly(1)),
+        (
+            &[
+                b"cat: calls $1",
+                b"ann: calls $0.50",
+                b"bob: checks",
+                b"*** TURN *** [2c 7d 9h] [4s]",
+            ],
+            BetFault::StreetOrder,
+        ),
+        (
+            &[
+                b"cat: folds",
+                b"ann: folds",
+                b"Uncalled bet ($1) returned to bob",
+            ],
+            BetFault::UncalledAmount(50),
+        ),
+        (&[b"bob: posts the ante $1"], BetFault::PostLate),
+        (&[b"Seat 3: dan ($5 in chips)"], BetFault::SeatTwice),
+        (
+            &[b"Dealt to ann [As Ks]", b"ann: shows [Qs Js]"],
+            BetFault::TooManyCards(1),
+        ),
+        (
+            &[b"Dealt to ann [As Ks]", b"Dealt to bob [Qs As]"],
+            BetFault::CardTwice(card(51)),
+        ),
+    ]
 }
 
 #[test]

@@ -42,28 +42,6 @@ fn a_good_line_gives_the_hands_the_board_and_the_dead_cards(rt: HostRuntime) -> 
 }
 
 #[test]
-fn the_board_and_the_dead_cards_may_be_missing_or_empty(rt: HostRuntime) -> Result<(), Fail> {
-    let lines: [(&[u8], u32, u32); 9] = [
-        (b"holdem As Ah - Kd Qd", 0, 0),
-        (b"holdem As Ah - Kd Qd --", 0, 0),
-        (b"holdem As Ah - Kd Qd /", 0, 0),
-        (b"holdem As Ah - Kd Qd -- /", 0, 0),
-        (b"holdem As Ah - Kd Qd / 2c", 0, 1),
-        (b"holdem As Ah - Kd Qd -- 2c 3c 4c", 3, 0),
-        (b"holdem As Ah - Kd Qd -- 2c 3c 4c 5c 6c", 5, 0),
-        (b"holdem As Ah - Kd Qd -- 2c 3c 4c / 5c 6c", 3, 2),
-        (b"holdem As Ah - Kd Qd -- / 5c 6c 7c", 0, 3),
-    ];
-    for (line, board, dead) in lines {
-        let known = read_spot(line).ok().ok_or("refused")?;
-        assert_eq!(rt; known.count, 2);
-        assert_eq!(rt; known.board.count(), board);
-        assert_eq!(rt; known.dead.count(), dead);
-    }
-    Ok(())
-}
-
-#[test]
 fn ten_hands_are_read_in_order(rt: HostRuntime) -> Result<(), Fail> {
     let line =
         b"holdem 2c 2d - 3c 3d - 4c 4d - 5c 5d - 6c 6d - 7c 7d - 8c 8d - 9c 9d - Tc Td - Jc Jd -- Qc Qd Qh / Kc Kd As";
@@ -77,217 +55,293 @@ fn ten_hands_are_read_in_order(rt: HostRuntime) -> Result<(), Fail> {
     Ok(())
 }
 
-#[test]
-fn another_game_is_an_unknown_word(rt: HostRuntime) -> Result<(), Fail> {
-    let lines: [&[u8]; 8] = [
-        b"",
-        b" \t ",
-        b"omaha As Ah - Ks Kh",
-        b"omaha9 As Ah 2c 3c - Ks Kh 4c 5c",
-        b"Holdem As Ah - Kd Qd",
-        b"holdemAs Ah - Kd Qd",
-        b"As Ah - Kd Qd",
-        b"hold As As - xx",
-    ];
+/// Whether each of these lines is refused for this.
+fn all_refused(lines: &[&[u8]], fault: &SpotFault) -> bool {
     for line in lines {
-        assert!(rt; fault_of(line) == Some(SpotFault::UnknownWord));
+        if fault_of(line) != Some(*fault) {
+            return false;
+        }
     }
-    Ok(())
+    true
 }
 
 #[test]
-fn a_word_that_may_not_stand_there_is_a_bad_card(rt: HostRuntime) -> Result<(), Fail> {
-    let lines: [&[u8]; 18] = [
-        b"holdem As Ax - As Kh",
-        b"holdem 1s Ah - Kd Qd",
-        b"holdem as Ah - Kd Qd",
-        b"holdem AsAh - Kd Qd",
-        b"holdem A s Ah - Kd Qd",
-        b"holdem As,Ah - Kd Qd",
-        b"holdem As Ah - Kd Qd\r",
-        b"holdem As Ah --- Kd Qd",
-        b"holdem As Ah - Kd Qd -- 2c 3c 4c - 5c 5d",
-        b"holdem As Ah - Kd Qd -- 2c 3c 4c -- 5c 6c 7c",
-        b"holdem As Ah - Kd Qd -- --",
-        b"holdem As Ah - Kd Qd / 2c -- 3c 4c 5c",
-        b"holdem As Ah / 2c - Kd Qd",
-        b"holdem As Ah - Kd Qd / 2c / 3c",
-        b"holdem As Ah - Kd Qd / /",
-        b"holdem As Ah - Kd Qd // 2c",
-        b"holdem As - As As xx",
-        b"holdem As As - Kd Qd / 2c 3c -",
-    ];
-    for line in lines {
-        assert!(rt; fault_of(line) == Some(SpotFault::BadCard));
+fn another_game_is_an_unknown_word(rt: HostRuntime) {
+    assert!(rt; all_refused(OTHER_GAMES, &SpotFault::UnknownWord));
+}
+
+const OTHER_GAMES: &[&[u8]] = &[
+    b"",
+    b" \t ",
+    b"badugi As Ah - Ks Kh",
+    b"omaha9 As Ah 2c 3c - Ks Kh 4c 5c",
+    b"draw As Ah - Ks Kh",
+    b"triple27As Ah - Ks Kh",
+    b"Holdem As Ah - Kd Qd",
+    b"holdemAs Ah - Kd Qd",
+    b"As Ah - Kd Qd",
+    b"hold As As - xx",
+];
+
+#[test]
+fn a_word_that_may_not_stand_there_is_a_bad_card(rt: HostRuntime) {
+    assert!(rt; all_refused(OTHER_WORDS, &SpotFault::BadCard));
+}
+
+const OTHER_WORDS: &[&[u8]] = &[
+    b"holdem As Ax - As Kh",
+    b"holdem 1s Ah - Kd Qd",
+    b"holdem as Ah - Kd Qd",
+    b"holdem AsAh - Kd Qd",
+    b"holdem A s Ah - Kd Qd",
+    b"holdem As,Ah - Kd Qd",
+    b"holdem As Ah - Kd Qd\r",
+    b"holdem As Ah --- Kd Qd",
+    b"holdem As Ah - Kd Qd -- 2c 3c 4c - 5c 5d",
+    b"holdem As Ah - Kd Qd -- 2c 3c 4c -- 5c 6c 7c",
+    b"holdem As Ah - Kd Qd -- --",
+    b"holdem As Ah - Kd Qd / 2c -- 3c 4c 5c",
+    b"holdem As Ah / 2c - Kd Qd",
+    b"holdem As Ah - Kd Qd / 2c / 3c",
+    b"holdem As Ah - Kd Qd / /",
+    b"holdem As Ah - Kd Qd // 2c",
+    b"holdem As - As As xx",
+    b"holdem As As - Kd Qd / 2c 3c -",
+    b"omaha8 As Ah 2c 3c - Ks Ah Kd Kc -- xx",
+];
+
+/// Whether each of these lines is refused for this card, which stands twice.
+fn all_repeat(table: &[(&[u8], [u8; 2])]) -> bool {
+    for (line, text) in table {
+        match Card::read(*text) {
+            Some(card) if fault_of(line) == Some(SpotFault::TwiceCard(card)) => {}
+            _ => return false,
+        }
     }
-    Ok(())
+    true
 }
 
 #[test]
-fn the_first_card_that_stands_twice_is_named(rt: HostRuntime) -> Result<(), Fail> {
-    let lines: [(&[u8], [u8; 2]); 8] = [
-        (b"holdem As Ah - As Kh", *b"As"),
-        (b"holdem As Ah - Ah Qd -- As", *b"Ah"),
-        (b"holdem As Ah - Kd Qd -- Jd Td 2c Kd", *b"Kd"),
-        (b"holdem As Ah - Kd Qd -- Jd Td Jd 3h", *b"Jd"),
-        (b"holdem As Ah - Kd Qd -- Jd Td 2c / Qd", *b"Qd"),
-        (b"holdem As Ah - Kd Qd / 2c 3c 2c 3c", *b"2c"),
-        (b"holdem 2c - - 3c 3c 2c", *b"3c"),
-        (
-            b"holdem 2c 2d - 3c 3d - 4c 4d - 5c 5d - 6c 6d - 7c 7d - 8c 8d - 9c 9d - Tc Td - Jc Jd - Qc Qd - 5d",
-            *b"5d",
-        ),
-    ];
-    for (line, card) in lines {
-        let card = Card::read(card).ok_or("no card")?;
-        assert!(rt; fault_of(line) == Some(SpotFault::TwiceCard(card)));
+fn the_first_card_that_stands_twice_is_named(rt: HostRuntime) {
+    assert!(rt; all_repeat(REPEATED));
+}
+
+const REPEATED: &[(&[u8], [u8; 2])] = &[
+    (b"holdem As Ah - As Kh", *b"As"),
+    (b"holdem As Ah - Ah Qd -- As", *b"Ah"),
+    (b"holdem As Ah - Kd Qd -- Jd Td 2c Kd", *b"Kd"),
+    (b"holdem As Ah - Kd Qd -- Jd Td Jd 3h", *b"Jd"),
+    (b"holdem As Ah - Kd Qd -- Jd Td 2c / Qd", *b"Qd"),
+    (b"holdem As Ah - Kd Qd / 2c 3c 2c 3c", *b"2c"),
+    (b"holdem 2c - - 3c 3c 2c", *b"3c"),
+    (b"razz As Ah Ad - 2c As", *b"As"),
+    (
+        b"holdem 2c 2d - 3c 3d - 4c 4d - 5c 5d - 6c 6d - 7c 7d - 8c 8d - 9c 9d - Tc Td - Jc Jd - Qc Qd - 5d",
+        *b"5d",
+    ),
+];
+
+#[test]
+fn sizes_are_tested_in_order(rt: HostRuntime) {
+    assert!(rt; all_refused(HANDS_OF_OTHER_SIZES, &SpotFault::HandSize));
+    assert!(rt; all_refused(BOARDS_OF_OTHER_SIZES, &SpotFault::BoardSize));
+    assert!(rt; all_refused(OTHER_COUNTS_OF_HANDS, &SpotFault::PlayerCount));
+    assert!(rt; all_refused(SHORT_DECKS, &SpotFault::DeckShort));
+}
+
+const HANDS_OF_OTHER_SIZES: &[&[u8]] = &[
+    b"holdem",
+    b"holdem As - Ks Kh",
+    b"holdem As Ah - Ks Kh Kc",
+    b"holdem As Ah - Ks Kh -",
+    b"holdem - As Ah - Ks Kh",
+    b"holdem As Ah - - Ks Kh",
+    b"holdem As Ah Ks Kh -- 2c",
+    b"holdem 2c 2d - 3c 3d - 4c 4d - 5c 5d - 6c 6d - 7c 7d - 8c 8d - 9c 9d - Tc Td - Jc Jd - Qc Qd - Kc",
+    b"omaha As Ah - Ks Kh",
+    b"omaha As Ah 2c 3c - Ks Kh Kd",
+    b"omaha8 As Ah 2c - Ks Kh Kd Kc",
+    b"omaha8 As Ah 2c 3c 4c - Ks Kh Kd Kc",
+    b"stud As Ah - Ks Kh Kd",
+    b"stud As Ah Ad - 2c 3c 4c 5c 6c 7c 8c 9c",
+    b"stud8 As Ah - Ks Kh Kd",
+    b"stud8 As Ah Ad - 2c 3c 4c 5c 6c 7c 8c 9c",
+    b"razz - 2c 3c 4c",
+    b"draw5 As Ad Ah Ac Ks Kd - Kh",
+    b"lowball27 7c 5d 4h 3s 2c 8c -",
+    b"triple27 7c - 5d 4h 3s 2c 8c 9c",
+];
+
+const BOARDS_OF_OTHER_SIZES: &[&[u8]] = &[
+    b"holdem As Ah - Ks Kh -- 2c 7d",
+    b"holdem As Ah - Ks Kh -- 2c",
+    b"holdem As Ah - Ks Kh -- 2c 3c 4c 5c 6c 7c",
+    b"holdem As Ah -- 2c 7d",
+    b"holdem As Ah -- 2c 7d / 3c",
+    b"omaha As Ah 2c 3c - Ks Kh Kd Kc -- 5c 6c",
+    b"omaha8 As Ah 2c 3c - Ks Kh Kd Kc -- 5c 6c",
+    b"stud As Ah Ad - 2c 3c 4c -- 5c",
+    b"stud As Ah Ad - 2c 3c 4c -- 5c 6c 7c",
+    b"stud8 As Ah Ad - 2c 3c 4c -- 5c 6c 7c",
+    b"razz As Ah Ad - 2c 3c 4c -- 5c 6c 7c 8c",
+    b"draw5 As Ad Ah Ac Ks - Kd Kh Kc Qd -- 2c 3c 4c",
+    b"lowball27 7c - 8c -- 9c",
+    b"triple27 7c - 8c -- 9c Tc Jc Qc Kc",
+];
+
+const OTHER_COUNTS_OF_HANDS: &[&[u8]] = &[
+    b"holdem As Ah",
+    b"holdem As Ah -- 2c 3c 4c / 5c",
+    b"holdem 2c 2d - 3c 3d - 4c 4d - 5c 5d - 6c 6d - 7c 7d - 8c 8d - 9c 9d - Tc Td - Jc Jd - Qc Qd",
+    b"omaha As Ah 2c 3c",
+    b"omaha8 As Ah 2c 3c -- 5c 6c 7c",
+    b"stud As Ah Ad",
+    b"stud8 As Ah Ad",
+    b"razz As Ah Ad",
+    b"draw5",
+    b"lowball27",
+    b"triple27 7c",
+    b"triple27 - - - - - - - - - -",
+];
+
+/// In the last ten hands lack forty cards, and thirty-nine are left.
+const SHORT_DECKS: &[&[u8]] = &[
+    b"stud 2c 2d 2h - 2s 3c 3d - 3h 3s 4c - 4d 4h 4s - 5c 5d 5h - 5s 6c 6d - 6h 6s 7c - 7d 7h 7s",
+    b"stud8 2c 2d 2h - 2s 3c 3d - 3h 3s 4c - 4d 4h 4s - 5c 5d 5h - 5s 6c 6d - 6h 6s 7c - 7d 7h 7s",
+    b"triple27 2c - 2d - 2h - 2s - 3c - 3d - 3h - 3s - 4c - 4d / 4h 4s 5c",
+];
+
+/// Whether each of these lines has its game, cards in the first two hands, on the board and dead.
+fn all_sized(table: &[(&[u8], Game, [u32; 2], u32, u32)]) -> bool {
+    for (line, game, own, board, dead) in table {
+        match read_spot(line) {
+            Ok(known) => {
+                let hands = [known.hands[0].count(), known.hands[1].count()];
+                let counts = (hands, known.board.count(), known.dead.count());
+                if known.game != *game || known.count != 2 || counts != (*own, *board, *dead) {
+                    return false;
+                }
+            }
+            Err(_) => return false,
+        }
     }
-    Ok(())
+    true
 }
 
 #[test]
-fn sizes_are_tested_in_order(rt: HostRuntime) -> Result<(), Fail> {
-    let lines: [(&[u8], SpotFault); 16] = [
-        (b"holdem", SpotFault::HandSize),
-        (b"holdem As - Ks Kh", SpotFault::HandSize),
-        (b"holdem As Ah - Ks Kh Kc", SpotFault::HandSize),
-        (b"holdem As Ah - Ks Kh -", SpotFault::HandSize),
-        (b"holdem - As Ah - Ks Kh", SpotFault::HandSize),
-        (b"holdem As Ah - - Ks Kh", SpotFault::HandSize),
-        (b"holdem As Ah Ks Kh -- 2c", SpotFault::HandSize),
-        (b"holdem As Ah - Ks Kh -- 2c 7d", SpotFault::BoardSize),
-        (b"holdem As Ah - Ks Kh -- 2c", SpotFault::BoardSize),
-        (
-            b"holdem As Ah - Ks Kh -- 2c 3c 4c 5c 6c 7c",
-            SpotFault::BoardSize,
-        ),
-        (b"holdem As Ah -- 2c 7d", SpotFault::BoardSize),
-        (b"holdem As Ah -- 2c 7d / 3c", SpotFault::BoardSize),
-        (b"holdem As Ah", SpotFault::PlayerCount),
-        (b"holdem As Ah -- 2c 3c 4c / 5c", SpotFault::PlayerCount),
-        (
-            b"holdem 2c 2d - 3c 3d - 4c 4d - 5c 5d - 6c 6d - 7c 7d - 8c 8d - 9c 9d - Tc Td - Jc Jd - Qc Qd",
-            SpotFault::PlayerCount,
-        ),
-        (
-            b"holdem 2c 2d - 3c 3d - 4c 4d - 5c 5d - 6c 6d - 7c 7d - 8c 8d - 9c 9d - Tc Td - Jc Jd - Qc Qd - Kc",
-            SpotFault::HandSize,
-        ),
-    ];
-    for (line, fault) in lines {
-        assert!(rt; fault_of(line) == Some(fault));
-    }
-    Ok(())
+fn each_game_has_its_sizes(rt: HostRuntime) {
+    assert!(rt; all_sized(SIZES));
 }
 
-#[test]
-fn each_game_has_its_sizes(rt: HostRuntime) -> Result<(), Fail> {
-    let lines: [(&[u8], Game, [u32; 2], u32, u32); 10] = [
-        (b"holdem As Ah - Ks Kh", Game::Holdem, [2, 2], 0, 0),
-        (
-            b"omaha8 As 2s Kd Kh - Qc Qd Jc Jd -- 3h 4c 8s 9h",
-            Game::Omaha8,
-            [4, 4],
-            4,
-            0,
-        ),
-        (
-            b"omaha8 As 2s Kd Kh - Qc Qd Jc Jd / 3h",
-            Game::Omaha8,
-            [4, 4],
-            0,
-            1,
-        ),
-        (b"stud As Ad Ah - Ks Kd Kh", Game::Stud, [3, 3], 0, 0),
-        (
-            b"stud As Ad Ah Ac 2c 3c 4c - Ks Kd Kh -- / 2d",
-            Game::Stud,
-            [7, 3],
-            0,
-            1,
-        ),
-        (
-            b"razz As 2d 3h 4c 5s 6d - 8c 8d Kc Kd",
-            Game::Razz,
-            [6, 4],
-            0,
-            0,
-        ),
-        (
-            b"razz As 2d 3h - 8c 8d Kc Kd Qc Qd 2c --",
-            Game::Razz,
-            [3, 7],
-            0,
-            0,
-        ),
-        (
-            b"lowball27 7c 5d 4h 3s 2c - 7d 5h 4s 3c",
-            Game::Lowball27,
-            [5, 4],
-            0,
-            0,
-        ),
-        (b"lowball27 - 7d / 2c 3c", Game::Lowball27, [0, 1], 0, 2),
-        (b"lowball27 -", Game::Lowball27, [0, 0], 0, 0),
-    ];
-    for (line, game, own, board, dead) in lines {
-        let known = read_spot(line).ok().ok_or("refused")?;
-        assert_eq!(rt; known.game, game);
-        assert_eq!(rt; known.count, 2);
-        assert_eq!(rt; known.hands[0].count(), own[0]);
-        assert_eq!(rt; known.hands[1].count(), own[1]);
-        assert_eq!(rt; known.board.count(), board);
-        assert_eq!(rt; known.dead.count(), dead);
-    }
-    Ok(())
-}
-
-#[test]
-fn each_game_refuses_other_sizes(rt: HostRuntime) -> Result<(), Fail> {
-    let lines: [(&[u8], SpotFault); 17] = [
-        (b"omaha8 As Ah 2c - Ks Kh Kd Kc", SpotFault::HandSize),
-        (b"omaha8 As Ah 2c 3c 4c - Ks Kh Kd Kc", SpotFault::HandSize),
-        (
-            b"omaha8 As Ah 2c 3c - Ks Kh Kd Kc -- 5c 6c",
-            SpotFault::BoardSize,
-        ),
-        (b"omaha8 As Ah 2c 3c -- 5c 6c 7c", SpotFault::PlayerCount),
-        (
-            b"omaha8 As Ah 2c 3c - Ks Ah Kd Kc -- xx",
-            SpotFault::BadCard,
-        ),
-        (b"stud As Ah - Ks Kh Kd", SpotFault::HandSize),
-        (
-            b"stud As Ah Ad - 2c 3c 4c 5c 6c 7c 8c 9c",
-            SpotFault::HandSize,
-        ),
-        (b"stud As Ah Ad - 2c 3c 4c -- 5c", SpotFault::BoardSize),
-        (
-            b"stud As Ah Ad - 2c 3c 4c -- 5c 6c 7c",
-            SpotFault::BoardSize,
-        ),
-        (b"stud As Ah Ad", SpotFault::PlayerCount),
-        (b"razz - 2c 3c 4c", SpotFault::HandSize),
-        (
-            b"razz As Ah Ad - 2c 3c 4c -- 5c 6c 7c 8c",
-            SpotFault::BoardSize,
-        ),
-        (b"razz As Ah Ad", SpotFault::PlayerCount),
-        (b"lowball27 7c 5d 4h 3s 2c 8c -", SpotFault::HandSize),
-        (b"lowball27 7c - 8c -- 9c", SpotFault::BoardSize),
-        (b"lowball27", SpotFault::PlayerCount),
-        (
-            b"stud 2c 2d 2h - 2s 3c 3d - 3h 3s 4c - 4d 4h 4s - 5c 5d 5h - 5s 6c 6d - 6h 6s 7c - 7d 7h 7s",
-            SpotFault::DeckShort,
-        ),
-    ];
-    for (line, fault) in lines {
-        assert!(rt; fault_of(line) == Some(fault));
-    }
-    let ace = Card::read(*b"As").ok_or("no card")?;
-    assert!(rt; fault_of(b"razz As Ah Ad - 2c As") == Some(SpotFault::TwiceCard(ace)));
-    Ok(())
-}
+const SIZES: &[(&[u8], Game, [u32; 2], u32, u32)] = &[
+    (b"holdem As Ah - Ks Kh", Game::Holdem, [2, 2], 0, 0),
+    (b"holdem As Ah - Kd Qd --", Game::Holdem, [2, 2], 0, 0),
+    (b"holdem As Ah - Kd Qd /", Game::Holdem, [2, 2], 0, 0),
+    (b"holdem As Ah - Kd Qd -- /", Game::Holdem, [2, 2], 0, 0),
+    (b"holdem As Ah - Kd Qd / 2c", Game::Holdem, [2, 2], 0, 1),
+    (
+        b"holdem As Ah - Kd Qd -- 2c 3c 4c",
+        Game::Holdem,
+        [2, 2],
+        3,
+        0,
+    ),
+    (
+        b"holdem As Ah - Kd Qd -- 2c 3c 4c 5c 6c",
+        Game::Holdem,
+        [2, 2],
+        5,
+        0,
+    ),
+    (
+        b"holdem As Ah - Kd Qd -- 2c 3c 4c / 5c 6c",
+        Game::Holdem,
+        [2, 2],
+        3,
+        2,
+    ),
+    (
+        b"holdem As Ah - Kd Qd -- / 5c 6c 7c",
+        Game::Holdem,
+        [2, 2],
+        0,
+        3,
+    ),
+    (
+        b"omaha As 2s Kd Kh - Qc Qd Jc Jd -- 3h 4c 8s 9h",
+        Game::Omaha,
+        [4, 4],
+        4,
+        0,
+    ),
+    (
+        b"omaha As 2s Kd Kh - Qc Qd Jc Jd -- 3h 4c 8s / 9h",
+        Game::Omaha,
+        [4, 4],
+        3,
+        1,
+    ),
+    (
+        b"omaha8 As 2s Kd Kh - Qc Qd Jc Jd -- 3h 4c 8s 9h",
+        Game::Omaha8,
+        [4, 4],
+        4,
+        0,
+    ),
+    (
+        b"omaha8 As 2s Kd Kh - Qc Qd Jc Jd / 3h",
+        Game::Omaha8,
+        [4, 4],
+        0,
+        1,
+    ),
+    (b"stud As Ad Ah - Ks Kd Kh", Game::Stud, [3, 3], 0, 0),
+    (
+        b"stud As Ad Ah Ac 2c 3c 4c - Ks Kd Kh -- / 2d",
+        Game::Stud,
+        [7, 3],
+        0,
+        1,
+    ),
+    (
+        b"stud8 As Ad Ah Ac 2c 3c 4c - Ks Kd Kh 5c",
+        Game::Stud8,
+        [7, 4],
+        0,
+        0,
+    ),
+    (
+        b"razz As 2d 3h 4c 5s 6d - 8c 8d Kc Kd",
+        Game::Razz,
+        [6, 4],
+        0,
+        0,
+    ),
+    (
+        b"razz As 2d 3h - 8c 8d Kc Kd Qc Qd 2c --",
+        Game::Razz,
+        [3, 7],
+        0,
+        0,
+    ),
+    (
+        b"draw5 As Ad Ah Ac Ks - Kd Kh Kc Qd",
+        Game::Draw5,
+        [5, 4],
+        0,
+        0,
+    ),
+    (
+        b"lowball27 7c 5d 4h 3s 2c - 7d 5h 4s 3c",
+        Game::Lowball27,
+        [5, 4],
+        0,
+        0,
+    ),
+    (b"lowball27 - 7d / 2c 3c", Game::Lowball27, [0, 1], 0, 2),
+    (b"lowball27 -", Game::Lowball27, [0, 0], 0, 0),
+    (b"triple27 7c 5d 4h 3s - / Kc", Game::Triple27, [4, 0], 0, 1),
+];
 
 #[test]
 fn dead_cards_may_leave_too_few_for_the_board(rt: HostRuntime) -> Result<(), Fail> {

@@ -1,6 +1,6 @@
 //! All-in points, and the cards known there, of hands worked out by hand.
 
-use super::{DOLLARS, card, step_line, step_lines, three_names};
+use super::{DOLLARS, all_stand, card, step_line, three_names};
 use betting_replay::Replay;
 use card_sets::{Card, CardSet, Game, Memory};
 use history_text::{Header, Limit, Names, Part, Street};
@@ -64,19 +64,11 @@ const AFTER_CALL: [&[u8]; 7] = [
 fn the_first_point_is_kept(rt: HostRuntime) -> Result<(), Fail> {
     let names = three_names(rt.alloc()).ok().ok_or("memory")?;
     let mut replay = Replay::new(&DOLLARS, 14);
-    assert_eq!(rt;
-        step_lines(&mut replay, &names, &BEFORE_CALL),
-        Some((9, None))
-    );
-    assert_eq!(rt; replay.all_in_point(), None);
-    assert_eq!(rt; replay.all_in_contenders(), 0);
-    assert_eq!(rt; replay.dead().count(), 0);
-    assert_eq!(rt;
-        step_lines(&mut replay, &names, &AFTER_CALL),
-        Some((7, None))
-    );
-    assert_eq!(rt; replay.all_in_point(), Some(Street::First));
-    assert_eq!(rt; replay.all_in_contenders(), 12);
+    assert!(rt; all_stand(&mut replay, &names, &BEFORE_CALL));
+    assert!(rt; replay.all_in_point().is_none() && replay.all_in_contenders() == 0);
+    assert!(rt; replay.dead().count() == 0);
+    assert!(rt; all_stand(&mut replay, &names, &AFTER_CALL));
+    assert!(rt; replay.all_in_point() == Some(Street::First) && replay.all_in_contenders() == 12);
     assert!(rt; same(Some(replay.dead()), cards(&[*b"As", *b"Ks"])));
     assert!(rt; same(replay.cards_at(3, Street::First), cards(&[*b"Qs", *b"Qh"])));
     assert!(rt; replay.cards_at(2, Street::First).is_none());
@@ -141,24 +133,53 @@ fn cards_face_down_are_those_of_a_later_bracket(rt: HostRuntime) -> Result<(), F
     let mut replay = Replay::new(&header, 6);
     assert!(rt; go(&mut replay, &names, &header, Part::Preamble, &RAZZ));
     assert!(rt; go(&mut replay, &names, &header, Part::Play, &RAZZ_END));
-    assert_eq!(rt; replay.all_in_point(), Some(Street::Fifth));
+    assert!(rt; replay.all_in_point() == Some(Street::Fifth));
     let fifth = cards(&[*b"As", *b"2d", *b"3h", *b"4c", *b"5s"]);
     assert!(rt; same(replay.cards_at(1, Street::Fifth), fifth));
-    assert!(rt; replay.cards_at(2, Street::Fifth).is_none());
-    assert!(rt; replay.final_cards(2).is_none());
+    assert!(rt; replay.cards_at(2, Street::Fifth).is_none() && replay.final_cards(2).is_none());
     let shown: [&[u8]; 1] = [b"Seat 2: y mucked [8c 8d Kc Kd Qc Qd 9h]"];
     assert!(rt; go(&mut replay, &names, &header, Part::Summary, &shown));
     let found = cards(&[*b"8c", *b"8d", *b"Kc", *b"Kd", *b"Qc"]);
     assert!(rt; same(replay.cards_at(2, Street::Fifth), found));
-    assert!(rt;
-        same(
-            replay.cards_at(2, Street::First),
-            cards(&[*b"8c", *b"8d", *b"Kc"])
-        )
-    );
-    assert_eq!(rt; replay.dead().count(), 0);
+    let first = cards(&[*b"8c", *b"8d", *b"Kc"]);
+    assert!(rt; same(replay.cards_at(2, Street::First), first));
+    assert!(rt; replay.dead().count() == 0);
     assert!(rt; replay.final_cards(2).is_some() && replay.final_cards(1).is_none());
     Ok(())
+}
+
+/// How many cards are known.
+fn count(cards: Option<CardSet>) -> Option<u32> {
+    Some(cards?.count())
+}
+
+/// What y shows in the end.
+const SHOWN: [&[u8]; 2] = [b"*** SHOW DOWN ***", b"y: shows [8d 6h 5s 4c 2d]"];
+
+/// What the two do on a draw, how many cards each keeps, and how many are dead.
+type Drawn = ([&'static [u8]; 2], Option<u32>, Option<u32>, u32);
+
+/// Whether lines of a hand and then of a draw leave as many known on the all-in's street, and dead.
+fn is_kept(names: &Names, header: &Header, lines: &[&[u8]], at: Street, drawn: &Drawn) -> bool {
+    let mut replay = Replay::new(header, 6);
+    go(&mut replay, names, header, Part::Preamble, lines)
+        && replay.all_in_point() == Some(at)
+        && go(&mut replay, names, header, Part::Play, &drawn.0)
+        && go(&mut replay, names, header, Part::Play, &SHOWN)
+        && count(replay.cards_at(1, at)) == drawn.1
+        && count(replay.cards_at(2, at)) == drawn.2
+        && count(replay.final_cards(2)) == Some(5)
+        && replay.dead().count() == drawn.3
+}
+
+/// Whether this is so of each of these draws.
+fn all_kept(names: &Names, header: &Header, lines: &[&[u8]], at: Street, table: &[Drawn]) -> bool {
+    for drawn in table {
+        if !is_kept(names, header, lines, at, drawn) {
+            return false;
+        }
+    }
+    true
 }
 
 /// A draw before which both are all in.
@@ -173,66 +194,105 @@ const DRAW: [&[u8]; 8] = [
     b"y: calls 80 and is all-in",
 ];
 
-/// How the two draw, and what they keep.
-#[derive(Drop)]
-struct Drawn {
-    lines: [&'static [u8]; 2],
-    first: Option<u32>,
-    second: Option<u32>,
-    dead: u32,
-}
-
 /// Each rule of what is kept.
-fn ways_to_draw() -> [Drawn; 4] {
-    [
-        Drawn {
-            lines: [b"x: stands pat on [7c 5d 4h 3s 2c]", b"y: stands pat"],
-            first: Some(5),
-            second: Some(5),
-            dead: 0,
-        },
-        Drawn {
-            lines: [b"x: discards 1 card [7c]", b"y: discards 1 card"],
-            first: Some(4),
-            second: None,
-            dead: 1,
-        },
-        Drawn {
-            lines: [b"x: discards 1 card", b"y: discards 5 cards"],
-            first: None,
-            second: Some(0),
-            dead: 0,
-        },
-        Drawn {
-            lines: [b"x: stands pat", b"y: discards 1 card [Kh]"],
-            first: Some(5),
-            second: None,
-            dead: 1,
-        },
-    ]
-}
-
-/// How many cards are known.
-fn count(cards: Option<CardSet>) -> Option<u32> {
-    Some(cards?.count())
-}
+const WAYS_TO_DRAW: &[Drawn] = &[
+    (
+        [b"x: stands pat on [7c 5d 4h 3s 2c]", b"y: stands pat"],
+        Some(5),
+        Some(5),
+        0,
+    ),
+    (
+        [b"x: discards 1 card [7c]", b"y: discards 1 card"],
+        Some(4),
+        None,
+        1,
+    ),
+    (
+        [b"x: discards 1 card", b"y: discards 5 cards"],
+        None,
+        Some(0),
+        0,
+    ),
+    (
+        [b"x: stands pat", b"y: discards 1 card [Kh]"],
+        Some(5),
+        None,
+        1,
+    ),
+];
 
 #[test]
 fn what_is_kept_goes_by_the_discards(rt: HostRuntime) -> Result<(), Fail> {
     let names = two_names(rt.alloc()).ok().ok_or("memory")?;
-    let header = chips(Game::Lowball27);
-    let end: [&[u8]; 2] = [b"*** SHOW DOWN ***", b"y: shows [8d 6h 5s 4c 2d]"];
-    for hand in ways_to_draw().iter() {
-        let mut replay = Replay::new(&header, 6);
-        assert!(rt; go(&mut replay, &names, &header, Part::Preamble, &DRAW));
-        assert_eq!(rt; replay.all_in_point(), Some(Street::First));
-        assert!(rt; go(&mut replay, &names, &header, Part::Play, &hand.lines));
-        assert!(rt; go(&mut replay, &names, &header, Part::Play, &end));
-        assert_eq!(rt; count(replay.cards_at(1, Street::First)), hand.first);
-        assert_eq!(rt; count(replay.cards_at(2, Street::First)), hand.second);
-        assert_eq!(rt; count(replay.final_cards(2)), Some(5));
-        assert_eq!(rt; replay.dead().count(), hand.dead);
-        assert!(rt; !replay.dead().has(card(51)));
-    }
+    let single = chips(Game::Lowball27);
+    assert!(rt; all_kept(&names, &single, &DRAW, Street::First, WAYS_TO_DRAW));
+    let five = chips(Game::Draw5);
+    assert!(rt; all_kept(&names, &five, &DRAW, Street::First, WAYS_TO_DRAW));
+    Ok(())
+}
+
+/// Two draws, behind which both are all in. A card that x threw away on the first is dealt to him on the second.
+const TWO_DRAWS: [&[u8]; 21] = [
+    b"Seat 1: x (100 in chips)",
+    b"Seat 2: y (100 in chips)",
+    b"x: posts small blind 10",
+    b"y: posts big blind 20",
+    b"*** DEALING HANDS ***",
+    b"Dealt to x [7c 5d 4h 3s Kc]",
+    b"x: calls 10",
+    b"y: checks",
+    b"*** FIRST DRAW ***",
+    b"y: discards 3 cards",
+    b"x: discards 1 card [Kc]",
+    b"Dealt to x [7c 5d 4h 3s] [Qd]",
+    b"y: checks",
+    b"x: checks",
+    b"*** SECOND DRAW ***",
+    b"y: stands pat",
+    b"x: discards 1 card [Qd]",
+    b"Dealt to x [7c 5d 4h 3s] [Kc]",
+    b"y: bets 80 and is all-in",
+    b"x: calls 80 and is all-in",
+    b"*** THIRD DRAW ***",
+];
+
+/// Each rule of what is kept on the third draw. The queen is dead in all of them, and the king where it is thrown away
+/// once more.
+const WAYS_TO_DRAW_LAST: &[Drawn] = &[
+    (
+        [b"y: stands pat", b"x: discards 1 card [Kc]"],
+        Some(4),
+        Some(5),
+        2,
+    ),
+    (
+        [b"y: discards 5 cards", b"x: discards 1 card"],
+        None,
+        Some(0),
+        1,
+    ),
+    (
+        [b"y: discards 1 card [2h]", b"x: stands pat"],
+        Some(5),
+        None,
+        2,
+    ),
+    ([b"y: discards 1 card", b"x says nothing"], Some(5), None, 1),
+];
+
+#[test]
+fn what_is_kept_on_the_last_of_three_draws(rt: HostRuntime) -> Result<(), Fail> {
+    let names = two_names(rt.alloc()).ok().ok_or("memory")?;
+    let triple = chips(Game::Triple27);
+    assert!(rt;
+        all_kept(
+            &names,
+            &triple,
+            &TWO_DRAWS,
+            Street::SecondDraw,
+            WAYS_TO_DRAW_LAST
+        )
+    );
     Ok(())
 }

@@ -1,8 +1,9 @@
 //! Hands that are run twice.
 
-use super::{DOLLARS, card, line_count, step_lines, three_names};
+use super::{DOLLARS, all_stand, card, is_refused, three_names};
 use betting_replay::{BetFault, Replay};
-use history_text::Street;
+use card_sets::{Card, CardSet};
+use history_text::{Names, Street};
 use std::test::Fail;
 
 /// Two seats that are all in before the flop.
@@ -29,21 +30,21 @@ const BOARDS: [&[u8]; 9] = [
     b"*** SUMMARY ***",
 ];
 
+/// Whether a set has five cards, this one and not that.
+fn is_board(board: CardSet, one: Card, other: Card) -> bool {
+    board.count() == 5 && board.has(one) && !board.has(other)
+}
+
 #[test]
 fn two_whole_boards_are_dealt(rt: HostRuntime) -> Result<(), Fail> {
     let names = three_names(rt.alloc()).ok().ok_or("memory")?;
     let mut replay = Replay::new(&DOLLARS, 6);
-    assert_eq!(rt; step_lines(&mut replay, &names, &ALL_IN), Some((7, None)));
-    assert!(rt; !replay.is_twice());
-    assert_eq!(rt; step_lines(&mut replay, &names, &BOARDS), Some((9, None)));
-    assert!(rt; replay.is_twice());
-    assert_eq!(rt; replay.all_in_point(), Some(Street::First));
-    assert_eq!(rt; replay.board().count(), 5);
-    assert!(rt; replay.board().has(card(36)));
+    assert!(rt; all_stand(&mut replay, &names, &ALL_IN) && !replay.is_twice());
+    assert!(rt; all_stand(&mut replay, &names, &BOARDS) && replay.is_twice());
+    assert!(rt; replay.all_in_point() == Some(Street::First));
+    assert!(rt; is_board(replay.board(), card(36), card(40)));
     let second = replay.second_board().ok_or("no second board")?;
-    assert_eq!(rt; second.count(), 5);
-    assert!(rt; second.has(card(40)));
-    assert!(rt; !second.has(card(36)));
+    assert!(rt; is_board(second, card(40), card(36)));
     Ok(())
 }
 
@@ -61,122 +62,89 @@ const RIVERS: [&[u8]; 6] = [
 fn two_boards_share_the_cards_before(rt: HostRuntime) -> Result<(), Fail> {
     let names = three_names(rt.alloc()).ok().ok_or("memory")?;
     let mut replay = Replay::new(&DOLLARS, 6);
-    assert_eq!(rt; step_lines(&mut replay, &names, &ALL_IN), Some((7, None)));
-    assert_eq!(rt; step_lines(&mut replay, &names, &RIVERS), Some((6, None)));
+    assert!(rt; all_stand(&mut replay, &names, &ALL_IN));
+    assert!(rt; all_stand(&mut replay, &names, &RIVERS));
     let second = replay.second_board().ok_or("no second board")?;
-    assert_eq!(rt; second.count(), 5);
-    assert!(rt; second.has(card(0)));
-    assert!(rt; second.has(card(40)));
-    assert!(rt; !second.has(card(36)));
+    assert!(rt; second.has(card(0)) && is_board(second, card(40), card(36)));
     Ok(())
 }
 
-/// Lines behind the all-in, of which the last that isn't empty is refused.
-#[derive(Drop)]
-struct Refused {
-    lines: [&'static [u8]; 5],
-    fault: BetFault,
+/// Whether lines like these are refused at their last behind the all-in.
+fn is_refused_behind(names: &Names, lines: &[&[u8]], fault: &BetFault) -> bool {
+    let mut replay = Replay::new(&DOLLARS, 6);
+    all_stand(&mut replay, names, &ALL_IN) && is_refused(&mut replay, names, lines, fault)
 }
 
-fn refusals() -> [Refused; 8] {
-    [
-        // a plain street behind one of a first board
-        Refused {
-            lines: [
-                b"*** FIRST FLOP *** [2c 7d 9h]",
-                b"*** TURN *** [2c 7d 9h] [4s]",
-                b"",
-                b"",
-                b"",
-            ],
-            fault: BetFault::StreetOrder,
-        },
-        // the second board before the first is whole
-        Refused {
-            lines: [
-                b"*** FIRST FLOP *** [2c 7d 9h]",
-                b"*** SECOND FLOP *** [3c 8d Th]",
-                b"",
-                b"",
-                b"",
-            ],
-            fault: BetFault::StreetOrder,
-        },
-        // a second board with no first
-        Refused {
-            lines: [b"*** SECOND FLOP *** [3c 8d Th]", b"", b"", b"", b""],
-            fault: BetFault::StreetOrder,
-        },
-        // a showdown before the second board is whole
-        Refused {
-            lines: [
-                b"*** FLOP *** [2c 7d 9h]",
-                b"*** TURN *** [2c 7d 9h] [4s]",
-                b"*** FIRST RIVER *** [2c 7d 9h 4s] [Jc]",
-                b"*** SHOW DOWN ***",
-                b"",
-            ],
-            fault: BetFault::StreetOrder,
-        },
-        // a showdown of two boards where there is one
-        Refused {
-            lines: [
-                b"*** FLOP *** [2c 7d 9h]",
-                b"*** TURN *** [2c 7d 9h] [4s]",
-                b"*** RIVER *** [2c 7d 9h 4s] [Jc]",
-                b"*** FIRST SHOW DOWN ***",
-                b"",
-            ],
-            fault: BetFault::StreetOrder,
-        },
-        // the second showdown with none before
-        Refused {
-            lines: [
-                b"*** FLOP *** [2c 7d 9h]",
-                b"*** TURN *** [2c 7d 9h] [4s]",
-                b"*** FIRST RIVER *** [2c 7d 9h 4s] [Jc]",
-                b"*** SECOND RIVER *** [2c 7d 9h 4s] [Qc]",
-                b"*** SECOND SHOW DOWN ***",
-            ],
-            fault: BetFault::StreetOrder,
-        },
-        // a card that both boards share comes again on the second
-        Refused {
-            lines: [
-                b"*** FLOP *** [2c 7d 9h]",
-                b"*** TURN *** [2c 7d 9h] [4s]",
-                b"*** FIRST RIVER *** [2c 7d 9h 4s] [Jc]",
-                b"*** SECOND RIVER *** [2c 7d 9h 4s] [4s]",
-                b"",
-            ],
-            fault: BetFault::CardTwice(card(11)),
-        },
-        // and one of the first board alone
-        Refused {
-            lines: [
-                b"*** FLOP *** [2c 7d 9h]",
-                b"*** TURN *** [2c 7d 9h] [4s]",
-                b"*** FIRST RIVER *** [2c 7d 9h 4s] [Jc]",
-                b"*** SECOND RIVER *** [2c 7d 9h 4s] [Jc]",
-                b"",
-            ],
-            fault: BetFault::CardTwice(card(36)),
-        },
-    ]
+/// Whether each of these is for its order.
+fn all_disordered(names: &Names, table: &[&[&[u8]]]) -> bool {
+    for lines in table {
+        if !is_refused_behind(names, lines, &BetFault::StreetOrder) {
+            return false;
+        }
+    }
+    true
 }
+
+/// Lines of which the last is out of order.
+const DISORDERED: &[&[&[u8]]] = &[
+    // a plain street behind one of a first board
+    &[
+        b"*** FIRST FLOP *** [2c 7d 9h]",
+        b"*** TURN *** [2c 7d 9h] [4s]",
+    ],
+    // the second board before the first is whole
+    &[
+        b"*** FIRST FLOP *** [2c 7d 9h]",
+        b"*** SECOND FLOP *** [3c 8d Th]",
+    ],
+    // a second board with no first
+    &[b"*** SECOND FLOP *** [3c 8d Th]"],
+    // a showdown before the second board is whole
+    &[
+        b"*** FLOP *** [2c 7d 9h]",
+        b"*** TURN *** [2c 7d 9h] [4s]",
+        b"*** FIRST RIVER *** [2c 7d 9h 4s] [Jc]",
+        b"*** SHOW DOWN ***",
+    ],
+    // a showdown of two boards where there is one
+    &[
+        b"*** FLOP *** [2c 7d 9h]",
+        b"*** TURN *** [2c 7d 9h] [4s]",
+        b"*** RIVER *** [2c 7d 9h 4s] [Jc]",
+        b"*** FIRST SHOW DOWN ***",
+    ],
+    // the second showdown with none before
+    &[
+        b"*** FLOP *** [2c 7d 9h]",
+        b"*** TURN *** [2c 7d 9h] [4s]",
+        b"*** FIRST RIVER *** [2c 7d 9h 4s] [Jc]",
+        b"*** SECOND RIVER *** [2c 7d 9h 4s] [Qc]",
+        b"*** SECOND SHOW DOWN ***",
+    ],
+];
+
+/// A card that both boards share comes again on the second.
+const SHARED: [&[u8]; 4] = [
+    b"*** FLOP *** [2c 7d 9h]",
+    b"*** TURN *** [2c 7d 9h] [4s]",
+    b"*** FIRST RIVER *** [2c 7d 9h 4s] [Jc]",
+    b"*** SECOND RIVER *** [2c 7d 9h 4s] [4s]",
+];
+
+/// And one of the first board alone.
+const OF_THE_FIRST: [&[u8]; 4] = [
+    b"*** FLOP *** [2c 7d 9h]",
+    b"*** TURN *** [2c 7d 9h] [4s]",
+    b"*** FIRST RIVER *** [2c 7d 9h 4s] [Jc]",
+    b"*** SECOND RIVER *** [2c 7d 9h 4s] [Jc]",
+];
 
 #[test]
 fn markers_of_two_boards_come_in_their_order(rt: HostRuntime) -> Result<(), Fail> {
     let names = three_names(rt.alloc()).ok().ok_or("memory")?;
-    for refused in refusals().iter() {
-        let mut replay = Replay::new(&DOLLARS, 6);
-        assert_eq!(rt; step_lines(&mut replay, &names, &ALL_IN), Some((7, None)));
-        let last = line_count(&refused.lines).saturating_sub(1);
-        assert_eq!(rt;
-            step_lines(&mut replay, &names, &refused.lines),
-            Some((last, Some(refused.fault)))
-        );
-    }
+    assert!(rt; all_disordered(&names, DISORDERED));
+    assert!(rt; is_refused_behind(&names, &SHARED, &BetFault::CardTwice(card(11))));
+    assert!(rt; is_refused_behind(&names, &OF_THE_FIRST, &BetFault::CardTwice(card(36))));
     Ok(())
 }
 
@@ -196,10 +164,7 @@ const CALLED: [&[u8]; 8] = [
 fn no_hand_is_run_twice_while_two_have_chips(rt: HostRuntime) -> Result<(), Fail> {
     let names = three_names(rt.alloc()).ok().ok_or("memory")?;
     let mut replay = Replay::new(&DOLLARS, 6);
-    assert_eq!(rt;
-        step_lines(&mut replay, &names, &CALLED),
-        Some((7, Some(BetFault::StreetOrder)))
-    );
+    assert!(rt; is_refused(&mut replay, &names, &CALLED, &BetFault::StreetOrder));
     assert!(rt; !replay.is_twice());
     Ok(())
 }

@@ -1,6 +1,6 @@
 //! Posts and returns, counted by hand.
 
-use super::{DOLLARS, step_lines, three_names};
+use super::{DOLLARS, all_stand, three_names};
 use betting_replay::Replay;
 use std::test::Fail;
 
@@ -53,13 +53,11 @@ const BOTH: [&[u8]; 8] = [
 fn posts_are_live_or_dead(rt: HostRuntime) -> Result<(), Fail> {
     let names = three_names(rt.alloc()).ok().ok_or("memory")?;
     let mut raised = Replay::new(&DOLLARS, 14);
-    assert_eq!(rt; step_lines(&mut raised, &names, &RAISED), Some((10, None)));
-    assert_eq!(rt; raised.paid(3).live, 200);
-    assert_eq!(rt; raised.paid(3).dead, 50);
+    assert!(rt; all_stand(&mut raised, &names, &RAISED));
+    assert!(rt; raised.paid(3).live == 200 && raised.paid(3).dead == 50);
     let mut both = Replay::new(&DOLLARS, 14);
-    assert_eq!(rt; step_lines(&mut both, &names, &BOTH), Some((8, None)));
-    assert_eq!(rt; both.paid(3).live, 100);
-    assert_eq!(rt; both.paid(3).dead, 50);
+    assert!(rt; all_stand(&mut both, &names, &BOTH));
+    assert!(rt; both.paid(3).live == 100 && both.paid(3).dead == 50);
     Ok(())
 }
 
@@ -67,10 +65,8 @@ fn posts_are_live_or_dead(rt: HostRuntime) -> Result<(), Fail> {
 fn a_bet_comes_back_by_the_street(rt: HostRuntime) -> Result<(), Fail> {
     let names = three_names(rt.alloc()).ok().ok_or("memory")?;
     let mut replay = Replay::new(&DOLLARS, 14);
-    assert_eq!(rt; step_lines(&mut replay, &names, &CALLED), Some((12, None)));
-    assert_eq!(rt; replay.paid(1).live, 310);
-    assert_eq!(rt; step_lines(&mut replay, &names, &RETURNED), Some((1, None)));
-    assert_eq!(rt; replay.paid(1).live, 110);
-    assert_eq!(rt; replay.stack(1), 4890);
+    assert!(rt; all_stand(&mut replay, &names, &CALLED) && replay.paid(1).live == 310);
+    assert!(rt; all_stand(&mut replay, &names, &RETURNED) && replay.paid(1).live == 110);
+    assert!(rt; replay.stack(1) == 4890);
     Ok(())
 }

@@ -22,4 +22,4 @@ same_dead players (Some pt) f g gone h = ap (union gone) (same_seats (had_folded
 
 pub returns : goal.returns
 unfolding dead_at
-returns c header players h = same_dead players (point header players h) (own_at (table_of header players h)) (owned h) (thrown h) (λ p small. at_by_seat (owned h) p [] small)
+returns c header players h = same_dead players (point header players h) (own_at (table_of header players h)) (owned header.game h) (thrown h) (λ p small. at_by_seat (owned header.game h) p [] small)

@@ -17,20 +17,20 @@ returns-in-Departs c =
     let text = slice_range c.args.bytes.now c.in-Some.head.first c.in-Some.head.end in
     let rest = lines (drop c.in-Some.head.next c.args.bytes.now) in
     let g = c.in-Ok.header in
-    let players = c.in_ok-players.players in
+    let players = c.in_ok-passed.passed.players in
     record {
-      verdict = audit_departs c.args.first_line (lines c.args.bytes.now) text rest g players c.in-Departs.line c.in-Departs.cause c.in-Some.ensures.texts (sym c.read_header.ensures ∙ c.in-Ok.is) c.in_ok-players.ensures
+      verdict = audit_departs c.args.first_line (lines c.args.bytes.now) text rest g players c.in-Departs.line c.in-Departs.cause c.in-Some.ensures.texts (sym c.read_header.ensures ∙ c.in-Ok.is) c.in_ok-passed.ensures.players
           (subst (Follows g players c.args.first_line rest) c.in-Departs.is c.in_ok-line.ensures);
     }
 
-pub returns-in-Ends : goal.returns-in-Ends
-returns-in-Ends c =
+pub returns : goal.returns
+returns c =
     let text = slice_range c.args.bytes.now c.in-Some.head.first c.in-Some.head.end in
     let rest = lines (drop c.in-Some.head.next c.args.bytes.now) in
     let g = c.in-Ok.header in
-    let players = c.in_ok-players.players in
+    let players = c.in_ok-passed.passed.players in
     let ends = subst (Follows g players c.args.first_line rest) c.in-Ends.is c.in_ok-line.ensures in
     record {
-      verdict = audit_ends c.args.first_line (lines c.args.bytes.now) text rest g players c.accepted.result c.in-Some.ensures.texts (sym c.read_header.ensures ∙ c.in-Ok.is) c.in_ok-players.ensures
+      verdict = audit_ends c.args.first_line (lines c.args.bytes.now) text rest g players c.accepted.result c.in-Some.ensures.texts (sym c.read_header.ensures ∙ c.in-Ok.is) c.in_ok-passed.ensures.players
           ends.0 (c.accepted.ensures (read_all g nothing rest) ends.1 ends.2);
     }

@@ -2,10 +2,29 @@ use Rattle.std.proofs.Common.{◌≡◌, ◌∷◌, subst, refl, arith, length, 
 use Rattle.std.specs.Prelude.{Option, slice_range, drop}
 use Rattle.line_text.specs.Lines.{lines}
 use Rattle.hand_audit.specs.declared.cause.Cause.{Cause}
-use Rattle.hand_audit.specs.Keeping.{Goes, EndsAs}
-use Rattle.hand_audit.specs.Lines.{read_at}
+use Rattle.hand_audit.specs.Keeping.{Goes, EndsAs, IsRead}
+use Rattle.hand_audit.specs.Lines.{nothing, read_at}
+use Rattle.hand_audit.proofs.ReadOnce.{first_read, others_left, some_of}
 use Rattle.hand_audit.proofs.Going.{going_more, going_departs, going_ends, going_stops}
 use Rattle.hand_audit.proofs.follow.follow.Goals as goal
+
+pub lines-init : goal.lines-init
+lines-init c =
+    let k = c.new-hand.ensures.keeps in
+    record {
+      within = c.requires.within;
+      numbers = refl;
+      sound = c.new-hand.ensures.sound;
+      going = record { so_far = nothing; keeps = k; same = refl; read = refl };
+      ahead = rw (k.names, k.part) c.requires.reads;
+    }
+
+pub take_line-requires-clause-said : goal.take_line-requires-clause-said
+take_line-requires-clause-said c =
+    let r = c.lines.invariant.going in
+    let text = slice_range c.args.bytes.now c.in-Some.line.first c.in-Some.line.end in
+    some_of c.cut.result.0 (IsRead c.lines.hand.names c.args.header.now c.lines.hand.part text)
+    (first_read c.args.header.now c.lines.hand.names c.lines.hand.part _ _ _ text (lines (drop c.in-Some.line.next c.args.bytes.now)) _ c.in-Some.ensures.texts c.cut.ensures c.lines.invariant.ahead)
 
 pub returns-in-Some-2 : goal.returns-in-Some-2
 returns-in-Some-2 c =
@@ -24,6 +43,8 @@ lines-preserved c =
       sound = c.in_ok-cause.ensures.sound;
       numbers = (let n = c.lines.invariant.numbers in omega (arith, count, n));
       going = going_more c.lines.hand c.take_line.new.self c.args.header.now c.args.players c.args.first _ text (lines (drop c.in-Some.line.next c.args.bytes.now)) _ c.lines.number r c.in-Some.ensures.texts
+          (subst (λ (o : Option Cause). Goes c.take_line.new.self c.args.header.now c.args.players r.so_far text (read_at c.args.header.now r.so_far text) o) c.in_default-2.is (c.in_ok-cause.ensures.goes c.args.players r.so_far r.keeps));
+      ahead = others_left c.lines.hand c.take_line.new.self c.args.header.now c.args.players r.so_far _ _ _ text (lines (drop c.in-Some.line.next c.args.bytes.now)) _ c.in-Some.ensures.texts c.cut.ensures c.lines.invariant.ahead r.keeps
           (subst (λ (o : Option Cause). Goes c.take_line.new.self c.args.header.now c.args.players r.so_far text (read_at c.args.header.now r.so_far text) o) c.in_default-2.is (c.in_ok-cause.ensures.goes c.args.players r.so_far r.keeps));
     }
 

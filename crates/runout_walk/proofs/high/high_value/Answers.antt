@@ -1,7 +1,7 @@
 use Rattle.std.proofs.Common.{◌∙◌, ap, sym, arith, length}
 use Rattle.rank_high.specs.High.{value_of, best_high}
 use Rattle.omaha_ranks.specs.Omaha.{ArePlaced, omaha_high}
-use Rattle.runout_walk.proofs.HighCalls.{any_high, not_omaha, together, two_own}
+use Rattle.runout_walk.proofs.HighCalls.{any_high, as_omaha, not_omaha, together, two_own}
 use Rattle.runout_walk.proofs.HighLaws.{omaha_high_is}
 use Rattle.runout_walk.proofs.high.high_value.Goals as goal
 
@@ -15,9 +15,9 @@ high_of_set-requires-clause-most c =
     let placed : ArePlaced c.args.own c.args.board = record { own_cards = c.rising.ensures.set; board_cards = c.rising-2.ensures.set; apart = c.requires.apart } in
     omega (arith, ap length c.union.ensures, together c.args.own c.args.board placed, c.requires.board, c.requires.own, two_own c.args.game c.requires.game (not_omaha c.args.game c.in-Holdem.is))
 
-pub returns-in-Omaha8 : goal.returns-in-Omaha8
+pub returns-in-Omaha : goal.returns-in-Omaha
 unfolding omaha_high
-returns-in-Omaha8 c = rw c.in-Omaha8.is (c.omaha_high.ensures ∙ sym (omaha_high_is c.args.own c.args.board))
+returns-in-Omaha c = c.omaha_high.ensures ∙ sym (omaha_high_is c.args.game (as_omaha c.args.game c.in-Omaha.is) c.args.own c.args.board)
 
 pub returns-in-Holdem : goal.returns-in-Holdem
 returns-in-Holdem c =

@@ -1,16 +1,15 @@
 use Rattle.std.proofs.Common.{◌∙◌, ap, sym, arith}
-use Rattle.card_sets.specs.Games.{own_size}
 use Rattle.rank_high.specs.Parts.{suited}
 use Rattle.omaha_ranks.specs.Omaha.{ArePlaced}
-use Rattle.runout_walk.proofs.HighCalls.{any_suited, not_omaha}
+use Rattle.runout_walk.proofs.HighCalls.{any_suited, as_omaha, four_own, not_omaha}
 use Rattle.runout_walk.proofs.HighLaws.{omaha_suited_is}
 use Rattle.runout_walk.proofs.high.suited_value.Goals as goal
 
 pub omaha_suited_value-requires-clause-own : goal.omaha_suited_value-requires-clause-own
-omaha_suited_value-requires-clause-own c = omega (arith, c.requires.own, ap own_size c.in-Omaha8.is)
+omaha_suited_value-requires-clause-own c = omega (arith, c.requires.own, four_own c.args.game c.in-Omaha.is)
 
-pub returns-in-Omaha8 : goal.returns-in-Omaha8
-returns-in-Omaha8 c = rw c.in-Omaha8.is (c.omaha_suited_value.ensures ∙ sym (omaha_suited_is c.args.own c.args.cards c.args.suit))
+pub returns-in-Omaha : goal.returns-in-Omaha
+returns-in-Omaha c = c.omaha_suited_value.ensures ∙ sym (omaha_suited_is c.args.game (as_omaha c.args.game c.in-Omaha.is) c.args.own c.args.cards c.args.suit)
 
 pub returns-in-Holdem : goal.returns-in-Holdem
 returns-in-Holdem c =

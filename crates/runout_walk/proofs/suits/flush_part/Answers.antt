@@ -7,12 +7,12 @@ use Rattle.runout_walk.proofs.suits.flush_part.Goals as goal
 pub returns-then-count-lt2-clause-value : goal.returns-then-count-lt2-clause-value
 returns-then-count-lt2-clause-value c =
     let size : c.count-count.result ≡ count_of_suit c.args.own c.args.suit = c.count-count.ensures.value ∙ ap length c.of_suit.ensures ∙ suit_count c.args.own c.args.suit in
-    rw c.in-Omaha8.is (sym (none_part (count_of_suit c.args.own c.args.suit) (omega (arith, size, c.if-count-lt2.true))))
+    sym (none_part c.args.game (count_of_suit c.args.own c.args.suit) c.in-Omaha.is (omega (arith, size, c.if-count-lt2.true)))
 
 pub returns-else-count-lt2-clause-value : goal.returns-else-count-lt2-clause-value
 returns-else-count-lt2-clause-value c =
     let size : c.count-count.result ≡ count_of_suit c.args.own c.args.suit = c.count-count.ensures.value ∙ ap length c.of_suit.ensures ∙ suit_count c.args.own c.args.suit in
-    rw c.in-Omaha8.is (sym (two_part (count_of_suit c.args.own c.args.suit) (omega (arith, size, c.if-count-lt2.false))))
+    sym (two_part c.args.game (count_of_suit c.args.own c.args.suit) c.in-Omaha.is (omega (arith, size, c.if-count-lt2.false)))
 
 pub returns-in-Holdem : goal.returns-in-Holdem
 returns-in-Holdem c =

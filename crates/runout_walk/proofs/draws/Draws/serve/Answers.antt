@@ -4,7 +4,7 @@ use Rattle.runout_ranges.specs.Shapes.{slots_of}
 use Rattle.runout_ranges.specs.Slots.{slots}
 use Rattle.runout_walk.specs.Draws.{last_hand}
 use Rattle.runout_walk.specs.Listing.{last_count}
-use Rattle.runout_walk.proofs.DrawLeaf.{draws_parts, last_inside}
+use Rattle.runout_walk.proofs.DrawLeaf.{draws_parts, last_inside, one_sided}
 use Rattle.runout_walk.proofs.DrawSlots.{some_slots}
 use Rattle.runout_walk.proofs.draws.Draws.serve.Goals as goal
 
@@ -18,3 +18,9 @@ hand_of-own-requires c =
     let inside = last_inside st parts.0 some in
     let hand : c.last_slot-last.result.hand ≡ last_hand (slots st) = c.last_slot-last.ensures.hand ∙ ap last_hand lacking in
     omega (arith, inside.0, hand)
+
+pub invariant_of-self-clause-one_side : goal.invariant_of-self-clause-one_side
+invariant_of-self-clause-one_side c = one_sided c.args.table.now.known.game (last_count (slots_of c.args.shape.now)) c.requires.draws
+
+pub invariant_of-self-clause-last_is : goal.invariant_of-self-clause-last_is
+invariant_of-self-clause-last_is c = c.last_slot-last.ensures.hand ∙ ap last_hand c.requires.shape.lacking

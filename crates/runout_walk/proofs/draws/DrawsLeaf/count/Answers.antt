@@ -94,7 +94,7 @@ returns-clause-counts g c = λ pot place side p has m.
     ∙ ap (λ l. map (number_of rows planes) (slice_range (choose count l) lo hi)) cards_is
     ∙ leaf_values st front rows planes taken rest count last lo hi deep at (omega (arith, inside.1, deep)) leaf.right empty (λ more m. each more (subst (M more) count_is m))
     ∙ ap (λ n. map (worth known.game (hand_of st last)) (slice_range (choose n rest) lo hi)) count_is in
-    let row_is : c.side_row-row.result ≡ side_place side = c.side_row-row.ensures.value ∙ ap side_place (c.only_side.ensures ∙ sym (only_one known.game side leaf.no_board has)) in
+    let row_is : c.side_row-row.result ≡ side_place side = c.side_row-row.ensures.value ∙ ap side_place (c.only_side.ensures ∙ sym (only_one known.game side leaf.one_side has)) in
     let pots = table.few_pots in
     let there : pot < table.pots = omega (arith, p, length-map (take table.pots table.eligible) hands_of, length-take table.pots table.eligible) in
     let among : pot < length (take table.pots table.eligible) = omega (arith, p, length-map (take table.pots table.eligible) hands_of) in
@@ -103,7 +103,7 @@ returns-clause-counts g c = λ pot place side p has m.
     let A : List ℕ → Type 0 = λ l. AreBelow (length st.hands) l in
     let B : ℕ → Type 0 = λ n. AreBelow n (hands_below (slice_index_or table.eligible pot 0) known.count) in
     let below : AreBelow (length st.hands) (eligible_in deal pot) = subst A (sym hands) (subst B all (AreBelow-hands_below (slice_index_or table.eligible pot 0) known.count)) in
-    let won = leaf_counts side deal pot place last front taken numbers values (slice_range (choose left rest) lo hi) leaf.no_board has below at empty c.numbers_with-numbers.ensures.numbers (λ more m. each more (in_range (choose left rest) lo hi more m)) values_is in
+    let won = leaf_counts side deal pot place last front taken numbers values (slice_range (choose left rest) lo hi) leaf.no_board leaf.one_side has below at empty c.numbers_with-numbers.ensures.numbers (λ more m. each more (in_range (choose left rest) lo hi more m)) values_is in
     let P : ℕ → Type 0 = λ r. slice_index (slice_index_or c.count_pots.new.counts (2 * pot + r) []) place ≡ slice_index (slice_index_or c.args.counts.now (2 * pot + r) []) place
     + count_by (λ value. best_set (value_with numbers last value) (eligible_in deal pot) == place) values in
     let counted : P (side_place side) = subst P row_is (c.count_pots.ensures.counts pot place there m) in

@@ -1,0 +1,22 @@
+-- How a player drew on the last draw, by the events before its street began and by those since.
+use Rattle.std.specs.Prelude.{◌≡◌, ◌++◌, ℕ, true, false, List, [], ◌∷◌}
+use Rattle.history_text.specs.declared.events.Header.{Header}
+use Rattle.history_text.specs.declared.events.Event.{Event}
+use Rattle.betting_replay.specs.Dealing.{gathered, marked, hides, stands_pat, discards_five, last_draw_of}
+use Rattle.betting_replay.specs.Hands.{held}
+use Rattle.betting_replay.specs.Places.{thrown_by}
+use Rattle.betting_replay.specs.Sums.{last_begun}
+
+-- what he held is what he held by the events before; what he threw away, and how, is told by the events since
+pub record TellsLastDraw (header : Header) (all since before : List Event) (p : ℕ) : Type 0 where
+  pub held_then : (last_draw_of header all p).held ≡ held before p
+  pub hidden_then : (last_draw_of header all p).hidden_before ≡ marked hides before p
+  pub thrown_since : (last_draw_of header all p).thrown ≡ gathered thrown_by since p
+  pub hidden_since : (last_draw_of header all p).hidden ≡ marked hides since p
+  pub pat_since : (last_draw_of header all p).pat ≡ marked stands_pat since p
+  pub five_since : (last_draw_of header all p).five ≡ marked discards_five since p
+
+-- where the last street begins with an event, behind others and before others; the latest event stands first
+abbrev pub PartsLastDraw : Type 0
+PartsLastDraw = (header : Header) (later : List Event) (e : Event) (before : List Event) (p : ℕ) → last_begun header before ≡ false → last_begun header (e ∷ before) ≡ true
+    → TellsLastDraw header (later ++ e ∷ before) (later ++ e ∷ []) before p
