@@ -15,6 +15,7 @@ pub mod Returns
 pub mod AllIn
 pub mod Tables
 pub mod Faults
+pub mod Later
 pub mod Accepted
 pub mod CardLaws
 pub mod PlaceLaws

@@ -6,6 +6,7 @@ ghost use Rattle.betting_replay.specs.Streets.{same_street, is_drawing, begun_by
 ghost use Rattle.betting_replay.specs.Sums.{is_last_of};
 ghost use Rattle.betting_replay.specs.Faults.{verdict, fault_with, may_part, next_only, next_first, next_second, next_on, all_begun, may_end, shows_next, marker_stands, draw_stands, street_early, street_order};
 ghost use Rattle.betting_replay.specs.Counting.{begins_last, cleared, begun_with, begun, showdowns_after};
+ghost use Rattle.betting_replay.specs.Later.{is_of_second, if_later, later_by, later_begun};
 ghost use Rattle.betting_replay.specs.Turns.{next_to_act};
 ghost use Rattle.betting_replay.specs.declared.faults.BetFault.TheVariants.{StreetEarly};
 
@@ -183,7 +184,50 @@ fn begins(game: Game, street: Option<Street>, e: &Event) -> Option<Street>
     }
 }
 
+/// Whether an event is a marker of a second board.
+fn is_of_second(e: &Event) -> bool
+    ensures { result ≡ is_of_second e.now }
+{
+    match *e {
+        Event::Street { board, .. } => board == BoardNumber::Second,
+        _ => false,
+    }
+}
+
+/// A street that has betting and isn't the first.
+fn if_later(street: Option<Street>) -> Option<Street>
+    ensures { result ≡ if_later street }
+{
+    match street {
+        Some(street) => { if is_later(street) { Some(street) } else { None } }
+        None => None,
+    }
+}
+
+/// The street after the first that an event begins, of two boards on the first.
+fn later_by(game: Game, street: Option<Street>, e: &Event) -> Option<Street>
+    ensures { result ≡ later_by game street e.now }
+{
+    if is_of_second(e) {
+        None
+    } else {
+        if_later(begins(game, street, e))
+    }
+}
+
 impl Replay {
+    /// The street after the first that an event would begin behind the all-in point, with no showdown's
+    /// marker before it. None where the event is a marker of a second board.
+    pub fn later_begun(&self, e: &Event) -> Option<Street>
+        ensures { result ≡ later_begun self.now e.now }
+    {
+        if self.point.is_some() && !self.any_shown() {
+            later_by(self.header.game, self.street, e)
+        } else {
+            None
+        }
+    }
+
     /// Live sums, acts and turns begin anew.
     fn clear(&mut self)
         ensures { self.new ≡ cleared self.old }

@@ -22,7 +22,7 @@ use step_count::Steps;
 
 /// The room that a count works in, about 0.9 MB. It is made once and lent to each count; what it
 /// held before makes no difference.
-#[derive(Debug, Drop)]
+#[derive(Drop)]
 pub struct Scratch {
     counts: [[u32; 2048]; 20],
     boards: Boards,

@@ -27,7 +27,7 @@ fn add_others<L: Ledger>(job: &Job, scratch: &mut Scratch, total: &mut Tally, st
 }
 
 /// Makes a tally that of all runouts of a job, one block after another. It takes one step a runout.
-fn count_blocks<L: Ledger>(
+pub fn count_blocks<L: Ledger>(
     job: &Job,
     scratch: &mut Scratch,
     total: &mut Tally,

@@ -12,7 +12,7 @@ mod laws;
 mod limits;
 
 pub use blocks::{Scratch, count_block, fill_block};
-pub use counting::count_job;
+pub use counting::{count_blocks, count_job};
 pub use jobs::{Job, JobFault};
 pub use laws::{law_block_sums_add, law_blocks_add_up, law_blocks_are_all};
 pub use limits::{BLOCK, RUNOUT_MAX};

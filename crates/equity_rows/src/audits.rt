@@ -20,7 +20,7 @@ expect 100.83 carl\n\
 expect 20.17 dora\n";
 
 /// What a expects of both pots is rounded once: 928.57 and 1285.71 are 2214.29.
-const SIDE_POTS_REPORT: &str = "hand 88 rejected line 12 Unfinished\n\
+pub(crate) const SIDE_POTS_REPORT: &str = "hand 88 rejected line 12 Unfinished\n\
 hand 88 accepted holdem rake 0\n\
 pot 0 gross 1500 rake 0 checked\n\
 paid 1500 a\n\

@@ -52,6 +52,8 @@ draw5 As Ad Ah Ac Ks - Kd Kh Kc Qd
 triple27 7c 5d 4h 3s 2c - 7d 5h 4s 3c
 omaha As Ah - Ks Kh
 draw5 As Ad Ah Ac Ks - Kd Kh Kc Qd -- 2c 3c 4c
+stud8 Kc Kd Kh Qc Qd Qh Js - As Ah Ad 2c 3d 4h
+triple27 Kd Qc 8h 7s 6c - 5c 4d 3h 2s
 ";
 
 const MORE_REPORT: &str = "spot 1 omaha runouts 40
@@ -78,9 +80,23 @@ hand 2 low win 0 0.00 tie 3 6.98 lose 40 93.02
 hand 2 ev 0.035
 spot 5 rejected line 5 HandSize
 spot 6 rejected line 6 BoardSize
+spot 7 stud8 runouts 39
+hand 1 high win 29 74.36 tie 0 0.00 lose 10 25.64
+hand 1 low win 0 0.00 tie 0 0.00 lose 39 100.00
+hand 1 ev 0.538
+hand 2 high win 10 25.64 tie 0 0.00 lose 29 74.36
+hand 2 low win 16 41.03 tie 0 0.00 lose 23 58.97
+hand 2 ev 0.462
+spot 8 triple27 runouts 43
+hand 1 low win 19 44.19 tie 0 0.00 lose 24 55.81
+hand 1 ev 0.442
+hand 2 low win 24 55.81 tie 0 0.00 lose 19 44.19
+hand 2 ev 0.558
 ";
 
-/// Omaha for the high alone, stud for both sides, five card draw and triple draw.
+/// Omaha for the high alone, stud for both sides, five card draw and triple draw. In the seventh three deuces,
+/// treys and fours each and the last ace make ten hands better than kings full, and fives to eights make sixteen
+/// lows; in the eighth a pair, an ace or a six lose against king high: twelve, four and three cards.
 #[test]
 fn four_more_games_have_their_spots(rt: HostRuntime) -> Result<(), Fail> {
     reports(&rt, rt.alloc(), &["spots"], MORE_SPOTS, 1, MORE_REPORT)

@@ -27,4 +27,6 @@ fn the_laws_of_a_verdict_can_be_called() {
     hand_audit::law_a_lone_player_wins_a_side_of_each_part();
     hand_audit::law_a_table_has_the_pots_of_the_hand();
     hand_audit::law_a_mark_is_a_card_of_its_player();
+    hand_audit::law_later_streets_know_cards();
+    hand_audit::law_later_streets_come_in_order();
 }

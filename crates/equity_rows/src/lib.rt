@@ -32,6 +32,8 @@ mod other_games;
 #[cfg(test)]
 mod plain;
 #[cfg(test)]
+mod ranges;
+#[cfg(test)]
 mod refusals;
 #[cfg(test)]
 mod runs;
@@ -39,6 +41,8 @@ mod runs;
 mod spots;
 #[cfg(test)]
 mod streams;
+#[cfg(test)]
+mod streets;
 #[cfg(test)]
 mod sums;
 #[cfg(test)]

@@ -2,7 +2,7 @@
 //! and on the fifth street, and before a draw; and one on the third street, which isn't counted. The verdicts
 //! were worked out by hand, the counts by a listing outside this repository.
 
-use crate::runs::reports;
+use crate::runs::{AMPLE, ends};
 use std::test::Fail;
 
 const HANDS: &[u8] =
@@ -187,7 +187,11 @@ Seat 1: hal showed [Ad Ac 9h 5s 5d 2c 7s] and won ($6) with two pair, Aces and F
 Seat 3: ivy showed [Jc 8d Qs Qd 8h Jh 4s] and lost with two pair, Queens and Jacks
 ";
 
-const REPORT: &str = "hand 7500000001 accepted omaha8 rake 4.00
+/// The block of each hand, and the lines of its later streets. On the sixth street of Razz ivy has six, five, four,
+/// trey and deuce, and no card gives hal a low below seven. A refused all-in has no streets.
+const BLOCKS: &[(&str, &str)] = &[
+    (
+        "hand 7500000001 accepted omaha8 rake 4.00
 pot 0 gross 130.00 rake 4.00 checked
 paid 63.00 eva
 paid 63.00 finn
@@ -200,7 +204,18 @@ pot 0 low win 0 0.00 tie 0 0.00 lose 40 100.00 finn
 pot 0 ev 0.425 finn
 expect 74.75 eva
 expect 55.25 finn
-hand 7500000002 accepted stud rake 2.00
+",
+        "street river runouts 1
+pot 0 high win 0 0.00 tie 0 0.00 lose 1 100.00 eva
+pot 0 low win 1 100.00 tie 0 0.00 lose 0 0.00 eva
+pot 0 ev 0.500 eva
+pot 0 high win 1 100.00 tie 0 0.00 lose 0 0.00 finn
+pot 0 low win 0 0.00 tie 0 0.00 lose 1 100.00 finn
+pot 0 ev 0.500 finn
+",
+    ),
+    (
+        "hand 7500000002 accepted stud rake 2.00
 pot 0 gross 41.25 rake 2.00 checked
 paid 39.25 hal
 all-in 6th runouts 1482
@@ -210,7 +225,16 @@ pot 0 high win 216 14.57 tie 0 0.00 lose 1266 85.43 ivy
 pot 0 ev 0.146 ivy
 expect 35.24 hal
 expect 6.01 ivy
-hand 7500000003 accepted razz rake 1.25
+",
+        "street river runouts 1
+pot 0 high win 1 100.00 tie 0 0.00 lose 0 0.00 hal
+pot 0 ev 1.000 hal
+pot 0 high win 0 0.00 tie 0 0.00 lose 1 100.00 ivy
+pot 0 ev 0.000 ivy
+",
+    ),
+    (
+        "hand 7500000003 accepted razz rake 1.25
 pot 0 gross 25.75 rake 1.25 checked
 paid 24.50 ivy
 all-in 5th runouts 607620
@@ -220,7 +244,21 @@ pot 0 low win 381735 62.82 tie 999 0.16 lose 224886 37.01 ivy
 pot 0 ev 0.629 ivy
 expect 9.55 hal
 expect 16.20 ivy
-hand 7500000004 accepted lowball27 rake 3.00
+",
+        "street 6th runouts 1482
+pot 0 low win 0 0.00 tie 0 0.00 lose 1482 100.00 hal
+pot 0 ev 0.000 hal
+pot 0 low win 1482 100.00 tie 0 0.00 lose 0 0.00 ivy
+pot 0 ev 1.000 ivy
+street river runouts 1
+pot 0 low win 0 0.00 tie 0 0.00 lose 1 100.00 hal
+pot 0 ev 0.000 hal
+pot 0 low win 1 100.00 tie 0 0.00 lose 0 0.00 ivy
+pot 0 ev 1.000 ivy
+",
+    ),
+    (
+        "hand 7500000004 accepted lowball27 rake 3.00
 pot 0 gross 92.00 rake 3.00 checked
 paid 89.00 kit
 all-in predraw runouts 42
@@ -230,15 +268,36 @@ pot 0 low win 31 73.81 tie 0 0.00 lose 11 26.19 lea
 pot 0 ev 0.738 lea
 expect 24.10 kit
 expect 67.90 lea
-hand 7500000005 accepted stud rake 0.00
+",
+        "street draw runouts 1
+pot 0 low win 1 100.00 tie 0 0.00 lose 0 0.00 kit
+pot 0 ev 1.000 kit
+pot 0 low win 0 0.00 tie 0 0.00 lose 1 100.00 lea
+pot 0 ev 0.000 lea
+",
+    ),
+    (
+        "hand 7500000005 accepted stud rake 0.00
 pot 0 gross 6.00 rake 0.00 checked
 paid 6.00 hal
 all-in refused above 200000000 runouts
-";
+",
+        "",
+    ),
+];
 
 /// Cards that were folded or thrown away face up are dead, those of stud that lie face down are known from
 /// what was shown at the end, and streets and sides are those of the game.
 #[test]
-fn each_game_has_its_all_ins(rt: HostRuntime) -> Result<(), Fail> {
-    reports(&rt, rt.alloc(), &["audit"], HANDS, 0, REPORT)
+fn each_game_has_its_all_ins_and_streets(rt: HostRuntime) -> Result<(), Fail> {
+    let alloc = rt.alloc();
+    let mut audited = Vec::new(alloc);
+    let mut followed = Vec::new(alloc);
+    for (block, streets) in BLOCKS {
+        audited.extend_from_slice(block.as_bytes())?;
+        followed.extend_from_slice(block.as_bytes())?;
+        followed.extend_from_slice(streets.as_bytes())?;
+    }
+    ends(&rt, alloc, &["audit"], HANDS, AMPLE, 0, &audited)?;
+    ends(&rt, alloc, &["streets"], HANDS, AMPLE, 0, &followed)
 }

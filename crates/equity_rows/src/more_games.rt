@@ -5,7 +5,7 @@ use crate::histories::with_line;
 use crate::runs::{Change, Row, each_change_reports, each_reports, reports};
 use std::test::Fail;
 
-const TRIPLE: &str = "PokerStars Hand #92: Triple Draw 2-7 Lowball Limit (10/20)
+pub(crate) const TRIPLE: &str = "PokerStars Hand #92: Triple Draw 2-7 Lowball Limit (10/20)
 Table '9 3' 6-max Seat #1 is the button
 Seat 1: x (60 in chips)
 Seat 2: y (60 in chips)
@@ -41,7 +41,7 @@ Total pot 120 | Rake 0
 
 /// x keeps four, y all five. The queen and the jack are dead, and the king, which came again, isn't. Each of three
 /// deuces wins for x; a six makes a straight.
-const TRIPLE_REPORT: &str = "hand 92 accepted triple27 rake 0\n\
+pub(crate) const TRIPLE_REPORT: &str = "hand 92 accepted triple27 rake 0\n\
 pot 0 gross 120 rake 0 checked\n\
 paid 120 y\n\
 all-in 2nd-draw runouts 41\n\
@@ -151,7 +151,7 @@ fn odd_units_of_a_low_go_by_its_own_marks(rt: HostRuntime) -> Result<(), Fail> {
     each_reports(&rt, rt.alloc(), &["check"], STUD8_HANDS)
 }
 
-const DRAW5: &str = "PokerStars Hand #94: 5 Card Draw Pot Limit (10/20)
+pub(crate) const DRAW5: &str = "PokerStars Hand #94: 5 Card Draw Pot Limit (10/20)
 Table '9 5' 6-max Seat #1 is the button
 Seat 1: x (100 in chips)
 Seat 2: y (101 in chips)
@@ -175,7 +175,7 @@ Total pot 200 | Rake 0
 
 /// Eight high beats seven high. Of the 42 cards that y may draw each of the three deuces alone leaves him with less: ten
 /// make a pair, three sixes a straight, and an eight or more a higher card.
-const DRAW5_REPORT: &str = "hand 94 accepted draw5 rake 0\n\
+pub(crate) const DRAW5_REPORT: &str = "hand 94 accepted draw5 rake 0\n\
 pot 0 gross 200 rake 0 checked\n\
 paid 200 x\n\
 all-in predraw runouts 42\n\

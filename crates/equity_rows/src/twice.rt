@@ -7,7 +7,7 @@ use std::test::Fail;
 
 /// In place of the river and the showdown of the hand with side pots: a has the best hand on the first board, and
 /// c on the second.
-const TWO_RIVERS: [&str; 10] = [
+pub(crate) const TWO_RIVERS: [&str; 10] = [
     "*** FIRST RIVER *** [7h 8h 2c Qs] [3d]",
     "*** SECOND RIVER *** [7h 8h 2c Qs] [6s]",
     "*** FIRST SHOW DOWN ***",
@@ -20,7 +20,7 @@ const TWO_RIVERS: [&str; 10] = [
     "c collected 1000 from side pot\nc collected 750 from main pot",
 ];
 
-const TWO_RIVERS_REPORT: &str = "hand 88 accepted holdem rake 0 twice\n\
+pub(crate) const TWO_RIVERS_REPORT: &str = "hand 88 accepted holdem rake 0 twice\n\
 pot 0 gross 1500 rake 0 checked\n\
 paid 750 a\n\
 paid 750 c\n\

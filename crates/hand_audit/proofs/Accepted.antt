@@ -1,6 +1,6 @@
 -- Of a hand that is accepted no line departs.
-use Rattle.std.proofs.Common.{◌≡◌, ℕ, ◌+◌, ◌<◌, ◌≤◌, zero, suc, List, [], ◌∷◌, refl, sym, ap, ◌∙◌, subst, Bool, true, false, length, arith, inl, inr}
-use Rattle.std.specs.Prelude.{Option, Some, None, Ok, slice_get, nat_lt, if◌then◌else◌}
+use Rattle.std.proofs.Common.{◌≡◌, ℕ, ◌+◌, ◌<◌, ◌≤◌, zero, suc, List, [], ◌∷◌, refl, sym, ap, ◌∙◌, subst, Bool, true, false, length, map, arith, inl, inr}
+use Rattle.std.specs.Prelude.{All, Option, Some, None, Ok, slice_get, nat_lt, if◌then◌else◌}
 use Rattle.std.proofs.lemmas.Bool.{cases_eq}
 use Rattle.history_text.specs.declared.events.Header.{Header}
 use Rattle.history_text.specs.Headers.{header_of}
@@ -16,9 +16,17 @@ use Rattle.hand_audit.specs.declared.settlement.Settlement.{Settlement}
 use Rattle.card_sets.specs.declared.streets.Street.{Street}
 use Rattle.betting_replay.specs.Accepted.{ShowsSeats, ShowsDead}
 use Rattle.betting_replay.specs.CardLaws.{PlacesAreApart, CardsBelongAfter, WholeBoards}
-use Rattle.betting_replay.specs.Tables.{point}
+use Rattle.betting_replay.specs.Tables.{point, table_of}
 use Rattle.showdown_tally.specs.declared.table.Table.{Table}
-use Rattle.hand_audit.specs.AllIns.{all_in_of}
+use Rattle.hand_audit.specs.AllIns.{all_in_of, eligible_in}
+use Rattle.hand_audit.specs.LaterCards.{IsKnownOn}
+use Rattle.hand_audit.specs.LaterOrder.{ComeInOrder}
+use Rattle.hand_audit.specs.Streets.{states_of}
+use Rattle.hand_audit.specs.declared.streets.StreetState.{StreetState}
+use Rattle.hand_audit.proofs.LaterCards.{all_known_on}
+use Rattle.hand_audit.proofs.LaterOrder.{states_in_order}
+use Rattle.betting_replay.specs.Later.{later_streets}
+use Rattle.betting_replay.specs.declared.points.Point.{Point}
 use Rattle.hand_audit.specs.CardsKnown.{KnowsCards, all_known_at}
 use Rattle.hand_audit.specs.declared.verdicts.AllIn.TheVariants.{Known, Unknown}
 use Rattle.hand_audit.specs.Chips.{KeepsChips}
@@ -28,7 +36,7 @@ use Rattle.hand_audit.specs.MarkLaws.{MarksAreCards}
 use Rattle.hand_audit.specs.PotNames.{fits}
 use Rattle.hand_audit.specs.PotSums.{PotsAddUp}
 use Rattle.hand_audit.specs.Settle.{Showing, beyond, beyond_if, beyond_in, beyond_of, beyond_from, settled, settled_of, pay_of, shares_of_pot, due_of_seat, sides_of_seat, distance}
-use Rattle.hand_audit.specs.Showings.{rake, showing_of}
+use Rattle.hand_audit.specs.Showings.{rake, showing_of, paid_in}
 use Rattle.hand_audit.specs.Splits.{IsSplitRightly, IsWonBySomebody}
 use Rattle.hand_audit.specs.TablePots.{HasPotsOf}
 use Rattle.hand_audit.specs.Verdict.{audit_of, audit_behind, judged, settlement_of, events_of}
@@ -156,6 +164,25 @@ accepted_unknown apart belong boards shows shows_dead number line lines g read s
     let a = accepted_is number line lines g settlement Unknown names players read is in
     let end = sound_all g players number lines nothing (start g players) a.none in
     unknown_cards apart belong boards shows shows_dead g players (events_of g lines) end.0.accepted end.0.markers a.found
+
+pub accepted_later : PlacesAreApart → CardsBelongAfter → WholeBoards → ShowsSeats → ShowsDead → (number : ℕ) (line : List ℕ) (lines : List (List ℕ)) (g : Header) → header_of line ≡ Ok g
+    → (settlement : Settlement) (all_in : AllIn) (names : List (ℕ × List ℕ)) (players : ℕ)
+    → audit_of number (line ∷ lines) ≡ Some (Accepted settlement all_in names players)
+    → (found : Point) → point g players (events_of g lines) ≡ Some found → All (IsKnownOn g players (events_of g lines) found) (states_of g players (events_of g lines))
+accepted_later apart belong boards shows shows_dead number line lines g read settlement all_in names players is found e =
+    let a = accepted_is number line lines g settlement all_in names players read is in
+    let end = sound_all g players number lines nothing (start g players) a.none in
+    all_known_on apart belong boards shows shows_dead g players (events_of g lines) end.0.accepted end.0.markers found e (later_streets g players (events_of g lines))
+
+pub accepted_in_order : (number : ℕ) (line : List ℕ) (lines : List (List ℕ)) (g : Header) → header_of line ≡ Ok g
+    → (settlement : Settlement) (all_in : AllIn) (names : List (ℕ × List ℕ)) (players : ℕ)
+    → audit_of number (line ∷ lines) ≡ Some (Accepted settlement all_in names players)
+    → (found : Point) → point g players (events_of g lines) ≡ Some found → ComeInOrder g.game found.street (map (λ (state : StreetState). state.street) (states_of g players (events_of g lines)))
+accepted_in_order number line lines g read settlement all_in names players is found e =
+    let a = accepted_is number line lines g settlement all_in names players read is in
+    let end = sound_all g players number lines nothing (start g players) a.none in
+    let h = events_of g lines in
+    states_in_order g players h (table_of g players h) (eligible_in (pots (paid_in (table_of g players h)))) end.0.accepted found e
 
 pub accepted_pots : (number : ℕ) (line : List ℕ) (lines : List (List ℕ)) (g : Header) → header_of line ≡ Ok g
     → (settlement : Settlement) (street : Street) (seats : List ℕ) (table : Table) (names : List (ℕ × List ℕ)) (players : ℕ)

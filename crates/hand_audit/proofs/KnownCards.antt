@@ -53,7 +53,7 @@ table_bare b table is = by (holds b) refl is
     by true e h = let same : with_facts b (all_hold b e) ≡ table = one_table _ _ h in sym (ap bare same)
     by false e h = cc
 
-made_of : (point : AtPoint) (all : List ℕ) (street : Street) (seats : List ℕ) (table : Table) → all_in_at point all ≡ Known street seats table → IsMade point all street seats table
+pub made_of : (point : AtPoint) (all : List ℕ) (street : Street) (seats : List ℕ) (table : Table) → all_in_at point all ≡ Known street seats table → IsMade point all street seats table
 unfolding all_in_at
 made_of point all street seats table is = by (list_all (λ p. is_some (slice_index_or point.cards p None)) (seats_in point.contenders)) refl is
   where
@@ -113,10 +113,10 @@ hidden : (b : Bool) (own : List ℕ) (card : ℕ) → has_card own card ≡ b �
 hidden true own card e no_card = absurd (no_card e)
 hidden false own card e no_card = refl
 
-pub known_cards : PlacesAreApart → CardsBelongAfter → ShowsSeats → ShowsDead → (g : Header) (players : ℕ) (h : List Event) (street : Street) (seats : List ℕ) (table : Table) → IsAccepted g players h → all_in_of g players h ≡ Known street seats table
-    → KnowsCards g players h street seats table
-unfolding all_in_by known_there bare_of
-known_cards apart belong shows shows_dead g players h street seats table ok is =
+pub known_made : PlacesAreApart → CardsBelongAfter → ShowsSeats → ShowsDead → (g : Header) (players : ℕ) (h : List Event) (street : Street) (seats : List ℕ) (table : Table) → IsAccepted g players h
+    → IsMade (known_there g.game (table_of g players h) street) (eligible_in (pots (paid_in (table_of g players h)))) street seats table → KnowsCards g players h street seats table
+unfolding known_there bare_of
+known_made apart belong shows shows_dead g players h street seats table ok made =
     record { hands = hands; board = board; dead = dead_is; later = later; second = other }
   where
     t : Replayed
@@ -124,9 +124,6 @@ known_cards apart belong shows shows_dead g players h street seats table ok is =
 
     xs : List ℕ
     xs = seats_in (point_contenders t.point)
-
-    made : IsMade (known_there g.game t street) (eligible_in (pots (paid_in t))) street seats table
-    made = made_at g.game t (point_street t.point) street seats table is
 
     board : table.known.board ≡ board_up_to h street
     board = ap (λ (b : Bare). b.board) made.bare_is
@@ -189,3 +186,9 @@ known_cards apart belong shows shows_dead g players h street seats table ok is =
       dead = hidden (has_card table.known.dead card) table.known.dead card refl
           (λ has. from_apart (dead g players h) second card ((belong g players h ok).dead_and_second second come) (subst (λ (cards : List ℕ). has_card cards card ≡ true) dead_is has) here);
     }
+
+pub known_cards : PlacesAreApart → CardsBelongAfter → ShowsSeats → ShowsDead → (g : Header) (players : ℕ) (h : List Event) (street : Street) (seats : List ℕ) (table : Table) → IsAccepted g players h → all_in_of g players h ≡ Known street seats table
+    → KnowsCards g players h street seats table
+unfolding all_in_by
+known_cards apart belong shows shows_dead g players h street seats table ok is =
+    known_made apart belong shows shows_dead g players h street seats table ok (made_at g.game (table_of g players h) (point_street (table_of g players h).point) street seats table is)

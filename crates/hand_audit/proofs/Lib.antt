@@ -43,3 +43,6 @@ pub mod OpenPots
 pub mod Dues
 pub mod PotSums
 pub mod SeatDigits
+pub mod Walking
+pub mod LaterCards
+pub mod LaterOrder

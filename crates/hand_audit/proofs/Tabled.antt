@@ -8,6 +8,7 @@ use Rattle.card_sets.specs.PlayerSets.{all_within, players_from, seats_in}
 use Rattle.card_sets.specs.Disjoint.{apart, all_apart, all_empty}
 use Rattle.card_sets.specs.Games.{own_size, board_size, all_fit}
 use Rattle.card_sets.specs.declared.games.Game.{Game}
+use Rattle.card_sets.specs.declared.streets.Street.{Street}
 use Rattle.history_text.specs.declared.events.Header.{Header}
 use Rattle.history_text.specs.declared.events.Event.{Event}
 use Rattle.betting_replay.specs.declared.points.Point.{Point}
@@ -134,47 +135,47 @@ pub record Stands (game : Game) (hands : List (List ℕ)) (board dead : List ℕ
   pub disjoint : all_apart (board ∷ dead ∷ ten [] hands) ≡ true
   pub fitting : all_fit game board (ten [] hands) ≡ true
 
-pub stands : PlacesAreApart → (g : Header) (players : ℕ) (h : List Event) (found : Point) (f : ℕ → List ℕ) (known : ℕ → Bool) → CardsBelong g players h → HasBoard g players h → point g players h ≡ Some found
-    → ((p : ℕ) → 1 ≤ p → p ≤ 10 → known p ≡ true → cards_at g h p found.street ≡ Some (f p)) → list_all known (seats_in found.contenders) ≡ true
-    → Stands g.game (map f (seats_in found.contenders)) (board_up_to h found.street) (dead g players h)
-stands places g players h found f known belong boards at each all = record {
+pub stands : PlacesAreApart → (g : Header) (players : ℕ) (h : List Event) (found : Point) (street : Street) (f : ℕ → List ℕ) (known : ℕ → Bool) → CardsBelong g players h → HasBoard g players h → point g players h ≡ Some found
+    → ((p : ℕ) → 1 ≤ p → p ≤ 10 → known p ≡ true → cards_at g h p street ≡ Some (f p)) → list_all known (seats_in found.contenders) ≡ true
+    → Stands g.game (map f (seats_in found.contenders)) (board_up_to h street) (dead g players h)
+stands places g players h found street f known belong boards at each all = record {
   disjoint = rw (board_dead, board_hands, dead_hands) (apart_ten (map f (seats_in found.contenders)) (seats_apart f found.contenders 1 10 known (omega arith) (omega arith) two all));
   fitting = rw (board_few, hands_few) refl;
 }
   where
     board : List ℕ
-    board = board_up_to h found.street
+    board = board_up_to h street
 
     out : List ℕ
     out = dead g players h
 
-    on_board : Among (board_up_to h found.street) (owned g.game h 0)
-    on_board = belong.board found.street
+    on_board : Among (board_up_to h street) (owned g.game h 0)
+    on_board = belong.board street
 
     of_seat : (p : ℕ) → 1 ≤ p → p ≤ 10 → known p ≡ true → Among (f p) (owned g.game h p)
-    of_seat p l m k = belong.known p found.street (f p) (each p l m k)
+    of_seat p l m k = belong.known p street (f p) (each p l m k)
 
     two : (q r : ℕ) → 1 ≤ q → q < r → r ≤ 10 → known q ≡ true → known r ≡ true → apart (f q) (f r) ≡ true
     two q r l less m kq kr = let ne : (q == r) ≡ false = lower q r less in apart_among (f q) (f r) (owned g.game h q) (owned g.game h r) (of_seat q l (omega (arith, less, m)) kq) (of_seat r (omega (arith, l, less)) m kr) (places g.game h q r ne)
 
-    board_dead : apart (board_up_to h found.street) (dead g players h) ≡ true
-    board_dead = apart_from (board_up_to h found.street) (dead g players h) (λ k b d. from_apart (dead g players h) (owned g.game h 0) k belong.dead_and_board d (on_board.each k b))
+    board_dead : apart (board_up_to h street) (dead g players h) ≡ true
+    board_dead = apart_from (board_up_to h street) (dead g players h) (λ k b d. from_apart (dead g players h) (owned g.game h 0) k belong.dead_and_board d (on_board.each k b))
 
-    board_hands : list_all (apart (board_up_to h found.street)) (ten [] (map f (seats_in found.contenders))) ≡ true
-    board_hands = all_ten [] (apart (board_up_to h found.street)) (map f (seats_in found.contenders)) (apart_none (board_up_to h found.street))
-        (sym (all_mapped f (apart (board_up_to h found.street)) (seats_in found.contenders)) ∙ walked found.contenders 1 10 known (λ q. apart (board_up_to h found.street) (f q)) (omega arith) (omega arith)
-        (λ q l m set k. let ne : (0 == q) ≡ false = lower 0 q (omega (arith, l)) in apart_among (board_up_to h found.street) (f q) (owned g.game h 0) (owned g.game h q) on_board (of_seat q l m k) (places g.game h 0 q ne)) all)
+    board_hands : list_all (apart (board_up_to h street)) (ten [] (map f (seats_in found.contenders))) ≡ true
+    board_hands = all_ten [] (apart (board_up_to h street)) (map f (seats_in found.contenders)) (apart_none (board_up_to h street))
+        (sym (all_mapped f (apart (board_up_to h street)) (seats_in found.contenders)) ∙ walked found.contenders 1 10 known (λ q. apart (board_up_to h street) (f q)) (omega arith) (omega arith)
+        (λ q l m set k. let ne : (0 == q) ≡ false = lower 0 q (omega (arith, l)) in apart_among (board_up_to h street) (f q) (owned g.game h 0) (owned g.game h q) on_board (of_seat q l m k) (places g.game h 0 q ne)) all)
 
     dead_hands : list_all (apart (dead g players h)) (ten [] (map f (seats_in found.contenders))) ≡ true
     dead_hands = all_ten [] (apart (dead g players h)) (map f (seats_in found.contenders)) (apart_none (dead g players h))
         (sym (all_mapped f (apart (dead g players h)) (seats_in found.contenders)) ∙ walked found.contenders 1 10 known (λ q. apart (dead g players h) (f q)) (omega arith) (omega arith)
-        (λ q l m set k. belong.dead_and_known found at q set found.street (f q) (each q l m k)) all)
+        (λ q l m set k. belong.dead_and_known found at q set street (f q) (each q l m k)) all)
 
-    board_few : nat_le (length (board_up_to h found.street)) (board_size g.game) ≡ true
-    board_few = at_most (length (board_up_to h found.street)) (board_size g.game) (boards.few found.street)
+    board_few : nat_le (length (board_up_to h street)) (board_size g.game) ≡ true
+    board_few = at_most (length (board_up_to h street)) (board_size g.game) (boards.few street)
 
     few : (q : ℕ) → 1 ≤ q → q ≤ 10 → known q ≡ true → nat_le (length (f q)) (own_size g.game) ≡ true
-    few q l m k = at_most (length (f q)) (own_size g.game) (belong.few q found.street (f q) (each q l m k))
+    few q l m k = at_most (length (f q)) (own_size g.game) (belong.few q street (f q) (each q l m k))
 
     hands_few : list_all (λ hand. nat_le (length hand) (own_size g.game)) (ten [] (map f (seats_in found.contenders))) ≡ true
     hands_few = all_ten [] (λ hand. nat_le (length hand) (own_size g.game)) (map f (seats_in found.contenders)) (at_most 0 (own_size g.game) (omega arith))

@@ -76,10 +76,15 @@ unknown_at p all few s is = by (list_all (λ q. is_some (slice_index_or p.cards 
 differ : NoAllIn ≡ Unknown → ⊥
 differ e = cc
 
-pub unknown_cards : PlacesAreApart → CardsBelongAfter → WholeBoards → ShowsSeats → ShowsDead → (g : Header) (players : ℕ) (h : List Event) → IsAccepted g players h → MarkersFit g.game h → all_in_of g players h ≡ Unknown
-    → all_known_at g h (point g players h) ≡ false
-unfolding all_in_by known_there
-unknown_cards apart belong boards shows shows_dead g players h ok markers is = by (point g players h) refl is
+-- on any street, of the contenders at the point
+pub unknown_on : PlacesAreApart → CardsBelongAfter → WholeBoards → ShowsSeats → ShowsDead → (g : Header) (players : ℕ) (h : List Event) → IsAccepted g players h → MarkersFit g.game h
+    → (found : Point) → point g players h ≡ Some found → (street : Street) → all_in_at (known_there g.game (table_of g players h) street) (eligible_in (pots (paid_in (table_of g players h)))) ≡ Unknown
+    → list_all (λ p. is_some (cards_at g h p street)) (seats_in found.contenders) ≡ false
+unfolding known_there
+unknown_on apart belong boards shows shows_dead g players h ok markers found e street made =
+    same_all (λ p. is_some (cards_at g h p street)) (λ q. is_some (slice_index_or cards q None)) found.contenders (λ q l. ap is_some (sym (cards_are q l)))
+    ∙ ap (λ n. list_all (λ q. is_some (slice_index_or cards q None)) (seats_in n)) (sym (ap point_contenders e))
+    ∙ unknown_at (known_there g.game t street) all_pots few together made
   where
     t : Replayed
     t = table_of g players h
@@ -90,27 +95,29 @@ unknown_cards apart belong boards shows shows_dead g players h ok markers is = b
     few : length all_pots ≤ 10
     few = let m : length all_pots ≡ length (pots (paid_in t)) = length-map (pots (paid_in t)) (λ pot. pot.eligible) in omega (arith, m, few_pots t)
 
-    cards : Street → List (Option (List ℕ))
-    cards street = by_seat (λ p. known_at t p street)
+    cards : List (Option (List ℕ))
+    cards = by_seat (λ p. known_at t p street)
 
-    cards_are : (street : Street) (q : ℕ) → q < 11 → slice_index_or (cards street) q None ≡ cards_at g h q street
-    cards_are street q l = at_by_seat (λ p. known_at t p street) q None l ∙ (shows g players h q l).known street
+    cards_are : (q : ℕ) → q < 11 → slice_index_or cards q None ≡ cards_at g h q street
+    cards_are q l = at_by_seat (λ p. known_at t p street) q None l ∙ (shows g players h q l).known street
 
-    each : (street : Street) (q : ℕ) → 1 ≤ q → q ≤ 10 → is_some (slice_index_or (cards street) q None) ≡ true → cards_at g h q street ≡ Some (cards_or_none (cards street) q)
-    each street q l m k = sym (cards_are street q (omega (arith, m))) ∙ some_is (slice_index_or (cards street) q None) k
+    each : (q : ℕ) → 1 ≤ q → q ≤ 10 → is_some (slice_index_or cards q None) ≡ true → cards_at g h q street ≡ Some (cards_or_none cards q)
+    each q l m k = sym (cards_are q (omega (arith, m))) ∙ some_is (slice_index_or cards q None) k
 
-    together : (found : Point) → point g players h ≡ Some found → list_all (λ q. is_some (slice_index_or (cards found.street) q None)) (seats_in (point_contenders t.point)) ≡ true
-        → Stands g.game (map (cards_or_none (cards found.street)) (seats_in (point_contenders t.point))) (board_up_to h found.street) (dead_at t)
-    together found e all =
+    together : list_all (λ q. is_some (slice_index_or cards q None)) (seats_in (point_contenders t.point)) ≡ true
+        → Stands g.game (map (cards_or_none cards) (seats_in (point_contenders t.point))) (board_up_to h street) (dead_at t)
+    together all =
         let w : point_contenders t.point ≡ found.contenders = ap point_contenders e in
-        subst (λ (out : List ℕ). Stands g.game (map (cards_or_none (cards found.street)) (seats_in (point_contenders t.point))) (board_up_to h found.street) out) (sym (shows_dead g players h))
-        (subst (λ (n : ℕ). Stands g.game (map (cards_or_none (cards found.street)) (seats_in n)) (board_up_to h found.street) (dead g players h)) (sym w)
-        (stands apart g players h found (cards_or_none (cards found.street)) (λ q. is_some (slice_index_or (cards found.street) q None)) (belong g players h ok) (boards.boards g players h ok markers) e (each found.street)
-        (ap (λ n. list_all (λ q. is_some (slice_index_or (cards found.street) q None)) (seats_in n)) (sym w) ∙ all)))
+        subst (λ (out : List ℕ). Stands g.game (map (cards_or_none cards) (seats_in (point_contenders t.point))) (board_up_to h street) out) (sym (shows_dead g players h))
+        (subst (λ (n : ℕ). Stands g.game (map (cards_or_none cards) (seats_in n)) (board_up_to h street) (dead g players h)) (sym w)
+        (stands apart g players h found street (cards_or_none cards) (λ q. is_some (slice_index_or cards q None)) (belong g players h ok) (boards.boards g players h ok markers) e each
+        (ap (λ n. list_all (λ q. is_some (slice_index_or cards q None)) (seats_in n)) (sym w) ∙ all)))
 
-    by : (o : Option Point) → point g players h ≡ o → all_in_on g.game t (point_street o) ≡ Unknown → all_known_at g h o ≡ false
+pub unknown_cards : PlacesAreApart → CardsBelongAfter → WholeBoards → ShowsSeats → ShowsDead → (g : Header) (players : ℕ) (h : List Event) → IsAccepted g players h → MarkersFit g.game h → all_in_of g players h ≡ Unknown
+    → all_known_at g h (point g players h) ≡ false
+unfolding all_in_by
+unknown_cards apart belong boards shows shows_dead g players h ok markers is = by (point g players h) refl is
+  where
+    by : (o : Option Point) → point g players h ≡ o → all_in_on g.game (table_of g players h) (point_street o) ≡ Unknown → all_known_at g h o ≡ false
     by None e made = absurd (differ made)
-    by (Some found) e made =
-        same_all (λ p. is_some (cards_at g h p found.street)) (λ q. is_some (slice_index_or (cards found.street) q None)) found.contenders (λ q l. ap is_some (sym (cards_are found.street q l)))
-        ∙ ap (λ n. list_all (λ q. is_some (slice_index_or (cards found.street) q None)) (seats_in n)) (sym (ap point_contenders e))
-        ∙ unknown_at (known_there g.game t found.street) all_pots few (together found e) made
+    by (Some found) e made = unknown_on apart belong boards shows shows_dead g players h ok markers found e found.street made

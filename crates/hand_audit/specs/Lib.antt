@@ -22,3 +22,7 @@ pub mod Passing
 pub mod CardsKnown
 pub mod TablePots
 pub mod MarkLaws
+pub mod Streets
+pub mod Walks
+pub mod LaterCards
+pub mod LaterOrder

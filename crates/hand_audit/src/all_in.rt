@@ -73,6 +73,13 @@ fn known_there(game: Game, replay: &Replay, street: Street) -> AtPoint
     }
 }
 
+/// What the all-in of a hand would be if its point lay on a street.
+pub(crate) fn all_in_on(game: Game, replay: &Replay, street: Street, lines: &[PotLine]) -> AllIn
+    ensures { result ≡ all_in_at (known_there game replay.now street) (eligible_of lines.now) }
+{
+    all_in_at(&known_there(game, replay, street), lines)
+}
+
 /// The all-in of a hand, by its replay and what its pots hold.
 pub(crate) fn all_in_by(game: Game, replay: &Replay, lines: &[PotLine]) -> AllIn
     ensures { eligible_of lines.now ≡ eligible_in (pots (paid_in replay.now)) → result ≡ all_in_by game replay.now }

@@ -1,6 +1,6 @@
 //! What holds of every hand.
 
-ghost use Rattle.std.specs.Prelude.{◌≡◌, ℕ, ◌-◌, ◌∷◌, Bool, true, false, List, Some, Ok};
+ghost use Rattle.std.specs.Prelude.{◌≡◌, ℕ, ◌-◌, ◌∷◌, Bool, true, false, List, Some, Ok, All, map};
 ghost use Rattle.history_text.specs.Headers.{header_of};
 ghost use Rattle.history_text.specs.declared.events.Header.{Header};
 ghost use Rattle.hand_audit.specs.Before.{Stand};
@@ -13,6 +13,11 @@ ghost use Rattle.hand_audit.specs.Verdict.{audit_of, events_of};
 ghost use Rattle.hand_audit.specs.declared.verdicts.AllIn.{AllIn};
 ghost use Rattle.hand_audit.specs.declared.verdicts.HandAudit.TheVariants.{Accepted, Rejected};
 ghost use Rattle.hand_audit.specs.CardsKnown.{KnowsCards, all_known_at};
+ghost use Rattle.hand_audit.specs.LaterCards.{IsKnownOn};
+ghost use Rattle.hand_audit.specs.LaterOrder.{ComeInOrder};
+ghost use Rattle.hand_audit.specs.Streets.{states_of};
+ghost use Rattle.hand_audit.specs.declared.streets.StreetState.{StreetState};
+ghost use Rattle.betting_replay.specs.declared.points.Point.{Point};
 ghost use Rattle.hand_audit.specs.MarkLaws.{MarksAreCards};
 ghost use Rattle.hand_audit.specs.PotSums.{PotsAddUp};
 ghost use Rattle.hand_audit.specs.TablePots.{HasPotsOf};
@@ -137,6 +142,36 @@ pub fn law_unknown_all_ins_have_unknown_cards()
     law_a_table_shows_each_seat();
     law_a_table_shows_dead_cards();
 }
+
+/// A law on later streets. Of a hand that is accepted and has an all-in point, what is known on each street
+/// behind it: there is no table only where the cards on it of a contender at the point aren't known; and in
+/// a table each hand is what its seat has on the street, and its cards belong to the seat, the board is that
+/// of the streets up to it, and no card that comes to the board later is in a hand or dead, and none of the
+/// second board of a hand that was run twice.
+pub fn law_later_streets_know_cards()
+    ensures { (number : ℕ) (line : List ℕ) (lines : List (List ℕ)) (header : Header) → header_of line ≡ Ok header
+        → (settlement : Settlement) (all_in : AllIn) (names : List (ℕ × List ℕ)) (players : ℕ)
+        → audit_of number (line ∷ lines) ≡ Some (Accepted settlement all_in names players)
+        → (found : Point) → point header players (events_of header lines) ≡ Some found
+        → All (IsKnownOn header players (events_of header lines) found) (states_of header players (events_of header lines)) }
+{
+    law_places_are_apart();
+    law_cards_belong();
+    law_whole_boards();
+    law_a_table_shows_each_seat();
+    law_a_table_shows_dead_cards();
+}
+
+/// A law on the order of later streets. Of a hand that is accepted and has an all-in point: each street
+/// behind it is the one that comes next in the game behind the one before, and the first is the one behind
+/// that of the point.
+pub fn law_later_streets_come_in_order()
+    ensures { (number : ℕ) (line : List ℕ) (lines : List (List ℕ)) (header : Header) → header_of line ≡ Ok header
+        → (settlement : Settlement) (all_in : AllIn) (names : List (ℕ × List ℕ)) (players : ℕ)
+        → audit_of number (line ∷ lines) ≡ Some (Accepted settlement all_in names players)
+        → (found : Point) → point header players (events_of header lines) ≡ Some found
+        → ComeInOrder header.game found.street (map (λ (state : StreetState). state.street) (states_of header players (events_of header lines))) }
+{}
 
 /// A law on the pots of all-ins. Of a hand that is accepted and has an all-in whose cards are known: the
 /// table has the pots of the hand, ten at the most, and in each pot a hand of the table is eligible

@@ -1,4 +1,21 @@
-//! The verdict on a hand.
+//! The verdict on a hand: whether each line keeps to the rules, what became of the chips, and the all-in.
+//!
+//! `audit_hand` takes the lines of one hand, its header line first. It answers `Rejected` with the first line that departs and the cause,
+//! or `Accepted` with a `Settlement` and an `AllIn`. `later_streets` tells what is known on each street behind a known all-in.
+//!
+//! 1. *First pass* (`first_pass`). Each line is read once, and who plays is noted. What the first 256 lines say is kept.
+//! 2. *Second pass* (`follow`, `hand`). What each line says is stepped by a `Replay`. A line departs where it can't be read, where the
+//!    replay refuses it, or where a stated total isn't what the replay has counted.
+//! 3. *Settlement* (`settling`, `shares`, `payments`). Behind the last line the pots are made. Where it is known who won a pot, by cards
+//!    or since one player is left, it is split by the rules, and that is held against what was collected. A payment that is too far off
+//!    has the last line depart.
+//! 4. *All-in* (`all_in`, `known_tables`). The cards known at the point as a `Table`, with the pots of the whole hand; `Unknown` where those
+//!    of a player who is in aren't known there.
+//!
+//! Clauses see no passes and no state: `audit_of` is a definition over the list of the lines. What the code has kept so far stands for the
+//! lines so far (`Keeps`).
+//!
+//! It knows no other hand and prints nothing. Each call that takes memory takes the allocator, and answers `Memory` where it is refused.
 #![tactic(auto)]
 
 mod all_in;
@@ -20,6 +37,7 @@ mod settlement;
 mod settling;
 mod shares;
 mod standings;
+mod streets;
 mod verdicts;
 mod winners;
 mod worths;
@@ -30,8 +48,10 @@ pub use collections::Collection;
 pub use laws::{
     law_a_lone_player_wins_a_side_of_each_part, law_a_mark_is_a_card_of_its_player,
     law_a_table_has_the_pots_of_the_hand, law_all_in_cards, law_checked_pots_are_won,
-    law_chips_are_kept, law_lines_before_stand, law_pots_add_up, law_pots_are_split_by_the_rules,
+    law_chips_are_kept, law_later_streets_come_in_order, law_later_streets_know_cards,
+    law_lines_before_stand, law_pots_add_up, law_pots_are_split_by_the_rules,
     law_pots_go_by_boards, law_unknown_all_ins_have_unknown_cards,
 };
 pub use settlement::{Payment, Payments, PotLine, PotLines, Settlement};
+pub use streets::{StreetState, later_streets};
 pub use verdicts::{AllIn, HandAudit};

@@ -131,7 +131,8 @@ fn spots_are_the_same_by_any_number_of_workers(rt: HostRuntime) -> Result<(), Fa
 
 #[test]
 fn an_all_in_is_the_same_by_any_number_of_workers(rt: HostRuntime) -> Result<(), Fail> {
-    same_by_workers(&rt, rt.alloc(), &["audit"], ALL_IN.as_bytes(), 0)
+    same_by_workers(&rt, rt.alloc(), &["audit"], ALL_IN.as_bytes(), 0)?;
+    same_by_workers(&rt, rt.alloc(), &["streets"], ALL_IN.as_bytes(), 0)
 }
 
 #[test]

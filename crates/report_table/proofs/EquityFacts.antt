@@ -21,7 +21,7 @@ use Rattle.runout_ranges.specs.Slots.{unseen, slots, counts_of}
 use Rattle.runout_ranges.specs.Ways.{ways}
 use Rattle.runout_ranges.proofs.Numbers.{binomial_none, length_runouts}
 use Rattle.report_table.specs.Equities.{IsFull}
-use Rattle.report_table.specs.HandEquities.{Figures, above_line, counted_all_in, every_pot, full_figures, given_to, gross_of, hand_expect, known_all_in, player_lines, player_name, pot_equity, pot_hand_lines, short_line, tally_figures}
+use Rattle.report_table.specs.HandEquities.{Figures, above_line, counted_all_in, every_pot, full_figures, given_to, gross_of, hand_expect, known_all_in, player_lines, player_name, pot_equities, pot_equity, pot_hand_lines, short_line, tally_figures}
 use Rattle.report_table.specs.Hands.{Seated}
 use Rattle.report_table.specs.Lines.{line_in}
 use Rattle.equity_job.specs.declared.limits.TheConstants.{RUNOUT_MAX}
@@ -94,7 +94,17 @@ given_same pots a b hand n same h few =
     sums_same (λ k. gross_of pots k * a.units k hand) (λ k. gross_of pots k * b.units k hand) n
     (λ k below. ap (λ units. gross_of pots k * units) (same.units k hand (omega arith) h))
 
--- figures that agree give an all-in equal lines
+-- figures that agree give all pots equal lines
+pub pots_same : (form : Form) (names : Seated) (seats : List ℕ) (state : State) (masks : List ℕ) (a b : Figures) → length masks ≤ 10 → Agree a b →
+    pot_equities form (record { state = state; pots = map hands_of masks }) a names seats
+    ≡ pot_equities form (record { state = state; pots = map hands_of masks }) b names seats
+pots_same form names seats state masks a b few same =
+    let deal : Showdown = record { state = state; pots = map hands_of masks } in
+    let count : length deal.pots ≡ length masks = length-map masks hands_of in
+    every_same (pot_equity form deal a names seats) (pot_equity form deal b names seats) (length deal.pots)
+    (λ k below. pot_same form deal (slice_index masks k) a b names seats k (eligible_by_mask masks k (omega arith)) same (omega arith))
+
+-- and an all-in
 pub all_in_same : (form : Form) (s : Settlement) (names : Seated) (seats : List ℕ) (street : Street) (state : State) (masks : List ℕ) (a b : Figures) →
     length masks ≤ 10 → length state.hands ≤ 10 → Agree a b →
     counted_all_in form s names seats street (record { state = state; pots = map hands_of masks }) a
@@ -103,13 +113,11 @@ unfolding counted_all_in
 all_in_same form s names seats street state masks a b few hands same =
     let deal : Showdown = record { state = state; pots = map hands_of masks } in
     let count : length deal.pots ≡ length masks = length-map masks hands_of in
-    let pot_lines : flat_map (pot_equity form deal a names seats) (every_pot (length deal.pots)) ≡ flat_map (pot_equity form deal b names seats) (every_pot (length deal.pots)) =
-    every_same (pot_equity form deal a names seats) (pot_equity form deal b names seats) (length deal.pots)
-    (λ k below. pot_same form deal (slice_index masks k) a b names seats k (eligible_by_mask masks k (omega arith)) same (omega arith)) in
+    let pots = pots_same form names seats state masks a b few same in
     let expects : flat_map (hand_expect form s names seats deal a) (every_hand (length state.hands)) ≡ flat_map (hand_expect form s names seats deal b) (every_hand (length state.hands)) =
     every_same (hand_expect form s names seats deal a) (hand_expect form s names seats deal b) (length state.hands)
     (λ hand below. rw (same.all, given_same s.pots a b hand (length deal.pots) same (omega arith) (omega arith)) refl) in
-    rw (pot_lines, expects, same.all) refl
+    rw (pots, expects, same.all) refl
 
 -- a part of a whole is no more than it
 part_small : (whole hand : ℕ) (hands : List ℕ) → part_of whole hands hand ≤ whole

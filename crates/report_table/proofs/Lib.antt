@@ -12,3 +12,4 @@ pub mod LineupFacts
 pub mod MadeFacts
 pub mod RunFacts
 pub mod TotalLaws
+pub mod StreetFacts

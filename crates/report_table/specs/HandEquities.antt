@@ -81,6 +81,10 @@ unfoldable pub pot_equity : Form → Showdown → Figures → Seated → List �
 pot_equity form deal figures names seats k =
     if nat_lt 1 (length (eligible_in deal k)) then flat_map (player_lines form deal.state.game figures names seats k) (eligible_in deal k) else []
 
+-- the lines of all pots
+abbrev pub pot_equities : Form → Showdown → Figures → Seated → List ℕ → List ℕ
+pot_equities form deal figures names seats = flat_map (pot_equity form deal figures names seats) (every_pot (length deal.pots))
+
 -- what a pot holds, by its number; a pot that isn't there holds nothing
 abbrev pub gross_of : List PotLine → ℕ → ℕ
 gross_of pots k = option_map_or (λ pot. pot.gross) (slice_get pots k) 0
@@ -111,7 +115,7 @@ all_in_line game street all = plain (codes "all-in" ∷ unwrap_or (street_word g
 unfoldable pub counted_all_in : Form → Settlement → Seated → List ℕ → Street → Showdown → Figures → List ℕ
 counted_all_in form s names seats street deal figures =
     line_in form (all_in_line deal.state.game street figures.all)
-    ++ flat_map (pot_equity form deal figures names seats) (every_pot (length deal.pots))
+    ++ pot_equities form deal figures names seats
     ++ flat_map (hand_expect form s names seats deal figures) (every_hand (length deal.state.hands))
 
 -- an all-in that is refused since fewer cards may come than are lacking, or since it has too many runouts

@@ -18,3 +18,4 @@ pub mod Hands
 pub mod HandEquities
 pub mod Totals
 pub mod TotalsSeen
+pub mod Streets

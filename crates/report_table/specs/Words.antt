@@ -42,6 +42,23 @@ street_word game ThirdDraw = None
 street_word game ShowDown = None
 street_word game Summary = None
 
+-- how a street is written that is shown behind an all-in; the first street of a game is never behind one, and nobody's cards are
+-- known before the second of three draws, so there is none
+abbrev pub later_word : Street → Option (List ℕ)
+later_word First = None
+later_word Flop = Some (codes "flop")
+later_word Turn = Some (codes "turn")
+later_word Fourth = Some (codes "4th")
+later_word Fifth = Some (codes "5th")
+later_word Sixth = Some (codes "6th")
+later_word River = Some (codes "river")
+later_word Draw = Some (codes "draw")
+later_word FirstDraw = None
+later_word SecondDraw = None
+later_word ThirdDraw = Some (codes "3rd-draw")
+later_word ShowDown = None
+later_word Summary = None
+
 -- so many units of money: chips as a whole number, hundredths with a point and two digits behind it
 unfoldable pub money : Bool → ℕ → List ℕ
 money hundredths units = fixed_text units (if hundredths then 2 else 0)

@@ -6,7 +6,7 @@ ghost use Rattle.card_sets.specs.PlayerSets.{AreBelow, players_in};
 ghost use Rattle.std.specs.List.{flat_map};
 ghost use Rattle.equity_job.specs.declared.limits.TheConstants.{RUNOUT_MAX};
 ghost use Rattle.report_table.specs.Equities.{IsEquityOf, IsFull};
-ghost use Rattle.report_table.specs.HandEquities.{all_in_line, counted_all_in, every_pot, expect_line, expected_units, given_to, gross_of, hand_expect, known_all_in, player_name, pot_equity, pot_ev_line, pot_hand_lines, pot_name, pot_side_line, above_line, short_line, tally_figures};
+ghost use Rattle.report_table.specs.HandEquities.{all_in_line, counted_all_in, every_pot, expect_line, expected_units, given_to, gross_of, hand_expect, known_all_in, player_name, pot_equities, pot_equity, pot_ev_line, pot_hand_lines, pot_name, pot_side_line, above_line, short_line, tally_figures};
 ghost use Rattle.report_table.specs.Sheets.{IsBetweenLines, with_line, with_lines, with_words};
 ghost use Rattle.report_table.specs.Spots.{every_hand};
 ghost use Rattle.report_table.specs.Words.{street_word};
@@ -242,11 +242,11 @@ impl Sheet {
     }
 
     /// The lines of all pots.
-    fn pot_equities(&mut self, shown: &Shown, tally: &Tally) -> Result<(), AllocError>
+    pub(crate) fn pot_equities(&mut self, shown: &Shown, tally: &Tally) -> Result<(), AllocError>
         requires between { IsBetweenLines self.old }
         requires some { 0 < tally.now.runouts }
         ensures { OnOk result (self.new ≡ with_lines self.old
-            (flat_map (pot_equity self.old.form (deal_of shown.now.table.now) (tally_figures tally.now) shown.now.names.now shown.now.seats.now) (every_pot (length (deal_of shown.now.table.now).pots)))) }
+            (pot_equities self.old.form (deal_of shown.now.table.now) (tally_figures tally.now) shown.now.names.now shown.now.seats.now)) }
     {
         for k in 0..pot_count(shown.table) {
             self.pot_equity(shown, tally, k)?;

@@ -1,6 +1,6 @@
 //! The blocks of the report: what is printed of a spot and of a hand, and of all hands of a run together.
 //!
-//! `write_spot`, `write_hand` and `Totals::write` each append one block to the bytes that they are lent:
+//! `write_spot`, `write_hand`, `write_street` and `Totals::write` each append one block to the bytes that they are lent:
 //! all of it, or, for want of memory, nothing. The crate knows of no input and of no output.
 #![tactic(auto)]
 
@@ -18,6 +18,7 @@ mod players;
 mod sheet;
 mod spot_blocks;
 mod spots;
+mod streets;
 mod total_laws;
 mod total_lines;
 mod totals;
@@ -30,7 +31,9 @@ pub use laws::{
     law_a_record_is_read_back, law_expectations_add_up_to_the_pots, law_money_is_written_whole,
 };
 pub use made_sums::{AllInSums, MadeSums};
+pub use sheet::Sheet;
 pub use spot_blocks::write_spot;
+pub use streets::{has_counted, write_street};
 pub use total_laws::{law_hands_are_those_that_are_played, law_no_player_is_listed_twice};
 pub use totals::Totals;
 pub use words::street_word;

@@ -13,7 +13,15 @@ use std::alloc::AllocError;
 
 impl Sheet {
     /// A whole number.
-    pub(crate) fn number(&mut self, number: u64) -> Result<(), AllocError>
+    pub fn number(&mut self, number: u64) -> Result<(), AllocError>
+        ensures { OnOk result (self.new ≡ with_words self.old (decimal number ∷ [])) }
+    {
+        let mut buffer = Buffer::new();
+        self.word(buffer.format(number).as_bytes())
+    }
+
+    /// A whole number that may be above 64 bits.
+    pub fn wide_number(&mut self, number: u128) -> Result<(), AllocError>
         ensures { OnOk result (self.new ≡ with_words self.old (decimal number ∷ [])) }
     {
         let mut buffer = Buffer::new();
@@ -56,31 +64,45 @@ impl Sheet {
 
     /// So many of all runouts, in percent with two decimal places.
     #[tactic(auto, unfolding(crate::specs::Spots::percent))]
-    fn percent(&mut self, count: u64, all: u64) -> Result<(), AllocError>
+    fn percent(&mut self, count: u128, all: u128) -> Result<(), AllocError>
         requires some { 0 < all }
+        requires small { count ≤ 10 ^ 28 }
+        requires small_too { all ≤ 10 ^ 28 }
         ensures { OnOk result (self.new ≡ with_words self.old (percent count all ∷ [])) }
     {
-        self.fraction(100 * u128::from(count), u128::from(all), 2)
+        self.fraction(100 * count, all, 2)
     }
 
     /// The part of the pot that a hand may expect, with three decimal places, from its units of 1/5040
     /// of a pot over all runouts.
     #[tactic(auto, unfolding(crate::specs::Spots::expected))]
+    pub(crate) fn wide_expected(&mut self, units: u128, all: u128) -> Result<(), AllocError>
+        requires some { 0 < all }
+        requires small_units { units ≤ 10 ^ 32 }
+        requires small_too { all ≤ 10 ^ 28 }
+        ensures { OnOk result (self.new ≡ with_words self.old (expected units all ∷ [])) }
+    {
+        self.fraction(units, 5040 * all, 3)
+    }
+
+    /// The same with numbers of a tally.
     pub(crate) fn expected(&mut self, units: u64, all: u64) -> Result<(), AllocError>
         requires some { 0 < all }
         ensures { OnOk result (self.new ≡ with_words self.old (expected units all ∷ [])) }
     {
-        self.fraction(u128::from(units), 5040 * u128::from(all), 3)
+        self.wide_expected(u128::from(units), u128::from(all))
     }
 
     /// How many runouts end in a way, and how much of all that is.
     #[tactic(auto, using(crate::proofs::SheetFacts::word_steps), unfolding(crate::specs::Spots::share))]
-    pub(crate) fn share(&mut self, way: &str, count: u64, all: u64) -> Result<(), AllocError>
+    pub(crate) fn share(&mut self, way: &str, count: u128, all: u128) -> Result<(), AllocError>
         requires some { 0 < all }
+        requires small { count ≤ 10 ^ 28 }
+        requires small_too { all ≤ 10 ^ 28 }
         ensures { OnOk result (self.new ≡ with_words self.old (share way.now count all)) }
     {
         self.text(way)?;
-        self.number(count)?;
+        self.wide_number(count)?;
         self.percent(count, all)
     }
 }

@@ -17,7 +17,7 @@ const FIELDS: usize = 13;
 
 /// Lines of the report, and the words so far of the next one.
 #[derive(Drop)]
-pub(crate) struct Sheet {
+pub struct Sheet {
     form: Form,
     bytes: Vec<u8>,
     begun: bool,
@@ -123,7 +123,7 @@ impl Fields {
 
 impl Sheet {
     /// Nothing so far.
-    pub(crate) fn new(alloc: Global, form: Form) -> Sheet
+    pub fn new(alloc: Global, form: Form) -> Sheet
         ensures { result ≡ nothing_in form }
     {
         Sheet {
@@ -135,7 +135,7 @@ impl Sheet {
     }
 
     /// The bytes of its lines.
-    pub(crate) fn bytes(&self) -> &[u8]
+    pub fn bytes(&self) -> &[u8]
         ensures { result.now ≡ self.now.bytes }
     {
         &self.bytes
@@ -143,7 +143,7 @@ impl Sheet {
 
     /// One word more.
     #[tactic(auto, unfolding(crate::specs::Sheets::with_words))]
-    pub(crate) fn word(&mut self, word: &[u8]) -> Result<(), AllocError>
+    pub fn word(&mut self, word: &[u8]) -> Result<(), AllocError>
         ensures { OnOk result (self.new ≡ with_words self.old (word.now ∷ [])) }
     {
         match self.form {
@@ -183,7 +183,7 @@ impl Sheet {
 
     /// The line ends.
     #[tactic(auto, unfolding(crate::specs::Sheets::with_end))]
-    pub(crate) fn end(&mut self) -> Result<(), AllocError>
+    pub fn end(&mut self) -> Result<(), AllocError>
         ensures { OnOk result (self.new ≡ with_end self.old) }
     {
         match self.form {

@@ -1,6 +1,6 @@
 //! The lines of a spot. Each method appends whole lines, but for those that add words to one.
 
-ghost use Rattle.std.specs.Prelude.{◌≡◌, ◌<◌, ◌≤◌, [], ◌∷◌, ◌++◌, length, sum, OnOk};
+ghost use Rattle.std.specs.Prelude.{◌≡◌, ◌<◌, ◌≤◌, ◌^◌, [], ◌∷◌, ◌++◌, length, sum, OnOk};
 ghost use Rattle.card_sets.specs.Games.{game_word};
 ghost use Rattle.card_sets.specs.State.{state_of};
 ghost use Rattle.runout_ranges.specs.Slots.{unseen, slots, counts_of};
@@ -38,7 +38,7 @@ impl Sheet {
 
     /// The first words of the line of a spot that isn't well written.
     #[tactic(auto, using(crate::proofs::SheetFacts::word_steps), unfolding(crate::specs::Spots::rejected_name))]
-    fn rejected_name(&mut self, place: u64, number: u64) -> Result<(), AllocError>
+    pub fn rejected_name(&mut self, place: u64, number: u64) -> Result<(), AllocError>
         ensures { OnOk result (self.new ≡ with_words self.old (rejected_name place number)) }
     {
         self.spot_name(place)?;
@@ -65,7 +65,7 @@ impl Sheet {
 
     /// The first words of a line of a spot, with its game. Places count from 1.
     #[tactic(auto, using(crate::proofs::SheetFacts::word_steps))]
-    fn spot_and_game(&mut self, place: u64, game: Game) -> Result<(), AllocError>
+    pub fn spot_and_game(&mut self, place: u64, game: Game) -> Result<(), AllocError>
         ensures { OnOk result (self.new ≡ with_words self.old (spot_name place ++ game_word game ∷ [])) }
     {
         self.spot_name(place)?;
@@ -86,6 +86,29 @@ impl Sheet {
 
     /// A side, and how all runouts end there.
     #[tactic(auto, using(crate::proofs::SheetFacts::word_steps), unfolding(crate::specs::Spots::side_columns))]
+    fn wide_columns(
+        &mut self,
+        all: u128,
+        side: Side,
+        win: u128,
+        tie: u128,
+        lose: u128,
+    ) -> Result<(), AllocError>
+        requires some { 0 < all }
+        requires small { all ≤ 10 ^ 28 }
+        requires wins { win ≤ 10 ^ 28 }
+        requires ties { tie ≤ 10 ^ 28 }
+        requires losses { lose ≤ 10 ^ 28 }
+        ensures { OnOk result (self.new
+            ≡ with_words self.old (side_columns all side (record { win = win; tie = tie; lose = lose }))) }
+    {
+        self.text(side_word(side))?;
+        self.share("win", win, all)?;
+        self.share("tie", tie, all)?;
+        self.share("lose", lose, all)
+    }
+
+    /// The same with a cell of a tally.
     pub(crate) fn side_columns(
         &mut self,
         all: u64,
@@ -95,34 +118,69 @@ impl Sheet {
         requires some { 0 < all }
         ensures { OnOk result (self.new ≡ with_words self.old (side_columns all side cell)) }
     {
-        self.text(side_word(side))?;
-        self.share("win", cell.win, all)?;
-        self.share("tie", cell.tie, all)?;
-        self.share("lose", cell.lose, all)
+        self.wide_columns(
+            u128::from(all),
+            side,
+            u128::from(cell.win),
+            u128::from(cell.tie),
+            u128::from(cell.lose),
+        )
     }
 
-    /// How all runouts end for a hand on a side.
+    /// How all runouts end for a hand on a side. Hands count from 0.
     #[tactic(auto, using(crate::proofs::SheetFacts::sheet_steps), unfolding(crate::specs::Spots::side_line))]
+    pub fn wide_side_line(
+        &mut self,
+        all: u128,
+        hand: u8,
+        side: Side,
+        win: u128,
+        tie: u128,
+        lose: u128,
+    ) -> Result<(), AllocError>
+        requires between { IsBetweenLines self.old }
+        requires some { 0 < all }
+        requires small { all ≤ 10 ^ 28 }
+        requires wins { win ≤ 10 ^ 28 }
+        requires ties { tie ≤ 10 ^ 28 }
+        requires losses { lose ≤ 10 ^ 28 }
+        ensures { OnOk result (self.new
+            ≡ with_line self.old (side_line all hand side (record { win = win; tie = tie; lose = lose }))) }
+    {
+        self.hand_name(hand)?;
+        self.wide_columns(all, side, win, tie, lose)?;
+        self.end()
+    }
+
+    /// The same with a cell of a tally.
     fn side_line(&mut self, all: u64, hand: u8, side: Side, cell: Cell) -> Result<(), AllocError>
         requires between { IsBetweenLines self.old }
         requires some { 0 < all }
         ensures { OnOk result (self.new ≡ with_line self.old (side_line all hand side cell)) }
     {
-        self.hand_name(hand)?;
-        self.side_columns(all, side, cell)?;
-        self.end()
+        self.wide_side_line(
+            u128::from(all),
+            hand,
+            side,
+            u128::from(cell.win),
+            u128::from(cell.tie),
+            u128::from(cell.lose),
+        )
     }
 
-    /// What a hand may expect of the pot, from its units of 1/5040 of a pot over all runouts.
+    /// What a hand may expect of the pot, from its units of 1/5040 of a pot over all runouts. Hands count
+    /// from 0.
     #[tactic(auto, using(crate::proofs::SheetFacts::sheet_steps), unfolding(crate::specs::Spots::ev_line))]
-    fn ev_line(&mut self, all: u64, hand: u8, units: u64) -> Result<(), AllocError>
+    pub fn ev_line(&mut self, all: u128, hand: u8, units: u128) -> Result<(), AllocError>
         requires between { IsBetweenLines self.old }
         requires some { 0 < all }
+        requires small { all ≤ 10 ^ 28 }
+        requires small_units { units ≤ 10 ^ 32 }
         ensures { OnOk result (self.new ≡ with_line self.old (ev_line all hand units)) }
     {
         self.hand_name(hand)?;
         self.text("ev")?;
-        self.expected(units, all)?;
+        self.wide_expected(units, all)?;
         self.end()
     }
 
@@ -141,12 +199,12 @@ impl Sheet {
                 self.side_line(all, hand, side, tally.cell(0, hand, side))?;
             }
         }
-        self.ev_line(all, hand, tally.units(0, hand))
+        self.ev_line(u128::from(all), hand, u128::from(tally.units(0, hand)))
     }
 
     /// The line of a spot that has too many runouts to be counted. Places count from 1.
     #[tactic(auto, using(crate::proofs::SheetFacts::sheet_steps), unfolding(crate::specs::Spots::refused_line))]
-    pub(crate) fn refused_spot(&mut self, place: u64, game: Game) -> Result<(), AllocError>
+    pub fn refused_spot(&mut self, place: u64, game: Game) -> Result<(), AllocError>
         requires { IsBetweenLines self.old }
         ensures { OnOk result (self.new ≡ with_line self.old (refused_line place game)) }
     {

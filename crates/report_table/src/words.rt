@@ -3,7 +3,7 @@
 ghost use Rattle.std.specs.Prelude.{◌≡◌, [], ◌∷◌, OnOk, option_map};
 ghost use Rattle.report_table.specs.Sheets.{with_words};
 ghost use Rattle.report_table.specs.Spots.{refused_words};
-ghost use Rattle.report_table.specs.Words.{fault_words, first_word, side_word, street_word};
+ghost use Rattle.report_table.specs.Words.{fault_words, first_word, later_word, side_word, street_word};
 
 use crate::sheet::Sheet;
 use card_sets::{Family, Game, Side};
@@ -34,6 +34,28 @@ pub fn street_word(game: Game, street: Street) -> Option<&'static str>
     }
 }
 
+/// How a street is written that is shown behind an all-in. None where no such street is shown: the first
+/// street of a game, and the draws before the third of three.
+pub(crate) fn later_word(street: Street) -> Option<&'static str>
+    ensures { option_map (λ word. word.now) result ≡ later_word street }
+{
+    match street {
+        Street::Flop => Some("flop"),
+        Street::Turn => Some("turn"),
+        Street::Fourth => Some("4th"),
+        Street::Fifth => Some("5th"),
+        Street::Sixth => Some("6th"),
+        Street::River => Some("river"),
+        Street::Draw => Some("draw"),
+        Street::ThirdDraw => Some("3rd-draw"),
+        Street::First
+        | Street::FirstDraw
+        | Street::SecondDraw
+        | Street::ShowDown
+        | Street::Summary => None,
+    }
+}
+
 /// How the first street of a game is written.
 fn first_word(family: Family) -> &'static str
     ensures { result.now ≡ first_word family }
@@ -57,7 +79,7 @@ pub(crate) fn side_word(side: Side) -> &'static str
 
 impl Sheet {
     /// One word more, as it stands.
-    pub(crate) fn text(&mut self, text: &str) -> Result<(), AllocError>
+    pub fn text(&mut self, text: &str) -> Result<(), AllocError>
         ensures { OnOk result (self.new ≡ with_words self.old (text.now ∷ [])) }
     {
         self.word(text.as_bytes())

@@ -5,6 +5,8 @@ pub mod RunFacts
 pub mod Pieces
 pub mod Pulling
 pub mod UnitFacts
+pub mod HandFacts
+pub mod RangeFacts
 pub mod WritingFacts
 pub mod SumFacts
 pub mod TotalsFacts

@@ -8,7 +8,9 @@ use Rattle.hand_cuts.specs.Units.{units_in}
 use Rattle.hand_cuts.proofs.UnitLaws.{closed_units_stay}
 use Rattle.run_engine.specs.declared.command.Command.{Command}
 use Rattle.run_engine.specs.declared.command.Mode.{Mode}
-use Rattle.run_engine.specs.declared.command.Mode.TheVariants.{Spots, Check, Audit, Totals, Made}
+use Rattle.run_engine.specs.declared.command.Mode.TheVariants.{Spots, Ranges, Check, Audit, Streets, Totals, Made}
+use Rattle.run_engine.specs.declared.listed.Holding.TheVariants as held
+use Rattle.run_engine.specs.declared.listed.Told.TheVariants.{Verdict, AllIn, LaterStreets}
 use Rattle.run_engine.specs.declared.listed.Listed.{Listed}
 use Rattle.run_engine.specs.declared.listed.Listed.TheVariants as each
 use Rattle.run_engine.specs.declared.reading.Ending.{Ending}
@@ -28,9 +30,11 @@ use Rattle.run_engine.proofs.WriteFacts.{concat-append, writes_none}
 
 -- the blocks of the closed part come first, whatever bytes follow, where each spot or hand has one
 listed_of : (m : Mode) → has_blocks m ≡ true → (listed : Listed) × (listed_in m ≡ Some listed)
-listed_of Spots has = (each.Spots, refl)
-listed_of Check has = (each.Hands false, refl)
-listed_of Audit has = (each.Hands true, refl)
+listed_of Spots has = (each.Spots held.Cards, refl)
+listed_of Ranges has = (each.Spots held.Ranges, refl)
+listed_of Check has = (each.Hands Verdict, refl)
+listed_of Audit has = (each.Hands AllIn, refl)
+listed_of Streets has = (each.Hands LaterStreets, refl)
 listed_of Totals has = absurd (true≢false (sym has))
 listed_of Made has = absurd (true≢false (sym has))
 
@@ -110,8 +114,10 @@ counts_none limit left = ([], takes_none left left refl, sym (take-nil limit), o
 
 made_mode : (m : Mode) → reads_input m ≡ false → m ≡ Made
 made_mode Spots none = absurd (true≢false none)
+made_mode Ranges none = absurd (true≢false none)
 made_mode Check none = absurd (true≢false none)
 made_mode Audit none = absurd (true≢false none)
+made_mode Streets none = absurd (true≢false none)
 made_mode Totals none = absurd (true≢false none)
 made_mode Made none = refl
 

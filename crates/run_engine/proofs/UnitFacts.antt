@@ -6,26 +6,28 @@ use Rattle.hand_cuts.specs.ClosedBytes.{closed_hands}
 use Rattle.hand_cuts.specs.Units.{UnitLines, each_from, hands_from, units_in}
 use Rattle.hand_cuts.specs.declared.units.CutKind.TheVariants as cut
 use Rattle.hand_cuts.proofs.ClosedFacts.{closed_hands_by_bytes}
-use Rattle.line_text.specs.Lines.{lines}
-use Rattle.report_table.specs.Spots.{spot_block}
+use Rattle.line_text.specs.Lines.{lines, closed as closed_lines}
 use Rattle.report_table.specs.declared.equity.Form.{Form}
 use Rattle.run_engine.specs.Closed.{closed}
 use Rattle.run_engine.specs.Command.{reads_input}
 use Rattle.run_engine.specs.Histories.{hand_block, is_rejected_hand}
 use Rattle.run_engine.specs.Laws.{has_blocks}
 use Rattle.run_engine.specs.Reading.{reported}
-use Rattle.run_engine.specs.Report.{blocks_in, is_rejected_spot, rejects_in, spots_from}
+use Rattle.run_engine.specs.Report.{blocks_in, is_rejected_spot, line_block, rejects_in, spots_from}
 use Rattle.run_engine.specs.UnitBlocks.{before, is_rejected_unit, listed_in, listed_kind, place_after, place_behind, rejected_units, unit_block, unit_blocks}
 use Rattle.run_engine.specs.Units.{is_whole, unit_kind}
 use Rattle.run_engine.specs.Writing.{one_if}
 use Rattle.run_engine.specs.declared.command.Command.{Command}
 use Rattle.run_engine.specs.declared.command.Mode.{Mode}
 use Rattle.run_engine.specs.declared.command.Mode.TheVariants as mode
+use Rattle.run_engine.specs.declared.listed.Holding.{Holding}
+use Rattle.run_engine.specs.declared.listed.Holding.TheVariants.{Cards, Ranges}
+use Rattle.run_engine.specs.declared.listed.Told.{Told}
+use Rattle.run_engine.specs.declared.listed.Told.TheVariants.{Verdict, AllIn, LaterStreets}
 use Rattle.run_engine.specs.declared.listed.Listed.{Listed}
 use Rattle.run_engine.specs.declared.listed.Listed.TheVariants.{Spots, Hands}
 use Rattle.run_engine.specs.declared.reading.Ending.{Ending}
 use Rattle.run_engine.specs.declared.reading.Ending.TheVariants.{Whole, Failed, TooLong, Open}
-use Rattle.spot_text.specs.Spot.{spot_of}
 use Rattle.spot_text.specs.Words.{is_blank}
 
 -- the blocks of some units come first where more follow
@@ -52,34 +54,34 @@ rejected-more listed us u =
     sum_by-append (λ v. cond (is_rejected_unit listed v) 1 0) us (u ∷ []) ∙ (let e : rejected_units listed us + rejected_units listed (u ∷ []) ≡ rejected_units listed us + one_if (is_rejected_unit listed u) = omega (arith, one) in e)
 
 -- the blocks of lines, one by one
-spots_units : (form : Form) (place number : ℕ) (ls : List (List ℕ)) → unit_blocks form Spots place (each_from number ls) ≡ spots_from form place number ls
-spots_units form place number [] = refl
-spots_units form place number (l ∷ ls) =
-    let block = spot_block form place number (spot_of l) in
-    elim (is_blank l) as (λ b. before (cond b None (Some block)) (unit_blocks form Spots (place_behind place (cond b None (Some block))) (each_from (number + 1) ls))
-    ≡ cond b (spots_from form place (number + 1) ls) (block ∷ spots_from form (place + 1) (number + 1) ls)) [
-      | true ↦ spots_units form place (number + 1) ls
-      | false ↦ ap (λ bs. block ∷ bs) (spots_units form (place + 1) (number + 1) ls)
+spots_units : (form : Form) (has : Holding) (place number : ℕ) (ls : List (List ℕ)) → unit_blocks form (Spots has) place (each_from number ls) ≡ spots_from form has place number ls
+spots_units form has place number [] = refl
+spots_units form has place number (l ∷ ls) =
+    let block = line_block form has place number l in
+    elim (is_blank l) as (λ b. before (cond b None (Some block)) (unit_blocks form (Spots has) (place_behind place (cond b None (Some block))) (each_from (number + 1) ls))
+    ≡ cond b (spots_from form has place (number + 1) ls) (block ∷ spots_from form has (place + 1) (number + 1) ls)) [
+      | true ↦ spots_units form has place (number + 1) ls
+      | false ↦ ap (λ bs. block ∷ bs) (spots_units form has (place + 1) (number + 1) ls)
     ]
 
-rejected_lines : (number : ℕ) (ls : List (List ℕ)) → rejected_units Spots (each_from number ls) ≡ count_by is_rejected_spot ls
-rejected_lines number [] = refl
-rejected_lines number (l ∷ ls) =
+rejected_lines : (has : Holding) (number : ℕ) (ls : List (List ℕ)) → rejected_units (Spots has) (each_from number ls) ≡ count_by (is_rejected_spot has) ls
+rejected_lines has number [] = refl
+rejected_lines has number (l ∷ ls) =
     let u : UnitLines = record { first = number; lines = l ∷ [] } in
-    sum_by-cons (λ v. cond (is_rejected_unit Spots v) 1 0) u (each_from (number + 1) ls)
-    ∙ ap (λ n. cond (is_rejected_spot l) 1 0 + n) (rejected_lines (number + 1) ls)
-    ∙ sym (sum_by-cons (λ x. cond (is_rejected_spot x) 1 0) l ls)
+    sum_by-cons (λ v. cond (is_rejected_unit (Spots has) v) 1 0) u (each_from (number + 1) ls)
+    ∙ ap (λ n. cond (is_rejected_spot has l) 1 0 + n) (rejected_lines has (number + 1) ls)
+    ∙ sym (sum_by-cons (λ x. cond (is_rejected_spot has x) 1 0) l ls)
 
 -- and of hands
-hands_units : (form : Form) (asked : Bool) (place : ℕ) (us : List UnitLines) → unit_blocks form (Hands asked) place us ≡ map (hand_block form asked) us
-hands_units form asked place [] = refl
-hands_units form asked place (u ∷ us) = ap (λ bs. hand_block form asked u ∷ bs) (hands_units form asked (place + 1) us)
+hands_units : (form : Form) (told : Told) (place : ℕ) (us : List UnitLines) → unit_blocks form (Hands told) place us ≡ map (hand_block form told) us
+hands_units form told place [] = refl
+hands_units form told place (u ∷ us) = ap (λ bs. hand_block form told u ∷ bs) (hands_units form told (place + 1) us)
 
-rejected_all : (asked : Bool) (us : List UnitLines) → rejected_units (Hands asked) us ≡ count_by is_rejected_hand us
-rejected_all asked [] = refl
-rejected_all asked (u ∷ us) =
-    sum_by-cons (λ v. cond (is_rejected_unit (Hands asked) v) 1 0) u us
-    ∙ ap (λ n. cond (is_rejected_hand u) 1 0 + n) (rejected_all asked us)
+rejected_all : (told : Told) (us : List UnitLines) → rejected_units (Hands told) us ≡ count_by is_rejected_hand us
+rejected_all told [] = refl
+rejected_all told (u ∷ us) =
+    sum_by-cons (λ v. cond (is_rejected_unit (Hands told) v) 1 0) u us
+    ∙ ap (λ n. cond (is_rejected_hand u) 1 0 + n) (rejected_all told us)
     ∙ sym (sum_by-cons (λ x. cond (is_rejected_hand x) 1 0) u us)
 
 -- the units of what is reported
@@ -90,12 +92,12 @@ hands_reported m Failed bytes e = closed_hands_by_bytes 1 bytes ∙ ap (λ xs. h
 hands_reported m TooLong bytes e = closed_hands_by_bytes 1 bytes ∙ ap (λ xs. hands_from 1 (lines xs)) (sym e)
 hands_reported m Open bytes e = closed_hands_by_bytes 1 bytes ∙ ap (λ xs. hands_from 1 (lines xs)) (sym e)
 
-lines_reported : (ending : Ending) (bytes : List ℕ) → units_in cut.Lines (is_whole ending) 1 bytes ≡ each_from 1 (lines (reported mode.Spots ending bytes))
+lines_reported : (m : Mode) (ending : Ending) (bytes : List ℕ) → closed m bytes ≡ closed_lines bytes → units_in cut.Lines (is_whole ending) 1 bytes ≡ each_from 1 (lines (reported m ending bytes))
 unfolding units_in
-lines_reported Whole bytes = refl
-lines_reported Failed bytes = refl
-lines_reported TooLong bytes = refl
-lines_reported Open bytes = refl
+lines_reported m Whole bytes e = refl
+lines_reported m Failed bytes e = ap (λ xs. each_from 1 (lines xs)) (sym e)
+lines_reported m TooLong bytes e = ap (λ xs. each_from 1 (lines xs)) (sym e)
+lines_reported m Open bytes e = ap (λ xs. each_from 1 (lines xs)) (sym e)
 
 some_same : (a b : Listed) → Some a ≡ Some b → a ≡ b
 some_same a b e = cc
@@ -107,50 +109,68 @@ none_some a e = absurd (cc)
 pub blocks_by_units : (asked : Command) (m : Mode) (listed : Listed) (ending : Ending) (bytes : List ℕ) → listed_in m ≡ Some listed
     → blocks_in m asked (reported m ending bytes) ≡ unit_blocks asked.form listed 1 (units_in (listed_kind listed) (is_whole ending) 1 bytes)
 blocks_by_units asked mode.Spots listed ending bytes e =
-    subst (λ (l : Listed). blocks_in mode.Spots asked (reported mode.Spots ending bytes) ≡ unit_blocks asked.form l 1 (units_in (listed_kind l) (is_whole ending) 1 bytes)) (some_same Spots listed e)
-    (sym (ap (unit_blocks asked.form Spots 1) (lines_reported ending bytes) ∙ spots_units asked.form 1 1 (lines (reported mode.Spots ending bytes))))
+    subst (λ (l : Listed). blocks_in mode.Spots asked (reported mode.Spots ending bytes) ≡ unit_blocks asked.form l 1 (units_in (listed_kind l) (is_whole ending) 1 bytes)) (some_same (Spots Cards) listed e)
+    (sym (ap (unit_blocks asked.form (Spots Cards) 1) (lines_reported mode.Spots ending bytes refl) ∙ spots_units asked.form Cards 1 1 (lines (reported mode.Spots ending bytes))))
+blocks_by_units asked mode.Ranges listed ending bytes e =
+    subst (λ (l : Listed). blocks_in mode.Ranges asked (reported mode.Ranges ending bytes) ≡ unit_blocks asked.form l 1 (units_in (listed_kind l) (is_whole ending) 1 bytes)) (some_same (Spots Ranges) listed e)
+    (sym (ap (unit_blocks asked.form (Spots Ranges) 1) (lines_reported mode.Ranges ending bytes refl) ∙ spots_units asked.form Ranges 1 1 (lines (reported mode.Ranges ending bytes))))
 blocks_by_units asked mode.Check listed ending bytes e =
-    subst (λ (l : Listed). blocks_in mode.Check asked (reported mode.Check ending bytes) ≡ unit_blocks asked.form l 1 (units_in (listed_kind l) (is_whole ending) 1 bytes)) (some_same (Hands false) listed e)
-    (sym (ap (unit_blocks asked.form (Hands false) 1) (hands_reported mode.Check ending bytes refl) ∙ hands_units asked.form false 1 (hands_from 1 (lines (reported mode.Check ending bytes)))))
+    subst (λ (l : Listed). blocks_in mode.Check asked (reported mode.Check ending bytes) ≡ unit_blocks asked.form l 1 (units_in (listed_kind l) (is_whole ending) 1 bytes)) (some_same (Hands Verdict) listed e)
+    (sym (ap (unit_blocks asked.form (Hands Verdict) 1) (hands_reported mode.Check ending bytes refl) ∙ hands_units asked.form Verdict 1 (hands_from 1 (lines (reported mode.Check ending bytes)))))
 blocks_by_units asked mode.Audit listed ending bytes e =
-    subst (λ (l : Listed). blocks_in mode.Audit asked (reported mode.Audit ending bytes) ≡ unit_blocks asked.form l 1 (units_in (listed_kind l) (is_whole ending) 1 bytes)) (some_same (Hands true) listed e)
-    (sym (ap (unit_blocks asked.form (Hands true) 1) (hands_reported mode.Audit ending bytes refl) ∙ hands_units asked.form true 1 (hands_from 1 (lines (reported mode.Audit ending bytes)))))
+    subst (λ (l : Listed). blocks_in mode.Audit asked (reported mode.Audit ending bytes) ≡ unit_blocks asked.form l 1 (units_in (listed_kind l) (is_whole ending) 1 bytes)) (some_same (Hands AllIn) listed e)
+    (sym (ap (unit_blocks asked.form (Hands AllIn) 1) (hands_reported mode.Audit ending bytes refl) ∙ hands_units asked.form AllIn 1 (hands_from 1 (lines (reported mode.Audit ending bytes)))))
+blocks_by_units asked mode.Streets listed ending bytes e =
+    subst (λ (l : Listed). blocks_in mode.Streets asked (reported mode.Streets ending bytes) ≡ unit_blocks asked.form l 1 (units_in (listed_kind l) (is_whole ending) 1 bytes)) (some_same (Hands LaterStreets) listed e)
+    (sym (ap (unit_blocks asked.form (Hands LaterStreets) 1) (hands_reported mode.Streets ending bytes refl) ∙ hands_units asked.form LaterStreets 1 (hands_from 1 (lines (reported mode.Streets ending bytes)))))
 blocks_by_units asked mode.Totals listed ending bytes e = none_some listed e
 blocks_by_units asked mode.Made listed ending bytes e = none_some listed e
 
 pub rejects_by_units : (asked : Command) (m : Mode) (listed : Listed) (ending : Ending) (bytes : List ℕ) → listed_in m ≡ Some listed
     → rejects_in m asked (reported m ending bytes) ≡ rejected_units listed (units_in (listed_kind listed) (is_whole ending) 1 bytes)
 rejects_by_units asked mode.Spots listed ending bytes e =
-    subst (λ (l : Listed). rejects_in mode.Spots asked (reported mode.Spots ending bytes) ≡ rejected_units l (units_in (listed_kind l) (is_whole ending) 1 bytes)) (some_same Spots listed e)
-    (sym (ap (rejected_units Spots) (lines_reported ending bytes) ∙ rejected_lines 1 (lines (reported mode.Spots ending bytes))))
+    subst (λ (l : Listed). rejects_in mode.Spots asked (reported mode.Spots ending bytes) ≡ rejected_units l (units_in (listed_kind l) (is_whole ending) 1 bytes)) (some_same (Spots Cards) listed e)
+    (sym (ap (rejected_units (Spots Cards)) (lines_reported mode.Spots ending bytes refl) ∙ rejected_lines Cards 1 (lines (reported mode.Spots ending bytes))))
+rejects_by_units asked mode.Ranges listed ending bytes e =
+    subst (λ (l : Listed). rejects_in mode.Ranges asked (reported mode.Ranges ending bytes) ≡ rejected_units l (units_in (listed_kind l) (is_whole ending) 1 bytes)) (some_same (Spots Ranges) listed e)
+    (sym (ap (rejected_units (Spots Ranges)) (lines_reported mode.Ranges ending bytes refl) ∙ rejected_lines Ranges 1 (lines (reported mode.Ranges ending bytes))))
 rejects_by_units asked mode.Check listed ending bytes e =
-    subst (λ (l : Listed). rejects_in mode.Check asked (reported mode.Check ending bytes) ≡ rejected_units l (units_in (listed_kind l) (is_whole ending) 1 bytes)) (some_same (Hands false) listed e)
-    (sym (ap (rejected_units (Hands false)) (hands_reported mode.Check ending bytes refl) ∙ rejected_all false (hands_from 1 (lines (reported mode.Check ending bytes)))))
+    subst (λ (l : Listed). rejects_in mode.Check asked (reported mode.Check ending bytes) ≡ rejected_units l (units_in (listed_kind l) (is_whole ending) 1 bytes)) (some_same (Hands Verdict) listed e)
+    (sym (ap (rejected_units (Hands Verdict)) (hands_reported mode.Check ending bytes refl) ∙ rejected_all Verdict (hands_from 1 (lines (reported mode.Check ending bytes)))))
 rejects_by_units asked mode.Audit listed ending bytes e =
-    subst (λ (l : Listed). rejects_in mode.Audit asked (reported mode.Audit ending bytes) ≡ rejected_units l (units_in (listed_kind l) (is_whole ending) 1 bytes)) (some_same (Hands true) listed e)
-    (sym (ap (rejected_units (Hands true)) (hands_reported mode.Audit ending bytes refl) ∙ rejected_all true (hands_from 1 (lines (reported mode.Audit ending bytes)))))
+    subst (λ (l : Listed). rejects_in mode.Audit asked (reported mode.Audit ending bytes) ≡ rejected_units l (units_in (listed_kind l) (is_whole ending) 1 bytes)) (some_same (Hands AllIn) listed e)
+    (sym (ap (rejected_units (Hands AllIn)) (hands_reported mode.Audit ending bytes refl) ∙ rejected_all AllIn (hands_from 1 (lines (reported mode.Audit ending bytes)))))
+rejects_by_units asked mode.Streets listed ending bytes e =
+    subst (λ (l : Listed). rejects_in mode.Streets asked (reported mode.Streets ending bytes) ≡ rejected_units l (units_in (listed_kind l) (is_whole ending) 1 bytes)) (some_same (Hands LaterStreets) listed e)
+    (sym (ap (rejected_units (Hands LaterStreets)) (hands_reported mode.Streets ending bytes refl) ∙ rejected_all LaterStreets (hands_from 1 (lines (reported mode.Streets ending bytes)))))
 rejects_by_units asked mode.Totals listed ending bytes e = none_some listed e
 rejects_by_units asked mode.Made listed ending bytes e = none_some listed e
 
 -- a mode in which something has a block each
 pub listed_blocks : (m : Mode) (listed : Listed) → listed_in m ≡ Some listed → has_blocks m ≡ true
 listed_blocks mode.Spots listed e = refl
+listed_blocks mode.Ranges listed e = refl
 listed_blocks mode.Check listed e = refl
 listed_blocks mode.Audit listed e = refl
+listed_blocks mode.Streets listed e = refl
 listed_blocks mode.Totals listed e = none_some listed e
 listed_blocks mode.Made listed e = none_some listed e
 
 pub listed_unit_kind : (m : Mode) (listed : Listed) → listed_in m ≡ Some listed → unit_kind m ≡ listed_kind listed
-listed_unit_kind mode.Spots listed e = ap listed_kind (some_same Spots listed e)
-listed_unit_kind mode.Check listed e = ap listed_kind (some_same (Hands false) listed e)
-listed_unit_kind mode.Audit listed e = ap listed_kind (some_same (Hands true) listed e)
+listed_unit_kind mode.Spots listed e = ap listed_kind (some_same (Spots Cards) listed e)
+listed_unit_kind mode.Ranges listed e = ap listed_kind (some_same (Spots Ranges) listed e)
+listed_unit_kind mode.Check listed e = ap listed_kind (some_same (Hands Verdict) listed e)
+listed_unit_kind mode.Audit listed e = ap listed_kind (some_same (Hands AllIn) listed e)
+listed_unit_kind mode.Streets listed e = ap listed_kind (some_same (Hands LaterStreets) listed e)
 listed_unit_kind mode.Totals listed e = none_some listed e
 listed_unit_kind mode.Made listed e = none_some listed e
 
 -- of the modes that read their input totals alone have one block for all
 pub only_totals : (m : Mode) → reads_input m ≡ true → listed_in m ≡ None → m ≡ mode.Totals
 only_totals mode.Spots some none = absurd (cc)
+only_totals mode.Ranges some none = absurd (cc)
 only_totals mode.Check some none = absurd (cc)
 only_totals mode.Audit some none = absurd (cc)
+only_totals mode.Streets some none = absurd (cc)
 only_totals mode.Totals some none = refl
 only_totals mode.Made some none = absurd (cc)

@@ -1,13 +1,17 @@
 -- The block of a hand in the report.
-use Rattle.std.specs.Prelude.{ℕ, Bool, true, false, List, [], ◌∷◌, Option, Some, None}
+use Rattle.std.specs.Prelude.{ℕ, Bool, true, false, List, [], ◌∷◌, ◌++◌, Option, Some, None}
 use Rattle.std.specs.List.{slice_range}
 use Rattle.hand_cuts.specs.Units.{UnitLines}
 use Rattle.history_text.specs.Headers.{hand_number}
+use Rattle.hand_audit.specs.Streets.{states_in}
 use Rattle.hand_audit.specs.Verdict.{audit_of}
 use Rattle.hand_audit.specs.declared.verdicts.HandAudit.{HandAudit}
 use Rattle.hand_audit.specs.declared.verdicts.HandAudit.TheVariants.{Rejected, Accepted}
 use Rattle.report_table.specs.HandEquities.{hand_block as audit_block}
+use Rattle.report_table.specs.Streets.{street_blocks}
 use Rattle.report_table.specs.declared.equity.Form.{Form}
+use Rattle.run_engine.specs.declared.listed.Told.{Told}
+use Rattle.run_engine.specs.declared.listed.Told.TheVariants.{Verdict, AllIn, LaterStreets}
 
 -- the number of a hand, digit by digit as its header line has it
 abbrev pub number_text : List (List ℕ) → List ℕ
@@ -18,14 +22,26 @@ number_text (line ∷ later) = slice_range line (hand_number line).0 (hand_numbe
 unfoldable pub verdict_of : UnitLines → Option HandAudit
 verdict_of hand = audit_of hand.first hand.lines
 
--- the block of a hand, by its verdict
-abbrev pub block_by : Form → Bool → List ℕ → Option HandAudit → List ℕ
-block_by form asked number None = []
-block_by form asked number (Some audit) = audit_block form asked number audit
+-- whether the equity of an all-in is told
+abbrev pub tells_all_in : Told → Bool
+tells_all_in Verdict = false
+tells_all_in AllIn = true
+tells_all_in LaterStreets = true
 
--- the block of a hand in a form; given is whether equities are asked for
-unfoldable pub hand_block : Form → Bool → UnitLines → List ℕ
-hand_block form asked hand = block_by form asked (number_text hand.lines) (verdict_of hand)
+-- the blocks of the streets of a hand behind its all-in, where they are told
+abbrev pub streets_told : Form → Told → UnitLines → HandAudit → List ℕ
+streets_told form Verdict hand audit = []
+streets_told form AllIn hand audit = []
+streets_told form LaterStreets hand audit = street_blocks form audit (states_in hand.lines)
+
+-- the block of a hand, by its verdict
+abbrev pub block_by : Form → Told → UnitLines → Option HandAudit → List ℕ
+block_by form told hand None = []
+block_by form told hand (Some audit) = audit_block form (tells_all_in told) (number_text hand.lines) audit ++ streets_told form told hand audit
+
+-- the block of a hand in a form; given is how much of it is told
+unfoldable pub hand_block : Form → Told → UnitLines → List ℕ
+hand_block form told hand = block_by form told hand (verdict_of hand)
 
 -- whether a line of the hand departs from the rules
 abbrev pub is_rejection : HandAudit → Bool

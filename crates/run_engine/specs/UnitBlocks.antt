@@ -3,48 +3,51 @@ use Rattle.std.specs.Prelude.{◌≡◌, ℕ, ◌+◌, Bool, true, false, if◌t
 use Rattle.hand_cuts.specs.Units.{UnitLines}
 use Rattle.hand_cuts.specs.declared.units.CutKind.{CutKind}
 use Rattle.hand_cuts.specs.declared.units.CutKind.TheVariants as cut
-use Rattle.report_table.specs.Spots.{spot_block}
 use Rattle.report_table.specs.declared.equity.Form.{Form}
 use Rattle.run_engine.specs.Histories.{hand_block, is_rejected_hand}
-use Rattle.run_engine.specs.Report.{is_rejected_spot}
+use Rattle.run_engine.specs.Report.{is_rejected_spot, line_block}
 use Rattle.run_engine.specs.declared.command.Mode.{Mode}
-use Rattle.run_engine.specs.declared.command.Mode.TheVariants.{Check, Audit, Totals, Made}
+use Rattle.run_engine.specs.declared.command.Mode.TheVariants.{Check, Audit, Streets, Totals, Made}
 use Rattle.run_engine.specs.declared.command.Mode.TheVariants as mode
+use Rattle.run_engine.specs.declared.listed.Holding.{Holding}
+use Rattle.run_engine.specs.declared.listed.Holding.TheVariants.{Cards, Ranges}
+use Rattle.run_engine.specs.declared.listed.Told.TheVariants.{Verdict, AllIn, LaterStreets}
 use Rattle.run_engine.specs.declared.listed.Listed.{Listed}
 use Rattle.run_engine.specs.declared.listed.Listed.TheVariants.{Spots, Hands}
-use Rattle.spot_text.specs.Spot.{spot_of}
 use Rattle.spot_text.specs.Words.{is_blank}
 
 -- what has a block each in the report of a mode
 abbrev pub listed_in : Mode → Option Listed
-listed_in mode.Spots = Some Spots
-listed_in Check = Some (Hands false)
-listed_in Audit = Some (Hands true)
+listed_in mode.Spots = Some (Spots Cards)
+listed_in mode.Ranges = Some (Spots Ranges)
+listed_in Check = Some (Hands Verdict)
+listed_in Audit = Some (Hands AllIn)
+listed_in Streets = Some (Hands LaterStreets)
 listed_in Totals = None
 listed_in Made = None
 
 -- what it is cut from the input as
 abbrev pub listed_kind : Listed → CutKind
-listed_kind Spots = cut.Lines
-listed_kind (Hands asked) = cut.Hands
+listed_kind (Spots holding) = cut.Lines
+listed_kind (Hands told) = cut.Hands
 
--- the block of a line; a line with no word has none
-abbrev pub line_block : Form → ℕ → ℕ → List (List ℕ) → Option (List ℕ)
-line_block form place number [] = None
-line_block form place number (line ∷ later) = if is_blank line then None else Some (spot_block form place number (spot_of line))
+-- the block of a line, the first of some; a line with no word has none
+abbrev pub first_block : Form → Holding → ℕ → ℕ → List (List ℕ) → Option (List ℕ)
+first_block form holding place number [] = None
+first_block form holding place number (line ∷ later) = if is_blank line then None else Some (line_block form holding place number line)
 
-abbrev pub is_rejected_line : List (List ℕ) → Bool
-is_rejected_line [] = false
-is_rejected_line (line ∷ later) = is_rejected_spot line
+abbrev pub is_rejected_first : Holding → List (List ℕ) → Bool
+is_rejected_first holding [] = false
+is_rejected_first holding (line ∷ later) = is_rejected_spot holding line
 
 -- the block of a unit, if it has one; given is the place that a spot has
 abbrev pub unit_block : Form → Listed → ℕ → UnitLines → Option (List ℕ)
-unit_block form Spots place unit = line_block form place unit.first unit.lines
-unit_block form (Hands asked) place unit = Some (hand_block form asked unit)
+unit_block form (Spots holding) place unit = first_block form holding place unit.first unit.lines
+unit_block form (Hands told) place unit = Some (hand_block form told unit)
 
 abbrev pub is_rejected_unit : Listed → UnitLines → Bool
-is_rejected_unit Spots unit = is_rejected_line unit.lines
-is_rejected_unit (Hands asked) unit = is_rejected_hand unit
+is_rejected_unit (Spots holding) unit = is_rejected_first holding unit.lines
+is_rejected_unit (Hands told) unit = is_rejected_hand unit
 
 -- the place behind a unit by its block, and the block in front of others
 abbrev pub place_behind : ℕ → Option (List ℕ) → ℕ

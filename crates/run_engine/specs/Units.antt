@@ -10,7 +10,7 @@ use Rattle.hand_cuts.specs.declared.units.CutKind.TheVariants.{Hands, Lines}
 use Rattle.hand_cuts.specs.declared.units.Unit.{Unit as UnitPlace}
 use Rattle.run_engine.specs.Reading.{Counted, EndsSo}
 use Rattle.run_engine.specs.declared.command.Mode.{Mode}
-use Rattle.run_engine.specs.declared.command.Mode.TheVariants.{Spots, Check, Audit, Totals, Made}
+use Rattle.run_engine.specs.declared.command.Mode.TheVariants.{Spots, Ranges, Check, Audit, Streets, Totals, Made}
 use Rattle.run_engine.specs.declared.reading.Ending.{Ending}
 use Rattle.run_engine.specs.declared.reading.Ending.TheVariants.{Whole, Failed, TooLong, Open}
 use Rattle.run_engine.specs.declared.reading.Input.{Input}
@@ -18,8 +18,10 @@ use Rattle.run_engine.specs.declared.reading.Input.{Input}
 -- what the input of a mode is cut into
 abbrev pub unit_kind : Mode → CutKind
 unit_kind Spots = Lines
+unit_kind Ranges = Lines
 unit_kind Check = Hands
 unit_kind Audit = Hands
+unit_kind Streets = Hands
 unit_kind Totals = Hands
 unit_kind Made = Hands
 

@@ -2,17 +2,22 @@
 
 ghost use Rattle.std.specs.Prelude.{◌≡◌, ⊤, OnOk, true};
 ghost use Rattle.card_sets.specs.State.{state_of};
+ghost use Rattle.hand_ranges.specs.Counted.{IsCountOf};
+ghost use Rattle.hand_ranges.specs.Sound.{IsSound};
+ghost use Rattle.hand_ranges.specs.Spot.{ranges_in};
 ghost use Rattle.report_table.specs.Equities.{IsEquityOf, IsOfAllIn, IsOfHand, is_asked};
+ghost use Rattle.report_table.specs.Streets.{IsOfStreet};
 ghost use Rattle.showdown_tally.specs.Deals.{deal_of};
 ghost use Rattle.showdown_tally.specs.Tallies.{Counts, runouts_after};
 
 use card_sets::Memory;
 use equity_job::{Job, Scratch, count_job};
-use hand_audit::{AllIn, HandAudit};
+use hand_audit::{AllIn, HandAudit, StreetState};
+use hand_ranges::{RangeJobFault, RangeSpot, RangeTally, count_ranges};
 use report_table::Equity;
 use showdown_tally::{Table, Tally};
 
-/// Counts jobs.
+/// Counts jobs, and spots with ranges.
 pub(crate) trait Counter {
     /// What is known of a call that it makes in its turn, if it makes one.
     ghost ready: { Type 0 } = { ⊤ };
@@ -21,6 +26,11 @@ pub(crate) trait Counter {
     fn count(&mut self, job: &Job, workers: u32, tally: &mut Tally) -> Result<(), Memory>
         requires { ready }
         ensures { OnOk result (Counts (deal_of job.now.table) (runouts_after (state_of job.now.table.known)) tally.new) };
+
+    /// Counts a spot with ranges, on the thread that asks.
+    fn count_ranges(&mut self, spot: &RangeSpot) -> Result<RangeTally, RangeJobFault>
+        requires { IsSound (ranges_in spot.now) }
+        ensures { IsCountOf (ranges_in spot.now) result };
 }
 
 /// Counts on the thread that asks, in a room that is made for the first count. It takes no memory.
@@ -53,10 +63,39 @@ impl Alone {
     }
 }
 
+impl Alone {
+    /// Counts a spot with ranges.
+    pub(crate) fn ranges_here(&mut self, spot: &RangeSpot) -> Result<RangeTally, RangeJobFault>
+        requires { IsSound (ranges_in spot.now) }
+        ensures { IsCountOf (ranges_in spot.now) result }
+    {
+        if let Some(scratch) = &mut self.scratch {
+            return count_ranges(spot, scratch);
+        }
+        self.ranges_first(spot)
+    }
+
+    /// The same where the room is still to be made, with a frame of its own for the same reason.
+    #[inline(never)]
+    fn ranges_first(&mut self, spot: &RangeSpot) -> Result<RangeTally, RangeJobFault>
+        requires { IsSound (ranges_in spot.now) }
+        ensures { IsCountOf (ranges_in spot.now) result }
+    {
+        let mut scratch = Scratch::new();
+        let counted = count_ranges(spot, &mut scratch);
+        self.scratch = Some(scratch);
+        counted
+    }
+}
+
 impl Counter for Alone {
     fn count(&mut self, job: &Job, _workers: u32, tally: &mut Tally) -> Result<(), Memory> {
         self.count_here(job, tally);
         Ok(())
+    }
+
+    fn count_ranges(&mut self, spot: &RangeSpot) -> Result<RangeTally, RangeJobFault> {
+        self.ranges_here(spot)
     }
 }
 
@@ -129,6 +168,18 @@ impl<C: Counter> Desk<C> {
                 Ok(())
             }
             AllIn::Known { table, .. } => self.ask_table(table),
+        }
+    }
+
+    /// Asks for the equity of a street behind an all-in. Where its cards aren't known it is one that nobody
+    /// looks at.
+    pub(crate) fn ask_street(&mut self, state: &StreetState) -> Result<(), Memory>
+        requires ready { C.ready }
+        ensures { OnOk result (IsOfStreet state.now self.new.equity) }
+    {
+        match &state.table {
+            Some(table) => self.ask_table(table),
+            None => Ok(()),
         }
     }
 

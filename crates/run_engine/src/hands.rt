@@ -1,17 +1,23 @@
 //! The block of a hand.
 
-ghost use Rattle.std.specs.Prelude.{◌≡◌, ◌<◌, ◌≤◌, ◌+◌, ◌^◌, [], ◌++◌, IfOk, OnOk, IsTrue, length, drop, slice_range};
+ghost use Rattle.std.specs.Prelude.{◌≡◌, ◌<◌, ◌≤◌, ◌+◌, ◌^◌, [], ◌++◌, IfOk, OnOk, IsTrue, Some, true, length, drop, slice_range};
+ghost use Rattle.std.specs.List.{flat_map};
+ghost use Rattle.hand_audit.specs.Streets.{states_in};
+ghost use Rattle.hand_audit.specs.Verdict.{audit_of};
+ghost use Rattle.report_table.specs.Equities.{IsOfHand, is_asked};
+ghost use Rattle.report_table.specs.Streets.{street_block, street_blocks};
 ghost use Rattle.hand_audit.specs.Departs.{begins_hand};
 ghost use Rattle.line_text.specs.Lines.{lines};
 ghost use Rattle.hand_cuts.specs.Units.{UnitLines};
-ghost use Rattle.run_engine.specs.Histories.{hand_block, is_rejected_hand, is_rejection, number_text};
+ghost use Rattle.run_engine.specs.Histories.{hand_block, is_rejected_hand, is_rejection, number_text, streets_told, tells_all_in};
 
 use crate::counter::{Counter, Desk};
+use crate::listed::Told;
 use card_sets::Memory;
-use hand_audit::{HandAudit, audit_hand};
+use hand_audit::{HandAudit, StreetState, audit_hand, later_streets};
 use history_text::hand_number;
 use line_text::next_line;
-use report_table::{Form, write_hand};
+use report_table::{Form, has_counted, write_hand, write_street};
 use std::alloc::Global;
 
 /// The part of a line between two places.
@@ -43,12 +49,80 @@ fn is_rejection(audit: &HandAudit) -> bool
     matches!(audit, HandAudit::Rejected { .. })
 }
 
+/// Appends the blocks of some streets of a hand, one behind the other, with the equity of each.
+fn write_states<C: Counter>(
+    form: Form,
+    audit: &HandAudit,
+    states: &[StreetState],
+    desk: &mut Desk<C>,
+    block: &mut Vec<u8>,
+) -> Result<(), Memory>
+    requires ready { C.ready }
+    ensures { OnOk result (block.new.items ≡ block.old.items ++ flat_map (street_block form audit.now) states.now) }
+{
+    for state in states {
+        desk.ask_street(state)?;
+        write_street(block, audit, state, &desk.equity, form)?;
+    }
+    Ok(())
+}
+
+/// Appends the blocks of the streets of a hand behind its all-in, where that is counted. The desk has the
+/// equity of the hand.
+fn write_streets<C: Counter>(
+    alloc: Global,
+    form: Form,
+    bytes: &[u8],
+    first: u32,
+    audit: &HandAudit,
+    desk: &mut Desk<C>,
+    block: &mut Vec<u8>,
+) -> Result<(), Memory>
+    requires ready { C.ready }
+    requires header { IsTrue (begins_hand (lines bytes.now)) }
+    requires audit { audit_of first (lines bytes.now) ≡ Some audit.now }
+    requires asked { is_asked desk.old.equity ≡ true }
+    requires equity { IsOfHand audit.now desk.old.equity }
+    ensures { OnOk result (block.new.items ≡ block.old.items ++ street_blocks form audit.now (states_in (lines bytes.now))) }
+{
+    if !has_counted(audit, &desk.equity) {
+        return Ok(());
+    }
+    let states = later_streets(alloc, bytes, first)?;
+    write_states(form, audit, &states, desk, block)
+}
+
+/// Appends what is told of a hand behind the block of its verdict and its all-in. The desk has the equity of
+/// the hand.
+fn write_told<C: Counter>(
+    alloc: Global,
+    form: Form,
+    told: Told,
+    bytes: &[u8],
+    first: u32,
+    audit: &HandAudit,
+    desk: &mut Desk<C>,
+    block: &mut Vec<u8>,
+) -> Result<(), Memory>
+    requires ready { C.ready }
+    requires header { IsTrue (begins_hand (lines bytes.now)) }
+    requires audit { audit_of first (lines bytes.now) ≡ Some audit.now }
+    requires asked { is_asked desk.old.equity ≡ tells_all_in told }
+    requires equity { IsOfHand audit.now desk.old.equity }
+    ensures { OnOk result (block.new.items ≡ block.old.items ++ streets_told form told (record { first = first; lines = lines bytes.now }) audit.now) }
+{
+    match told {
+        Told::Verdict | Told::AllIn => Ok(()),
+        Told::LaterStreets => write_streets(alloc, form, bytes, first, audit, desk, block),
+    }
+}
+
 /// Appends the block of a hand, and answers whether the hand is rejected. The bytes are the lines of the
-/// hand, its header line first, which has the number `first`. Its equity is counted where it is asked for.
+/// hand, its header line first, which has the number `first`. The equities that are told are counted.
 pub(crate) fn write_lines<C: Counter>(
     alloc: Global,
     form: Form,
-    asked: bool,
+    told: Told,
     bytes: &[u8],
     first: u32,
     desk: &mut Desk<C>,
@@ -57,11 +131,12 @@ pub(crate) fn write_lines<C: Counter>(
     requires ready { C.ready }
     requires header { IsTrue (begins_hand (lines bytes.now)) }
     requires numbers { first + length (lines bytes.now) < 2 ^ 32 }
-    ensures block { OnOk result (block.new.items ≡ block.old.items ++ hand_block form asked (record { first = first; lines = lines bytes.now })) }
+    ensures block { OnOk result (block.new.items ≡ block.old.items ++ hand_block form told (record { first = first; lines = lines bytes.now })) }
     ensures rejected { IfOk result (λ rejected. rejected ≡ is_rejected_hand (record { first = first; lines = lines bytes.now })) }
 {
     let audit = audit_hand(alloc, bytes, first)?;
-    desk.ask_hand(asked, &audit)?;
+    desk.ask_hand(told.tells_all_in(), &audit)?;
     write_hand(block, number_text(bytes), &audit, &desk.equity, form)?;
+    write_told(alloc, form, told, bytes, first, &audit, desk, block)?;
     Ok(is_rejection(&audit))
 }

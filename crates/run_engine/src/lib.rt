@@ -1,5 +1,19 @@
-//! The run of the program: the words of the command, the reading of the input, the report of its spots
-//! or hands.
+//! The run of the program: the words of the command, the reading of the input, the report, the status.
+//!
+//! `run` is all that the program does, and its clause `IsRun` is what is proved of it as a whole. `run_alone` is the same without threads.
+//! Both have one body, over whoever counts.
+//!
+//! 1. *Words* (`words`, `command`). `read_words` has `clap` read them, and makes a `Command` of them, or none.
+//! 2. *Reading* (`reading`). Pieces of 16 kB are given to a `Cutter` until a hand, or a line of spots, is closed. What was handed out is
+//!    forgotten. More than `INPUT_MAX` bytes are too long.
+//! 3. *Blocks* (`report`, `hands`, `spots`). Each hand or spot has a block, which is made whole in memory and then written. So whatever
+//!    fails, what stands in the output are whole blocks of the report, but where the output itself took a part of one.
+//! 4. *Sums* (`sums`, `totals`, `made`). In other modes one loop adds up the hands, and one block is written at the end.
+//! 5. *Who counts* (`counter`, `shared`). A `Desk` has the last equity that was asked for. `Alone` counts it here; `Shared` has workers
+//!    count it where it has many blocks.
+//! 6. *Status* (`runs`). Which end failed is told by its count of faults, and each status has its clause.
+//!
+//! It owns no poker and no figure: what is written is defined in `report_table`, what a hand is by `hand_audit`.
 #![tactic(auto)]
 
 mod closing;
@@ -8,6 +22,7 @@ mod counter;
 mod hands;
 mod listed;
 mod made;
+mod ranges;
 mod reading;
 mod report;
 mod runs;

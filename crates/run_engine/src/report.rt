@@ -41,9 +41,11 @@ fn write_unit<C: Counter>(
     ensures { IfOk result (λ told. MakesBlock form listed numbers.place (record { first = numbers.line; lines = lines bytes.now }) block.new.items told) }
 {
     match listed {
-        Listed::Spots => write_spot_line(block, form, numbers, bytes, desk),
-        Listed::Hands { asked } => {
-            let rejected = write_lines(alloc, form, asked, bytes, numbers.line, desk, block)?;
+        Listed::Spots { holding } => {
+            write_spot_line(alloc, block, form, holding, numbers, bytes, desk)
+        }
+        Listed::Hands { told } => {
+            let rejected = write_lines(alloc, form, told, bytes, numbers.line, desk, block)?;
             Ok(Some(rejected))
         }
     }

@@ -139,8 +139,8 @@ fn unit_kind(mode: Mode) -> CutKind
     ensures { result ≡ unit_kind mode }
 {
     match mode {
-        Mode::Spots => CutKind::Lines,
-        Mode::Check | Mode::Audit | Mode::Totals | Mode::Made => CutKind::Hands,
+        Mode::Spots | Mode::Ranges => CutKind::Lines,
+        Mode::Check | Mode::Audit | Mode::Streets | Mode::Totals | Mode::Made => CutKind::Hands,
     }
 }
 

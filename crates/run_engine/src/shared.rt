@@ -8,6 +8,7 @@ ghost use Rattle.showdown_tally.specs.Tallies.{Counts, runouts_after};
 use crate::counter::{Alone, Counter};
 use card_sets::Memory;
 use equity_job::Job;
+use hand_ranges::{RangeJobFault, RangeSpot, RangeTally};
 use showdown_tally::Tally;
 use std::alloc::Global;
 use std::sync::Wait;
@@ -48,6 +49,10 @@ impl<'a, F: Fn(&Job, u32) -> Result<Tally, Memory>> Counter for Shared<'a, F> {
             }
             Err(fault) => Err(fault),
         }
+    }
+
+    fn count_ranges(&mut self, spot: &RangeSpot) -> Result<RangeTally, RangeJobFault> {
+        self.alone.ranges_here(spot)
     }
 }
 

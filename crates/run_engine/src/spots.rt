@@ -6,16 +6,19 @@ ghost use Rattle.card_sets.specs.State.{state_of};
 ghost use Rattle.line_text.specs.Lines.{lines};
 ghost use Rattle.report_table.specs.Equities.{IsEquityOf};
 ghost use Rattle.report_table.specs.Spots.{alone, spot_block};
+ghost use Rattle.run_engine.specs.Report.{is_rejected_line, line_block};
 ghost use Rattle.run_engine.specs.UnitBlocks.{MakesBlock};
 ghost use Rattle.run_engine.specs.declared.listed.Listed.TheVariants.{Spots};
 ghost use Rattle.spot_text.specs.Spot.{spot_of};
 
 use crate::counter::{Counter, Desk};
-use crate::listed::Numbers;
+use crate::listed::{Holding, Numbers};
+use crate::ranges::write_range_line;
 use card_sets::{Known, Memory};
 use line_text::next_line;
 use report_table::{Form, table_alone, write_spot};
 use spot_text::{SpotFault, has_word, read_spot};
+use std::alloc::Global;
 
 /// Asks for the equity of a spot, but where it is rejected.
 fn ask_spot<C: Counter>(known: &Result<Known, SpotFault>, desk: &mut Desk<C>) -> Result<(), Memory>
@@ -28,8 +31,8 @@ fn ask_spot<C: Counter>(known: &Result<Known, SpotFault>, desk: &mut Desk<C>) ->
     desk.ask_table(&table_alone(*known))
 }
 
-/// Appends the block of a spot line, and answers whether the spot is rejected.
-fn write_line<C: Counter>(
+/// Appends the block of a line whose players have cards, and answers whether its spot is rejected.
+fn write_card_line<C: Counter>(
     block: &mut Vec<u8>,
     form: Form,
     numbers: Numbers,
@@ -53,18 +56,40 @@ fn write_line<C: Counter>(
     Ok(known.is_err())
 }
 
+/// Appends the block of a spot line, and answers whether its spot is rejected.
+fn write_line<C: Counter>(
+    alloc: Global,
+    block: &mut Vec<u8>,
+    form: Form,
+    holding: Holding,
+    numbers: Numbers,
+    line: &[u8],
+    desk: &mut Desk<C>,
+) -> Result<bool, Memory>
+    requires ready { C.ready }
+    ensures block { OnOk result (block.new.items ≡ block.old.items ++ line_block form holding numbers.place numbers.line line.now) }
+    ensures rejected { IfOk result (λ rejected. rejected ≡ is_rejected_line holding line.now) }
+{
+    match holding {
+        Holding::Cards => write_card_line(block, form, numbers, line, desk),
+        Holding::Ranges => write_range_line(alloc, block, form, numbers, line, desk),
+    }
+}
+
 /// Appends the block of a line that has a word, and answers whether its spot is rejected; none where the
 /// line has no word. The bytes are the line, with its newline or without.
 pub(crate) fn write_spot_line<C: Counter>(
+    alloc: Global,
     block: &mut Vec<u8>,
     form: Form,
+    holding: Holding,
     numbers: Numbers,
     bytes: &[u8],
     desk: &mut Desk<C>,
 ) -> Result<Option<bool>, Memory>
     requires ready { C.ready }
     requires empty { block.old.items ≡ [] }
-    ensures { IfOk result (λ told. MakesBlock form Spots numbers.place (record { first = numbers.line; lines = lines bytes.now }) block.new.items told) }
+    ensures { IfOk result (λ told. MakesBlock form (Spots holding) numbers.place (record { first = numbers.line; lines = lines bytes.now }) block.new.items told) }
 {
     let Some(line) = next_line(bytes, 0) else {
         return Ok(None);
@@ -73,6 +98,6 @@ pub(crate) fn write_spot_line<C: Counter>(
     if !has_word(text) {
         return Ok(None);
     }
-    let rejected = write_line(block, form, numbers, text, desk)?;
+    let rejected = write_line(alloc, block, form, holding, numbers, text, desk)?;
     Ok(Some(rejected))
 }

@@ -90,6 +90,12 @@ few_draws cards (suc (suc zero)) h l m = let size : binomial 52 2 ≡ 1326 = ref
 few_draws cards (suc (suc (suc zero))) h l m = let size : binomial 52 3 ≡ 22100 = refl in few_of cards 3 22100 h (omega arith)
 few_draws cards (suc (suc (suc (suc n)))) h l m = absurd (omega arith)
 
+pub few_twos : (cards : List ℕ) (count : ℕ) → length cards ≤ 52 → 1 ≤ count → count ≤ 2 → length (choose count cards) ≤ 1326
+few_twos cards zero h l m = absurd (omega arith)
+few_twos cards (suc zero) h l m = let size : binomial 52 1 ≡ 52 = refl in few_of cards 1 1326 h (omega arith)
+few_twos cards (suc (suc zero)) h l m = let size : binomial 52 2 ≡ 1326 = refl in few_of cards 2 1326 h (omega arith)
+few_twos cards (suc (suc (suc n))) h l m = absurd (omega arith)
+
 -- ends that are moved to the end of the list where they are behind it
 clipped : {X : Type 0} (xs : List X) (lo hi : ℕ) → slice_range xs (min lo (length xs)) (min hi (length xs)) ≡ slice_range xs lo (min hi (length xs))
 clipped xs lo hi = elim (cases_lt lo (length xs)) [

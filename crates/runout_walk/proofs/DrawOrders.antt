@@ -1,13 +1,13 @@
 -- How often each of three sets wins, by how some numbers stand to another.
-use Rattle.std.proofs.Common.{◌≡◌, ℕ, zero, ◌+◌, ◌<◌, ◌≤◌, ◌==◌, ◌&&◌, not, Bool, true, false, cond, List, [], ◌∷◌, length, take, get_or, refl, sym, ap, ◌∙◌, arith, inl, inr}
-use Rattle.std.specs.Prelude.{nat_lt}
+use Rattle.std.proofs.Common.{◌≡◌, ℕ, zero, suc, ◌+◌, ◌<◌, ◌≤◌, ◌==◌, ◌&&◌, not, Bool, true, false, cond, List, [], ◌∷◌, length, set, take, get_or, refl, sym, ap, ◌∙◌, arith, inl, inr}
+use Rattle.std.specs.Prelude.{nat_lt, slice_index, slice_index_or}
 use Rattle.std.specs.List.{count_by}
 use Rattle.std.proofs.lemmas.Bool.{cases_lt, eqb-true}
-use Rattle.std.proofs.lemmas.List.{length-take}
+use Rattle.std.proofs.lemmas.List.{get_or-set_other, get_or-set_same, length-take}
 use Rattle.std.proofs.lemmas.List.Sums.{count_by_more_yes, count_by_more_no, count_by-le-length, sum_by-cons}
 use mathlib.Core.Bool.{true≢false}
 use mir.Val.{bool_byte}
-use Rattle.runout_walk.specs.Rivals.{pick, times_at, winner_by}
+use Rattle.runout_walk.specs.Rivals.{count_both, pick, times_at, winner_by}
 
 -- one member more
 pub count_one_more : {X : Type 0} (p : X → Bool) (xs : List X) (i : ℕ) (d : X) → i < length xs → count_by p (take (i + 1) xs) ≡ count_by p (take i xs) + cond (p (get_or xs i d)) 1 0
@@ -130,3 +130,55 @@ if_most false n = omega arith
 
 pub times_most : (w n set : ℕ) → times_at w n set ≤ n
 times_most w n set = if_most (w == set) n
+
+-- one row is changed
+pub other_row : (rows : List (List ℕ)) (i j place : ℕ) (new : List ℕ) → (j ≡ i → ⊥) → slice_index (slice_index_or (set rows i new) j []) place ≡ slice_index (slice_index_or rows j []) place
+other_row rows i j place new ne = ap (λ row. slice_index row place) (get_or-set_other rows i j new [] ne)
+
+pub same_row : (rows : List (List ℕ)) (i place : ℕ) (new : List ℕ) → i < length rows → slice_index (slice_index_or (set rows i new) i []) place ≡ slice_index new place
+same_row rows i place new l = ap (λ row. slice_index row place) (get_or-set_same rows i new [] l)
+
+-- numbers of two lists that pass together
+pub both_same : (p q : ℕ → ℕ → Bool) (values lows : List ℕ) → ((value low : ℕ) → p value low ≡ q value low) → count_both p values lows ≡ count_both q values lows
+both_same p q [] lows same = refl
+both_same p q (value ∷ values) [] same = refl
+both_same p q (value ∷ values) (low ∷ lows) same = ap (λ b. cond b 1 0 + count_both p values lows) (same value low) ∙ ap (λ n. cond (q value low) 1 0 + n) (both_same p q values lows same)
+
+-- one pair more
+pub both_more : (p : ℕ → ℕ → Bool) (values lows : List ℕ) (i d : ℕ) → i < length values → i < length lows
+    → count_both p (take (i + 1) values) (take (i + 1) lows) ≡ count_both p (take i values) (take i lows) + cond (p (get_or values i d) (get_or lows i d)) 1 0
+both_more p [] lows i d h k = absurd (omega arith)
+both_more p (value ∷ values) [] i d h k = absurd (omega arith)
+both_more p (value ∷ values) (low ∷ lows) zero d h k = omega arith
+both_more p (value ∷ values) (low ∷ lows) (suc i) d h k =
+    let next : suc i + 1 ≡ suc (i + 1) = omega arith in
+    rw next (omega (arith, both_more p values lows i d (omega arith) (omega arith)))
+
+-- no more pairs than numbers
+if_one : (b : Bool) → cond b 1 0 ≤ 1
+if_one true = omega arith
+if_one false = omega arith
+
+pub both_most : (p : ℕ → ℕ → Bool) (values lows : List ℕ) → count_both p values lows ≤ length values
+both_most p [] lows = omega arith
+both_most p (value ∷ values) [] = omega arith
+both_most p (value ∷ values) (low ∷ lows) = omega (arith, both_most p values lows, if_one (p value low))
+
+-- each of three sets is small
+pub pick_small : (b e a n : ℕ) (p q : Bool) → b < n → e < n → a < n → pick b e a p q < n
+pick_small b e a n true q x y z = x
+pick_small b e a n false true x y z = y
+pick_small b e a n false false x y z = z
+
+-- who wins at the number of the others, and above it
+pub at_top : (t b e a : ℕ) → winner_by t b e a t ≡ e
+at_top t b e a =
+    let f : nat_lt t t ≡ false = grind arith in
+    let g : (t == t) ≡ true = grind arith in
+    rw (f, g) refl
+
+pub above_top : (t b e a : ℕ) → winner_by t b e a (t + 1) ≡ a
+above_top t b e a =
+    let f : nat_lt (t + 1) t ≡ false = grind arith in
+    let g : (t + 1 == t) ≡ false = grind arith in
+    rw (f, g) refl

@@ -57,7 +57,7 @@ bits-cons p x xs = one (p x)
     one false = omega arith
 
 -- the hands by whether they are one hand
-abbrev ones_of : ℕ → List ℕ → List ℕ
+abbrev pub ones_of : ℕ → List ℕ → List ℕ
 ones_of l hands = filter (λ h. h == l) hands
 
 bits_split : (p : ℕ → Bool) (l : ℕ) (hands : List ℕ) → bits_where p hands ≡ bits_where p (others_of l hands) + bits_where p (ones_of l hands)
@@ -68,7 +68,7 @@ bits_split p l (x ∷ xs) = go (bits_split p l xs) (x == l)
     go ih true = omega (arith, ih, bits-cons p x xs, bits-cons p x (ones_of l xs))
     go ih false = omega (arith, ih, bits-cons p x xs, bits-cons p x (others_of l xs))
 
-best_split : (v : ℕ → ℕ) (l : ℕ) (hands : List ℕ) → best_value v hands ≡ max (best_value v (others_of l hands)) (best_value v (ones_of l hands))
+pub best_split : (v : ℕ → ℕ) (l : ℕ) (hands : List ℕ) → best_value v hands ≡ max (best_value v (others_of l hands)) (best_value v (ones_of l hands))
 best_split v l [] = refl
 best_split v l (x ∷ xs) = go (best_split v l xs) (x == l)
   where
@@ -129,7 +129,7 @@ filter_others p q l (x ∷ xs) e = elim (cases_eq x l) [
   | inr ne ↦ (let f : (x == l) ≡ false = grind arith in rw f (ap (λ b. cond b (x ∷ filter p (others_of l xs)) (filter p (others_of l xs))) (e x ne) ∙ ap (λ ys. cond (q x) (x ∷ ys) ys) (filter_others p q l xs e)))
 ]
 
-best_others : (v w : ℕ → ℕ) (l : ℕ) (hands : List ℕ) → ((h : ℕ) → (h ≡ l → ⊥) → v h ≡ w h) → best_value v (others_of l hands) ≡ best_value w (others_of l hands)
+pub best_others : (v w : ℕ → ℕ) (l : ℕ) (hands : List ℕ) → ((h : ℕ) → (h ≡ l → ⊥) → v h ≡ w h) → best_value v (others_of l hands) ≡ best_value w (others_of l hands)
 best_others v w l [] e = refl
 best_others v w l (x ∷ xs) e = elim (cases_eq x l) [
   | inl same ↦ (let t : (x == l) ≡ true = grind arith in rw t (best_others v w l xs e))
@@ -197,7 +197,7 @@ present v l t s hands one top set = parts ∙ (elim (cases_order (v l) t) [
         ∙ ap (λ n. bits_where (λ h. v h == max t (v l)) (others_of l hands) + n) (bits_one (λ h. v h == max t (v l)) l)
 
 -- one set in any case
-pick_same : (s : ℕ) (a b : Bool) → pick s s s a b ≡ s
+pub pick_same : (s : ℕ) (a b : Bool) → pick s s s a b ≡ s
 pick_same s true b = refl
 pick_same s false true = refl
 pick_same s false false = refl
@@ -238,11 +238,11 @@ winner_is values mask l n t s equal above value inside top set is_equal is_above
         ∙ sym (absent (value_with values l value) l t s (hands_below mask n) none best_top best_others_set)
 
 -- numbers that agree at the hands that there are
-filter_same : (p q : ℕ → Bool) (n : ℕ) (hands : List ℕ) → AreBelow n hands → ((h : ℕ) → h < n → p h ≡ q h) → filter p hands ≡ filter q hands
+pub filter_same : (p q : ℕ → Bool) (n : ℕ) (hands : List ℕ) → AreBelow n hands → ((h : ℕ) → h < n → p h ≡ q h) → filter p hands ≡ filter q hands
 filter_same p q n [] b e = refl
 filter_same p q n (h ∷ hands) b e = ap (λ t. cond t (h ∷ filter p hands) (filter p hands)) (e h b.0) ∙ ap (λ l. cond (q h) (h ∷ l) l) (filter_same p q n hands b.1 e)
 
-value_same : (v w : ℕ → ℕ) (n : ℕ) (hands : List ℕ) → AreBelow n hands → ((h : ℕ) → h < n → v h ≡ w h) → best_value v hands ≡ best_value w hands
+pub value_same : (v w : ℕ → ℕ) (n : ℕ) (hands : List ℕ) → AreBelow n hands → ((h : ℕ) → h < n → v h ≡ w h) → best_value v hands ≡ best_value w hands
 value_same v w n [] b e = refl
 value_same v w n (h ∷ hands) b e = let ih : best_value v hands ≡ best_value w hands = value_same v w n hands b.1 e in omega (arith, e h b.0, ih)
 
@@ -250,7 +250,7 @@ pub set_same : (v w : ℕ → ℕ) (n : ℕ) (hands : List ℕ) → AreBelow n h
 set_same v w n hands b e = ap set_of_players (filter_same (λ h. v h == best_value v hands) (λ h. w h == best_value w hands) n hands b (λ h l. ap (λ m. m == best_value v hands) (e h l) ∙ ap (λ t. w h == t) (value_same v w n hands b e)))
 
 -- tests of numbers
-not_less_max : (a b c : ℕ) → (not (nat_lt a b) && not (nat_lt a c)) ≡ not (nat_lt a (max b c))
+pub not_less_max : (a b c : ℕ) → (not (nat_lt a b) && not (nat_lt a c)) ≡ not (nat_lt a (max b c))
 not_less_max a b c = elim (cases_lt a b) [
   | inl l ↦
       let x : nat_lt a b ≡ true = grind arith in
@@ -273,7 +273,7 @@ not_less_max a b c = elim (cases_lt a b) [
       ]
 ]
 
-at_most : (a t : ℕ) → a ≤ t → not (nat_lt a t) ≡ (a == t)
+pub at_most : (a t : ℕ) → a ≤ t → not (nat_lt a t) ≡ (a == t)
 at_most a t le = elim (cases_lt a t) [
   | inl l ↦
       let x : nat_lt a t ≡ true = grind arith in
@@ -306,7 +306,7 @@ unbeaten side st runout n i v (j ∷ hands) ordered l below =
     ∙ not_less_max (v i) (v j) (best_value v hands)
 
 -- the winners are the hands with the greatest number
-outcome_best : (side : Side) (deal : Showdown) (pot n : ℕ) (runout : List (List ℕ)) (v : ℕ → ℕ) → AreOrdered side deal.state runout n v → AreBelow n (eligible_in deal pot) → side_outcome side deal pot runout ≡ best_set v (eligible_in deal pot)
+pub outcome_best : (side : Side) (deal : Showdown) (pot n : ℕ) (runout : List (List ℕ)) (v : ℕ → ℕ) → AreOrdered side deal.state runout n v → AreBelow n (eligible_in deal pot) → side_outcome side deal pot runout ≡ best_set v (eligible_in deal pot)
 unfolding winners
 outcome_best side deal pot n runout v ordered below =
     let st : State = deal.state in
@@ -325,7 +325,7 @@ some_five : (low : List ℕ → List ℕ) (full : List ℕ) → 5 ≤ length ful
 some_five low full h = omega (arith, length-map (choose 5 full) low, length_choose 5 full, binomial_some (length full) 5 h)
 
 number_is : (game : Game) (full : List ℕ) → board_size game ≡ 0 → length full ≡ own_size game → IsCardSet full
-    → option_map (side_number (only_side game) game) (best (only_side game) game full []) ≡ Some (full_worth game full)
+    → option_map (side_number (only_side game) game) (best (only_side game) game full []) ≡ Some (full_worth (only_side game) game full)
 number_is Holdem full e n is = absurd (omega arith)
 number_is Omaha full e n is = absurd (omega arith)
 number_is Omaha8 full e n is = absurd (omega arith)
@@ -336,7 +336,7 @@ number_is Draw5 full e n is = refl
 number_is Lowball27 full e n is = some_least _ (map low_27 (choose 5 (union full []))) (some_five low_27 (union full []) (omega (arith, ap length (union-none full is))))
 number_is Triple27 full e n is = some_least _ (map low_27 (choose 5 (union full []))) (some_five low_27 (union full []) (omega (arith, ap length (union-none full is))))
 
-no_cards : (cards : List ℕ) → length cards ≡ 0 → cards ≡ []
+pub no_cards : (cards : List ℕ) → length cards ≡ 0 → cards ≡ []
 no_cards [] e = refl
 no_cards (c ∷ cards) e = absurd (omega arith)
 
@@ -352,7 +352,7 @@ numbered number (Some x) k e = record { cards = x; is = refl; number_is = (let s
 
 -- what full hands are worth keeps the order of their values
 pub worth_ordered : (st : State) (runout : List (List ℕ)) (n : ℕ) → board_size st.game ≡ 0 → ((h : ℕ) → h < n → IsFull st.game (own_after st runout h) (board_after st runout))
-    → AreOrdered (only_side st.game) st runout n (worth_after st runout)
+    → AreOrdered (only_side st.game) st runout n (worth_after (only_side st.game) st runout)
 worth_ordered st runout n none full = record {
   some = λ h l. ap is_some (value h l).is;
   order = λ i j l m.
@@ -360,14 +360,14 @@ worth_ordered st runout n none full = record {
       let b = value j m in
       ap (λ o. is_beaten_by (only_side st.game) o (value_after (only_side st.game) st runout j)) a.is ∙ ap (λ o. is_beaten_by (only_side st.game) (Some a.cards) o) b.is
       ∙ best-KeepOrder (only_side st.game) st.game (own_after st runout j) (board_after st runout) b.cards (own_after st runout i) (board_after st runout) a.cards (full j m) b.is (full i l) a.is
-      ∙ ap (λ k. nat_lt k (side_number (only_side st.game) st.game b.cards)) a.number_is ∙ ap (λ k. nat_lt (worth_after st runout i) k) b.number_is;
+      ∙ ap (λ k. nat_lt k (side_number (only_side st.game) st.game b.cards)) a.number_is ∙ ap (λ k. nat_lt (worth_after (only_side st.game) st runout i) k) b.number_is;
 }
   where
-    value : (h : ℕ) → h < n → IsNumbered (side_number (only_side st.game) st.game) (value_after (only_side st.game) st runout h) (worth_after st runout h)
+    value : (h : ℕ) → h < n → IsNumbered (side_number (only_side st.game) st.game) (value_after (only_side st.game) st runout h) (worth_after (only_side st.game) st runout h)
     value h l =
         let f = full h l in
         let board : board_after st runout ≡ [] = no_cards (board_after st runout) (f.board_size ∙ none) in
-        numbered (side_number (only_side st.game) st.game) (value_after (only_side st.game) st runout h) (worth_after st runout h)
+        numbered (side_number (only_side st.game) st.game) (value_after (only_side st.game) st runout h) (worth_after (only_side st.game) st runout h)
         (ap (λ cards. option_map (side_number (only_side st.game) st.game) (best (only_side st.game) st.game (own_after st runout h) cards)) board
         ∙ number_is st.game (own_after st runout h) none f.own_size f.own_cards)
 
@@ -410,8 +410,8 @@ only_place Low deal pot runout one has = refl
 -- who wins a pot after a runout
 pub outcome_is : (side : Side) (deal : Showdown) (pot : ℕ) (runout : List (List ℕ)) → board_size deal.state.game ≡ 0 → has_two_sides deal.state.game ≡ false → has_side side deal.state.game ≡ true
     → ((h : ℕ) → h < length deal.state.hands → IsFull deal.state.game (own_after deal.state runout h) (board_after deal.state runout)) → AreBelow (length deal.state.hands) (eligible_in deal pot)
-    → count_place deal pot side runout ≡ best_set (worth_after deal.state runout) (eligible_in deal pot)
+    → count_place deal pot side runout ≡ best_set (worth_after (only_side deal.state.game) deal.state runout) (eligible_in deal pot)
 outcome_is side deal pot runout none one has full below =
     only_place side deal pot runout one has
     ∙ ap (λ s. side_outcome s deal pot runout) (only_one deal.state.game side one has)
-    ∙ outcome_best (only_side deal.state.game) deal pot (length deal.state.hands) runout (worth_after deal.state runout) (worth_ordered deal.state runout (length deal.state.hands) none full) below
+    ∙ outcome_best (only_side deal.state.game) deal pot (length deal.state.hands) runout (worth_after (only_side deal.state.game) deal.state runout) (worth_ordered deal.state runout (length deal.state.hands) none full) below

@@ -1,5 +1,5 @@
 -- What the calls of a crate below find, in the words of the games with a board.
-use Rattle.std.proofs.Common.{◌≡◌, ℕ, ◌+◌, ◌<◌, ◌≤◌, List, refl, sym, ap, ◌∙◌, arith, length, inl, inr, Bool, true, false, ◌⊎◌}
+use Rattle.std.proofs.Common.{◌≡◌, ℕ, ◌+◌, ◌<◌, ◌≤◌, List, refl, sym, ap, ◌∙◌, arith, length, inl, inr, true, false, ◌⊎◌}
 use Rattle.std.specs.Prelude.{nat_lt}
 use mathlib.Core.Bool.{true≢false}
 use Rattle.card_sets.specs.Cards.{union}

@@ -1,5 +1,5 @@
 -- The best of some hands by numbers.
-use Rattle.std.specs.Prelude.{◌≡◌, ℕ, ◌<◌, ◌==◌, List, [], ◌∷◌, filter, length, max, slice_index, slice_index_or}
+use Rattle.std.specs.Prelude.{◌≡◌, ℕ, ◌<◌, ◌==◌, if◌then◌else◌, List, [], ◌∷◌, filter, length, max, slice_index, slice_index_or}
 use Rattle.card_sets.specs.PlayerSets.{set_of_players}
 use Rattle.card_sets.specs.State.{State}
 use Rattle.showdown_tally.specs.Showdown.{Showdown, own_after, board_after, eligible_in}
@@ -13,6 +13,10 @@ best_value value (h ∷ hands) = max (value h) (best_value value hands)
 -- the hands with the greatest number, as the number with their bits
 abbrev pub best_set : (ℕ → ℕ) → List ℕ → ℕ
 best_set value hands = set_of_players (filter (λ h. value h == best_value value hands) hands)
+
+-- the same where 0 is the number of a hand that has no value: nobody where all have it
+abbrev pub some_set : (ℕ → ℕ) → List ℕ → ℕ
+some_set value hands = if best_value value hands == 0 then 0 else best_set value hands
 
 -- what a hand is worth as a high after a runout, by ranks alone and with flushes
 abbrev pub plain_of : State → List (List ℕ) → ℕ → ℕ

@@ -1,5 +1,5 @@
 -- Deals without a board, whose last slot takes few cards.
-use Rattle.std.specs.Prelude.{ℕ, ◌&&◌, Bool, not, List, [], ◌∷◌, nat_le, nat_lt}
+use Rattle.std.specs.Prelude.{ℕ, ◌&&◌, Bool, not, if◌then◌else◌, List, [], ◌∷◌, nat_le, nat_lt}
 use Rattle.card_sets.specs.Games.{has_board}
 use Rattle.card_sets.specs.declared.games.Game.{Game}
 use Rattle.runout_ranges.specs.Shapes.{slots_of}
@@ -22,11 +22,11 @@ last_hand [] = 0
 last_hand (slot ∷ []) = hand_at slot.receiver
 last_hand (slot ∷ next ∷ slots) = last_hand (next ∷ slots)
 
--- whether a game has no board and is played for one side
-abbrev pub plays_one : Game → Bool
-plays_one game = not (has_board game) && not (has_two_sides game)
+-- how many cards the last hand may draw: two in a game for both sides, and else three
+abbrev pub most_draw : Game → ℕ
+most_draw game = if has_two_sides game then 2 else 3
 
--- whether a table's runouts end with a draw: a game without a board, played for one side, in which some hand lacks cards, and the last
--- that does lacks one to three
+-- whether a table's runouts end with a draw: a game without a board, in which some hand lacks cards, and the last that does lacks one to
+-- three, or to two in a game for both sides
 abbrev pub are_draws : Table → Shape → Bool
-are_draws table shape = plays_one table.known.game && nat_lt 0 (last_count (slots_of shape)) && nat_le (last_count (slots_of shape)) 3
+are_draws table shape = not (has_board table.known.game) && nat_lt 0 (last_count (slots_of shape)) && nat_le (last_count (slots_of shape)) (most_draw table.known.game)

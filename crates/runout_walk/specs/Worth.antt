@@ -2,9 +2,10 @@
 use Rattle.std.specs.Prelude.{◌≡◌, ℕ, zero, suc, ◌+◌, ◌-◌, ◌<◌, ◌≤◌, List, [], ◌∷◌, length, Option, Some, None, slice_index, slice_index_or}
 use Rattle.std.specs.Option.{option_map}
 use Rattle.card_sets.specs.Cards.{union, with_card, IsRising}
-use Rattle.card_sets.specs.Games.{own_size, only_side}
+use Rattle.card_sets.specs.Games.{own_size}
 use Rattle.card_sets.specs.State.{State}
 use Rattle.card_sets.specs.declared.games.Game.{Game}
+use Rattle.card_sets.specs.declared.games.Side.{Side}
 use Rattle.showdown_tally.specs.Numbers.{side_number}
 use Rattle.showdown_tally.specs.Showdown.{best, own_after}
 
@@ -13,17 +14,17 @@ abbrev pub or_zero : Option ℕ → ℕ
 or_zero None = 0
 or_zero (Some n) = n
 
--- the number that a full hand's value is kept as
-abbrev pub full_worth : Game → List ℕ → ℕ
-full_worth game full = or_zero (option_map (side_number (only_side game) game) (best (only_side game) game full []))
+-- the number that a full hand's value on a side is kept as, 0 for none
+abbrev pub full_worth : Side → Game → List ℕ → ℕ
+full_worth side game full = or_zero (option_map (side_number side game) (best side game full []))
 
 -- the same of a hand with the cards that it draws
-abbrev pub worth : Game → List ℕ → List ℕ → ℕ
-worth game own draw = full_worth game (union own draw)
+abbrev pub worth : Side → Game → List ℕ → List ℕ → ℕ
+worth side game own draw = full_worth side game (union own draw)
 
 -- the same of a hand after a runout
-abbrev pub worth_after : State → List (List ℕ) → ℕ → ℕ
-worth_after state runout h = full_worth state.game (own_after state runout h)
+abbrev pub worth_after : Side → State → List (List ℕ) → ℕ → ℕ
+worth_after side state runout h = full_worth side state.game (own_after state runout h)
 
 -- cards that make a hand full
 pub record IsDraw (game : Game) (own draw : List ℕ) : Type 0 where
@@ -48,11 +49,11 @@ number_of rows planes (card ∷ []) = slice_index (slice_index_or rows 0 []) car
 number_of rows planes (low ∷ high ∷ []) = number_at rows 0 (low ∷ high ∷ [])
 number_of rows planes (low ∷ mid ∷ high ∷ more) = number_at planes (plane_base low) (mid ∷ high ∷ more)
 
--- the tables have what a hand is worth with each draw of so many cards
-abbrev pub AreNumbers : ℕ → Game → List ℕ → List (List ℕ) → List (List ℕ) → Type 0
-AreNumbers count game own rows planes = (draw : List ℕ) → 0 < count → length draw ≡ count → IsDraw game own draw → number_of rows planes draw ≡ worth game own draw
+-- the tables have what a hand is worth on a side with each draw of so many cards
+abbrev pub AreNumbers : ℕ → Side → Game → List ℕ → List (List ℕ) → List (List ℕ) → Type 0
+AreNumbers count side game own rows planes = (draw : List ℕ) → 0 < count → length draw ≡ count → IsDraw game own draw → number_of rows planes draw ≡ worth side game own draw
 
--- the table has what a hand is worth with two cards, of which the lower isn't below one
-abbrev pub ArePairsFrom : ℕ → Game → List ℕ → List (List ℕ) → ℕ → Type 0
-ArePairsFrom least game own rows base = (low high : ℕ) → least ≤ low → low + 1 ≤ high → high < 52 → length (with_card (with_card own low) high) ≡ own_size game
-    → slice_index (slice_index_or rows (base + low) []) high ≡ full_worth game (with_card (with_card own low) high)
+-- the table has what a hand is worth on a side with two cards, of which the lower isn't below one
+abbrev pub ArePairsFrom : ℕ → Side → Game → List ℕ → List (List ℕ) → ℕ → Type 0
+ArePairsFrom least side game own rows base = (low high : ℕ) → least ≤ low → low + 1 ≤ high → high < 52 → length (with_card (with_card own low) high) ≡ own_size game
+    → slice_index (slice_index_or rows (base + low) []) high ≡ full_worth side game (with_card (with_card own low) high)

@@ -11,7 +11,7 @@ use card_sets::{CardSet, PlayerSet};
 use showdown_tally::Table;
 
 /// The greatest number of some hands, and those that have it, as the number with their bits.
-#[derive(Clone, Copy, Debug)]
+#[derive(Clone, Copy)]
 pub(crate) struct Best {
     /// The number, 0 for no hands.
     pub(crate) top: u32,

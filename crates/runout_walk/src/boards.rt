@@ -43,7 +43,7 @@ pub fn are_boards(table: &Table, shape: &Shape) -> bool
 
 /// The room that boards are counted in, about 320 kB. It is made once, and keeps what the next count of the same deal can use; what it
 /// held before makes no other difference.
-#[derive(Debug, Drop)]
+#[derive(Drop)]
 pub struct Boards {
     /// The table that it serves.
     pub table: Table,

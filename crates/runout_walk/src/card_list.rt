@@ -8,7 +8,7 @@ use card_sets::{Card, CardSet};
 pub(crate) const DECK: usize = 52;
 
 /// Some cards, rising.
-#[derive(Clone, Copy, Debug)]
+#[derive(Clone, Copy)]
 pub(crate) struct CardList {
     /// The cards, and others behind them.
     cards: [Card; DECK],

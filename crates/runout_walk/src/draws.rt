@@ -1,24 +1,25 @@
 //! The leaf of draws: the last slot is a hand's, and all its draws are counted at once.
 
-ghost use Rattle.std.specs.Prelude.{◌≡◌, ℕ, ◌+◌, ◌<◌, ◌≤◌, [], false, length, if◌then◌else◌, nat_lt, slice_index, slice_index_or, IsTrue};
+ghost use Rattle.std.specs.Prelude.{◌≡◌, ℕ, ◌+◌, ◌<◌, ◌≤◌, [], List, true, false, length, if◌then◌else◌, nat_lt, slice_index, slice_index_or, IsTrue};
 ghost use Rattle.card_sets.specs.Cards.{IsCardSet, union};
-ghost use Rattle.card_sets.specs.Games.{board_size, own_size};
+ghost use Rattle.card_sets.specs.Games.{board_size, only_side, own_size};
 ghost use Rattle.card_sets.specs.State.{state_of};
+ghost use Rattle.card_sets.specs.declared.games.Side.TheVariants.{Low};
 ghost use Rattle.runout_ranges.specs.Shapes.{IsShapeOf, slots_of};
 ghost use Rattle.runout_ranges.specs.Slots.{dealt, slots};
 ghost use Rattle.runout_ranges.specs.declared.shapes.Receiver.TheVariants.{Hand};
 ghost use Rattle.showdown_tally.specs.Cells.{side_place};
 ghost use Rattle.showdown_tally.specs.Deals.{deal_of};
 ghost use Rattle.showdown_tally.specs.Showdown.{has_two_sides};
-ghost use Rattle.runout_walk.specs.Draws.{plays_one, are_draws, hand_at, last_hand};
+ghost use Rattle.runout_walk.specs.Draws.{are_draws, hand_at, last_hand, most_draw};
 ghost use Rattle.runout_walk.specs.Listing.{last_count};
 ghost use Rattle.runout_walk.specs.Worth.{AreNumbers, full_worth};
 
 use crate::card_list::CardList;
-use crate::last::{DRAWS, Range, put_draws};
+use crate::last::{DRAWS, Range, TWOS, put_draws, put_lows};
 use crate::leaf::{Leaf, Tail};
-use crate::numbers::{Numbers, full_worth};
-use crate::rivals::count_pots;
+use crate::numbers::{Lows, Numbers, full_worth};
+use crate::rivals::{count_highs, count_lows, count_pots};
 use card_sets::{CardSet, Game, Known, Side};
 use runout_ranges::{Receiver, Shape, Slot};
 use showdown_tally::Table;
@@ -37,7 +38,7 @@ fn hand_at(receiver: Receiver) -> u8
 }
 
 /// Whose the last slot is, and how many cards it takes.
-#[derive(Clone, Copy, Debug)]
+#[derive(Clone, Copy)]
 struct Last {
     /// The hand.
     hand: u8,
@@ -70,39 +71,50 @@ fn last_slot(shape: &Shape) -> Last
     last_of(&shape.slots[..shape.used as usize])
 }
 
-/// Whether a game has no board and is played for one side.
+/// Whether a game is played for both sides.
 #[inline]
-fn plays_one(game: Game) -> bool
-    ensures { result ≡ plays_one game }
+fn has_two_sides(game: Game) -> bool
+    ensures { result ≡ has_two_sides game }
 {
-    !game.has_board() && !(game.has_side(Side::High) && game.has_side(Side::Low))
+    game.has_side(Side::High) && game.has_side(Side::Low)
 }
 
-/// Whether the runouts of a table end with a draw that can be counted at once: a game without a board, played for one side, in which
-/// somebody lacks cards, and the last hand that does lacks one to three.
+/// How many cards the last hand may draw, so that its draws are counted at once: of a game for both sides two, as there is room for no more
+/// lows.
+#[inline]
+fn most_draw(game: Game) -> u8
+    ensures { result ≡ most_draw game }
+{
+    if has_two_sides(game) { 2 } else { 3 }
+}
+
+/// Whether the runouts of a table end with a draw that can be counted at once: a game without a board, in which somebody lacks cards, and
+/// the last hand that does lacks one to three, or to two in a game that is played for both sides.
 pub fn are_draws(table: &Table, shape: &Shape) -> bool
     ensures { result ≡ are_draws table.now shape.now }
 {
     let last = last_slot(shape);
-    plays_one(table.known.game) && 0 < last.count && last.count <= 3
+    !table.known.game.has_board() && 0 < last.count && last.count <= most_draw(table.known.game)
 }
 
-/// The leaf of draws, about 380 kB. It is made once and lent to each walk, and keeps what the next walk of the same hands can use; what
+/// The leaf of draws, about 390 kB. It is made once and lent to each walk, and keeps what the next walk of the same hands can use; what
 /// it held before makes no other difference.
-#[derive(Debug, Drop)]
+#[derive(Drop)]
 pub struct Draws {
     /// The table.
     table: Table,
     /// The hand of the last slot.
     last: u8,
-    /// What it is worth with each draw.
+    /// What it is worth with each draw, as a high in a game that is played for both sides.
     numbers: Numbers,
+    /// What it is worth with each draw as a low in such a game.
+    lows: Lows,
     /// Room for the numbers of the draws of a leaf.
     values: [u32; DRAWS],
+    /// Room for their numbers as lows.
+    low_values: [u32; TWOS],
     /// The game has no board.
     ghost no_board: { board_size table.known.game ≡ 0 },
-    /// And is played for one side.
-    ghost one_side: { has_two_sides table.known.game ≡ false },
     /// The hand is that of the last slot.
     ghost last_is: { last ≡ last_hand (slots (state_of table.known)) },
     /// It draws so many cards.
@@ -110,7 +122,13 @@ pub struct Draws {
     /// These are few.
     ghost few: { numbers.count ≤ 3 },
     /// The numbers are those of that hand.
-    ghost right: { AreNumbers numbers.count table.known.game (slice_index_or (state_of table.known).hands last []) numbers.rows numbers.planes },
+    ghost right: { AreNumbers numbers.count (only_side table.known.game) table.known.game (slice_index_or (state_of table.known).hands last []) numbers.rows numbers.planes },
+    /// There are as many lows,
+    ghost low_deep: { has_two_sides table.known.game ≡ true → lows.count ≡ numbers.count },
+    /// and they are those of that hand.
+    ghost low_right: { has_two_sides table.known.game ≡ true → (planes : List (List ℕ)) → AreNumbers lows.count Low table.known.game (slice_index_or (state_of table.known).hands last []) lows.rows planes },
+    /// These are fewer.
+    ghost low_few: { has_two_sides table.known.game ≡ true → numbers.count ≤ 2 },
 }
 
 /// A table with nobody at it.
@@ -151,7 +169,9 @@ impl Draws {
             table: no_table(),
             last: 0,
             numbers: Numbers::none(),
+            lows: Lows::none(),
             values: [0; DRAWS],
+            low_values: [0; TWOS],
         }
     }
 
@@ -163,7 +183,10 @@ impl Draws {
     {
         let last = last_slot(shape);
         let own = hand_of(&table.known, usize::from(last.hand));
-        self.numbers.serve(table.known.game, own, last.count);
+        let game = table.known.game;
+        self.numbers.serve(game.only_side(), game, own, last.count);
+        self.lows
+            .serve_where(has_two_sides(game), game, own, last.count);
         self.table = *table;
         self.last = last.hand;
     }
@@ -181,13 +204,13 @@ fn set_for(own: CardSet, size: u32, sets: &[CardSet], place: usize) -> CardSet
     }
 }
 
-/// What each hand is worth with the set that it is dealt.
+/// What each hand is worth on a side with the set that it is dealt.
 #[inline]
-fn numbers_with(known: &Known, sets: &[CardSet]) -> [u32; 10]
+fn numbers_with(side: Side, known: &Known, sets: &[CardSet]) -> [u32; 10]
     requires { board_size known.now.game ≡ 0 }
     ensures numbers { (h : ℕ) → h < length (state_of known.now).hands
         → length (union (slice_index_or (state_of known.now).hands h []) (dealt (slots (state_of known.now)) sets.now (Hand h))) ≡ own_size known.now.game
-        → slice_index result h ≡ full_worth known.now.game (union (slice_index_or (state_of known.now).hands h []) (dealt (slots (state_of known.now)) sets.now (Hand h))) }
+        → slice_index result h ≡ full_worth side known.now.game (union (slice_index_or (state_of known.now).hands h []) (dealt (slots (state_of known.now)) sets.now (Hand h))) }
     ensures cards { (h : ℕ) → h < length (state_of known.now).hands → IsCardSet (slice_index_or (state_of known.now).hands h []) }
     ensures board { IsCardSet (state_of known.now).board }
 {
@@ -200,7 +223,7 @@ fn numbers_with(known: &Known, sets: &[CardSet]) -> [u32; 10]
         let own = *own;
         own.rising();
         let set = set_for(own, size, sets, place);
-        numbers[hand] = full_worth(known.game, own.union(set));
+        numbers[hand] = full_worth(side, known.game, own.union(set));
         place += usize::from(own.count() < size);
     }
     numbers
@@ -236,6 +259,14 @@ fn draws_room(values: &[u32; DRAWS])
     let _values: &[u32] = values;
 }
 
+/// There is room for all draws of two cards.
+#[inline]
+fn lows_room(values: &[u32; TWOS])
+    ensures { length values.now ≡ 1326 }
+{
+    let _values: &[u32] = values;
+}
+
 impl Leaf for Draws {
     ghost deal = { λ d. deal_of d.table };
 
@@ -256,7 +287,9 @@ impl Leaf for Draws {
     ) {
         ten_places(&self.table);
         draws_room(&self.values);
-        let numbers = numbers_with(&self.table.known, front);
+        let game = self.table.known.game;
+        let side = game.only_side();
+        let numbers = numbers_with(side, &self.table.known, front);
         let range = Range {
             lo: lo as usize,
             hi: hi as usize,
@@ -264,8 +297,33 @@ impl Leaf for Draws {
         let cards = CardList::of(tail.rest);
         let values = &mut self.values;
         put_draws(&self.numbers, cards.as_slice(), range, values, steps);
-        let row = side_row(self.table.known.game.only_side());
-        let values = &self.values[..range.hi - range.lo];
-        count_pots(&self.table, row, self.last, &numbers, values, counts);
+        if has_two_sides(game) {
+            let lows = numbers_with(Side::Low, &self.table.known, front);
+            lows_room(&self.low_values);
+            let low_values = &mut self.low_values;
+            put_lows(&self.lows, cards.as_slice(), range, low_values);
+            let values = &self.values[..range.hi - range.lo];
+            let low_values = &self.low_values[..range.hi - range.lo];
+            count_lows(&self.table, self.last, &lows, low_values, counts);
+            count_highs(
+                &self.table,
+                self.last,
+                &numbers,
+                &lows,
+                values,
+                low_values,
+                counts,
+            );
+        } else {
+            let values = &self.values[..range.hi - range.lo];
+            count_pots(
+                &self.table,
+                side_row(side),
+                self.last,
+                &numbers,
+                values,
+                counts,
+            );
+        }
     }
 }

@@ -6,7 +6,7 @@ use crate::bests::Best;
 use card_sets::CardSet;
 
 /// The suit that a full board has more than two cards of.
-#[derive(Clone, Copy, Debug)]
+#[derive(Clone, Copy)]
 pub(crate) struct Suited {
     /// The board.
     pub(crate) board: CardSet,
@@ -19,7 +19,7 @@ pub(crate) struct Suited {
 }
 
 /// The best flush of the hands of a pot with cards of one suit on the board.
-#[derive(Clone, Copy, Debug)]
+#[derive(Clone, Copy)]
 pub(crate) struct Flush {
     /// The cards of the suit on the board.
     pub(crate) cards: CardSet,
@@ -78,7 +78,7 @@ impl Flush {
 }
 
 /// What each hand of a deal is worth as a flush with cards of one suit on the board.
-#[derive(Clone, Copy, Debug)]
+#[derive(Clone, Copy)]
 pub(crate) struct HandFlushes {
     /// The cards of the suit on the board.
     pub(crate) cards: CardSet,

@@ -45,7 +45,7 @@ fn flush_place(tag: u32, suit: u8, pot: u8) -> usize
 
 /// The best flushes of the pots of a table that were asked for last. They have the number of the deal, which is another for each, so
 /// those of the deals before needn't be cleared.
-#[derive(Clone, Copy, Debug)]
+#[derive(Clone, Copy)]
 pub(crate) struct Flushes {
     /// The number of the deal.
     pub(crate) stamp: u32,

@@ -8,7 +8,7 @@ use crate::suits::suits_for;
 use card_sets::CardSet;
 
 /// First cards of a board, and where somebody may have a flush with two more.
-#[derive(Clone, Copy, Debug)]
+#[derive(Clone, Copy)]
 pub(crate) struct Front {
     /// The cards.
     pub(crate) taken: CardSet,

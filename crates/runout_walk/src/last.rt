@@ -1,22 +1,26 @@
 //! The numbers of the last hand's draws, one behind the other.
 
-ghost use Rattle.std.specs.Prelude.{◌≡◌, ℕ, ◌+◌, ◌-◌, ◌<◌, ◌≤◌, ◌++◌, length, map, take, slice_index};
+ghost use Rattle.std.specs.Prelude.{◌≡◌, ℕ, ◌+◌, ◌-◌, ◌<◌, ◌≤◌, ◌++◌, List, length, map, take, slice_index};
 ghost use Rattle.std.specs.List.{slice_range};
 ghost use Rattle.card_sets.specs.Choose.{choose};
 ghost use Rattle.runout_walk.specs.Worth.{number_at, number_of};
 
 use crate::card_list::DECK;
-use crate::numbers::{Numbers, plane_base};
+use crate::numbers::{Lows, Numbers, plane_base};
 use card_sets::Card;
 use runout_ranges::count_choices;
-use std::sync::ledger::Ledger;
+use std::marker::Brand;
+use std::sync::ledger::{Blank, Ledger};
 use step_count::Steps;
 
 /// How many draws of three cards there are of a whole deck.
 pub(crate) const DRAWS: usize = 22100;
 
+/// How many of two cards.
+pub(crate) const TWOS: usize = 1326;
+
 /// From one place of a listing to another.
-#[derive(Clone, Copy, Debug)]
+#[derive(Clone, Copy)]
 pub(crate) struct Range {
     /// The first place.
     pub(crate) lo: usize,
@@ -83,37 +87,38 @@ fn put_pairs<L: Ledger>(
 
 /// The same of draws of one card, at the front.
 fn put_singles<L: Ledger>(
-    numbers: &Numbers,
+    rows: &[[u32; DECK]],
     cards: &[Card],
     range: Range,
     values: &mut [u32],
     steps: &mut Steps<L>,
 )
+    requires places { length rows.now ≡ 52 }
     requires order { range.lo ≤ range.hi }
     requires inside { range.hi ≤ length cards.now }
     requires room { range.hi - range.lo ≤ length values.old }
-    ensures numbers { take (range.hi - range.lo) values.new ≡ map (number_of numbers.now.rows numbers.now.planes) (slice_range (choose 1 cards.now) range.lo range.hi) }
+    ensures numbers { (planes : List (List ℕ)) → take (range.hi - range.lo) values.new ≡ map (number_of rows.now planes) (slice_range (choose 1 cards.now) range.lo range.hi) }
     ensures steps { steps.new ≡ steps.old + (range.hi - range.lo) }
 {
-    let row = &numbers.rows[0];
-    put_row(row, &cards[range.lo..range.hi], values, 0, steps);
+    put_row(&rows[0], &cards[range.lo..range.hi], values, 0, steps);
 }
 
 /// The same of draws of two cards.
 fn put_twos<L: Ledger>(
-    numbers: &Numbers,
+    rows: &[[u32; DECK]],
     cards: &[Card],
     range: Range,
     values: &mut [u32],
     steps: &mut Steps<L>,
 )
+    requires places { length rows.now ≡ 52 }
     requires order { range.lo ≤ range.hi }
     requires inside { range.hi ≤ length (choose 2 cards.now) }
     requires room { range.hi - range.lo ≤ length values.old }
-    ensures numbers { take (range.hi - range.lo) values.new ≡ map (number_of numbers.now.rows numbers.now.planes) (slice_range (choose 2 cards.now) range.lo range.hi) }
+    ensures numbers { (planes : List (List ℕ)) → take (range.hi - range.lo) values.new ≡ map (number_of rows.now planes) (slice_range (choose 2 cards.now) range.lo range.hi) }
     ensures steps { steps.new ≡ steps.old + (range.hi - range.lo) }
 {
-    put_pairs(&numbers.rows, 0, cards, range, values, 0, steps);
+    put_pairs(rows, 0, cards, range, values, 0, steps);
 }
 
 /// How many draws of two of some cards there are.
@@ -184,10 +189,45 @@ pub(crate) fn put_draws<L: Ledger>(
     ensures steps { steps.new ≡ steps.old + (range.hi - range.lo) }
 {
     if numbers.count == 1 {
-        put_singles(numbers, cards, range, values, steps);
+        put_singles(&numbers.rows, cards, range, values, steps);
     } else if numbers.count == 2 {
-        put_twos(numbers, cards, range, values, steps);
+        put_twos(&numbers.rows, cards, range, values, steps);
     } else {
         put_triples(numbers, cards, range, values, steps);
     }
+}
+
+/// The same of lows, of which there are draws of one or two cards, with a counter of its own.
+#[tactic(auto, using(crate::proofs::DrawLists::one_length))]
+fn put_on<L: Ledger>(lows: &Lows, cards: &[Card], range: Range, values: &mut [u32], blank: Blank)
+    requires name { blank.name ≡ L.name }
+    requires parts { blank.parts ≡ L.parts }
+    requires one { 0 < blank.parts }
+    requires some { 1 ≤ lows.now.count }
+    requires few { lows.now.count ≤ 2 }
+    requires short { length cards.now ≤ 52 }
+    requires order { range.lo ≤ range.hi }
+    requires inside { range.hi ≤ length (choose lows.now.count cards.now) }
+    requires room { range.hi - range.lo ≤ length values.old }
+    ensures numbers { (planes : List (List ℕ)) → take (range.hi - range.lo) values.new ≡ map (number_of lows.now.rows planes) (slice_range (choose lows.now.count cards.now) range.lo range.hi) }
+{
+    let mut steps = Steps::<L>::new(blank);
+    if lows.count == 1 {
+        put_singles(&lows.rows, cards, range, values, &mut steps);
+    } else {
+        put_twos(&lows.rows, cards, range, values, &mut steps);
+    }
+}
+
+/// Puts the numbers of the same draws as lows at the front, where they have one or two cards. They take no second steps.
+pub(crate) fn put_lows(lows: &Lows, cards: &[Card], range: Range, values: &mut [u32])
+    requires some { 1 ≤ lows.now.count }
+    requires few { lows.now.count ≤ 2 }
+    requires short { length cards.now ≤ 52 }
+    requires order { range.lo ≤ range.hi }
+    requires inside { range.hi ≤ length (choose lows.now.count cards.now) }
+    requires room { range.hi - range.lo ≤ length values.old }
+    ensures numbers { (planes : List (List ℕ)) → take (range.hi - range.lo) values.new ≡ map (number_of lows.now.rows planes) (slice_range (choose lows.now.count cards.now) range.lo range.hi) }
+{
+    put_on::<Brand>(lows, cards, range, values, Blank::new(1));
 }

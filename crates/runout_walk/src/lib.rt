@@ -19,15 +19,18 @@
 //! **Rivers** ([`Rivers`]: the same games, where the board lacks one card). By ranks there are thirteen boards, each worked out where
 //! its rank is met first. Cards with which somebody has five of a suit are settled hand by hand.
 //!
-//! **Draws** ([`Draws`]: games without a board whose last slot takes one to three cards). What the last hand is worth with each draw
-//! stands in a table, filled once a spot. The numbers of a whole range are copied into a row, which is compared once for each pot
-//! with the best of the others.
+//! **Draws** ([`Draws`]: games without a board whose last slot takes one to three cards, or one or two where there are two sides). What
+//! the last hand is worth with each draw stands in a table, filled once a spot. The numbers of a whole range are copied into a row,
+//! which is compared once for each pot with the best of the others. A game of two sides has a table and a row for each; a hand without
+//! a low has the number 0 there, and the high is counted by pairs of numbers, since its places tell whether somebody has a low. For
+//! the lows of three cards there is no room: 380 kB more.
 //!
 //! **One by one** ([`Plain`]: any other deal). Each hand's value on a side is computed once a runout, for all pots.
 //!
-//! A game more is no change here if it has no board, one side, and a value for every hand. With a board it adds its line to
-//! `flush_part` (how many own cards a flush may have), its arm in `high.rt` and `suits.rt`, and a line to each law of `HighLaws` and
-//! `HighCalls`: that its best five are the best by ranks or of one suit, and that ranks alone decide the former.
+//! A game more is no change here if it has no board, one side, and a value for every hand; with two sides it adds its line to the laws
+//! of `LowWinners`. With a board it adds its line to `flush_part` (how many own cards a flush may have), its arm in `high.rt` and
+//! `suits.rt`, and a line to each law of `HighLaws` and `HighCalls`: that its best five are the best by ranks or of one suit, and that
+//! ranks alone decide the former.
 #![tactic(auto)]
 
 mod all;

@@ -1,20 +1,23 @@
 //! What a hand is worth with each draw of one to three cards.
 
-ghost use Rattle.std.specs.Prelude.{◌≡◌, ℕ, ◌+◌, ◌<◌, ◌≤◌, [], List, length, slice_index, slice_index_or};
+ghost use Rattle.std.specs.Prelude.{◌≡◌, ℕ, ◌+◌, ◌<◌, ◌≤◌, [], List, length, slice_index, slice_index_or, IsTrue};
 ghost use Rattle.card_sets.specs.Cards.{with_card};
 ghost use Rattle.card_sets.specs.Games.{own_size, board_size};
+ghost use Rattle.card_sets.specs.declared.games.Side.TheVariants.{Low};
 ghost use Rattle.runout_walk.specs.Worth.{AreNumbers, ArePairsFrom, full_worth, plane_base};
 
 use crate::card_list::DECK;
-use card_sets::{Card, CardSet, Game};
+use card_sets::{Card, CardSet, Game, Side};
 use showdown_tally::side_value;
 
 /// How many rows the tables of three cards have: those of two cards above each lowest card, one behind the other.
 const PLANES: usize = 1327;
 
-/// What a hand is worth with each draw of so many cards, as numbers that are greater for better.
-#[derive(Debug, Drop)]
+/// What a hand is worth on a side with each draw of so many cards, as numbers that are greater for better.
+#[derive(Drop)]
 pub(crate) struct Numbers {
+    /// The side.
+    pub(crate) side: Side,
     /// The game.
     pub(crate) game: Game,
     /// The hand.
@@ -26,7 +29,7 @@ pub(crate) struct Numbers {
     /// Those of three cards: for each lowest card a table as of two, of which the rows of the cards above it stand here.
     pub(crate) planes: [[u32; DECK]; PLANES],
     /// They are right.
-    pub(crate) ghost right: { AreNumbers count game own rows planes },
+    pub(crate) ghost right: { AreNumbers count side game own rows planes },
 }
 
 /// The card of a number.
@@ -42,51 +45,58 @@ fn card_of(number: usize) -> Card
     card
 }
 
-/// What a hand is worth, if it is full.
+/// What a hand is worth on a side, if it is full: 0 where it has no value.
 #[inline]
-pub(crate) fn full_worth(game: Game, full: CardSet) -> u32
+pub(crate) fn full_worth(side: Side, game: Game, full: CardSet) -> u32
     requires { board_size game ≡ 0 }
-    ensures { length full ≡ own_size game → result ≡ full_worth game full }
+    ensures { length full ≡ own_size game → result ≡ full_worth side game full }
 {
     if full.count() != game.own_size() {
         return 0;
     }
     let none = CardSet::empty();
-    match side_value(game.only_side(), game, full, none) {
+    match side_value(side, game, full, none) {
         Some(number) => number,
         None => 0,
     }
 }
 
 /// Fills in what a hand is worth with each card from one on.
-fn fill_row(row: &mut [u32], game: Game, own: CardSet, least: u8)
+fn fill_row(row: &mut [u32], side: Side, game: Game, own: CardSet, least: u8)
     requires places { length row.old ≡ 52 }
     requires no_board { board_size game ≡ 0 }
     ensures { (card : ℕ) → least ≤ card → card < 52 → length (with_card own card) ≡ own_size game
-        → slice_index row.new card ≡ full_worth game (with_card own card) }
+        → slice_index row.new card ≡ full_worth side game (with_card own card) }
 {
     for (number, place) in row.iter_mut().enumerate() {
         let card = card_of(number);
         if least <= card.number() {
-            *place = full_worth(game, own.with(card));
+            *place = full_worth(side, game, own.with(card));
         }
     }
 }
 
 /// Fills in what a hand is worth with each card.
-fn fill_singles(rows: &mut [[u32; DECK]], game: Game, own: CardSet)
+fn fill_singles(rows: &mut [[u32; DECK]], side: Side, game: Game, own: CardSet)
     requires places { length rows.old ≡ 52 }
     requires no_board { board_size game ≡ 0 }
-    ensures { (planes : List (List ℕ)) → AreNumbers 1 game own rows.new planes }
+    ensures { (planes : List (List ℕ)) → AreNumbers 1 side game own rows.new planes }
 {
-    fill_row(&mut rows[0], game, own, 0);
+    fill_row(&mut rows[0], side, game, own, 0);
 }
 
 /// Fills in what a hand is worth with each two cards, of which the lower isn't below one, into the rows from one on.
-fn fill_pairs(rows: &mut [[u32; DECK]], base: usize, game: Game, own: CardSet, least: u8)
+fn fill_pairs(
+    rows: &mut [[u32; DECK]],
+    base: usize,
+    side: Side,
+    game: Game,
+    own: CardSet,
+    least: u8,
+)
     requires places { base + 52 ≤ length rows.old }
     requires no_board { board_size game ≡ 0 }
-    ensures pairs { ArePairsFrom least game own rows.new base }
+    ensures pairs { ArePairsFrom least side game own rows.new base }
     ensures before { (row : ℕ) → row < base + least → slice_index_or rows.new row [] ≡ slice_index_or rows.old row [] }
     ensures places { length rows.new ≡ length rows.old }
 {
@@ -94,6 +104,7 @@ fn fill_pairs(rows: &mut [[u32; DECK]], base: usize, game: Game, own: CardSet, l
         let low = card_of(number);
         fill_row(
             &mut rows[base + number],
+            side,
             game,
             own.with(low),
             low.number() + 1,
@@ -102,12 +113,12 @@ fn fill_pairs(rows: &mut [[u32; DECK]], base: usize, game: Game, own: CardSet, l
 }
 
 /// The same for all two cards.
-fn fill_twos(rows: &mut [[u32; DECK]], game: Game, own: CardSet)
+fn fill_twos(rows: &mut [[u32; DECK]], side: Side, game: Game, own: CardSet)
     requires places { length rows.old ≡ 52 }
     requires no_board { board_size game ≡ 0 }
-    ensures { (planes : List (List ℕ)) → AreNumbers 2 game own rows.new planes }
+    ensures { (planes : List (List ℕ)) → AreNumbers 2 side game own rows.new planes }
 {
-    fill_pairs(rows, 0, game, own, 0);
+    fill_pairs(rows, 0, side, game, own, 0);
 }
 
 /// Where the table of a lowest card begins among those of three cards.
@@ -124,30 +135,37 @@ pub(crate) fn plane_base(low: Card) -> usize
 }
 
 /// The same for all three cards.
-fn fill_planes(planes: &mut [[u32; DECK]], game: Game, own: CardSet)
+fn fill_planes(planes: &mut [[u32; DECK]], side: Side, game: Game, own: CardSet)
     requires places { length planes.old ≡ 1327 }
     requires no_board { board_size game ≡ 0 }
-    ensures { (rows : List (List ℕ)) → AreNumbers 3 game own rows planes.new }
+    ensures { (rows : List (List ℕ)) → AreNumbers 3 side game own rows planes.new }
 {
     for number in 0..DECK {
         let low = card_of(number);
         let base = plane_base(low);
-        fill_pairs(planes, base, game, own.with(low), low.number() + 1);
+        fill_pairs(planes, base, side, game, own.with(low), low.number() + 1);
     }
 }
 
 /// Fills in what a hand is worth with each draw of so many cards.
-fn fill(rows: &mut [[u32; DECK]], planes: &mut [[u32; DECK]], game: Game, own: CardSet, count: u8)
+fn fill(
+    rows: &mut [[u32; DECK]],
+    planes: &mut [[u32; DECK]],
+    side: Side,
+    game: Game,
+    own: CardSet,
+    count: u8,
+)
     requires rows { length rows.old ≡ 52 }
     requires planes { length planes.old ≡ 1327 }
     requires no_board { board_size game ≡ 0 }
     requires few { count ≤ 3 }
-    ensures { AreNumbers count game own rows.new planes.new }
+    ensures { AreNumbers count side game own rows.new planes.new }
 {
     match count {
-        1 => fill_singles(rows, game, own),
-        2 => fill_twos(rows, game, own),
-        3 => fill_planes(planes, game, own),
+        1 => fill_singles(rows, side, game, own),
+        2 => fill_twos(rows, side, game, own),
+        3 => fill_planes(planes, side, game, own),
         _ => {}
     }
 }
@@ -158,6 +176,7 @@ impl Numbers {
         ensures { result.count ≡ 0 }
     {
         Numbers {
+            side: Side::High,
             game: Game::Stud,
             own: CardSet::empty(),
             count: 0,
@@ -166,10 +185,73 @@ impl Numbers {
         }
     }
 
+    /// Makes them the numbers of a hand on a side, which are filled in where they aren't kept.
+    pub(crate) fn serve(&mut self, side: Side, game: Game, own: CardSet, count: u8)
+        requires no_board { board_size game ≡ 0 }
+        requires few { count ≤ 3 }
+        ensures side { self.new.side ≡ side }
+        ensures game { self.new.game ≡ game }
+        ensures own { self.new.own ≡ own }
+        ensures count { self.new.count ≡ count }
+    {
+        if self.count == count && self.side == side && self.game == game && self.own == own {
+            return;
+        }
+        self.count = 0;
+        fill(&mut self.rows, &mut self.planes, side, game, own, count);
+        self.side = side;
+        self.game = game;
+        self.own = own;
+        self.count = count;
+    }
+}
+
+/// What a hand is worth as a low with each draw of one or two cards.
+#[derive(Drop)]
+pub(crate) struct Lows {
+    /// The game.
+    pub(crate) game: Game,
+    /// The hand.
+    pub(crate) own: CardSet,
+    /// How many cards it draws: one or two, and 0 where there are no numbers.
+    pub(crate) count: u8,
+    /// The numbers of two cards, by the lower card and then the higher one. Those of one card alone stand in the first row.
+    pub(crate) rows: [[u32; DECK]; DECK],
+    /// They are right.
+    pub(crate) ghost right: { (planes : List (List ℕ)) → AreNumbers count Low game own rows planes },
+}
+
+/// Fills in what a hand is worth as a low with each draw of one or two cards.
+fn fill_lows(rows: &mut [[u32; DECK]], game: Game, own: CardSet, count: u8)
+    requires rows { length rows.old ≡ 52 }
+    requires no_board { board_size game ≡ 0 }
+    requires few { count ≤ 2 }
+    ensures { (planes : List (List ℕ)) → AreNumbers count Low game own rows.new planes }
+{
+    match count {
+        1 => fill_singles(rows, Side::Low, game, own),
+        2 => fill_twos(rows, Side::Low, game, own),
+        _ => {}
+    }
+}
+
+impl Lows {
+    /// No numbers.
+    pub(crate) fn none() -> Lows
+        ensures { result.count ≡ 0 }
+    {
+        Lows {
+            game: Game::Stud,
+            own: CardSet::empty(),
+            count: 0,
+            rows: [[0; DECK]; DECK],
+        }
+    }
+
     /// Makes them the numbers of a hand, which are filled in where they aren't kept.
     pub(crate) fn serve(&mut self, game: Game, own: CardSet, count: u8)
         requires no_board { board_size game ≡ 0 }
-        requires few { count ≤ 3 }
+        requires few { count ≤ 2 }
         ensures game { self.new.game ≡ game }
         ensures own { self.new.own ≡ own }
         ensures count { self.new.count ≡ count }
@@ -178,9 +260,22 @@ impl Numbers {
             return;
         }
         self.count = 0;
-        fill(&mut self.rows, &mut self.planes, game, own, count);
+        fill_lows(&mut self.rows, game, own, count);
         self.game = game;
         self.own = own;
         self.count = count;
+    }
+
+    /// The same where they are wanted.
+    pub(crate) fn serve_where(&mut self, wanted: bool, game: Game, own: CardSet, count: u8)
+        requires no_board { board_size game ≡ 0 }
+        requires few { IsTrue wanted → count ≤ 2 }
+        ensures game { IsTrue wanted → self.new.game ≡ game }
+        ensures own { IsTrue wanted → self.new.own ≡ own }
+        ensures count { IsTrue wanted → self.new.count ≡ count }
+    {
+        if wanted {
+            self.serve(game, own, count);
+        }
     }
 }

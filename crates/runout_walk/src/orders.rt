@@ -1,12 +1,15 @@
 //! How often each of three sets wins a pot, by how some numbers stand to another.
 
-ghost use Rattle.std.specs.Prelude.{◌≡◌, ℕ, ◌+◌, ◌<◌, ◌==◌, ◌^◌, length, nat_lt, slice_index};
+ghost use Rattle.std.specs.Prelude.{◌≡◌, ℕ, ◌+◌, ◌<◌, ◌==◌, ◌^◌, if◌then◌else◌, length, nat_lt, slice_index};
 ghost use Rattle.std.specs.List.{count_by};
-ghost use Rattle.runout_walk.specs.Rivals.{times_at, winner_by};
+ghost use Rattle.showdown_tally.specs.SideCounts.{low_mark};
+ghost use Rattle.runout_walk.specs.Rivals.{count_both, times_at, winner_by};
+
+use crate::sides::low_mark;
 
 /// Who wins a pot, by how the number of the last hand stands to the greatest of the others: a set of hands each, as the number with
 /// their bits.
-#[derive(Clone, Copy, Debug)]
+#[derive(Clone, Copy)]
 pub(crate) struct Rivals {
     /// The greatest number of the others.
     pub(crate) top: u32,
@@ -19,7 +22,7 @@ pub(crate) struct Rivals {
 }
 
 /// How often the number of the last hand is below another, the same, and above.
-#[derive(Clone, Copy, Debug)]
+#[derive(Clone, Copy)]
 pub(crate) struct Orders {
     /// How often it is below.
     pub(crate) below: u32,
@@ -101,4 +104,57 @@ pub(crate) fn count_values(row: &mut [u32], rivals: &Rivals, values: &[u32])
 {
     let orders = orders_of(rivals, values);
     add_orders(row, rivals, orders);
+}
+
+/// The set that wins with a number.
+#[inline]
+fn winner(rivals: &Rivals, value: u32) -> u16
+    ensures { result ≡ winner_by rivals.now.top rivals.now.below rivals.now.equal rivals.now.above value }
+{
+    if value < rivals.top {
+        rivals.below
+    } else if value == rivals.top {
+        rivals.equal
+    } else {
+        rivals.above
+    }
+}
+
+/// One more at a place of a row.
+#[inline]
+fn add_at(row: &mut [u32], place: u16)
+    requires inside { place < length row.old }
+    requires fits { slice_index row.old place + 1 < 2 ^ 32 }
+    ensures counts { (at : ℕ) → slice_index row.new at ≡ slice_index row.old at + (if place == at then 1 else 0) }
+    ensures places { length row.new ≡ length row.old }
+{
+    row[usize::from(place)] += 1;
+}
+
+/// Counts who wins the high of a pot where the last hand has each of some numbers on the high side and on the low side: 1,024 places
+/// further where somebody has a low.
+pub(crate) fn count_marked(
+    row: &mut [u32],
+    high: &Rivals,
+    low: &Rivals,
+    values: &[u32],
+    lows: &[u32],
+)
+    requires places { length row.old ≡ 2048 }
+    requires below { high.now.below < 1024 }
+    requires equal { high.now.equal < 1024 }
+    requires above { high.now.above < 1024 }
+    requires same { length lows.now ≡ length values.now }
+    requires fits { (set : ℕ) → set < 2048 → slice_index row.old set + length values.now < 2 ^ 32 }
+    ensures counts { (set : ℕ) → slice_index row.new set ≡ slice_index row.old set
+        + count_both (λ value low_value. winner_by high.now.top high.now.below high.now.equal high.now.above value
+        + low_mark (winner_by low.now.top low.now.below low.now.equal low.now.above low_value) == set) values.now lows.now }
+    ensures places { length row.new ≡ length row.old }
+{
+    for place in 0..values.len() {
+        let set = winner(high, values[place]);
+        let low_set = winner(low, lows[place]);
+        let mark = low_mark(low_set);
+        add_at(row, set + mark);
+    }
 }

@@ -6,7 +6,7 @@ ghost use Rattle.card_sets.specs.Cards.{rank_of, suit_of};
 use card_sets::Card;
 
 /// Two cards.
-#[derive(Clone, Copy, Debug)]
+#[derive(Clone, Copy)]
 pub(crate) struct Pair {
     /// The first one.
     pub(crate) low: Card,

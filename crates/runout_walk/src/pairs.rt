@@ -15,7 +15,7 @@ use runout_ranges::count_choices;
 const PAIRS_MAX: usize = 1326;
 
 /// All pairs of some cards, in the order of the listing of choices: room for those of a deck.
-#[derive(Clone, Copy, Debug)]
+#[derive(Clone, Copy)]
 pub(crate) struct Pairs {
     /// The cards.
     pub(crate) cards: CardSet,

@@ -11,7 +11,7 @@ use crate::spot::Spot;
 use card_sets::Side;
 
 /// Where a runout is counted for a pot.
-#[derive(Clone, Copy, Debug)]
+#[derive(Clone, Copy)]
 pub(crate) struct Place {
     /// On the high side.
     pub(crate) main: u16,
@@ -56,7 +56,7 @@ pub(crate) fn add_place(
 }
 
 /// So many runouts that wait to be counted at a place of the rows: those of pairs of the same ranks.
-#[derive(Clone, Copy, Debug)]
+#[derive(Clone, Copy)]
 pub(crate) struct Wait {
     /// The place.
     pub(crate) ranks: usize,

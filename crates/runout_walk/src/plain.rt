@@ -20,7 +20,7 @@ use std::sync::ledger::Ledger;
 use step_count::Steps;
 
 /// Settles runouts one by one.
-#[derive(Clone, Copy, Debug)]
+#[derive(Clone, Copy)]
 pub struct Plain {
     /// What is shown down for.
     pub table: Table,

@@ -59,7 +59,7 @@ pub(crate) fn is_whole(cards: CardSet, lo: u64, hi: u64) -> bool
 }
 
 /// The cards of the lowest rank of some cards.
-#[derive(Clone, Copy, Debug)]
+#[derive(Clone, Copy)]
 struct Lowest {
     /// The rank.
     rank: u8,

@@ -5,15 +5,16 @@ ghost use Rattle.std.specs.List.{count_by};
 ghost use Rattle.card_sets.specs.PlayerSets.{has_player, hands_below};
 ghost use Rattle.showdown_tally.specs.Deals.{deal_of};
 ghost use Rattle.showdown_tally.specs.Showdown.{eligible_in};
-ghost use Rattle.runout_walk.specs.Bests.{best_set, best_value};
-ghost use Rattle.runout_walk.specs.Rivals.{value_with, winner_by};
+ghost use Rattle.showdown_tally.specs.SideCounts.{low_mark};
+ghost use Rattle.runout_walk.specs.Bests.{best_set, best_value, some_set};
+ghost use Rattle.runout_walk.specs.Rivals.{count_both, value_with, winner_by};
 
-use crate::orders::{Rivals, count_values};
+use crate::orders::{Rivals, count_marked, count_values};
 use card_sets::{CardSet, PlayerSet};
 use showdown_tally::Table;
 
 /// The greatest number of some hands, and those that have it, as the number with their bits.
-#[derive(Clone, Copy, Debug)]
+#[derive(Clone, Copy)]
 struct Top {
     /// The number, 0 for no hands.
     number: u32,
@@ -113,9 +114,9 @@ fn rivals_of(table: &Table, pot: u8, last: u8, values: &[u32; 10]) -> Rivals
     requires inside { pot < table.now.pots }
     requires last { last < table.now.known.count }
     ensures winner { (value : ℕ) → winner_by result.top result.below result.equal result.above value ≡ best_set (value_with values.now last value) (eligible_in (deal_of table.now) pot) }
-    ensures below { result.below < 2048 }
-    ensures equal { result.equal < 2048 }
-    ensures above { result.above < 2048 }
+    ensures below { result.below < 1024 }
+    ensures equal { result.equal < 1024 }
+    ensures above { result.above < 1024 }
 {
     ten_places(table);
     let hands = PlayerSet::of(table.eligible[pot as usize]);
@@ -145,5 +146,106 @@ pub(crate) fn count_pots(
     for pot in 0..table.pots {
         let rivals = rivals_of(table, pot, last, numbers);
         count_values(&mut counts[2 * (pot as usize) + row], &rivals, values);
+    }
+}
+
+/// The three sets that win the low of a pot, where 0 is the number of a hand without one: nobody where all have it.
+#[inline]
+fn low_sets_of(best: Top, last: u8, plays: bool) -> Rivals
+    requires last { last < 10 }
+    requires room { 2 ^ last ≤ 512 }
+    requires small { best.set < 1024 }
+    ensures top { result.top ≡ best.number }
+    ensures below { result.below ≡ (if best.number == 0 then 0 else best.set) }
+    ensures equal { result.equal ≡ (if best.number == 0 then 0 else best.set + (if plays then 2 ^ last else 0)) }
+    ensures above { result.above ≡ (if plays then 2 ^ last else (if best.number == 0 then 0 else best.set)) }
+    ensures below_small { result.below < 2048 }
+    ensures equal_small { result.equal < 2048 }
+    ensures above_small { result.above < 2048 }
+{
+    let sets = sets_of(best, last, plays);
+    if best.number == 0 {
+        return Rivals {
+            top: 0,
+            below: 0,
+            equal: 0,
+            above: if plays { sets.above } else { 0 },
+        };
+    }
+    sets
+}
+
+/// Who wins the low of a pot, by the number of the last hand.
+#[inline]
+fn low_rivals_of(table: &Table, pot: u8, last: u8, values: &[u32; 10]) -> Rivals
+    requires inside { pot < table.now.pots }
+    requires last { last < table.now.known.count }
+    ensures winner { (value : ℕ) → winner_by result.top result.below result.equal result.above value ≡ some_set (value_with values.now last value) (eligible_in (deal_of table.now) pot) }
+    ensures below { result.below < 2048 }
+    ensures equal { result.equal < 2048 }
+    ensures above { result.above < 2048 }
+{
+    ten_places(table);
+    let hands = PlayerSet::of(table.eligible[pot as usize]);
+    let best = best_of(values, hands.without(last), table.known.count);
+    low_sets_of(best, last, hands.has(last))
+}
+
+/// Counts who wins the low of each pot where the last hand has each of some numbers and the others have theirs.
+pub(crate) fn count_lows(
+    table: &Table,
+    last: u8,
+    numbers: &[u32; 10],
+    values: &[u32],
+    counts: &mut [[u32; 2048]],
+)
+    requires last { last < table.now.known.count }
+    requires few { length values.now < 2 ^ 32 }
+    requires places { 2 * table.now.pots ≤ length counts.old }
+    requires fits { (pot set : ℕ) → pot < table.now.pots → set < 2048 → slice_index (slice_index_or counts.old (2 * pot + 1) []) set + length values.now < 2 ^ 32 }
+    ensures counts { (pot set : ℕ) → pot < table.now.pots → set < 2048
+        → slice_index (slice_index_or counts.new (2 * pot + 1) []) set ≡ slice_index (slice_index_or counts.old (2 * pot + 1) []) set
+        + count_by (λ value. some_set (value_with numbers.now last value) (eligible_in (deal_of table.now) pot) == set) values.now }
+    ensures highs { (pot set : ℕ) → slice_index (slice_index_or counts.new (2 * pot) []) set ≡ slice_index (slice_index_or counts.old (2 * pot) []) set }
+    ensures places { length counts.new ≡ length counts.old }
+{
+    for pot in 0..table.pots {
+        let rivals = low_rivals_of(table, pot, last, numbers);
+        count_values(&mut counts[2 * (pot as usize) + 1], &rivals, values);
+    }
+}
+
+/// Counts who wins the high of each pot where the last hand has each of some numbers on both sides and the others have theirs: 1,024
+/// places further where somebody has a low.
+pub(crate) fn count_highs(
+    table: &Table,
+    last: u8,
+    highs: &[u32; 10],
+    lows: &[u32; 10],
+    values: &[u32],
+    low_values: &[u32],
+    counts: &mut [[u32; 2048]],
+)
+    requires last { last < table.now.known.count }
+    requires same { length low_values.now ≡ length values.now }
+    requires places { 2 * table.now.pots ≤ length counts.old }
+    requires fits { (pot set : ℕ) → pot < table.now.pots → set < 2048 → slice_index (slice_index_or counts.old (2 * pot) []) set + length values.now < 2 ^ 32 }
+    ensures counts { (pot set : ℕ) → pot < table.now.pots → set < 2048
+        → slice_index (slice_index_or counts.new (2 * pot) []) set ≡ slice_index (slice_index_or counts.old (2 * pot) []) set
+        + count_both (λ value low. best_set (value_with highs.now last value) (eligible_in (deal_of table.now) pot)
+        + low_mark (some_set (value_with lows.now last low) (eligible_in (deal_of table.now) pot)) == set) values.now low_values.now }
+    ensures lows { (pot set : ℕ) → slice_index (slice_index_or counts.new (2 * pot + 1) []) set ≡ slice_index (slice_index_or counts.old (2 * pot + 1) []) set }
+    ensures places { length counts.new ≡ length counts.old }
+{
+    for pot in 0..table.pots {
+        let high = rivals_of(table, pot, last, highs);
+        let low = low_rivals_of(table, pot, last, lows);
+        count_marked(
+            &mut counts[2 * (pot as usize)],
+            &high,
+            &low,
+            values,
+            low_values,
+        );
     }
 }

@@ -67,7 +67,7 @@ fn worths_at(known: &Known, board: CardSet) -> Worths
 }
 
 /// Who wins both sides of each pot with a last card of some rank, the high by ranks alone.
-#[derive(Clone, Copy, Debug)]
+#[derive(Clone, Copy)]
 struct Won {
     /// The sets of the hands that win the high, as the numbers with their bits.
     highs: [u16; 10],
@@ -174,7 +174,7 @@ fn count_river(spot: &Spot, won: &Won, card: Card, counts: &mut [[u32; 2048]])
 }
 
 /// Settles boards that lack one card, one by one. Who wins by ranks alone is worked out once for each rank of the last card.
-#[derive(Clone, Copy, Debug)]
+#[derive(Clone, Copy)]
 pub struct Rivers {
     /// What is shown down for.
     pub table: Table,

@@ -11,7 +11,7 @@ use card_sets::{Card, CardSet};
 pub(crate) const PLACES: usize = 169;
 
 /// Who wins a pot with first cards of some ranks, for each pair of ranks of the last two cards.
-#[derive(Clone, Copy, Debug)]
+#[derive(Clone, Copy)]
 pub(crate) struct Row {
     /// The pot, from 0.
     pub(crate) pot: u8,

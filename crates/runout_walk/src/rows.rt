@@ -20,7 +20,7 @@ use showdown_tally::Table;
 const ROWS: usize = 192;
 
 /// Rows of the pots of a table. Those of all pots for the same first cards stand beside one another.
-#[derive(Clone, Copy, Debug)]
+#[derive(Clone, Copy)]
 pub(crate) struct Rows {
     /// Which are in use.
     pub(crate) live: [bool; ROWS],

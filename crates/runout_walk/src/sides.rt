@@ -20,7 +20,7 @@ use card_sets::{CardSet, Known, Side};
 use showdown_tally::Table;
 
 /// What each hand is worth on both sides.
-#[derive(Clone, Copy, Debug)]
+#[derive(Clone, Copy)]
 pub(crate) struct Worths {
     /// As highs by ranks alone.
     pub(crate) highs: [u32; 10],
@@ -29,7 +29,7 @@ pub(crate) struct Worths {
 }
 
 /// Who wins a pot by ranks alone.
-#[derive(Clone, Copy, Debug)]
+#[derive(Clone, Copy)]
 pub(crate) struct Ends {
     /// The set of the hands that win the high, and 1,024 more where somebody has a low.
     pub(crate) main: u16,

@@ -19,7 +19,7 @@ use runout_ranges::Shape;
 use showdown_tally::Table;
 
 /// A table whose board alone lacks cards, with what is looked up at each pair.
-#[derive(Clone, Copy, Debug)]
+#[derive(Clone, Copy)]
 pub(crate) struct Spot {
     /// The table.
     pub(crate) table: Table,

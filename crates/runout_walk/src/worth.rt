@@ -11,7 +11,7 @@ use card_sets::{CardSet, Game, Side};
 use showdown_tally::side_value;
 
 /// What own cards are worth on both sides, each as a number that is greater for better.
-#[derive(Clone, Copy, Debug)]
+#[derive(Clone, Copy)]
 pub(crate) struct Worth {
     /// As a high by ranks alone.
     pub(crate) high: u32,

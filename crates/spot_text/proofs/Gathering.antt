@@ -18,7 +18,7 @@ unfolding cards_where
 set_of-nil = refl
 
 -- the set of some cards, with one card more
-set_of_more : (cards : List ℕ) (card : ℕ) → with_card (set_of cards) card ≡ set_of (cards ++ card ∷ [])
+pub set_of_more : (cards : List ℕ) (card : ℕ) → with_card (set_of cards) card ≡ set_of (cards ++ card ∷ [])
 set_of_more cards card = cards_where_same _ _ (λ k inside.
     ap (λ b. (k == card) || b) (has-cards_where (has_card cards) k inside) ∙ sym (has_card-push cards card k))
 

@@ -38,7 +38,7 @@ pub(crate) fn hands_fit(game: Game, words: Words) -> bool
 }
 
 /// Whether the board has as many cards as the game allows: none, or three, four or five.
-pub(crate) fn board_fits(game: Game, words: Words) -> bool
+pub fn board_fits(game: Game, words: Words) -> bool
     ensures { result ≡ board_fits game (length (board_words (words_left words.entry))) }
 {
     let most = game.board_size();

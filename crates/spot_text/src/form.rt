@@ -11,7 +11,7 @@ use crate::words::Words;
 use card_sets::Card;
 
 /// The card that a word names.
-pub(crate) fn card_of(word: &[u8]) -> Option<Card>
+pub fn card_of(word: &[u8]) -> Option<Card>
     ensures value { result ≡ card_of_text word.now }
     ensures in_deck { IfSome result (λ card. card < 52) }
 {
@@ -53,7 +53,7 @@ impl Section {
 }
 
 /// Whether the words are cards, but for the marks between hands, board and dead cards.
-pub(crate) fn in_form(words: Words) -> bool
+pub fn in_form(words: Words) -> bool
     ensures { result ≡ in_form (words_left words.entry) }
 {
     let mut section = Section::Hands;

@@ -16,7 +16,7 @@ use crate::words::Words;
 use card_sets::{Card, CardSet, Game, Known};
 
 /// The first card, from the left, that stands there twice.
-pub(crate) fn repeated_card(words: Words) -> Option<Card>
+pub fn repeated_card(words: Words) -> Option<Card>
     ensures { result ≡ repeated_after [] (cards_of (words_left words.entry)) }
 {
     let mut seen = CardSet::empty();
@@ -65,7 +65,7 @@ fn hand_cards(words: Words, number: usize) -> CardSet
 }
 
 /// The cards of the board.
-fn board_cards(words: Words) -> CardSet
+pub fn board_cards(words: Words) -> CardSet
     ensures { result ≡ set_of (cards_of (board_words (words_left words.entry))) }
 {
     let mut on_board = false;
@@ -84,7 +84,7 @@ fn board_cards(words: Words) -> CardSet
 }
 
 /// The dead cards.
-fn dead_cards(words: Words) -> CardSet
+pub fn dead_cards(words: Words) -> CardSet
     ensures { result ≡ set_of (cards_of (dead_words (words_left words.entry))) }
 {
     let mut among_dead = false;

@@ -19,9 +19,13 @@ mod marks;
 mod spot;
 mod words;
 
+pub use counts::board_fits;
 pub use faults::SpotFault;
+pub use form::{card_of, in_form};
+pub use gather::{board_cards, dead_cards, repeated_card};
 pub use laws::{
     law_a_written_spot_is_read, law_the_first_repeated_card, law_written_words_are_read,
 };
+pub use marks::{ends_hands, is_dash, is_dashes, is_slash};
 pub use spot::read_spot;
-pub use words::has_word;
+pub use words::{Words, has_word};

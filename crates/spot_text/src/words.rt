@@ -6,7 +6,7 @@ ghost use Rattle.spot_text.specs.Words.{is_gap, words, is_blank, words_left};
 
 /// The words of a line, from the left.
 #[derive(Clone, Copy, Debug)]
-pub(crate) struct Words<'a> {
+pub struct Words<'a> {
     rest: &'a [u8],
 }
 
@@ -42,7 +42,7 @@ fn split_word(line: &[u8]) -> (&[u8], &[u8])
 
 impl<'a> Words<'a> {
     /// The words of the line.
-    pub(crate) fn of(line: &'a [u8]) -> Words<'a>
+    pub fn of(line: &'a [u8]) -> Words<'a>
         ensures { words_left result ≡ words line.now }
     {
         Words { rest: line }

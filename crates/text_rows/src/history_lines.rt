@@ -14,32 +14,40 @@ const CASH: Header = Header {
 const CASH_TITLE: &[u8] =
     b"PokerStars Hand #240000000001: Hold'em No Limit ($0.50/$1.00 USD) - 2023/01/15 20:11:05 ET";
 
-fn seated(alloc: std::alloc::Global) -> Result<Names, card_sets::Memory> {
+/// The names of two seats; none for want of memory.
+fn seated(alloc: std::alloc::Global) -> Option<Names> {
     let mut names = Names::new(alloc);
-    names.add(3, b"carl")?;
-    names.add(4, b"dora")?;
-    Ok(names)
+    if names.add(3, b"carl").is_err() || names.add(4, b"dora").is_err() {
+        return None;
+    }
+    Some(names)
 }
 
-/// What a header line says; none where the line is no header line.
-fn header(line: &[u8]) -> Option<Result<Header, TextFault>> {
-    if is_header(line) {
-        Some(read_header(line))
-    } else {
-        None
+/// Whether a line is a header line and says this header.
+fn says_header(line: &[u8], wanted: &Header) -> bool {
+    if !is_header(line) {
+        return false;
+    }
+    match read_header(line) {
+        Ok(found) => found == *wanted,
+        Err(_) => false,
+    }
+}
+
+/// A header.
+fn of(game: Game, limit: Limit, hundredths: bool, big: u64) -> Header {
+    Header {
+        game,
+        limit,
+        hundredths,
+        big,
     }
 }
 
 /// Whether each of these lines says its header.
 fn all_headers(table: &[(&[u8], Game, Limit, bool, u64)]) -> bool {
     for (line, game, limit, hundredths, big) in table {
-        let wanted = Header {
-            game: *game,
-            limit: *limit,
-            hundredths: *hundredths,
-            big: *big,
-        };
-        if header(line) != Some(Ok(wanted)) {
+        if !says_header(line, &of(*game, *limit, *hundredths, *big)) {
             return false;
         }
     }
@@ -49,7 +57,7 @@ fn all_headers(table: &[(&[u8], Game, Limit, bool, u64)]) -> bool {
 #[test]
 fn headers_are_read(rt: HostRuntime) {
     assert!(rt; all_headers(HEADERS));
-    assert!(rt; header(b"PokerStars Hand #x").is_none());
+    assert!(rt; !is_header(b"PokerStars Hand #x"));
 }
 
 const HEADERS: &[(&[u8], Game, Limit, bool, u64)] = &[
@@ -133,20 +141,35 @@ const HEADERS: &[(&[u8], Game, Limit, bool, u64)] = &[
     ),
 ];
 
-#[test]
-fn the_number_of_a_hand_is_found(rt: HostRuntime) {
-    let places = if is_header(CASH_TITLE) {
-        hand_number(CASH_TITLE)
+/// Where the number of a hand stands in its header line.
+fn number_in(line: &[u8]) -> (usize, usize) {
+    if is_header(line) {
+        hand_number(line)
     } else {
         (0, 0)
-    };
-    assert_eq!(rt; places, (17, 29));
+    }
+}
+
+#[test]
+fn the_number_of_a_hand_is_found(rt: HostRuntime) {
+    assert_eq!(rt; number_in(CASH_TITLE), (17, 29));
+}
+
+/// Whether a header line has a fault.
+fn has_header_fault(line: &[u8], fault: TextFault) -> bool {
+    if !is_header(line) {
+        return false;
+    }
+    match read_header(line) {
+        Ok(_) => false,
+        Err(found) => found == fault,
+    }
 }
 
 /// Whether each of these header lines has its fault.
 fn all_refused(table: &[(&[u8], TextFault)]) -> bool {
     for (line, fault) in table {
-        if !is_header(line) || read_header(line) != Err(*fault) {
+        if !has_header_fault(line, *fault) {
             return false;
         }
     }
@@ -198,12 +221,19 @@ const HEADER_FAULTS: &[(&[u8], TextFault)] = &[
     ),
 ];
 
+/// Whether a line has a fault, in a hand with these names.
+fn has_fault(names: &Names, part: Part, line: &[u8], fault: TextFault) -> bool {
+    match read_line(names, &CASH, part, line) {
+        Ok(_) => false,
+        Err(found) => found == fault,
+    }
+}
+
 /// Whether each of these lines has its fault, in a hand with these names.
 fn all_faulty(names: &Names, table: &[(Part, &[u8], TextFault)]) -> bool {
     for (part, line, fault) in table {
-        match read_line(names, &CASH, *part, line) {
-            Err(found) if found == *fault => {}
-            _ => return false,
+        if !has_fault(names, *part, line, *fault) {
+            return false;
         }
     }
     true
@@ -211,7 +241,7 @@ fn all_faulty(names: &Names, table: &[(Part, &[u8], TextFault)]) -> bool {
 
 #[test]
 fn lines_have_their_first_fault(rt: HostRuntime) -> Result<(), Fail> {
-    let names = seated(rt.alloc()).ok().ok_or("memory")?;
+    let names = seated(rt.alloc()).ok_or("memory")?;
     assert!(rt; all_faulty(&names, LINE_FAULTS));
     Ok(())
 }
@@ -284,29 +314,46 @@ const LINE_FAULTS: &[(Part, &[u8], TextFault)] = &[
     ),
 ];
 
-/// The seat of a deal, a discard, a stand-pat or a post of a game, and how many cards the line names. None of another
-/// line.
-fn cards_in(names: &Names, game: Game, line: &[u8]) -> Option<Result<(u8, usize), TextFault>> {
+/// What a line of play says in a game.
+fn played(names: &Names, game: Game, line: &[u8]) -> Result<Event, TextFault> {
     let header = Header {
         game,
         limit: Limit::Fixed,
         hundredths: false,
         big: 10,
     };
-    match read_line(names, &header, Part::Play, line) {
-        Ok(Event::Deal { seat, cards, .. }) => Some(Ok((seat, cards.count()))),
-        Ok(Event::Discard { seat, cards, .. }) => Some(Ok((seat, cards.count()))),
-        Ok(Event::Pat { seat }) => Some(Ok((seat, 0))),
-        Ok(Event::Post { seat, .. }) => Some(Ok((seat, 0))),
-        Ok(_) => None,
-        Err(fault) => Some(Err(fault)),
+    read_line(names, &header, Part::Play, line)
+}
+
+/// The seat of a deal, a discard, a stand-pat or a post, and how many cards it names.
+fn cards_of(e: &Event) -> Option<(u8, usize)> {
+    match e {
+        Event::Deal { seat, cards, .. } | Event::Discard { seat, cards, .. } => {
+            Some((*seat, cards.count()))
+        }
+        Event::Pat { seat } | Event::Post { seat, .. } => Some((*seat, 0)),
+        _ => None,
+    }
+}
+
+/// Whether a line says this of a seat's cards, or has this fault.
+fn is_dealt(
+    names: &Names,
+    game: Game,
+    line: &[u8],
+    wanted: &Result<(u8, usize), TextFault>,
+) -> bool {
+    match (played(names, game, line), wanted) {
+        (Ok(e), Ok(cards)) => cards_of(&e) == Some(*cards),
+        (Err(fault), Err(other)) => fault == *other,
+        _ => false,
     }
 }
 
 /// Whether each of these lines says this of a seat's cards.
 fn all_dealt(names: &Names, table: &[(Game, &[u8], Result<(u8, usize), TextFault>)]) -> bool {
     for (game, line, wanted) in table {
-        if cards_in(names, *game, line) != Some(*wanted) {
+        if !is_dealt(names, *game, line, wanted) {
             return false;
         }
     }
@@ -315,7 +362,7 @@ fn all_dealt(names: &Names, table: &[(Game, &[u8], Result<(u8, usize), TextFault
 
 #[test]
 fn each_game_has_its_deals_and_draws(rt: HostRuntime) -> Result<(), Fail> {
-    let names = seated(rt.alloc()).ok().ok_or("memory")?;
+    let names = seated(rt.alloc()).ok_or("memory")?;
     assert!(rt; all_dealt(&names, DEALS));
     Ok(())
 }
@@ -390,22 +437,25 @@ const DEALS: &[(Game, &[u8], Result<(u8, usize), TextFault>)] = &[
 
 /// The street that a marker begins in a game. None where the line is no marker of it.
 fn street_in(names: &Names, game: Game, line: &[u8]) -> Option<Street> {
-    let header = Header {
-        game,
-        limit: Limit::Fixed,
-        hundredths: false,
-        big: 10,
-    };
-    match read_line(names, &header, Part::Play, line) {
+    match played(names, game, line) {
         Ok(Event::Street { street, .. }) => Some(street),
         _ => None,
+    }
+}
+
+/// Whether a line begins this street, or none.
+fn is_marked(names: &Names, game: Game, line: &[u8], wanted: Option<Street>) -> bool {
+    match (street_in(names, game, line), wanted) {
+        (Some(found), Some(street)) => found == street,
+        (None, None) => true,
+        _ => false,
     }
 }
 
 /// Whether each of these markers begins its street.
 fn all_marked(names: &Names, table: &[(Game, &[u8], Option<Street>)]) -> bool {
     for (game, line, wanted) in table {
-        if street_in(names, *game, line) != *wanted {
+        if !is_marked(names, *game, line, *wanted) {
             return false;
         }
     }
@@ -414,7 +464,7 @@ fn all_marked(names: &Names, table: &[(Game, &[u8], Option<Street>)]) -> bool {
 
 #[test]
 fn each_game_has_its_markers(rt: HostRuntime) -> Result<(), Fail> {
-    let names = seated(rt.alloc()).ok().ok_or("memory")?;
+    let names = seated(rt.alloc()).ok_or("memory")?;
     assert!(rt; all_marked(&names, MARKERS));
     Ok(())
 }
@@ -494,9 +544,32 @@ fn is_marker(names: &Names, line: &[u8], at: Street, on: BoardNumber, new: usize
     }
 }
 
+/// Whether a line seats a player with these chips, whose name stands there.
+fn is_seat(names: &Names, line: &[u8], of: u8, chips: u64, place: (usize, usize)) -> bool {
+    match read_line(names, &CASH, Part::Preamble, line) {
+        Ok(
+            Event::Seat {
+                seat,
+                units,
+                name_first,
+                name_end,
+            },
+        ) => seat == of && units == chips && (name_first, name_end) == place,
+        _ => false,
+    }
+}
+
+/// Whether a line is the total line with this pot and rake.
+fn is_total(names: &Names, line: &[u8], pot: u64, taken: u64) -> bool {
+    match read_line(names, &CASH, Part::Summary, line) {
+        Ok(Event::Total { units, rake }) => units == pot && rake == taken,
+        _ => false,
+    }
+}
+
 #[test]
 fn lines_are_read(rt: HostRuntime) -> Result<(), Fail> {
-    let names = seated(rt.alloc()).ok().ok_or("memory")?;
+    let names = seated(rt.alloc()).ok_or("memory")?;
     let raise = Act::Raise { by: 200, to: 300 };
     assert!(rt; is_act(&names, b"carl: raises $2 to $3", 3, raise, false));
     assert!(rt;
@@ -512,30 +585,7 @@ fn lines_are_read(rt: HostRuntime) -> Result<(), Fail> {
     assert!(rt; is_marker(&names, flop, Street::Flop, BoardNumber::Only, 3));
     let turn = b"*** SECOND TURN *** [2s 9s Jd] [5h]";
     assert!(rt; is_marker(&names, turn, Street::Turn, BoardNumber::Second, 1));
-    assert!(rt;
-        matches!(
-            read_line(
-                &names,
-                &CASH,
-                Part::Preamble,
-                b"Seat 5: emil ($100 in chips)"
-            ),
-            Ok(Event::Seat {
-                seat: 5,
-                units: 10000,
-                name_first: 8,
-                name_end: 12
-            })
-        )
-    );
-    assert!(rt;
-        matches!(
-            read_line(&names, &CASH, Part::Summary, b"Total pot $121 | Rake $2.50"),
-            Ok(Event::Total {
-                units: 12100,
-                rake: 250
-            })
-        )
-    );
+    assert!(rt; is_seat(&names, b"Seat 5: emil ($100 in chips)", 5, 10000, (8, 12)));
+    assert!(rt; is_total(&names, b"Total pot $121 | Rake $2.50", 12100, 250));
     Ok(())
 }

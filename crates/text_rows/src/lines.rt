@@ -1,17 +1,39 @@
 //! Lines and amounts.
 
-use line_text::{AmountFault, GREATEST, Line, next_line, read_amount};
+use line_text::{AmountFault, GREATEST, next_line, read_amount};
+
+/// Where the text of the line at a place begins and ends, and where the next line begins.
+fn cut_at(bytes: &[u8], at: usize) -> Option<(usize, usize, usize)> {
+    if at > bytes.len() {
+        return None;
+    }
+    let line = next_line(bytes, at)?;
+    Some((line.first, line.end, line.next))
+}
+
+/// The place behind the line at a place, where its text is this.
+fn behind(bytes: &[u8], at: usize, text: &[u8]) -> Option<usize> {
+    if at > bytes.len() {
+        return None;
+    }
+    let line = next_line(bytes, at)?;
+    if &bytes[line.first..line.end] == text {
+        Some(line.next)
+    } else {
+        None
+    }
+}
 
 /// The texts of all lines are these, one after the other, and the walk ends at the end.
 fn has_texts(bytes: &[u8], texts: &[&[u8]]) -> bool {
     let mut at = 0;
     for text in texts {
-        match next_line(bytes, at) {
-            Some(line) if &bytes[line.first..line.end] == *text => at = line.next,
-            _ => return false,
+        match behind(bytes, at, text) {
+            Some(next) => at = next,
+            None => return false,
         }
     }
-    next_line(bytes, at).is_none()
+    at == bytes.len() && cut_at(bytes, at).is_none()
 }
 
 /// Whether each of these texts has the lines beside it.
@@ -48,31 +70,29 @@ const TEXTS: &[(&[u8], &[&[u8]])] = &[
 #[test]
 fn a_line_tells_where_its_text_and_the_next_line_begin(rt: HostRuntime) {
     let bytes = b"\xef\xbb\xbfab \r\ncd";
-    let line = Line {
-        first: 3,
-        end: 5,
-        next: 8,
-    };
-    assert_eq!(rt; next_line(bytes, 0), Some(line));
-    assert_eq!(rt;
-        next_line(bytes, 8),
-        Some(Line {
-            first: 8,
-            end: 10,
-            next: 10
-        })
-    );
-    assert_eq!(rt; next_line(bytes, 10), None);
+    assert_eq!(rt; cut_at(bytes, 0), Some((3, 5, 8)));
+    assert_eq!(rt; cut_at(bytes, 8), Some((8, 10, 10)));
+    assert_eq!(rt; cut_at(bytes, 10), None);
+}
+
+/// Whether an amount stands at a place of a text, of so many units and up to that place, or this fault.
+fn is_read(
+    text: &[u8],
+    at: usize,
+    hundredths: bool,
+    wanted: Result<(u64, usize), AmountFault>,
+) -> bool {
+    match (read_amount(text, at, hundredths), wanted) {
+        (Ok(amount), Ok((units, next))) => amount.units == units && amount.next == next,
+        (Err(fault), Err(other)) => fault == other,
+        _ => false,
+    }
 }
 
 /// Whether each of these texts begins with its amount, of so many units and bytes, or has its fault.
 fn all_read(table: &[(&[u8], bool, Result<(u64, usize), AmountFault>)]) -> bool {
     for (text, hundredths, wanted) in table {
-        let read = match read_amount(text, 0, *hundredths) {
-            Ok(amount) => Ok((amount.units, amount.next)),
-            Err(fault) => Err(fault),
-        };
-        if read != *wanted {
+        if !is_read(text, 0, *hundredths, *wanted) {
             return false;
         }
     }
@@ -82,7 +102,7 @@ fn all_read(table: &[(&[u8], bool, Result<(u64, usize), AmountFault>)]) -> bool 
 #[test]
 fn amounts_are_read(rt: HostRuntime) {
     assert!(rt; all_read(AMOUNTS));
-    assert!(rt; read_amount(b"1", 2, false) == Err(AmountFault::NotAmount));
+    assert!(rt; is_read(b"1", 2, false, Err(AmountFault::NotAmount)));
 }
 
 const AMOUNTS: &[(&[u8], bool, Result<(u64, usize), AmountFault>)] = &[

@@ -41,8 +41,8 @@ loop-hand-preserved c =
         | inr ge ↦
             let same : h ≡ at = omega arith in
             let P : ℕ → Type 0 = λ k. length (union (slice_index_or hands k []) (dealt (hand_slots size 0 hands) sets (Hand k))) ≡ own_size known.game
-            → slice_index (set numbers at c.full_worth.result) k ≡ full_worth known.game (union (slice_index_or hands k []) (dealt (hand_slots size 0 hands) sets (Hand k))) in
-            subst P (sym same) (λ f. get_or-set_same numbers at c.full_worth.result 0 room ∙ c.full_worth.ensures (ap length full_is ∙ f) ∙ ap (full_worth known.game) full_is) full
+            → slice_index (set numbers at c.full_worth.result) k ≡ full_worth c.args.side known.game (union (slice_index_or hands k []) (dealt (hand_slots size 0 hands) sets (Hand k))) in
+            subst P (sym same) (λ f. get_or-set_same numbers at c.full_worth.result 0 room ∙ c.full_worth.ensures (ap length full_is ∙ f) ∙ ap (full_worth c.args.side known.game) full_is) full
       ];
       later = λ h l. dealing_next size at place c.from-place.result h hands sets own inside own_is (omega arith) more_is (inv.later h (omega arith));
       cards = λ h l. elim (cases_lt h at) [

@@ -26,9 +26,9 @@ loop-number-preserved c =
         | inr ge ↦
             let same : low ≡ at = omega arith in
             let P : ℕ → Type 0 = λ k. c.args.least ≤ k → k + 1 ≤ high → length (with_card (with_card own k) high) ≡ own_size c.args.game
-            → slice_index (slice_index_or (set rows (base + at) row) (base + k) []) high ≡ full_worth c.args.game (with_card (with_card own k) high) in
+            → slice_index (slice_index_or (set rows (base + at) row) (base + k) []) high ≡ full_worth c.args.side c.args.game (with_card (with_card own k) high) in
             let here : P at = (λ m u f.
-            ap (λ r. slice_index r high) (get_or-set_same rows (base + at) row [] inside) ∙ c.fill_row.ensures high (omega (arith, number_is, u)) few (ap (λ h. length (with_card h high)) hand_is ∙ f) ∙ ap (λ h. full_worth c.args.game (with_card h high)) hand_is) in
+            ap (λ r. slice_index r high) (get_or-set_same rows (base + at) row [] inside) ∙ c.fill_row.ensures high (omega (arith, number_is, u)) few (ap (λ h. length (with_card h high)) hand_is ∙ f) ∙ ap (λ h. full_worth c.args.side c.args.game (with_card h high)) hand_is) in
             subst P (sym same) here least up full
       ];
       before = λ k l. get_or-set_other rows (base + at) k row [] (λ e. let m = c.loop-number.auto.number in omega arith) ∙ inv.before k l;

@@ -8,7 +8,7 @@ use Rattle.runout_walk.proofs.numbers.fill_pairs.Given as goal
 abbrev pub invariant-loop-number : goal.invariant-loop-number
 invariant-loop-number l = record {
   pairs : (low high : ℕ) → low < l.number → l.least ≤ low → low + 1 ≤ high → high < 52 → length (with_card (with_card l.own low) high) ≡ own_size l.game
-      → slice_index (slice_index_or l.rows (l.base + low) []) high ≡ full_worth l.game (with_card (with_card l.own low) high);
+      → slice_index (slice_index_or l.rows (l.base + low) []) high ≡ full_worth l.side l.game (with_card (with_card l.own low) high);
   before : (row : ℕ) → row < l.base + l.least → slice_index_or l.rows row [] ≡ slice_index_or l.fn.rows row [];
   places : length l.rows ≡ length l.fn.rows;
 }

@@ -5,6 +5,6 @@ use Rattle.runout_walk.proofs.numbers.fill_planes.Given as goal
 
 abbrev pub invariant-loop-number : goal.invariant-loop-number
 invariant-loop-number l = record {
-  planes : (low : ℕ) → low < l.number → ArePairsFrom (low + 1) l.game (with_card l.own low) l.planes (plane_base low);
+  planes : (low : ℕ) → low < l.number → ArePairsFrom (low + 1) l.side l.game (with_card l.own low) l.planes (plane_base low);
   places : length l.planes ≡ 1327;
 }

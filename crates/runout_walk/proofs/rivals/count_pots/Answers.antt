@@ -3,19 +3,13 @@ use Rattle.std.specs.Prelude.{slice_index, slice_index_or}
 use Rattle.std.specs.List.{count_by}
 use Rattle.std.proofs.Math.ListN.{length-set}
 use Rattle.std.proofs.lemmas.Bool.{cases_lt}
-use Rattle.std.proofs.lemmas.List.{get_or-set_other, get_or-set_same}
 use Rattle.showdown_tally.specs.Deals.{deal_of}
 use Rattle.showdown_tally.specs.Showdown.{eligible_in}
 use Rattle.runout_walk.specs.Bests.{best_set}
 use Rattle.runout_walk.specs.Rivals.{value_with, winner_by}
+use Rattle.runout_walk.proofs.DrawOrders.{other_row, same_row}
 use Rattle.runout_walk.proofs.Members.{count_same}
 use Rattle.runout_walk.proofs.rivals.count_pots.Goals as goal
-
-other_row : (rows : List (List ℕ)) (i j place : ℕ) (new : List ℕ) → (j ≡ i → ⊥) → slice_index (slice_index_or (set rows i new) j []) place ≡ slice_index (slice_index_or rows j []) place
-other_row rows i j place new ne = ap (λ row. slice_index row place) (get_or-set_other rows i j new [] ne)
-
-same_row : (rows : List (List ℕ)) (i place : ℕ) (new : List ℕ) → i < length rows → slice_index (slice_index_or (set rows i new) i []) place ≡ slice_index new place
-same_row rows i place new l = ap (λ row. slice_index row place) (get_or-set_same rows i new [] l)
 
 pub loop-pot-preserved : goal.loop-pot-preserved
 loop-pot-preserved c =

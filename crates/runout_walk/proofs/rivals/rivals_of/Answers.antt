@@ -9,6 +9,7 @@ use Rattle.showdown_tally.specs.Showdown.{eligible_in}
 use Rattle.runout_walk.specs.Bests.{best_set, best_value}
 use Rattle.runout_walk.specs.Rivals.{others_of, value_with}
 use Rattle.runout_walk.proofs.DrawWinners.{hands_without, winner_is}
+use Rattle.runout_walk.proofs.LowWinners.{small_sets}
 use Rattle.runout_walk.proofs.rivals.rivals_of.Goals as goal
 
 pub sets_of-requires-clause-room : goal.sets_of-requires-clause-room
@@ -44,3 +45,27 @@ returns-clause-winner c = λ value.
     (c.sets_of.ensures.equal ∙ ap (λ n. n + cond c.has.result (2 ^ last) 0) (sym below) ∙ ap (λ b. c.sets_of.result.below + cond b (2 ^ last) 0) plays)
     (c.sets_of.ensures.above ∙ ap (λ n. cond c.has.result (2 ^ last) n) (sym below) ∙ ap (λ b. cond b (2 ^ last) c.sets_of.result.below) plays)
     ∙ ap (best_set (value_with values last value)) (sym hands)
+
+pub returns-clause-below : goal.returns-clause-below
+returns-clause-below c =
+    let power : 2 ^ c.args.table.now.known.count ≤ 2 ^ 10 = pow-le-pow_right (let z : 0 < 2 = omega arith in z) c.args.table.now.known.few in
+    let small = c.best_of-best.ensures.small in
+    omega (arith, power, small, c.sets_of.ensures.below)
+
+pub returns-clause-equal : goal.returns-clause-equal
+returns-clause-equal c =
+    let table = c.args.table.now in
+    let mask : ℕ = slice_index_or table.eligible c.args.pot 0 in
+    let inside : c.args.pot < length (take table.pots table.eligible) = (let f = table.few_pots in omega (arith, length-take table.pots table.eligible, c.ten_places.ensures.pots, c.requires.inside)) in
+    let hands : eligible_in (deal_of table) c.args.pot ≡ hands_below mask table.known.count = eligible_pot (deal_of table) table.pots table.eligible table.known.count c.args.pot refl inside table.in_hands table.known.few in
+    let r = c.sets_of.result in
+    (small_sets c.args.values.now (eligible_in (deal_of table) c.args.pot) c.args.last mask table.known.count r.top r.below r.equal r.above hands table.known.few (returns-clause-winner c)).0
+
+pub returns-clause-above : goal.returns-clause-above
+returns-clause-above c =
+    let table = c.args.table.now in
+    let mask : ℕ = slice_index_or table.eligible c.args.pot 0 in
+    let inside : c.args.pot < length (take table.pots table.eligible) = (let f = table.few_pots in omega (arith, length-take table.pots table.eligible, c.ten_places.ensures.pots, c.requires.inside)) in
+    let hands : eligible_in (deal_of table) c.args.pot ≡ hands_below mask table.known.count = eligible_pot (deal_of table) table.pots table.eligible table.known.count c.args.pot refl inside table.in_hands table.known.few in
+    let r = c.sets_of.result in
+    (small_sets c.args.values.now (eligible_in (deal_of table) c.args.pot) c.args.last mask table.known.count r.top r.below r.equal r.above hands table.known.few (returns-clause-winner c)).1

@@ -1,10 +1,10 @@
-use Rattle.std.proofs.Common.{◌≡◌, ◌<◌, length, ap, ◌∙◌, arith}
+use Rattle.std.proofs.Common.{◌≡◌, ◌<◌, length, sym, ap, ◌∙◌, arith}
 use Rattle.card_sets.specs.State.{State, state_of}
 use Rattle.runout_ranges.specs.Shapes.{slots_of}
 use Rattle.runout_ranges.specs.Slots.{slots}
 use Rattle.runout_walk.specs.Draws.{last_hand}
 use Rattle.runout_walk.specs.Listing.{last_count}
-use Rattle.runout_walk.proofs.DrawLeaf.{draws_parts, last_inside, one_sided}
+use Rattle.runout_walk.proofs.DrawLeaf.{draws_parts, few_of_two, last_inside}
 use Rattle.runout_walk.proofs.DrawSlots.{some_slots}
 use Rattle.runout_walk.proofs.draws.Draws.serve.Goals as goal
 
@@ -19,8 +19,15 @@ hand_of-own-requires c =
     let hand : c.last_slot-last.result.hand ≡ last_hand (slots st) = c.last_slot-last.ensures.hand ∙ ap last_hand lacking in
     omega (arith, inside.0, hand)
 
-pub invariant_of-self-clause-one_side : goal.invariant_of-self-clause-one_side
-invariant_of-self-clause-one_side c = one_sided c.args.table.now.known.game (last_count (slots_of c.args.shape.now)) c.requires.draws
-
 pub invariant_of-self-clause-last_is : goal.invariant_of-self-clause-last_is
 invariant_of-self-clause-last_is c = c.last_slot-last.ensures.hand ∙ ap last_hand c.requires.shape.lacking
+
+pub serve_where-requires-clause-few : goal.serve_where-requires-clause-few
+serve_where-requires-clause-few c = λ wanted.
+    let few = few_of_two c.args.table.now.known.game (last_count (slots_of c.args.shape.now)) c.requires.draws (sym c.has_two_sides.ensures ∙ wanted) in
+    omega (arith, few, c.last_slot-last.ensures.count)
+
+pub invariant_of-self-clause-low_few : goal.invariant_of-self-clause-low_few
+invariant_of-self-clause-low_few c = λ two.
+    let few = few_of_two c.args.table.now.known.game (last_count (slots_of c.args.shape.now)) c.requires.draws two in
+    omega (arith, few, c.last_slot-last.ensures.count)

@@ -1,27 +1,31 @@
-use Rattle.std.proofs.Common.{◌≡◌, ◌-◌, ◌<◌, ◌≤◌, ◌+◌, ◌*◌, ◌==◌, ◌++◌, [], ℕ, List, length, map, suc, take, refl, sym, ap, ◌∙◌, arith, subst}
+use Rattle.std.proofs.Common.{◌≡◌, true, false, ◌-◌, ◌<◌, ◌≤◌, ◌+◌, ◌*◌, ◌==◌, ◌++◌, ◌^◌, [], ◌∷◌, ℕ, List, length, map, suc, take, refl, sym, ap, ◌∙◌, arith, subst}
 use Rattle.std.specs.Prelude.{slice_index, slice_index_or}
 use Rattle.std.specs.List.{count_by, slice_range}
 use Rattle.std.proofs.lemmas.List.{length-map, length-take}
 use Rattle.card_sets.specs.Choose.{choose}
+use Rattle.card_sets.specs.Games.{has_side, only_side}
 use Rattle.card_sets.specs.PlayerSets.{AreBelow, hands_below, hands_of}
 use Rattle.card_sets.specs.PlayerSetLaws.{AreBelow-hands_below}
 use Rattle.card_sets.specs.State.{State, state_of}
+use Rattle.card_sets.specs.declared.games.Side.{Side}
+use Rattle.card_sets.specs.declared.games.Side.TheVariants.{High, Low}
+use Rattle.rank_high.proofs.Sets.{both}
 use Rattle.runout_ranges.specs.Runouts.{HasMember}
 use Rattle.runout_ranges.specs.Slots.{slots}
 use Rattle.showdown_tally.proofs.Full.{hand_of}
 use Rattle.showdown_tally.proofs.PotFacts.{eligible_pot}
 use Rattle.showdown_tally.specs.Cells.{side_place}
 use Rattle.showdown_tally.specs.Deals.{deal_of}
-use Rattle.showdown_tally.specs.Showdown.{eligible_in}
-use Rattle.showdown_tally.specs.SideCounts.{count_at}
-use Rattle.runout_walk.specs.Bests.{best_set}
+use Rattle.showdown_tally.specs.Showdown.{eligible_in, has_two_sides}
+use Rattle.showdown_tally.specs.SideCounts.{count_at, count_place, low_mark}
+use Rattle.runout_walk.specs.Bests.{best_set, some_set}
 use Rattle.runout_walk.specs.Draws.{last_hand}
 use Rattle.runout_walk.specs.Listing.{last_count}
-use Rattle.runout_walk.specs.Rivals.{value_with}
+use Rattle.runout_walk.specs.Rivals.{count_both, value_with}
 use Rattle.runout_walk.specs.Worth.{number_of, worth}
-use Rattle.runout_walk.proofs.DrawLeaf.{IsLeafDraw, last_inside, leaf_counts, leaf_draw, leaf_values, taken_none}
+use Rattle.runout_walk.proofs.DrawLeaf.{AreOthers, IsLeafDraw, last_inside, leaf_counts, leaf_draw, leaf_highs, leaf_lows, leaf_values, taken_none}
 use Rattle.runout_walk.proofs.Members.{in_range}
-use Rattle.runout_walk.proofs.DrawLists.{few_draws}
+use Rattle.runout_walk.proofs.DrawLists.{few_draws, few_twos}
 use Rattle.runout_walk.proofs.DrawWinners.{only_one}
 use Rattle.runout_walk.proofs.draws.DrawsLeaf.count.Goals as goal
 
@@ -59,8 +63,17 @@ count_pots-requires-clause-last g c =
     let at : leaf.last ≡ last_hand (slots st) = leaf.last_is in
     omega (arith, inside.0, at, length-take known.count known.hands)
 
-pub returns-clause-counts : goal.returns-clause-counts
-returns-clause-counts g c = λ pot place side p has m.
+both_rows : (side : Side) (old new : List (List ℕ)) (pot place : ℕ) (won : Side → ℕ) → slice_index (slice_index_or new (2 * pot) []) place ≡ slice_index (slice_index_or old (2 * pot) []) place + won High
+    → slice_index (slice_index_or new (2 * pot + 1) []) place ≡ slice_index (slice_index_or old (2 * pot + 1) []) place + won Low
+    → count_at new pot side place ≡ count_at old pot side place + won side
+both_rows High old new pot place won high low =
+    let e : 2 * pot + 0 ≡ 2 * pot = omega arith in
+    let P : ℕ → Type 0 = λ r. slice_index (slice_index_or new r []) place ≡ slice_index (slice_index_or old r []) place + won High in
+    subst P (sym e) high
+both_rows Low old new pot place won high low = low
+
+pub returns-else-has_two_sides-clause-counts : goal.returns-else-has_two_sides-clause-counts
+returns-else-has_two_sides-clause-counts g c = λ pot place side p has m.
     let leaf = c.args.self.now in
     let table = leaf.table in
     let known = table.known in
@@ -73,6 +86,7 @@ returns-clause-counts g c = λ pot place side p has m.
     let lo : ℕ = c.args.lo in
     let hi : ℕ = c.args.hi in
     let last : ℕ = leaf.last in
+    let only : Side = only_side known.game in
     let count : ℕ = leaf.numbers.count in
     let rows : List (List ℕ) = leaf.numbers.rows in
     let planes : List (List ℕ) = leaf.numbers.planes in
@@ -89,12 +103,16 @@ returns-clause-counts g c = λ pot place side p has m.
     let empty : taken ≡ [] = taken_none taken rest left (last_count (slots st)) lo hi left_is c.requires.order c.requires.inside (λ more m. (each more m).size) in
     let M : List ℕ → ℕ → Type 0 = λ more n. HasMember (choose n rest) more in
     let cards_is : c.as_slice.result.now ≡ rest = c.as_slice.ensures ∙ c.of-cards.ensures in
-    let values_is : values ≡ map (worth known.game (hand_of st last)) (slice_range (choose left rest) lo hi) =
+    let side_is : c.only_side-side.result ≡ only = c.only_side-side.ensures in
+    let Others : Side → Type 0 = λ s. AreOthers s st front numbers in
+    let others : Others only = subst Others side_is c.numbers_with-numbers.ensures.numbers in
+    let values_is : values ≡ map (worth only known.game (hand_of st last)) (slice_range (choose left rest) lo hi) =
     c.put_draws.ensures.numbers
     ∙ ap (λ l. map (number_of rows planes) (slice_range (choose count l) lo hi)) cards_is
-    ∙ leaf_values st front rows planes taken rest count last lo hi deep at (omega (arith, inside.1, deep)) leaf.right empty (λ more m. each more (subst (M more) count_is m))
-    ∙ ap (λ n. map (worth known.game (hand_of st last)) (slice_range (choose n rest) lo hi)) count_is in
-    let row_is : c.side_row-row.result ≡ side_place side = c.side_row-row.ensures.value ∙ ap side_place (c.only_side.ensures ∙ sym (only_one known.game side leaf.one_side has)) in
+    ∙ leaf_values only st front rows planes taken rest count last lo hi deep at (omega (arith, inside.1, deep)) leaf.right empty (λ more m. each more (subst (M more) count_is m))
+    ∙ ap (λ n. map (worth only known.game (hand_of st last)) (slice_range (choose n rest) lo hi)) count_is in
+    let one : has_two_sides known.game ≡ false = sym c.has_two_sides.ensures ∙ c.if-has_two_sides.false in
+    let row_is : c.side_row.result ≡ side_place side = c.side_row.ensures.value ∙ ap side_place (side_is ∙ sym (only_one known.game side one has)) in
     let pots = table.few_pots in
     let there : pot < table.pots = omega (arith, p, length-map (take table.pots table.eligible) hands_of, length-take table.pots table.eligible) in
     let among : pot < length (take table.pots table.eligible) = omega (arith, p, length-map (take table.pots table.eligible) hands_of) in
@@ -103,14 +121,182 @@ returns-clause-counts g c = λ pot place side p has m.
     let A : List ℕ → Type 0 = λ l. AreBelow (length st.hands) l in
     let B : ℕ → Type 0 = λ n. AreBelow n (hands_below (slice_index_or table.eligible pot 0) known.count) in
     let below : AreBelow (length st.hands) (eligible_in deal pot) = subst A (sym hands) (subst B all (AreBelow-hands_below (slice_index_or table.eligible pot 0) known.count)) in
-    let won = leaf_counts side deal pot place last front taken numbers values (slice_range (choose left rest) lo hi) leaf.no_board leaf.one_side has below at empty c.numbers_with-numbers.ensures.numbers (λ more m. each more (in_range (choose left rest) lo hi more m)) values_is in
+    let won = leaf_counts side deal pot place last front taken numbers values (slice_range (choose left rest) lo hi) leaf.no_board one has below at empty others (λ more m. each more (in_range (choose left rest) lo hi more m)) values_is in
     let P : ℕ → Type 0 = λ r. slice_index (slice_index_or c.count_pots.new.counts (2 * pot + r) []) place ≡ slice_index (slice_index_or c.args.counts.now (2 * pot + r) []) place
     + count_by (λ value. best_set (value_with numbers last value) (eligible_in deal pot) == place) values in
     let counted : P (side_place side) = subst P row_is (c.count_pots.ensures.counts pot place there m) in
     counted ∙ ap (λ n. count_at c.args.counts.now pot side place + n) won
+
+pub returns-then-has_two_sides-clause-counts : goal.returns-then-has_two_sides-clause-counts
+returns-then-has_two_sides-clause-counts g c = λ pot place side p has m.
+    let leaf = c.args.self.now in
+    let table = leaf.table in
+    let known = table.known in
+    let st : State = state_of known in
+    let deal = deal_of table in
+    let front : List (List ℕ) = c.args.front.now in
+    let taken : List ℕ = c.args.tail.taken in
+    let rest : List ℕ = c.args.tail.rest in
+    let left : ℕ = c.args.tail.left in
+    let lo : ℕ = c.args.lo in
+    let hi : ℕ = c.args.hi in
+    let last : ℕ = leaf.last in
+    let only : Side = only_side known.game in
+    let count : ℕ = leaf.numbers.count in
+    let rows : List (List ℕ) = leaf.numbers.rows in
+    let planes : List (List ℕ) = leaf.numbers.planes in
+    let numbers : List ℕ = c.numbers_with-numbers.result in
+    let values : List ℕ = take (hi - lo) c.put_draws.new.values in
+    let size : suc (length front) ≡ length (slots st) = c.requires.last in
+    let inside = last_inside st leaf.no_board (omega arith) in
+    let at : last ≡ last_hand (slots st) = leaf.last_is in
+    let deep : count ≡ last_count (slots st) = leaf.deep in
+    let left_is : left ≡ last_count (slots st) = c.requires.deep in
+    let count_is : count ≡ left = deep ∙ sym left_is in
+    let each : (more : List ℕ) → HasMember (choose left rest) more → IsLeafDraw st front (taken ++ more) = (λ more m.
+    leaf_draw known.game known.count known.hands known.board known.dead front (taken ++ more) known.disjoint known.fitting leaf.no_board c.numbers_with-numbers.ensures.cards c.numbers_with-numbers.ensures.board size (c.requires.members more m)) in
+    let empty : taken ≡ [] = taken_none taken rest left (last_count (slots st)) lo hi left_is c.requires.order c.requires.inside (λ more m. (each more m).size) in
+    let M : List ℕ → ℕ → Type 0 = λ more n. HasMember (choose n rest) more in
+    let cards_is : c.as_slice.result.now ≡ rest = c.as_slice.ensures ∙ c.of-cards.ensures in
+    let side_is : c.only_side-side.result ≡ only = c.only_side-side.ensures in
+    let Others : Side → Type 0 = λ s. AreOthers s st front numbers in
+    let others : Others only = subst Others side_is c.numbers_with-numbers.ensures.numbers in
+    let values_is : values ≡ map (worth only known.game (hand_of st last)) (slice_range (choose left rest) lo hi) =
+    c.put_draws.ensures.numbers
+    ∙ ap (λ l. map (number_of rows planes) (slice_range (choose count l) lo hi)) cards_is
+    ∙ leaf_values only st front rows planes taken rest count last lo hi deep at (omega (arith, inside.1, deep)) leaf.right empty (λ more m. each more (subst (M more) count_is m))
+    ∙ ap (λ n. map (worth only known.game (hand_of st last)) (slice_range (choose n rest) lo hi)) count_is in
+    let two : has_two_sides known.game ≡ true = sym c.has_two_sides.ensures ∙ c.if-has_two_sides.true in
+    let lows : List ℕ = c.numbers_with-lows.result in
+    let low_rows : List (List ℕ) = leaf.lows.rows in
+    let low_planes : List (List ℕ) = leaf.numbers.planes in
+    let low_values : List ℕ = take (hi - lo) c.put_lows.new.values in
+    let low_count : leaf.lows.count ≡ last_count (slots st) = leaf.low_deep two ∙ deep in
+    let low_is : leaf.lows.count ≡ left = low_count ∙ sym left_is in
+    let low_cards_is : c.as_slice-then-has_two_sides.result.now ≡ rest = c.as_slice-then-has_two_sides.ensures ∙ c.of-cards.ensures in
+    let low_values_is : low_values ≡ map (worth Low known.game (hand_of st last)) (slice_range (choose left rest) lo hi) =
+    c.put_lows.ensures.numbers low_planes
+    ∙ ap (λ l. map (number_of low_rows low_planes) (slice_range (choose leaf.lows.count l) lo hi)) low_cards_is
+    ∙ leaf_values Low st front low_rows low_planes taken rest leaf.lows.count last lo hi low_count at (omega (arith, inside.1, low_count)) (leaf.low_right two low_planes) empty (λ more m. each more (subst (M more) low_is m))
+    ∙ ap (λ n. map (worth Low known.game (hand_of st last)) (slice_range (choose n rest) lo hi)) low_is in
+    let low_others : AreOthers Low st front lows = c.numbers_with-lows.ensures.numbers in
+    let pots = table.few_pots in
+    let there : pot < table.pots = omega (arith, p, length-map (take table.pots table.eligible) hands_of, length-take table.pots table.eligible) in
+    let among : pot < length (take table.pots table.eligible) = omega (arith, p, length-map (take table.pots table.eligible) hands_of) in
+    let hands : eligible_in deal pot ≡ hands_below (slice_index_or table.eligible pot 0) known.count = eligible_pot deal table.pots table.eligible known.count pot refl among table.in_hands known.few in
+    let all : known.count ≡ length st.hands = (let f = known.few in omega (arith, length-take known.count known.hands, c.ten_places.ensures.hands)) in
+    let A : List ℕ → Type 0 = λ l. AreBelow (length st.hands) l in
+    let B : ℕ → Type 0 = λ n. AreBelow n (hands_below (slice_index_or table.eligible pot 0) known.count) in
+    let below : AreBelow (length st.hands) (eligible_in deal pot) = subst A (sym hands) (subst B all (AreBelow-hands_below (slice_index_or table.eligible pot 0) known.count)) in
+    let range : List (List ℕ) = slice_range (choose left rest) lo hi in
+    let reached : (more : List ℕ) → HasMember range more → IsLeafDraw st front (taken ++ more) = (λ more m. each more (in_range (choose left rest) lo hi more m)) in
+    let low_won = leaf_lows deal pot place last front taken lows low_values range leaf.no_board two below at empty low_others reached low_values_is in
+    let high_won = leaf_highs deal pot place last front taken numbers lows values low_values range leaf.no_board two below at empty others low_others reached values_is low_values_is in
+    let old : List (List ℕ) = c.args.counts.now in
+    let new : List (List ℕ) = c.count_highs.new.counts in
+    let runouts : List (List (List ℕ)) = map (λ more. front ++ (taken ++ more) ∷ []) range in
+    let high_row : slice_index (slice_index_or new (2 * pot) []) place ≡ slice_index (slice_index_or old (2 * pot) []) place + count_by (λ runout. count_place deal pot High runout == place) runouts =
+    c.count_highs.ensures.counts pot place there m
+    ∙ ap (λ n. n + count_both (λ value low. best_set (value_with numbers last value) (eligible_in deal pot) + low_mark (some_set (value_with lows last low) (eligible_in deal pot)) == place) values low_values) (c.count_lows.ensures.highs pot place)
+    ∙ ap (λ n. slice_index (slice_index_or old (2 * pot) []) place + n) high_won in
+    let low_row : slice_index (slice_index_or new (2 * pot + 1) []) place ≡ slice_index (slice_index_or old (2 * pot + 1) []) place + count_by (λ runout. count_place deal pot Low runout == place) runouts =
+    c.count_highs.ensures.lows pot place ∙ c.count_lows.ensures.counts pot place there m ∙ ap (λ n. slice_index (slice_index_or old (2 * pot + 1) []) place + n) low_won in
+    both_rows side old new pot place (λ s. count_by (λ runout. count_place deal pot s runout == place) runouts) high_row low_row
 
 pub put_draws-requires-clause-short : goal.put_draws-requires-clause-short
 put_draws-requires-clause-short g c =
     let cards = c.of-cards.result in
     let few = cards.few in
     omega (arith, ap length c.as_slice.ensures, length-take cards.used cards.cards)
+
+pub put_lows-requires-clause-some : goal.put_lows-requires-clause-some
+put_lows-requires-clause-some g c =
+    let leaf = c.args.self.now in
+    let st : State = state_of leaf.table.known in
+    let size : suc (length c.args.front.now) ≡ length (slots st) = c.requires.last in
+    let inside = last_inside st leaf.no_board (omega arith) in
+    let two : has_two_sides leaf.table.known.game ≡ true = sym c.has_two_sides.ensures ∙ c.if-has_two_sides.true in
+    let deep : leaf.numbers.count ≡ last_count (slots st) = leaf.deep in
+    omega (arith, inside.1, deep, leaf.low_deep two)
+
+pub count_lows-requires-clause-last : goal.count_lows-requires-clause-last
+count_lows-requires-clause-last g c =
+    let leaf = c.args.self.now in
+    let known = leaf.table.known in
+    let st : State = state_of known in
+    let size : suc (length c.args.front.now) ≡ length (slots st) = c.requires.last in
+    let inside = last_inside st leaf.no_board (omega arith) in
+    let at : leaf.last ≡ last_hand (slots st) = leaf.last_is in
+    omega (arith, inside.0, at, length-take known.count known.hands)
+
+pub count_highs-requires-clause-last : goal.count_highs-requires-clause-last
+count_highs-requires-clause-last g c =
+    let leaf = c.args.self.now in
+    let known = leaf.table.known in
+    let st : State = state_of known in
+    let size : suc (length c.args.front.now) ≡ length (slots st) = c.requires.last in
+    let inside = last_inside st leaf.no_board (omega arith) in
+    let at : leaf.last ≡ last_hand (slots st) = leaf.last_is in
+    omega (arith, inside.0, at, length-take known.count known.hands)
+
+pub count_lows-requires-clause-fits : goal.count_lows-requires-clause-fits
+count_lows-requires-clause-fits g c = λ pot place l m.
+    let table = c.args.self.now.table in
+    let game = table.known.game in
+    let two : has_two_sides game ≡ true = sym c.has_two_sides.ensures ∙ c.if-has_two_sides.true in
+    let sides = both (has_side High game) (has_side Low game) two in
+    let pots = table.few_pots in
+    let among : pot < length (deal_of table).pots = omega (arith, l, pots, length-map (take table.pots table.eligible) hands_of, length-take table.pots table.eligible, c.ten_places.ensures.pots) in
+    let room = c.requires.fits pot place Low among sides.1 m in
+    omega (arith, room, length-take (c.args.hi - c.args.lo) c.put_lows.new.values)
+
+pub count_highs-requires-clause-fits : goal.count_highs-requires-clause-fits
+count_highs-requires-clause-fits g c = λ pot place l m.
+    let table = c.args.self.now.table in
+    let game = table.known.game in
+    let two : has_two_sides game ≡ true = sym c.has_two_sides.ensures ∙ c.if-has_two_sides.true in
+    let sides = both (has_side High game) (has_side Low game) two in
+    let pots = table.few_pots in
+    let among : pot < length (deal_of table).pots = omega (arith, l, pots, length-map (take table.pots table.eligible) hands_of, length-take table.pots table.eligible, c.ten_places.ensures.pots) in
+    let Room : ℕ → Type 0 = λ row. slice_index (slice_index_or c.args.counts.now row []) place + (c.args.hi - c.args.lo) < 2 ^ 32 in
+    let same : 2 * pot + 0 ≡ 2 * pot = omega arith in
+    let room : Room (2 * pot) = subst Room same (c.requires.fits pot place High among sides.0 m) in
+    omega (arith, room, c.count_lows.ensures.highs pot place, length-take (c.args.hi - c.args.lo) c.put_draws.new.values)
+
+pub put_lows-requires-clause-few : goal.put_lows-requires-clause-few
+put_lows-requires-clause-few g c =
+    let leaf = c.args.self.now in
+    let two : has_two_sides leaf.table.known.game ≡ true = sym c.has_two_sides.ensures ∙ c.if-has_two_sides.true in
+    omega (arith, leaf.low_few two, leaf.low_deep two)
+
+pub put_lows-requires-clause-room : goal.put_lows-requires-clause-room
+put_lows-requires-clause-room g c =
+    let leaf = c.args.self.now in
+    let st : State = state_of leaf.table.known in
+    let two : has_two_sides leaf.table.known.game ≡ true = sym c.has_two_sides.ensures ∙ c.if-has_two_sides.true in
+    let size : suc (length c.args.front.now) ≡ length (slots st) = c.requires.last in
+    let inside = last_inside st leaf.no_board (omega arith) in
+    let deep : leaf.numbers.count ≡ last_count (slots st) = leaf.deep in
+    let left : c.args.tail.left ≡ last_count (slots st) = c.requires.deep in
+    let few = leaf.low_few two in
+    let cards = c.of-cards.result in
+    let short : length c.args.tail.rest ≤ 52 = (let f = cards.few in omega (arith, ap length c.of-cards.ensures, length-take cards.used cards.cards)) in
+    let most = few_twos c.args.tail.rest c.args.tail.left short (omega (arith, inside.1, left)) (omega (arith, few, left, deep)) in
+    let end = c.requires.inside in
+    omega (arith, most, end, c.lows_room.ensures)
+
+pub shared_ref_as_front-low_values : goal.shared_ref_as_front-low_values
+shared_ref_as_front-low_values g c =
+    let leaf = c.args.self.now in
+    let st : State = state_of leaf.table.known in
+    let two : has_two_sides leaf.table.known.game ≡ true = sym c.has_two_sides.ensures ∙ c.if-has_two_sides.true in
+    let size : suc (length c.args.front.now) ≡ length (slots st) = c.requires.last in
+    let inside = last_inside st leaf.no_board (omega arith) in
+    let deep : leaf.numbers.count ≡ last_count (slots st) = leaf.deep in
+    let left : c.args.tail.left ≡ last_count (slots st) = c.requires.deep in
+    let few = leaf.low_few two in
+    let cards = c.of-cards.result in
+    let short : length c.args.tail.rest ≤ 52 = (let f = cards.few in omega (arith, ap length c.of-cards.ensures, length-take cards.used cards.cards)) in
+    let most = few_twos c.args.tail.rest c.args.tail.left short (omega (arith, inside.1, left)) (omega (arith, few, left, deep)) in
+    let end = c.requires.inside in
+    omega (arith, most, end)

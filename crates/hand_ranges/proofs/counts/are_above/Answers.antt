@@ -1,0 +1,9 @@
+use Rattle.std.proofs.Common.{sym, subst}
+use Rattle.hand_ranges.specs.Walks.{AreFew}
+use Rattle.hand_ranges.proofs.RangeWalks.{ranges_few}
+use Rattle.hand_ranges.proofs.counts.are_above.Goals as goal
+
+pub most_choices-choices-requires-clause-few : goal.most_choices-choices-requires-clause-few
+most_choices-choices-requires-clause-few c =
+    let spot = c.args.spot.now in
+    subst AreFew (sym c.deref.ensures.value) (ranges_few spot.board spot.dead spot.ranges.items c.requires.sound.each)

@@ -1,0 +1,6 @@
+use Rattle.hand_ranges.specs.Spot.{ranges_in}
+use Rattle.hand_ranges.proofs.RangeWalks.{equal_runouts}
+use Rattle.hand_ranges.proofs.laws.law_choices_have_equal_runouts.Goals as goal
+
+pub returns : goal.returns
+returns c = λ choice m. equal_runouts (ranges_in c.args.spot.now) choice c.requires m

@@ -1,0 +1,5 @@
+use Rattle.hand_ranges.proofs.Soundness.{line_sound}
+use Rattle.hand_ranges.proofs.reading_laws.law_lines_give_sound_ranges.Goals as goal
+
+pub returns : goal.returns
+returns c = line_sound

@@ -1,0 +1,14 @@
+pub use Rattle.card_sets.specs.Cards
+pub use Rattle.card_sets.specs.Disjoint
+pub use Rattle.spot_text.specs.Words
+pub use Rattle.spot_text.specs.Parts
+pub mod Texts
+pub mod Items
+pub mod Hands
+pub mod Spot
+pub mod Sound
+pub mod Choices
+pub mod Taken
+pub mod Walks
+pub mod Counted
+pub mod Blocks

@@ -1,0 +1,182 @@
+//! The count of ranges.
+
+ghost use Rattle.std.specs.Prelude.{◌≡◌, ℕ, ◌+◌, ◌*◌, ◌<◌, ◌≤◌, ◌^◌, [], length, IfOk};
+ghost use Rattle.equity_job.specs.declared.limits.TheConstants.{RUNOUT_MAX};
+ghost use Rattle.showdown_tally.specs.Tallies.{Counts, runouts_after};
+ghost use Rattle.hand_ranges.specs.Choices.{are_above, deal_of_choice, most_choices, runouts_of_choice};
+ghost use Rattle.hand_ranges.specs.Counted.{IsCountOf};
+ghost use Rattle.hand_ranges.specs.Sound.{IsSound};
+ghost use Rattle.hand_ranges.specs.Spot.{ranges_in};
+ghost use Rattle.hand_ranges.specs.Taken.{AreValues, chosen};
+ghost use Rattle.hand_ranges.specs.Walks.{AreFew, AreNoneBeyond, Column, number_in};
+ghost use Rattle.hand_ranges.specs.Walks.{GrowsBy, IsWalk, IsWithin, added, all_added};
+
+use crate::shown::{add_shown, value_beside};
+use crate::spot::{Range, RangeSpot};
+use crate::sums::add_count;
+use crate::taken::Taken;
+use crate::tally::{RangeCell, RangeJobFault, RangeTally};
+use equity_job::{Job, RUNOUT_MAX, Scratch, count_job};
+use runout_ranges::count_choices;
+use showdown_tally::Tally;
+
+/// Makes a tally the whole count of a choice.
+fn count_choice(spot: &RangeSpot, taken: &Taken, scratch: &mut Scratch, tally: &mut Tally)
+    requires walk { IsWalk (ranges_in spot.now) [] (chosen taken.now) }
+    ensures { let deal = deal_of_choice spot.now.board spot.now.dead (chosen taken.now) in
+        Counts deal (runouts_after deal.state) tally.new }
+{
+    taken.facts();
+    let table = taken.table(spot.board, spot.dead);
+    match Job::make(&table) {
+        Ok(job) => count_job(&job, scratch, tally),
+        Err(_) => unreachable!(),
+    }
+}
+
+/// Adds the whole count of a choice, as often as it counts.
+fn add_choice(
+    spot: &RangeSpot,
+    taken: &Taken,
+    scratch: &mut Scratch,
+    tally: &mut Tally,
+    total: &mut RangeTally,
+)
+    requires walk { IsWalk (ranges_in spot.now) [] (chosen taken.now) }
+    requires values { AreValues spot.now.board (chosen taken.now) taken.now.values }
+    requires few { total.old.choices < RUNOUT_MAX }
+    requires within { IsWithin total.old }
+    ensures grows { GrowsBy total.old total.new (added (ranges_in spot.now) (chosen taken.now)) }
+    ensures within { IsWithin total.new }
+{
+    if spot.board.count() == 5 {
+        add_shown(spot, taken, total);
+        return;
+    }
+    taken.facts();
+    count_choice(spot, taken, scratch, tally);
+    add_count(total, taken.count, taken.weight, tally);
+}
+
+/// Adds the whole counts of the choices that go on from some hands, each as often as it counts.
+fn add_choices(
+    spot: &RangeSpot,
+    ranges: &[Range],
+    taken: &Taken,
+    scratch: &mut Scratch,
+    tally: &mut Tally,
+    total: &mut RangeTally,
+)
+    requires walk { IsWalk (ranges_in spot.now) ranges.now (chosen taken.now) }
+    requires values { AreValues spot.now.board (chosen taken.now) taken.now.values }
+    requires few { total.old.choices + most_choices ranges.now ≤ RUNOUT_MAX }
+    requires within { IsWithin total.old }
+    ensures grows { GrowsBy total.old total.new (all_added (ranges_in spot.now) ranges.now (chosen taken.now)) }
+    ensures within { IsWithin total.new }
+    ensures few { total.new.choices ≤ total.old.choices + most_choices ranges.now }
+{
+    let [range, others @ ..] = ranges else {
+        add_choice(spot, taken, scratch, tally, total);
+        return;
+    };
+    taken.facts();
+    let hands = range.hands();
+    for w in hands {
+        if taken.is_apart(w.hand) {
+            let value = value_beside(spot.board, w.hand);
+            let more = taken.with(*w, value);
+            add_choices(spot, others, &more, scratch, tally, total);
+        }
+    }
+}
+
+/// How many choices there are, those that share a card too.
+fn most_choices(ranges: &[Range]) -> u64
+    requires few { AreFew ranges.now }
+    requires four { length ranges.now ≤ 4 }
+    ensures value { result ≡ most_choices ranges.now }
+    ensures bound { result ≤ 2048 ^ length ranges.now }
+{
+    let [range, others @ ..] = ranges else {
+        return 1;
+    };
+    range.hands().len() as u64 * most_choices(others)
+}
+
+/// How many runouts each choice has.
+fn runouts_of_choice(spot: &RangeSpot) -> u64
+    requires { IsSound (ranges_in spot.now) }
+    ensures { result ≡ runouts_of_choice (ranges_in spot.now) }
+{
+    let board = spot.board.count();
+    let known = board + spot.dead.count() + 2 * spot.ranges.len() as u32;
+    count_choices(52 - known, 5 - board)
+}
+
+/// Whether the runouts of all choices are more than may be counted.
+fn are_above(spot: &RangeSpot, runouts: u64) -> bool
+    requires sound { IsSound (ranges_in spot.now) }
+    requires runouts { runouts ≡ runouts_of_choice (ranges_in spot.now) }
+    ensures { result ≡ are_above RUNOUT_MAX (ranges_in spot.now) }
+{
+    let choices = most_choices(&spot.ranges);
+    u128::from(choices) * u128::from(runouts) > u128::from(RUNOUT_MAX)
+}
+
+/// A tally of no choice.
+fn no_tally(runouts: u64) -> RangeTally
+    ensures none { (column : Column) → number_in result column ≡ 0 }
+    ensures runouts { result.runouts ≡ runouts }
+{
+    let none = RangeCell {
+        win: 0,
+        tie: 0,
+        lose: 0,
+    };
+    RangeTally {
+        choices: 0,
+        runouts,
+        weight: 0,
+        cells: [none; 4],
+        units: [0; 4],
+    }
+}
+
+/// A tally has four places. A law: the call does nothing.
+fn four_places(total: &RangeTally)
+    ensures { length total.now.cells ≡ 4 }
+{
+    let _cells: &[RangeCell] = &total.cells;
+}
+
+/// The counts of all choices of one hand from each range in which no card is in two hands: how the
+/// runouts of each end for each player and the units that they give him, as often as the choice
+/// counts, added up. `AboveLimit` exactly where the runouts of all choices, those that share a card
+/// too, are more than `RUNOUT_MAX`, and `NoChoice` exactly where they aren't and there is no choice
+/// to count. It takes no memory.
+pub fn count_ranges(spot: &RangeSpot, scratch: &mut Scratch) -> Result<RangeTally, RangeJobFault>
+    requires { IsSound (ranges_in spot.now) }
+    ensures count { IsCountOf (ranges_in spot.now) result }
+    ensures beyond { IfOk result (λ tally. AreNoneBeyond (length (ranges_in spot.now).ranges) tally) }
+{
+    let runouts = runouts_of_choice(spot);
+    if are_above(spot, runouts) {
+        return Err(RangeJobFault::AboveLimit);
+    }
+    let mut total = no_tally(0);
+    let mut tally = Tally::zero();
+    add_choices(
+        spot,
+        &spot.ranges,
+        &Taken::none(),
+        scratch,
+        &mut tally,
+        &mut total,
+    );
+    if total.choices == 0 {
+        return Err(RangeJobFault::NoChoice);
+    }
+    four_places(&total);
+    total.runouts = runouts;
+    Ok(total)
+}

@@ -1,0 +1,21 @@
+use Rattle.std.proofs.Common.{◌≡◌, ◌≤◌, ℕ, List, map, ap, ◌∙◌, arith}
+use Rattle.std.specs.List.{slice_range}
+use Rattle.card_sets.specs.Choose.{choose}
+use Rattle.runout_walk.specs.Worth.{number_of}
+use Rattle.runout_walk.proofs.last.put_on.Goals as goal
+
+pub returns-then-lows-eq1 : goal.returns-then-lows-eq1
+returns-then-lows-eq1 g c =
+    let lows = c.args.lows.now in
+    let rows : List (List ℕ) = lows.rows in
+    let size : 1 ≡ lows.count = (let t = c.if-lows-eq1.true in omega arith) in
+    record { numbers = λ planes. c.put_singles.ensures.numbers planes ∙ ap (λ n. map (number_of rows planes) (slice_range (choose n c.args.cards.now) c.args.range.lo c.args.range.hi)) size }
+
+pub returns : goal.returns
+returns g c =
+    let lows = c.args.lows.now in
+    let rows : List (List ℕ) = lows.rows in
+    let some : 1 ≤ lows.count = c.requires.some in
+    let few : lows.count ≤ 2 = c.requires.few in
+    let size : 2 ≡ lows.count = (let t = c.if-lows-eq1.false in omega arith) in
+    record { numbers = λ planes. c.put_twos.ensures.numbers planes ∙ ap (λ n. map (number_of rows planes) (slice_range (choose n c.args.cards.now) c.args.range.lo c.args.range.hi)) size }

@@ -1,0 +1,17 @@
+use Rattle.std.proofs.Common.{◌≡◌, ◌≤◌, ◌<◌, ◌+◌, ◌*◌, ◌==◌, ℕ, [], length}
+use Rattle.std.specs.Prelude.{slice_index, slice_index_or}
+use Rattle.std.specs.List.{count_by}
+use Rattle.showdown_tally.specs.Deals.{deal_of}
+use Rattle.showdown_tally.specs.Showdown.{eligible_in}
+use Rattle.runout_walk.specs.Bests.{some_set}
+use Rattle.runout_walk.specs.Rivals.{value_with}
+use Rattle.runout_walk.proofs.rivals.count_lows.Given as goal
+
+abbrev pub invariant-loop-pot : goal.invariant-loop-pot
+invariant-loop-pot l = record {
+  done : (pot set : ℕ) → pot < l.pot → set < 2048 → slice_index (slice_index_or l.counts (2 * pot + 1) []) set ≡ slice_index (slice_index_or l.fn.counts (2 * pot + 1) []) set
+      + count_by (λ value. some_set (value_with l.numbers l.last value) (eligible_in (deal_of l.table) pot) == set) l.values;
+  later : (pot set : ℕ) → l.pot ≤ pot → slice_index (slice_index_or l.counts (2 * pot + 1) []) set ≡ slice_index (slice_index_or l.fn.counts (2 * pot + 1) []) set;
+  highs : (pot set : ℕ) → slice_index (slice_index_or l.counts (2 * pot) []) set ≡ slice_index (slice_index_or l.fn.counts (2 * pot) []) set;
+  places : length l.counts ≡ length l.fn.counts;
+}

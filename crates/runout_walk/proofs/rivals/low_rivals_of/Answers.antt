@@ -1,0 +1,50 @@
+use Rattle.std.proofs.Common.{◌≡◌, ◌<◌, ◌≤◌, ◌+◌, ◌^◌, ◌==◌, ℕ, List, length, take, refl, sym, ap, ◌∙◌, arith, cond}
+use Rattle.std.specs.Prelude.{slice_index, slice_index_or}
+use Rattle.std.proofs.Math.Nat.{pow-le-pow_right}
+use Rattle.std.proofs.lemmas.List.{length-take}
+use Rattle.card_sets.specs.PlayerSets.{has_player, hands_below, without_player}
+use Rattle.showdown_tally.proofs.PotFacts.{eligible_pot}
+use Rattle.showdown_tally.specs.Deals.{deal_of}
+use Rattle.showdown_tally.specs.Showdown.{eligible_in}
+use Rattle.runout_walk.specs.Bests.{best_set, best_value, some_set}
+use Rattle.runout_walk.specs.Rivals.{others_of, value_with, winner_by}
+use Rattle.runout_walk.proofs.DrawWinners.{hands_without}
+use Rattle.runout_walk.proofs.LowWinners.{low_winner_is}
+use Rattle.runout_walk.proofs.rivals.low_rivals_of.Goals as goal
+
+pub low_sets_of-requires-clause-room : goal.low_sets_of-requires-clause-room
+low_sets_of-requires-clause-room c =
+    let few = c.args.table.now.known.few in
+    let last = c.requires.last in
+    let power : 2 ^ c.args.last ≤ 2 ^ 9 = pow-le-pow_right (let z : 0 < 2 = omega arith in z) (let l : c.args.last ≤ 9 = omega (arith, few, last) in l) in
+    power
+
+pub low_sets_of-requires-clause-small : goal.low_sets_of-requires-clause-small
+low_sets_of-requires-clause-small c =
+    let power : 2 ^ c.args.table.now.known.count ≤ 2 ^ 10 = pow-le-pow_right (let z : 0 < 2 = omega arith in z) c.args.table.now.known.few in
+    let small = c.best_of-best.ensures.small in
+    omega (arith, power, small)
+
+pub returns-clause-winner : goal.returns-clause-winner
+returns-clause-winner c = λ value.
+    let table = c.args.table.now in
+    let values : List ℕ = c.args.values.now in
+    let last : ℕ = c.args.last in
+    let mask : ℕ = slice_index_or table.eligible c.args.pot 0 in
+    let count : ℕ = table.known.count in
+    let few = table.known.few in
+    let inside : c.args.pot < length (take table.pots table.eligible) = (let f = table.few_pots in omega (arith, length-take table.pots table.eligible, c.ten_places.ensures.pots, c.requires.inside)) in
+    let hands : eligible_in (deal_of table) c.args.pot ≡ hands_below mask count = eligible_pot (deal_of table) table.pots table.eligible count c.args.pot refl inside table.in_hands table.known.few in
+    let mask_is : c.of-hands.result ≡ mask = c.of-hands.ensures in
+    let others : hands_below c.without.result count ≡ others_of last (hands_below mask count) = ap (λ k. hands_below k count) (c.without.ensures ∙ ap (λ k. without_player k last) mask_is) ∙ hands_without mask last count (omega (arith, few)) in
+    let plays : c.has.result ≡ has_player mask last = c.has.ensures ∙ ap (λ k. has_player k last) mask_is in
+    let t : ℕ = c.best_of-best.result.number in
+    let s : ℕ = c.best_of-best.result.set in
+    let top : t ≡ best_value (slice_index values) (others_of last (hands_below mask count)) = c.best_of-best.ensures.number ∙ ap (best_value (slice_index values)) others in
+    let set : s ≡ best_set (slice_index values) (others_of last (hands_below mask count)) = c.best_of-best.ensures.set ∙ ap (best_set (slice_index values)) others in
+    ap (λ k. winner_by k c.low_sets_of.result.below c.low_sets_of.result.equal c.low_sets_of.result.above value) c.low_sets_of.ensures.top
+    ∙ low_winner_is values mask last count t s c.low_sets_of.result.below c.low_sets_of.result.equal c.low_sets_of.result.above value c.requires.last top set
+    c.low_sets_of.ensures.below
+    (c.low_sets_of.ensures.equal ∙ ap (λ b. cond (t == 0) 0 (s + cond b (2 ^ last) 0)) plays)
+    (c.low_sets_of.ensures.above ∙ ap (λ b. cond b (2 ^ last) (cond (t == 0) 0 s)) plays)
+    ∙ ap (some_set (value_with values last value)) (sym hands)

@@ -1,0 +1,12 @@
+pub mod Picks
+pub mod Listed
+pub mod Parts
+pub mod Padded
+pub mod Receivers
+pub mod AfterStreet
+pub mod KnownAfter
+pub mod Ends
+pub mod GoesOn
+pub mod StreetLaw
+pub mod SumWalk
+pub mod EnoughAfter

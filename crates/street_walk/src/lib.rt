@@ -1,0 +1,18 @@
+//! The next street of a known state, and the whole counts after each choice of its cards.
+//!
+//! A runout deals all cards to come at once. Here they come street by street: `next_street` is the shape of the next street's
+//! cards, `after_street` what is known after a choice of them, and `street_sum` adds up the whole counts after all choices.
+//! That sum is the count of the table itself, as often as one runout divides into the street's cards and the rest: this is
+//! `law_streets_add_up`, and `law_final_cards_add_up` says the same of any number that goes by the cards at the end. Nothing
+//! here takes memory.
+#![tactic(auto)]
+
+mod after;
+mod laws;
+mod next;
+mod sums;
+
+pub use after::after_street;
+pub use laws::{law_final_cards_add_up, law_streets_add_up, law_streets_go_on};
+pub use next::{divisions, next_street};
+pub use sums::{StreetFault, street_sum};
