@@ -6,8 +6,6 @@ mod cards;
 #[cfg(test)]
 mod fractions;
 #[cfg(test)]
-mod games;
-#[cfg(test)]
 mod high_hands;
 #[cfg(test)]
 mod low_hands;
@@ -19,3 +17,5 @@ mod runouts;
 mod settling;
 #[cfg(test)]
 mod steps;
+#[cfg(test)]
+mod streets;

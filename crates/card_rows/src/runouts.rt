@@ -7,7 +7,7 @@ use runout_ranges::{Above, Receiver, Runout, Shape, advance, count_runouts, firs
 use std::test::Fail;
 
 /// A set of three cards.
-fn three(a: u8, b: u8, c: u8) -> CardSet
+pub(crate) fn three(a: u8, b: u8, c: u8) -> CardSet
     requires first { a < b }
     requires second { b < c }
     requires deck { c < 52 }
@@ -45,7 +45,7 @@ fn four(a: u8, b: u8, c: u8, d: u8) -> CardSet
 }
 
 /// As Ah against Ks Kh, with 2c 4s 7d 9h on the board.
-fn turn_spot() -> Known {
+pub(crate) fn turn_spot() -> Known {
     let none = CardSet::empty();
     Known {
         game: Game::Holdem,
@@ -68,7 +68,7 @@ fn turn_spot() -> Known {
 }
 
 /// As Ah against Ks Kh, with 2c 7c 9c on the board.
-fn flop_spot() -> Known {
+pub(crate) fn flop_spot() -> Known {
     let none = CardSet::empty();
     Known {
         game: Game::Holdem,
@@ -114,7 +114,7 @@ fn flop_spot_with_dead_cards() -> Known {
 }
 
 /// Single draw, two hands that keep four cards each, the deuces and the treys.
-fn draw_spot() -> Known {
+pub(crate) fn draw_spot() -> Known {
     let none = CardSet::empty();
     Known {
         game: Game::Lowball27,
@@ -137,7 +137,7 @@ fn draw_spot() -> Known {
 }
 
 /// Seven card stud, two hands of four cards each, the deuces and the treys.
-fn stud_spot() -> Known {
+pub(crate) fn stud_spot() -> Known {
     let none = CardSet::empty();
     Known {
         game: Game::Stud,
@@ -160,7 +160,7 @@ fn stud_spot() -> Known {
 }
 
 /// Single draw with ten hands of which nothing is known.
-fn dark_draw() -> Known {
+pub(crate) fn dark_draw() -> Known {
     let none = CardSet::empty();
     Known {
         game: Game::Lowball27,
@@ -172,7 +172,7 @@ fn dark_draw() -> Known {
 }
 
 /// Seven card stud with ten hands of which nothing is known.
-fn dark_stud() -> Known {
+pub(crate) fn dark_stud() -> Known {
     let none = CardSet::empty();
     Known {
         game: Game::Stud,

@@ -46,7 +46,7 @@ pub(crate) fn four(a: u8, b: u8, c: u8, d: u8) -> CardSet
 }
 
 /// A set of five cards.
-pub(crate) fn five(a: u8, b: u8, c: u8, d: u8, e: u8) -> CardSet
+fn five(a: u8, b: u8, c: u8, d: u8, e: u8) -> CardSet
     requires first { a < b }
     requires second { b < c }
     requires third { c < d }
