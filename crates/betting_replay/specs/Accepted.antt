@@ -9,7 +9,7 @@ use Rattle.card_sets.specs.declared.streets.Street.{Street as StreetName}
 use Rattle.betting_replay.specs.Events.{seat_of, is_seat_line, bought}
 use Rattle.betting_replay.specs.Limits.{Fits}
 use Rattle.betting_replay.specs.Sums.{stack, paid, dead}
-use Rattle.betting_replay.specs.Tables.{Table, table_of, chips_at, acts_at, own_at, final_at, known_at, dead_at, chips_of, acts_of, dead as dead_cards}
+use Rattle.betting_replay.specs.Tables.{Table, table_of, chips_at, acts_at, own_at, final_at, known_at, dead_at, chips_of, acts_of, dead_cards}
 use Rattle.betting_replay.specs.Places.{owned}
 use Rattle.betting_replay.specs.Known.{final_cards, cards_at}
 use Rattle.betting_replay.specs.Turns.{may_act, owes_before, next_to_act}
@@ -36,14 +36,17 @@ pub record ShowsSeat (header : Header) (players : ℕ) (h : List Event) (p : ℕ
   pub acts : acts_at (table_of header players h) p ≡ acts_of header h p
   pub own : own_at (table_of header players h) p ≡ owned header.game h p
   pub final : final_at (table_of header players h) p ≡ final_cards header h p
-  pub known : (street : StreetName) → known_at (table_of header players h) p street ≡ cards_at header h p street
+  pub known : (street : StreetName)
+      → known_at (table_of header players h) p street ≡ cards_at header h p street
 
 abbrev pub ShowsSeats : Type 0
-ShowsSeats = (header : Header) (players : ℕ) (h : List Event) (p : ℕ) → p < 11 → ShowsSeat header players h p
+ShowsSeats = (header : Header) (players : ℕ) (h : List Event) (p : ℕ) → p < 11
+    → ShowsSeat header players h p
 
 -- and its dead cards are those of the events
 abbrev pub ShowsDead : Type 0
-ShowsDead = (header : Header) (players : ℕ) (h : List Event) → dead_at (table_of header players h) ≡ dead_cards header players h
+ShowsDead = (header : Header) (players : ℕ) (h : List Event)
+    → dead_at (table_of header players h) ≡ dead_cards header players h
 
 -- the seat may act at the table, and nobody who owes an act comes before it
 pub record IsInTurn (t : Table) (p : ℕ) : Type 0 where
@@ -52,7 +55,11 @@ pub record IsInTurn (t : Table) (p : ℕ) : Type 0 where
 
 -- an act stands only where it is in turn, and a marker only where nobody owes an act
 pub record TakesTurns : Type 0 where
-  pub acts : (header : Header) (players : ℕ) (h : List Event) (seat : ℕ) (act : Deed) (all_in : Bool) (shown : List ℕ)
-      → legal header players h (Act seat act all_in shown) ≡ None → IsInTurn (table_of header players h) seat
-  pub streets : (header : Header) (players : ℕ) (h : List Event) (street : StreetName) (number : BoardNumber) (cards : List ℕ)
-      → legal header players h (Street street number cards) ≡ None → next_to_act (table_of header players h) ≡ None
+  pub acts : (header : Header) (players : ℕ) (h : List Event) (seat : ℕ) (act : Deed)
+      (all_in : Bool) (shown : List ℕ)
+      → legal header players h (Act seat act all_in shown) ≡ None
+      → IsInTurn (table_of header players h) seat
+  pub streets : (header : Header) (players : ℕ) (h : List Event) (street : StreetName)
+      (number : BoardNumber) (cards : List ℕ)
+      → legal header players h (Street street number cards) ≡ None
+      → next_to_act (table_of header players h) ≡ None

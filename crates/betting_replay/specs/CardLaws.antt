@@ -17,41 +17,63 @@ use Rattle.betting_replay.specs.Known.{final_cards, cards_at}
 use Rattle.betting_replay.specs.Places.{owned}
 use Rattle.card_sets.specs.PlayerSets.{has_player}
 use Rattle.betting_replay.specs.Sums.{street, last_begun, runs_twice, second_begun}
-use Rattle.betting_replay.specs.Tables.{table_of, point, dead}
+use Rattle.betting_replay.specs.Tables.{table_of, point, dead_cards}
 use Rattle.betting_replay.specs.Turns.{contender_count}
 
 -- two different places share no card
 abbrev pub PlacesAreApart : Type 0
-PlacesAreApart = (game : Game) (h : List Event) (p q : ℕ) → (p == q) ≡ false → apart (owned game h p) (owned game h q) ≡ true
+PlacesAreApart = (game : Game) (h : List Event) (p q : ℕ) → (p == q) ≡ false
+    → apart (owned game h p) (owned game h q) ≡ true
 
 -- a set of cards, each of which is among others
 pub record Among (cards others : List ℕ) : Type 0 where
   pub set : IsCardSet cards
   pub each : (card : ℕ) → has_card cards card ≡ true → has_card others card ≡ true
 
--- after accepted events the cards of a seat that are known belong to it, are as many as the game gives, and are in no other seat's and on no board;
--- those of the board belong to the board; and dead cards are neither a board's nor those of a player who hadn't folded at the point
+-- what accepted events make of the cards that are known, and of those that are dead
 pub record CardsBelong (header : Header) (players : ℕ) (h : List Event) : Type 0 where
-  pub final : (p : ℕ) (cards : List ℕ) → final_cards header h p ≡ Some cards → Among cards (owned header.game h p)
-  pub whole : (p : ℕ) (cards : List ℕ) → final_cards header h p ≡ Some cards → length cards ≡ own_size header.game
-  pub final_and_board : (p : ℕ) → (p == 0) ≡ false → (cards : List ℕ) → final_cards header h p ≡ Some cards → apart cards (owned header.game h 0) ≡ true
-  pub known : (p : ℕ) (street : StreetName) (cards : List ℕ) → cards_at header h p street ≡ Some cards → Among cards (owned header.game h p)
-  pub few : (p : ℕ) (street : StreetName) (cards : List ℕ) → cards_at header h p street ≡ Some cards → length cards ≤ own_size header.game
-  pub two_seats : (p q : ℕ) → (p == q) ≡ false → (street : StreetName) (some others : List ℕ) → cards_at header h p street ≡ Some some → cards_at header h q street ≡ Some others → apart some others ≡ true
+  -- a seat's final cards belong to it, are as many as the game gives, and none is on the board
+  pub final : (p : ℕ) (cards : List ℕ) → final_cards header h p ≡ Some cards
+      → Among cards (owned header.game h p)
+  pub whole : (p : ℕ) (cards : List ℕ) → final_cards header h p ≡ Some cards
+      → length cards ≡ own_size header.game
+  pub final_and_board : (p : ℕ) → (p == 0) ≡ false → (cards : List ℕ)
+      → final_cards header h p ≡ Some cards → apart cards (owned header.game h 0) ≡ true
+  -- its cards on a street belong to it, are at most as many, and none is another seat's
+  pub known : (p : ℕ) (street : StreetName) (cards : List ℕ)
+      → cards_at header h p street ≡ Some cards → Among cards (owned header.game h p)
+  pub few : (p : ℕ) (street : StreetName) (cards : List ℕ) → cards_at header h p street ≡ Some cards
+      → length cards ≤ own_size header.game
+  pub two_seats : (p q : ℕ) → (p == q) ≡ false → (street : StreetName) (some others : List ℕ)
+      → cards_at header h p street ≡ Some some → cards_at header h q street ≡ Some others
+      → apart some others ≡ true
+  -- the board's cards of the streets up to one belong to the board, and none is a seat's
   pub board : (street : StreetName) → Among (board_up_to h street) (owned header.game h 0)
-  pub seat_and_board : (p : ℕ) → (p == 0) ≡ false → (street shown : StreetName) (cards : List ℕ) → cards_at header h p street ≡ Some cards → apart cards (board_up_to h shown) ≡ true
+  pub seat_and_board : (p : ℕ) → (p == 0) ≡ false → (street shown : StreetName) (cards : List ℕ)
+      → cards_at header h p street ≡ Some cards → apart cards (board_up_to h shown) ≡ true
+  -- the second board is a set of cards, and none of them is a seat's
   pub second_set : (second : List ℕ) → second_board h ≡ Some second → IsCardSet second
-  pub final_and_second : (p : ℕ) → (p == 0) ≡ false → p < 11 → (cards second : List ℕ) → final_cards header h p ≡ Some cards → second_board h ≡ Some second → apart cards second ≡ true
-  pub seat_and_second : (p : ℕ) → (p == 0) ≡ false → p < 11 → (street : StreetName) (cards second : List ℕ) → cards_at header h p street ≡ Some cards → second_board h ≡ Some second → apart cards second ≡ true
-  pub dead_set : IsCardSet (dead header players h)
-  pub dead_and_board : apart (dead header players h) (owned header.game h 0) ≡ true
-  pub dead_and_shown : (street : StreetName) → apart (dead header players h) (board_up_to h street) ≡ true
-  pub dead_and_second : (second : List ℕ) → second_board h ≡ Some second → apart (dead header players h) second ≡ true
-  pub dead_and_known : (found : Point) → point header players h ≡ Some found → (p : ℕ) → has_player found.contenders p ≡ true → (street : StreetName) (cards : List ℕ) → cards_at header h p street ≡ Some cards
-      → apart (dead header players h) cards ≡ true
+  pub final_and_second : (p : ℕ) → (p == 0) ≡ false → p < 11 → (cards second : List ℕ)
+      → final_cards header h p ≡ Some cards → second_board h ≡ Some second
+      → apart cards second ≡ true
+  pub seat_and_second : (p : ℕ) → (p == 0) ≡ false → p < 11
+      → (street : StreetName) (cards second : List ℕ) → cards_at header h p street ≡ Some cards
+      → second_board h ≡ Some second → apart cards second ≡ true
+  -- dead cards are a set, and none is on a board or is a card of a player who hadn't folded at the point
+  pub dead_set : IsCardSet (dead_cards header players h)
+  pub dead_and_board : apart (dead_cards header players h) (owned header.game h 0) ≡ true
+  pub dead_and_shown : (street : StreetName)
+      → apart (dead_cards header players h) (board_up_to h street) ≡ true
+  pub dead_and_second : (second : List ℕ) → second_board h ≡ Some second
+      → apart (dead_cards header players h) second ≡ true
+  pub dead_and_known : (found : Point) → point header players h ≡ Some found → (p : ℕ)
+      → has_player found.contenders p ≡ true → (street : StreetName) (cards : List ℕ)
+      → cards_at header h p street ≡ Some cards
+      → apart (dead_cards header players h) cards ≡ true
 
 abbrev pub CardsBelongAfter : Type 0
-CardsBelongAfter = (header : Header) (players : ℕ) (h : List Event) → IsAccepted header players h → CardsBelong header players h
+CardsBelongAfter = (header : Header) (players : ℕ) (h : List Event) → IsAccepted header players h
+    → CardsBelong header players h
 
 -- the sum of what comes with each of some streets, up to one of them
 abbrev pub sum_up_to : (StreetName → ℕ) → StreetName → List StreetName → ℕ
@@ -93,16 +115,23 @@ has_ended (e ∷ h) = ends e || has_ended h
 pub record HasBoard (header : Header) (players : ℕ) (h : List Event) : Type 0 where
   pub last : last_begun header h ≡ true → length (owned header.game h 0) ≡ board_size header.game
   pub few : (street : StreetName) → length (board_up_to h street) ≤ board_size header.game
-  pub second_last : second_begun header h ≡ true → (second : List ℕ) → second_board h ≡ Some second → length second ≡ board_size header.game
-  pub second_few : (second : List ℕ) → second_board h ≡ Some second → length second ≤ board_size header.game
-  pub at_point : (found : Point) → point header players h ≡ Some found → length (board_up_to h found.street) ≡ board_then header.game found.street
+  pub second_last : second_begun header h ≡ true → (second : List ℕ) → second_board h ≡ Some second
+      → length second ≡ board_size header.game
+  pub second_few : (second : List ℕ) → second_board h ≡ Some second
+      → length second ≤ board_size header.game
+  pub at_point : (found : Point) → point header players h ≡ Some found
+      → length (board_up_to h found.street) ≡ board_then header.game found.street
 
 -- where a hand has ended its last street has begun, on both boards where it is run twice, or fewer than two contenders are left
 pub record HasEnded (header : Header) (players : ℕ) (h : List Event) : Type 0 where
   pub marker : is_end_of (street header h) ≡ true → has_ended h ≡ true
-  pub played : has_ended h ≡ true → (last_begun header h || nat_lt (contender_count (table_of header players h)) 2) ≡ true
-  pub twice : has_ended h ≡ true → runs_twice h ≡ true → (second_begun header h || nat_lt (contender_count (table_of header players h)) 2) ≡ true
+  pub played : has_ended h ≡ true
+      → (last_begun header h || nat_lt (contender_count (table_of header players h)) 2) ≡ true
+  pub twice : has_ended h ≡ true → runs_twice h ≡ true
+      → (second_begun header h || nat_lt (contender_count (table_of header players h)) 2) ≡ true
 
 pub record WholeBoards : Type 0 where
-  pub boards : (header : Header) (players : ℕ) (h : List Event) → IsAccepted header players h → MarkersFit header.game h → HasBoard header players h
-  pub ends : (header : Header) (players : ℕ) (h : List Event) → IsAccepted header players h → HasEnded header players h
+  pub boards : (header : Header) (players : ℕ) (h : List Event) → IsAccepted header players h
+      → MarkersFit header.game h → HasBoard header players h
+  pub ends : (header : Header) (players : ℕ) (h : List Event) → IsAccepted header players h
+      → HasEnded header players h

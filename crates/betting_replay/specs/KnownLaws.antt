@@ -25,7 +25,8 @@ dealt_by_street _ = 7
 -- his cards that are known on a street are as many
 abbrev pub KnowsAllDealt : Type 0
 KnowsAllDealt = (header : Header) (h : List Event) (p : ℕ) (street : StreetName) (cards : List ℕ)
-    → family_of header.game ≡ family.Stud → cards_at header h p street ≡ Some cards → length cards ≡ dealt_by_street street
+    → family_of header.game ≡ family.Stud → cards_at header h p street ≡ Some cards
+    → length cards ≡ dealt_by_street street
 
 -- what a player of a game with one draw kept is a part of his final cards where one of three holds: he showed no whole hand behind his last
 -- discard; of the cards that belong to him five at the most weren't thrown away; or what he kept isn't told by five dealt cards and
@@ -36,6 +37,8 @@ pub record StillHolds (header : Header) (h : List Event) (p : ℕ) (kept final :
   pub not_openly : draws_openly (holding_of header h p) ≡ false → Among kept final
 
 abbrev pub HoldsKept : Type 0
-HoldsKept = (header : Header) (players : ℕ) (h : List Event) → IsAccepted header players h → family_of header.game ≡ family.Draw
-    → (p : ℕ) (kept final : List ℕ) → cards_at header h p First ≡ Some kept → final_cards header h p ≡ Some final
+HoldsKept = (header : Header) (players : ℕ) (h : List Event) → IsAccepted header players h
+    → family_of header.game ≡ family.Draw
+    → (p : ℕ) (kept final : List ℕ) → cards_at header h p First ≡ Some kept
+    → final_cards header h p ≡ Some final
     → StillHolds header h p kept final

@@ -1,5 +1,5 @@
 -- The streets that begin behind the all-in point, as the hand is played out.
-use Rattle.std.specs.Prelude.{ℕ, ◌&&◌, not, Bool, true, false, if◌then◌else◌, List, [], ◌∷◌, ◌++◌, Option, Some, None, is_some}
+use Rattle.std.specs.Prelude.{ℕ, ◌&&◌, not, Bool, false, if◌then◌else◌, List, [], ◌∷◌, ◌++◌, Option, Some, None, is_some}
 use Rattle.card_sets.specs.declared.games.Game.{Game}
 use Rattle.card_sets.specs.declared.streets.Street.{Street as StreetName}
 use Rattle.history_text.specs.declared.events.Header.{Header}

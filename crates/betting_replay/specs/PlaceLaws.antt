@@ -27,10 +27,14 @@ since header (e ∷ h) card = if has_card (lost_by header.game e) card then [] e
 
 pub record PlacesCards : Type 0 where
   -- a card's place is that of the first event that names it behind the last that threw it away
-  pub behind : (header : Header) (h : List Event) (card : ℕ) → place header.game h card ≡ first_place (since header h card) card
+  pub behind : (header : Header) (h : List Event) (card : ℕ)
+      → place header.game h card ≡ first_place (since header h card) card
   -- where no card may come again these are all events, and after accepted ones every card that was thrown away stays so
-  pub first : (header : Header) (h : List Event) (card : ℕ) → may_come_again header.game ≡ false → place header.game h card ≡ first_place h card
-  pub stays : (header : Header) (players : ℕ) (h : List Event) → IsAccepted header players h → may_come_again header.game ≡ false → thrown h ≡ ever_thrown h
+  pub first : (header : Header) (h : List Event) (card : ℕ) → may_come_again header.game ≡ false
+      → place header.game h card ≡ first_place h card
+  pub stays : (header : Header) (players : ℕ) (h : List Event) → IsAccepted header players h
+      → may_come_again header.game ≡ false → thrown h ≡ ever_thrown h
   -- where a card may come again, one that was thrown away and that no event has named since belongs to nobody
-  pub nobody : (header : Header) (players : ℕ) (h : List Event) (card : ℕ) → IsAccepted header players h → may_come_again header.game ≡ true
+  pub nobody : (header : Header) (players : ℕ) (h : List Event) (card : ℕ)
+      → IsAccepted header players h → may_come_again header.game ≡ true
       → has_card (thrown h) card ≡ true → place header.game h card ≡ None

@@ -13,7 +13,9 @@ pub record HasContenders (header : Header) (players : ℕ) (h : List Event) (fou
   pub two : 2 ≤ count_seats (has_player found.contenders)
   pub small : found.contenders < 2 ^ 11
   pub seated : (p : ℕ) → has_player found.contenders p ≡ true → has_player players p ≡ true
-  pub later : (p : ℕ) → p < 11 → is_contender (table_of header players h) p ≡ true → has_player found.contenders p ≡ true
+  pub later : (p : ℕ) → p < 11 → is_contender (table_of header players h) p ≡ true
+      → has_player found.contenders p ≡ true
 
 abbrev pub PointsHaveContenders : Type 0
-PointsHaveContenders = (header : Header) (players : ℕ) (h : List Event) (found : Point) → point header players h ≡ Some found → HasContenders header players h found
+PointsHaveContenders = (header : Header) (players : ℕ) (h : List Event) (found : Point)
+    → point header players h ≡ Some found → HasContenders header players h found

@@ -46,6 +46,7 @@ pub record Table : Type 0 where
   pub second_river : List ℕ
   -- the seat of the button, 0 where there is none
   pub button : ℕ
+  -- the street that the hand is on
   pub street : Option StreetName
   -- whether the first street has begun, and whether the last has
   pub opened : Bool
@@ -56,6 +57,7 @@ pub record Table : Type 0 where
   -- the street from which on there are two boards, and the street that the second has come to
   pub twice : Option StreetName
   pub second : Option StreetName
+  -- whether a small blind was posted, and the last actor of the street
   pub small_posted : Bool
   pub last : Option ℕ
   -- the first moment that was an all-in point

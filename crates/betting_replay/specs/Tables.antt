@@ -69,8 +69,8 @@ abbrev pub table_of : Header → ℕ → List Event → Table
 table_of header players h = table_with header players h (point header players h)
 
 -- the cards that are dead at the point, by all events so far
-abbrev pub dead : Header → ℕ → List Event → List ℕ
-dead header players h = dead_by players (point header players h) (owned header.game h) (thrown h)
+abbrev pub dead_cards : Header → ℕ → List Event → List ℕ
+dead_cards header players h = dead_by players (point header players h) (owned header.game h) (thrown h)
 
 -- a table stands for a hand so far: its header, its players, and its events, the latest first
 pub record StandsFor (t : Table) (header : Header) (players : ℕ) (h : List Event) : Type 0 where

@@ -37,9 +37,13 @@ pub record PassesOver (header : Header) (players : ℕ) (h : List Event) (seat t
 -- after accepted events, where an act stands, whoever is strictly between the last actor and its player owes nothing; and an
 -- act that is out of turn is told the nearest of those who do
 pub record PassesNobodyOver : Type 0 where
-  pub stands : (header : Header) (players : ℕ) (h : List Event) (to : ℕ) (act : Deed) (all_in : Bool) (shown : List ℕ)
-      → IsAccepted header players (Act to act all_in shown ∷ h) → (from : ℕ) → last_actor header h ≡ Some from
+  pub stands : (header : Header) (players : ℕ) (h : List Event) (to : ℕ) (act : Deed)
+      (all_in : Bool) (shown : List ℕ)
+      → IsAccepted header players (Act to act all_in shown ∷ h) → (from : ℕ)
+      → last_actor header h ≡ Some from
       → (seat : ℕ) → IsBetween from seat to → owes (table_of header players h) seat ≡ false
-  pub refused : (header : Header) (players : ℕ) (h : List Event) (to : ℕ) (act : Deed) (all_in : Bool) (shown : List ℕ)
-      → IsAccepted header players h → Fits (Act to act all_in shown) → (seat : ℕ) → legal header players h (Act to act all_in shown) ≡ Some (OutOfTurn seat)
+  pub refused : (header : Header) (players : ℕ) (h : List Event) (to : ℕ) (act : Deed)
+      (all_in : Bool) (shown : List ℕ)
+      → IsAccepted header players h → Fits (Act to act all_in shown) → (seat : ℕ)
+      → legal header players h (Act to act all_in shown) ≡ Some (OutOfTurn seat)
       → PassesOver header players h seat to

@@ -16,8 +16,10 @@ use Rattle.betting_replay.specs.Tables.{point}
 
 -- a card is on both boards exactly where it came with a street before the first that has two
 pub record ShareBoards (header : Header) (h : List Event) (from : StreetName) (others : List ℕ) : Type 0 where
-  pub before : (card : ℕ) → has_card (owned header.game h 0) card ≡ true → has_card others card ≡ true → has_card (board_before h from) card ≡ true
-  pub first : (card : ℕ) → has_card (board_before h from) card ≡ true → has_card (owned header.game h 0) card ≡ true
+  pub before : (card : ℕ) → has_card (owned header.game h 0) card ≡ true
+      → has_card others card ≡ true → has_card (board_before h from) card ≡ true
+  pub first : (card : ℕ) → has_card (board_before h from) card ≡ true
+      → has_card (owned header.game h 0) card ≡ true
   pub second : (card : ℕ) → has_card (board_before h from) card ≡ true → has_card others card ≡ true
 
 -- after accepted events whose markers have their cards a hand that is run twice has a board, has two from a street behind the first on, and was
@@ -26,11 +28,14 @@ pub record IsRunTwice (header : Header) (players : ℕ) (h : List Event) (from :
   pub board : has_board header.game ≡ true
   pub later : is_later from ≡ true
   pub all_in : is_some (point header players h) ≡ true
-  pub known : (found : Point) → point header players h ≡ Some found → (card : ℕ) → has_card (board_up_to h found.street) card ≡ true → has_card (board_before h from) card ≡ true
+  pub known : (found : Point) → point header players h ≡ Some found → (card : ℕ)
+      → has_card (board_up_to h found.street) card ≡ true
+      → has_card (board_before h from) card ≡ true
   pub share : (second : List ℕ) → second_board h ≡ Some second → ShareBoards header h from second
 
 pub record RunsTwice : Type 0 where
-  pub twice : (header : Header) (players : ℕ) (h : List Event) → IsAccepted header players h → MarkersFit header.game h
+  pub twice : (header : Header) (players : ℕ) (h : List Event) → IsAccepted header players h
+      → MarkersFit header.game h
       → (from : StreetName) → twice_from h ≡ Some from → IsRunTwice header players h from
   -- a second board has come only where the hand is run twice
   pub second : (header : Header) (players : ℕ) (h : List Event) → IsAccepted header players h

@@ -36,7 +36,7 @@ impl Replay {
         self.opened
             && self.contender_count() >= 2
             && self.funded_count() <= 1
-            && self.owes().is_none()
+            && self.next_to_act().is_none()
             && !self.last_begun
     }
 
@@ -115,7 +115,7 @@ impl Replay {
     /// The cards that are dead at that point: all that were thrown away face up, and all of the players
     /// who had folded there, by the whole text. None are where no moment was one.
     #[tactic(auto, unfolding(crate::specs::AllIn::dead_at))]
-    pub fn dead(&self) -> CardSet
+    pub fn dead_cards(&self) -> CardSet
         ensures { result ≡ dead_at self.now }
     {
         match self.point {

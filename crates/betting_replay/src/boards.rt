@@ -83,7 +83,7 @@ impl Replay {
     }
 
     /// The cards that two boards share.
-    fn shared(&self) -> CardSet
+    fn shared_cards(&self) -> CardSet
         ensures { result ≡ shared_by self.now.twice self.now.flop self.now.turn self.now.river }
     {
         match self.twice {
@@ -109,7 +109,7 @@ impl Replay {
             .union(self.second_turn)
             .union(self.second_river);
         match self.second {
-            Some(_) => Some(self.shared().union(own)),
+            Some(_) => Some(self.shared_cards().union(own)),
             None => None,
         }
     }

@@ -26,6 +26,7 @@ fn with_two(cards: CardSet, others: CardSet, row: &[Card]) -> CardSet
         all = all.with(*card);
         left -= 1;
     }
+    // They are a set of cards: with no card more they are themselves.
     all.rising();
     all
 }
@@ -144,7 +145,7 @@ impl Replay {
     }
 
     /// What a player keeps when he draws.
-    fn kept(&self, seat: u8) -> Option<CardSet>
+    fn kept_cards(&self, seat: u8) -> Option<CardSet>
         requires { seat < 11 }
         ensures { result ≡ kept (holding_at self.now seat) }
     {
@@ -167,7 +168,7 @@ impl Replay {
         ensures { result ≡ known_drawn (holding_at self.now seat) street }
     {
         match street {
-            Street::First => self.kept(seat),
+            Street::First => self.kept_cards(seat),
             _ => self.final_drawn(seat),
         }
     }
@@ -183,7 +184,7 @@ impl Replay {
     }
 
     /// What a player keeps when he draws for the last time.
-    fn kept_last(&self, seat: u8) -> Option<CardSet>
+    fn last_kept_cards(&self, seat: u8) -> Option<CardSet>
         requires { seat < 11 }
         ensures { result ≡ kept_last (holding_at self.now seat) }
     {
@@ -207,7 +208,7 @@ impl Replay {
     {
         match street {
             Street::First | Street::FirstDraw => None,
-            Street::SecondDraw => self.kept_last(seat),
+            Street::SecondDraw => self.last_kept_cards(seat),
             _ => self.final_held(seat),
         }
     }

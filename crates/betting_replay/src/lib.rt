@@ -42,6 +42,4 @@ pub use laws::{
     law_places_are_apart, law_places_of_cards, law_stud_cards_are_all_that_were_dealt,
     law_the_last_draw, law_turns_are_taken, law_two_boards, law_whole_boards,
 };
-pub use points::{Point, Showdowns};
 pub use replay::Replay;
-pub use seats::{Acts, Chips, Deals, Draws, LastDraw};

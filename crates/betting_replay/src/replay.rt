@@ -53,7 +53,39 @@ impl Model for Replay {
     ghost use Rattle.betting_replay.specs.Limits.{InLimits};
     ghost use Rattle.std.specs.Prelude.{All, IfSome, ◌≤◌};
 
-    ghost view = { λ r. record { header = r.header; players = r.players; chips = r.chips; acts = r.acts; own = r.own; dealt = r.dealt; held = r.held; shown = r.shown; deals = r.deals; rows = r.rows; draws = r.draws; lasts = r.lasts; named = r.named; thrown = r.thrown; flop = r.flop; turn = r.turn; river = r.river; second_flop = r.second_flop; second_turn = r.second_turn; second_river = r.second_river; button = r.button; street = r.street; opened = r.opened; last_begun = r.last_begun; marker = r.marker; showdowns = r.showdowns; twice = r.twice; second = r.second; small_posted = r.small_posted; last = r.last; point = r.point } };
+    ghost view = { λ r. record {
+      header = r.header;
+      players = r.players;
+      chips = r.chips;
+      acts = r.acts;
+      own = r.own;
+      dealt = r.dealt;
+      held = r.held;
+      shown = r.shown;
+      deals = r.deals;
+      rows = r.rows;
+      draws = r.draws;
+      lasts = r.lasts;
+      named = r.named;
+      thrown = r.thrown;
+      flop = r.flop;
+      turn = r.turn;
+      river = r.river;
+      second_flop = r.second_flop;
+      second_turn = r.second_turn;
+      second_river = r.second_river;
+      button = r.button;
+      street = r.street;
+      opened = r.opened;
+      last_begun = r.last_begun;
+      marker = r.marker;
+      showdowns = r.showdowns;
+      twice = r.twice;
+      second = r.second;
+      small_posted = r.small_posted;
+      last = r.last;
+      point = r.point;
+    } };
 
     ghost invariant = { λ r. All InLimits r.chips × IfSome r.last (λ seat. seat ≤ 10) };
 }

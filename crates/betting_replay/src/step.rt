@@ -1,14 +1,14 @@
 //! The replay goes on by one event.
 
-ghost use Rattle.std.specs.Prelude.{◌≡◌, ℕ, [], ◌∷◌, List, OnOk, OnErr, ◌<◌};
+ghost use Rattle.std.specs.Prelude.{◌≡◌, ℕ, [], ◌∷◌, List, None, OnOk, OnErr, ◌<◌};
 ghost use Rattle.std.specs.Int.{bit_at};
 ghost use Rattle.history_text.specs.declared.events.Event.{Event};
 ghost use Rattle.history_text.specs.declared.events.Header.{Header};
 ghost use Rattle.betting_replay.specs.Events.{SeatFits, seat_of, button_after, posts_small, is_act};
-ghost use Rattle.betting_replay.specs.Limits.{AmountsFit, Affords};
-ghost use Rattle.betting_replay.specs.Tables.{StandsFor, chips_at};
+ghost use Rattle.betting_replay.specs.Limits.{AmountsFit};
+ghost use Rattle.betting_replay.specs.Tables.{StandsFor};
 ghost use Rattle.betting_replay.specs.Counting.{counted};
-ghost use Rattle.betting_replay.specs.Faults.{verdict, legal};
+ghost use Rattle.betting_replay.specs.Faults.{verdict, legal, fault_at};
 
 use crate::boards::{cards_on, cards_second};
 use crate::counting::{acts_after, chips_after};
@@ -125,11 +125,12 @@ impl Replay {
         }
     }
 
-    /// The event counts for its seat.
+    /// The event, which passed each test, counts for its seat.
     #[tactic(auto, unfolding(crate::specs::Counting::counted))]
     fn count(&mut self, e: &Event)
         requires seat { SeatFits e.now }
-        requires affords { Affords self.old.header.big self.old.small_posted e.now (chips_at self.old (seat_of e.now)) }
+        requires amounts { AmountsFit e.now }
+        requires legal { fault_at self.old e.now ≡ None }
         ensures { self.new ≡ counted self.old e.now }
     {
         let seat = seat_of(e);
@@ -173,11 +174,13 @@ impl Replay {
     pub fn step(&mut self, e: &Event) -> Result<(), BetFault>
         requires seats { SeatFits e.now }
         requires amounts { AmountsFit e.now }
-        ensures verdict { (header : Header) (players : ℕ) (h : List Event) → StandsFor self.old header players h → result ≡ verdict (legal header players h e.now) }
-        ensures ok { OnOk result ((header : Header) (players : ℕ) (h : List Event) → StandsFor self.old header players h → StandsFor self.new header players (e.now ∷ h)) }
+        ensures verdict { (header : Header) (players : ℕ) (h : List Event)
+            → StandsFor self.old header players h
+            → result ≡ verdict (legal header players h e.now) }
+        ensures ok { OnOk result ((header : Header) (players : ℕ) (h : List Event)
+            → StandsFor self.old header players h → StandsFor self.new header players (e.now ∷ h)) }
         ensures err { OnErr result (self.new ≡ self.old) }
     {
-        let _ = &self.header;
         self.judge(e)?;
         self.count(e);
         self.begin_with(e);

@@ -271,7 +271,7 @@ impl Replay {
     fn all_acted(&self) -> Result<(), BetFault>
         ensures { result ≡ verdict (fault_with StreetEarly (next_to_act self.now)) }
     {
-        match self.owes() {
+        match self.next_to_act() {
             Some(seat) => Err(BetFault::StreetEarly(seat)),
             None => Ok(()),
         }

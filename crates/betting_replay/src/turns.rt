@@ -118,7 +118,7 @@ impl Replay {
 
     /// Whether the seat owes an act.
     #[tactic(auto, unfolding(crate::specs::Turns::owes))]
-    pub(crate) fn owes_act(&self, seat: u8) -> bool
+    pub(crate) fn owes(&self, seat: u8) -> bool
         requires { seat < 11 }
         ensures { result ≡ owes self.now seat }
     {
@@ -134,7 +134,7 @@ impl Replay {
         self.is_open()
             && self.is_contender(seat)
             && self.has_chips(seat)
-            && (self.owes_act(seat) || !self.acts[seat as usize].acted)
+            && (self.owes(seat) || !self.acts[seat as usize].acted)
     }
 
     /// The first seat from one on, and below an end, that owes an act.
@@ -179,7 +179,7 @@ impl Replay {
 
     /// The first who owes an act after the last actor, or from seat 1 where nobody has acted. None
     /// exactly where nobody owes one.
-    pub fn owes(&self) -> Option<u8>
+    pub fn next_to_act(&self) -> Option<u8>
         ensures value { result ≡ next_to_act self.now }
         ensures nobody { IsNone result → (p : ℕ) → 1 ≤ p → p ≤ 10 → owes self.now p ≡ false }
         ensures one { IfSome result (λ seat. owes self.now seat ≡ true) }

@@ -2,6 +2,17 @@
 //!
 //! A source or a sink may tell its bytes to contracts, as those over memory and the source of one line
 //! do, or tell nothing, as those over std's readers and writers.
+//!
+//! - A call of [`Source::read`] or [`Sink::write`] moves some bytes, as many as one call of what lies below
+//!   moves, and of an input that has ended none. [`write_all`] asks until all are taken.
+//! - What fails is an answer, and is counted, up to 2^64 - 1. A caller who lets an answer go still finds the
+//!   fault in the count. Nothing is tried again, and where bytes are told a call that fails moves none.
+//! - The traits say what each end keeps to, and a caller who is generic in its ends knows that alone. An end
+//!   over memory also says how much each call moves and just which fail, by a list that it is given, so
+//!   that in tests bytes come in pieces and calls fail wherever one likes.
+//!
+//! No end knows what the bytes mean, or looks at them. Only [`MemorySink::new`] takes memory, for all that
+//! will be written.
 #![tactic(auto)]
 
 ghost use Rattle.std.specs.Prelude.{◌≡◌, ℕ, ◌<◌, ◌≤◌, length, List, Option, IfOk, OnOk, OnErr};
@@ -30,9 +41,13 @@ pub trait Source {
     /// Reads some bytes into the front of the piece and answers how many. 0 for a piece that
     /// isn't empty is the end of the input.
     fn read(&mut self, piece: &mut [u8]) -> Result<usize, Failed>
+        // A read that succeeds moves so many bytes from what is left into the piece; no fault is counted.
         ensures within { IfOk result (λ n. n ≤ length piece.new) }
-        ensures bytes { IfOk result (λ n. Reads (left self.old) (left self.new) piece.old piece.new n) }
+        ensures bytes { IfOk result
+            (λ n. Reads (left self.old) (left self.new) piece.old piece.new n) }
         ensures fine { OnOk result (faults self.new ≡ faults self.old) }
+
+        // One that fails is counted, and leaves what is left as it was.
         ensures fault { OnErr result (Rises (faults self.old) (faults self.new)) }
         ensures same { OnErr result (left self.new ≡ left self.old) };
 }
@@ -48,10 +63,13 @@ pub trait Sink {
     /// Takes some bytes of the front of the piece, at least one of a piece that isn't empty, and
     /// answers how many.
     fn write(&mut self, piece: &[u8]) -> Result<usize, Failed>
+        // A write that succeeds takes so many bytes of the piece's front; no fault is counted.
         ensures within { IfOk result (λ n. n ≤ length piece.now) }
         ensures some { IfOk result (λ n. 0 < length piece.now → 0 < n) }
         ensures bytes { IfOk result (λ n. Takes (taken self.old) (taken self.new) piece.now n) }
         ensures fine { OnOk result (faults self.new ≡ faults self.old) }
+
+        // One that fails is counted, and takes nothing.
         ensures fault { OnErr result (Rises (faults self.old) (faults self.new)) }
         ensures same { OnErr result (taken self.new ≡ taken self.old) };
 }

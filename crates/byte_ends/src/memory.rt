@@ -69,17 +69,24 @@ impl Source for MemorySource {
     ghost faults = { λ s. s.faults };
 
     fn read(&mut self, piece: &mut [u8]) -> Result<usize, Failed>
+        // What the trait says of each source.
         ensures within { IfOk result (λ n. n ≤ length piece.new) }
         ensures bytes { IfOk result (λ n.
             Reads (Some self.old.left) (Some self.new.left) piece.old piece.new n) }
         ensures fine { OnOk result (self.new.faults ≡ self.old.faults) }
         ensures fault { OnErr result (Rises self.old.faults self.new.faults) }
         ensures same { OnErr result (Some self.new.left ≡ Some self.old.left) }
+
+        // Just the listed reads fail.
         ensures refused { IsErr result ↔ IsListed self.old.fails self.old.calls }
+
+        // How much is read, and what stands where in the piece.
         ensures amount { IfOk result (λ n.
             n ≡ least (length piece.old) self.old.piece (length self.old.left)) }
         ensures given { IfOk result (λ n. piece.new ≡ take n self.old.left ++ drop n piece.old) }
         ensures kept { OnErr result (piece.new ≡ piece.old) }
+
+        // What the source shows then: these two clauses give all of it.
         ensures after { IfOk result (λ n. self.new ≡ record self.old {
           left = drop n self.old.left;
           calls = one_more self.old.calls;
@@ -178,15 +185,25 @@ impl Sink for MemorySink {
     ghost faults = { λ s. s.faults };
 
     fn write(&mut self, piece: &[u8]) -> Result<usize, Failed>
+        // What the trait says of each sink.
         ensures within { IfOk result (λ n. n ≤ length piece.now) }
         ensures some { IfOk result (λ n. 0 < length piece.now → 0 < n) }
-        ensures bytes { IfOk result (λ n. Takes (Some self.old.taken) (Some self.new.taken) piece.now n) }
+        ensures bytes { IfOk result
+            (λ n. Takes (Some self.old.taken) (Some self.new.taken) piece.now n) }
         ensures fine { OnOk result (self.new.faults ≡ self.old.faults) }
         ensures fault { OnErr result (Rises self.old.faults self.new.faults) }
         ensures same { OnErr result (Some self.new.taken ≡ Some self.old.taken) }
+
+        // The listed writes fail, and those for which there is no room at all.
         ensures refused { IsErr result ↔
-            (IsListed self.old.fails self.old.calls ⊎ (0 < length piece.now) × (self.old.room ≡ 0)) }
-        ensures amount { IfOk result (λ n. n ≡ least (length piece.now) self.old.piece self.old.room) }
+            (IsListed self.old.fails self.old.calls
+            ⊎ (0 < length piece.now) × (self.old.room ≡ 0)) }
+
+        // As much is taken as the sink's piece and its room allow.
+        ensures amount { IfOk result
+            (λ n. n ≡ least (length piece.now) self.old.piece self.old.room) }
+
+        // What the sink shows then: these two clauses give all of it.
         ensures after { IfOk result (λ n. self.new ≡ record self.old {
           taken = self.old.taken ++ take n piece.now;
           room = self.old.room - n;

@@ -52,14 +52,18 @@ impl Source for RepeatSource {
     ghost faults = { λ _. 0 };
 
     fn read(&mut self, piece: &mut [u8]) -> Result<usize, Failed>
+        // What the trait says of each source, and no read fails.
         ensures within { IfOk result (λ n. n ≤ length piece.new) }
         ensures bytes { IfOk result (λ n.
             Reads (Some self.old.left) (Some self.new.left) piece.old piece.new n) }
         ensures fine { IsOk result }
+
+        // How much is read, what stands where in the piece, and what the source shows then.
         ensures amount { IfOk result (λ n.
             n ≡ least (length piece.old) self.old.piece (length self.old.left)) }
         ensures given { IfOk result (λ n. piece.new ≡ take n self.old.left ++ drop n piece.old) }
-        ensures after { IfOk result (λ n. self.new ≡ record self.old { left = drop n self.old.left }) }
+        ensures after { IfOk result
+            (λ n. self.new ≡ record self.old { left = drop n self.old.left }) }
     {
         let count = piece.len().min(self.piece).min(self.left as usize);
         fill(&mut piece[..count], &self.line, self.given);

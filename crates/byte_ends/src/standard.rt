@@ -40,10 +40,15 @@ impl<R: Read> Source for StdSource<R> {
 
     /// One read of the reader. Each error of it is a fault.
     fn read(&mut self, piece: &mut [u8]) -> Result<usize, Failed>
+        // What the trait says of each source, but that no bytes are told.
         ensures within { IfOk result (λ n. n ≤ length piece.new) }
         ensures fine { OnOk result (self.new.faults ≡ self.old.faults) }
         ensures fault { OnErr result (Rises self.old.faults self.new.faults) }
+
+        // The count goes up by one, and stays at its type's end.
         ensures counted { OnErr result (self.new.faults ≡ one_more self.old.faults) }
+
+        // Where std's reader tells its bytes these are the next of them.
         ensures known { ReadConsumes self.old.known self.new.known result piece.new }
     {
         match self.reader.read(piece) {
@@ -88,11 +93,16 @@ impl<W: Write> Sink for StdSink<W> {
     /// One write of the writer. Each error of it is a fault, and so is a write of no byte of a
     /// piece that isn't empty.
     fn write(&mut self, piece: &[u8]) -> Result<usize, Failed>
+        // What the trait says of each sink, but that no bytes are told.
         ensures within { IfOk result (λ n. n ≤ length piece.now) }
         ensures some { IfOk result (λ n. 0 < length piece.now → 0 < n) }
         ensures fine { OnOk result (self.new.faults ≡ self.old.faults) }
         ensures fault { OnErr result (Rises self.old.faults self.new.faults) }
+
+        // The count goes up by one, and stays at its type's end.
         ensures counted { OnErr result (self.new.faults ≡ one_more self.old.faults) }
+
+        // Where std's writer tells its bytes these come behind them.
         ensures known { WriteAppends self.old.known self.new.known result piece.now }
     {
         match self.writer.write(piece) {

@@ -1,24 +1,12 @@
 //! Hands of all nine categories and their edges.
 
-use card_sets::{Card, CardSet};
+use crate::deals::cards;
 use rank_high::{HighValue, high_of_five, high_of_set};
 use std::test::Fail;
 
-/// The cards that a text of two letters a card names.
-fn cards(text: &str) -> Option<CardSet> {
-    let mut set = CardSet::empty();
-    for letters in text.as_bytes().chunks(2) {
-        let [rank, suit] = letters else {
-            return None;
-        };
-        set = set.with(Card::read([*rank, *suit])?);
-    }
-    Some(set)
-}
-
 /// What the best five of the cards that a text names are worth; none where they are not five to seven.
 fn best(text: &str) -> Option<HighValue> {
-    let set = cards(text)?;
+    let set = cards(text.as_bytes())?;
     if set.count() < 5 || set.count() > 7 {
         return None;
     }
@@ -27,7 +15,7 @@ fn best(text: &str) -> Option<HighValue> {
 
 /// What the five cards that a text names are worth; none where they are not five.
 fn five(text: &str) -> Option<HighValue> {
-    let set = cards(text)?;
+    let set = cards(text.as_bytes())?;
     if set.count() != 5 {
         return None;
     }

@@ -4,6 +4,8 @@
 #[cfg(test)]
 mod cards;
 #[cfg(test)]
+mod deals;
+#[cfg(test)]
 mod fractions;
 #[cfg(test)]
 mod high_hands;

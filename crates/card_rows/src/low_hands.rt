@@ -1,33 +1,21 @@
 //! Lows in order, and their edges. The order is by the rules of the games, worked out by hand.
 
-use card_sets::{Card, CardSet};
+use crate::deals::cards;
 use rank_low::{LowValue, ace_five, ace_of_five, deuce_of_five, deuce_seven, eight_or_better};
 use std::test::Fail;
 
 /// What the best five are worth as an ace-to-five low; none where there are not five to seven cards.
 fn ace(text: &str) -> Option<LowValue> {
-    let set = cards(text)?;
+    let set = cards(text.as_bytes())?;
     if set.count() < 5 || set.count() > 7 {
         return None;
     }
     Some(ace_five(set))
 }
 
-/// The cards that a text of two letters a card names.
-fn cards(text: &str) -> Option<CardSet> {
-    let mut set = CardSet::empty();
-    for letters in text.as_bytes().chunks(2) {
-        let [rank, suit] = letters else {
-            return None;
-        };
-        set = set.with(Card::read([*rank, *suit])?);
-    }
-    Some(set)
-}
-
 /// What they are worth as a low of eight or better, if they qualify.
 fn eight(text: &str) -> Option<LowValue> {
-    let set = cards(text)?;
+    let set = cards(text.as_bytes())?;
     if set.count() < 5 || set.count() > 7 {
         return None;
     }
@@ -36,7 +24,7 @@ fn eight(text: &str) -> Option<LowValue> {
 
 /// What five cards are worth as a deuce-to-seven low; none where they are not five.
 fn deuce(text: &str) -> Option<LowValue> {
-    let set = cards(text)?;
+    let set = cards(text.as_bytes())?;
     if set.count() != 5 {
         return None;
     }
@@ -45,7 +33,7 @@ fn deuce(text: &str) -> Option<LowValue> {
 
 /// What five cards are worth as an ace-to-five low, by their groups; none where they are not five.
 fn ace_by_groups(text: &str) -> Option<LowValue> {
-    let set = cards(text)?;
+    let set = cards(text.as_bytes())?;
     if set.count() != 5 {
         return None;
     }
@@ -54,7 +42,7 @@ fn ace_by_groups(text: &str) -> Option<LowValue> {
 
 /// What they are worth as a deuce-to-seven low, by their groups.
 fn deuce_by_groups(text: &str) -> Option<LowValue> {
-    let set = cards(text)?;
+    let set = cards(text.as_bytes())?;
     if set.count() != 5 {
         return None;
     }
@@ -90,22 +78,40 @@ const DEUCE_TO_SEVEN: [&str; 10] = [
     "6h5h4h3h2h",
 ];
 
+/// Whether a low is worse than the one before, where there is one.
+fn is_worse(before: Option<LowValue>, value: LowValue) -> bool {
+    match before {
+        Some(better) => better < value,
+        None => true,
+    }
+}
+
+/// Whether a low is that of its groups, where it has five cards.
+fn is_by_groups(plain: Option<LowValue>, value: LowValue) -> bool {
+    match plain {
+        Some(plain) => plain == value,
+        None => true,
+    }
+}
+
 #[test]
-fn lows_beat_each_other_in_order(rt: HostRuntime) -> Result<(), Fail> {
+fn ace_to_five_lows_beat_each_other_in_order(rt: HostRuntime) -> Result<(), Fail> {
     let mut before: Option<LowValue> = None;
     for text in ACE_TO_FIVE {
         let value = ace(text).ok_or(text)?;
-        assert!(rt; before.is_none_or(|better| better < value));
-        assert!(rt;
-            ace_by_groups(text).is_none_or(|plain| plain == value),
-            "{text}"
-        );
+        assert!(rt; is_worse(before, value), "{text}");
+        assert!(rt; is_by_groups(ace_by_groups(text), value), "{text}");
         before = Some(value);
     }
-    before = None;
+    Ok(())
+}
+
+#[test]
+fn deuce_to_seven_lows_beat_each_other_in_order(rt: HostRuntime) -> Result<(), Fail> {
+    let mut before: Option<LowValue> = None;
     for text in DEUCE_TO_SEVEN {
         let value = deuce(text).ok_or(text)?;
-        assert!(rt; before.is_none_or(|better| better < value));
+        assert!(rt; is_worse(before, value), "{text}");
         assert!(rt; deuce_by_groups(text) == Some(value), "{text}");
         before = Some(value);
     }

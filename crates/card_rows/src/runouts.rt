@@ -1,186 +1,66 @@
 //! Shapes and runouts of spots, counted and listed by hand.
 
-ghost use Rattle.std.specs.Prelude.{◌≡◌, ◌<◌, [], ◌∷◌};
+ghost use Rattle.std.specs.Prelude.{◌<◌};
 
-use card_sets::{Card, CardSet, Game, Known};
-use runout_ranges::{Above, Receiver, Runout, Shape, advance, count_runouts, first_runout, shape};
+use crate::deals::known;
+use card_sets::{Game, Known};
+use runout_ranges::{
+    Above, Receiver, Runout, Shape, Slot, advance, count_runouts, first_runout, shape,
+};
 use std::test::Fail;
 
-/// A set of three cards.
-pub(crate) fn three(a: u8, b: u8, c: u8) -> CardSet
-    requires first { a < b }
-    requires second { b < c }
-    requires deck { c < 52 }
-    ensures { result ≡ a ∷ b ∷ c ∷ [] }
-{
-    two(a, b).with(card(c))
-}
-
-/// A set of two cards.
-fn two(a: u8, b: u8) -> CardSet
-    requires rising { a < b }
-    requires deck { b < 52 }
-    ensures { result ≡ a ∷ b ∷ [] }
-{
-    CardSet::empty().with(card(a)).with(card(b))
-}
-
-/// The card of a number.
-fn card(number: u8) -> Card
-    requires { number < 52 }
-    ensures { result ≡ number }
-{
-    Card::new(number / 4, number % 4).unwrap()
-}
-
-/// A set of four cards.
-fn four(a: u8, b: u8, c: u8, d: u8) -> CardSet
-    requires first { a < b }
-    requires second { b < c }
-    requires third { c < d }
-    requires deck { d < 52 }
-    ensures { result ≡ a ∷ b ∷ c ∷ d ∷ [] }
-{
-    three(a, b, c).with(card(d))
-}
-
 /// As Ah against Ks Kh, with 2c 4s 7d 9h on the board.
-pub(crate) fn turn_spot() -> Known {
-    let none = CardSet::empty();
-    Known {
-        game: Game::Holdem,
-        count: 2,
-        hands: [
-            two(50, 51),
-            two(46, 47),
-            none,
-            none,
-            none,
-            none,
-            none,
-            none,
-            none,
-            none,
-        ],
-        board: four(0, 11, 21, 30),
-        dead: none,
-    }
+pub(crate) fn turn_spot() -> Option<Known> {
+    known(Game::Holdem, &[b"AsAh", b"KsKh"], b"2c4s7d9h", b"")
 }
 
 /// As Ah against Ks Kh, with 2c 7c 9c on the board.
-pub(crate) fn flop_spot() -> Known {
-    let none = CardSet::empty();
-    Known {
-        game: Game::Holdem,
-        count: 2,
-        hands: [
-            two(50, 51),
-            two(46, 47),
-            none,
-            none,
-            none,
-            none,
-            none,
-            none,
-            none,
-            none,
-        ],
-        board: three(0, 20, 28),
-        dead: none,
-    }
+pub(crate) fn flop_spot() -> Option<Known> {
+    known(Game::Holdem, &[b"AsAh", b"KsKh"], b"2c7c9c", b"")
 }
 
 /// The same with 2d and 2h dead.
-fn flop_spot_with_dead_cards() -> Known {
-    let none = CardSet::empty();
-    Known {
-        game: Game::Holdem,
-        count: 2,
-        hands: [
-            two(50, 51),
-            two(46, 47),
-            none,
-            none,
-            none,
-            none,
-            none,
-            none,
-            none,
-            none,
-        ],
-        board: three(0, 20, 28),
-        dead: two(1, 2),
-    }
+fn flop_spot_with_dead_cards() -> Option<Known> {
+    known(Game::Holdem, &[b"AsAh", b"KsKh"], b"2c7c9c", b"2d2h")
 }
 
 /// Single draw, two hands that keep four cards each, the deuces and the treys.
-pub(crate) fn draw_spot() -> Known {
-    let none = CardSet::empty();
-    Known {
-        game: Game::Lowball27,
-        count: 2,
-        hands: [
-            four(0, 1, 2, 3),
-            four(4, 5, 6, 7),
-            none,
-            none,
-            none,
-            none,
-            none,
-            none,
-            none,
-            none,
-        ],
-        board: none,
-        dead: none,
-    }
+pub(crate) fn draw_spot() -> Option<Known> {
+    known(Game::Lowball27, &[b"2c2d2h2s", b"3c3d3h3s"], b"", b"")
 }
 
 /// Seven card stud, two hands of four cards each, the deuces and the treys.
-pub(crate) fn stud_spot() -> Known {
-    let none = CardSet::empty();
-    Known {
-        game: Game::Stud,
-        count: 2,
-        hands: [
-            four(0, 1, 2, 3),
-            four(4, 5, 6, 7),
-            none,
-            none,
-            none,
-            none,
-            none,
-            none,
-            none,
-            none,
-        ],
-        board: none,
-        dead: none,
-    }
+pub(crate) fn stud_spot() -> Option<Known> {
+    known(Game::Stud, &[b"2c2d2h2s", b"3c3d3h3s"], b"", b"")
+}
+
+/// Ten hands of a game of which nothing is known.
+fn dark(game: Game) -> Option<Known> {
+    let none = b"".as_slice();
+    known(game, &[none; 10], b"", b"")
 }
 
 /// Single draw with ten hands of which nothing is known.
-pub(crate) fn dark_draw() -> Known {
-    let none = CardSet::empty();
-    Known {
-        game: Game::Lowball27,
-        count: 10,
-        hands: [none; 10],
-        board: none,
-        dead: none,
-    }
+pub(crate) fn dark_draw() -> Option<Known> {
+    dark(Game::Lowball27)
 }
 
 /// Seven card stud with ten hands of which nothing is known.
-pub(crate) fn dark_stud() -> Known {
-    let none = CardSet::empty();
-    Known {
-        game: Game::Stud,
-        count: 10,
-        hands: [none; 10],
-        board: none,
-        dead: none,
+pub(crate) fn dark_stud() -> Option<Known> {
+    dark(Game::Stud)
+}
+
+/// What is still to come; none where nothing is known, or too few cards are left.
+fn shape_of(known: &Option<Known>) -> Option<Shape> {
+    match known {
+        Some(known) => shape(known),
+        None => None,
     }
+}
+
+/// Whether a shape has these slots, in this order.
+pub(crate) fn has_slots(shape: &Shape, slots: &[Slot]) -> bool {
+    &shape.slots[..usize::from(shape.used)] == slots
 }
 
 /// The numbers of the least and the greatest card of a slot.
@@ -225,7 +105,7 @@ fn walked(shape: &Shape, slot: u8) -> Walk
 
 #[test]
 fn the_river_is_each_of_44_cards_once(rt: HostRuntime) -> Result<(), Fail> {
-    let shape = shape(&turn_spot()).ok_or("no shape")?;
+    let shape = shape_of(&turn_spot()).ok_or("no shape")?;
     let river = shape.slots[0];
     assert_eq!(rt; shape.unseen.count(), 44);
     assert_eq!(rt; shape.used, 1);
@@ -240,7 +120,7 @@ fn the_river_is_each_of_44_cards_once(rt: HostRuntime) -> Result<(), Fail> {
 
 #[test]
 fn turn_and_river_are_chosen_once_in_either_order(rt: HostRuntime) -> Result<(), Fail> {
-    let shape = shape(&flop_spot()).ok_or("no shape")?;
+    let shape = shape_of(&flop_spot()).ok_or("no shape")?;
     assert_eq!(rt; shape.used, 1);
     let seen = walked(&shape, 0);
     assert_eq!(rt; seen.first, (1, 2), "2d 2h first");
@@ -251,7 +131,7 @@ fn turn_and_river_are_chosen_once_in_either_order(rt: HostRuntime) -> Result<(),
 
 #[test]
 fn dead_cards_do_not_come(rt: HostRuntime) -> Result<(), Fail> {
-    let shape = shape(&flop_spot_with_dead_cards()).ok_or("no shape")?;
+    let shape = shape_of(&flop_spot_with_dead_cards()).ok_or("no shape")?;
     assert_eq!(rt; shape.used, 1);
     let seen = walked(&shape, 0);
     assert_eq!(rt; seen.first, (3, 4), "2s 3c first");
@@ -261,7 +141,7 @@ fn dead_cards_do_not_come(rt: HostRuntime) -> Result<(), Fail> {
 
 #[test]
 fn the_second_hand_draws_from_what_the_first_leaves(rt: HostRuntime) -> Result<(), Fail> {
-    let shape = shape(&draw_spot()).ok_or("no shape")?;
+    let shape = shape_of(&draw_spot()).ok_or("no shape")?;
     let hand = shape.slots[1];
     assert_eq!(rt; shape.used, 2);
     assert_eq!(rt; hand.receiver, Receiver::Hand(1));
@@ -284,18 +164,20 @@ fn the_second_hand_draws_from_what_the_first_leaves(rt: HostRuntime) -> Result<(
 
 #[test]
 fn runouts_are_counted_up_to_a_limit(rt: HostRuntime) -> Result<(), Fail> {
-    let turn = shape(&turn_spot()).ok_or("no shape")?;
+    let turn = shape_of(&turn_spot()).ok_or("no shape")?;
     assert_eq!(rt; count_runouts(&turn, 44), Ok(44));
     assert_eq!(rt; count_runouts(&turn, 43), Err(Above));
-    let stud = shape(&stud_spot()).ok_or("no shape")?;
+    let stud = shape_of(&stud_spot()).ok_or("no shape")?;
     assert_eq!(rt; count_runouts(&stud, u64::MAX), Ok(141_181_040));
-    let draw = shape(&dark_draw()).ok_or("no shape")?;
+    let draw = shape_of(&dark_draw()).ok_or("no shape")?;
     assert_eq!(rt; draw.used, 10);
     assert_eq!(rt; count_runouts(&draw, u64::MAX), Err(Above));
     Ok(())
 }
 
 #[test]
-fn ten_stud_hands_need_more_than_a_deck(rt: HostRuntime) {
-    assert!(rt; shape(&dark_stud()).is_none());
+fn ten_stud_hands_need_more_than_a_deck(rt: HostRuntime) -> Result<(), Fail> {
+    let dark = dark_stud().ok_or("not known")?;
+    assert!(rt; shape(&dark).is_none());
+    Ok(())
 }

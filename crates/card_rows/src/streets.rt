@@ -1,10 +1,11 @@
 //! Streets of known states, one after the other, and the sums over the choices of their cards, worked out by hand.
 
-ghost use Rattle.std.specs.Prelude.{◌≡◌, ◌<◌, [], ◌∷◌};
+ghost use Rattle.std.specs.Prelude.{◌≡◌, ◌<◌};
 
-use crate::runouts::{dark_draw, dark_stud, draw_spot, flop_spot, stud_spot, three, turn_spot};
-use crate::settling::{all_settled, card, cell, four, two};
-use card_sets::{CardSet, Game, Known, Side};
+use crate::deals::known;
+use crate::runouts::{dark_draw, dark_stud, draw_spot, flop_spot, has_slots, stud_spot, turn_spot};
+use crate::settling::{cell, has_cells, has_units, own_count};
+use card_sets::{Game, Known, Side};
 use equity_job::Scratch;
 use runout_ranges::{Receiver, Runout, Shape, Slot, first_runout, shape};
 use showdown_tally::{Table, Tally};
@@ -14,85 +15,24 @@ use std::test::Fail;
 use step_count::Steps;
 use street_walk::{StreetFault, after_street, divisions, next_street, street_sum};
 
-/// A set of one card.
-fn one(a: u8) -> CardSet
-    requires { a < 52 }
-    ensures { result ≡ a ∷ [] }
-{
-    CardSet::empty().with(card(a))
-}
-
 /// As Ah against Ks Kh, with 2c alone on the board.
-fn one_on_board() -> Known {
-    let none = CardSet::empty();
-    Known {
-        game: Game::Holdem,
-        count: 2,
-        hands: [
-            two(50, 51),
-            two(46, 47),
-            none,
-            none,
-            none,
-            none,
-            none,
-            none,
-            none,
-            none,
-        ],
-        board: one(0),
-        dead: none,
-    }
+fn one_on_board() -> Option<Known> {
+    known(Game::Holdem, &[b"AsAh", b"KsKh"], b"2c", b"")
 }
 
 /// Omaha, As Ah, which lacks two cards, against four kings, with 2c 7c 9c on the board.
-fn two_own_cards_known() -> Known {
-    let none = CardSet::empty();
-    Known {
-        game: Game::Omaha,
-        count: 2,
-        hands: [
-            two(50, 51),
-            four(44, 45, 46, 47),
-            none,
-            none,
-            none,
-            none,
-            none,
-            none,
-            none,
-            none,
-        ],
-        board: three(0, 20, 28),
-        dead: none,
-    }
+fn two_own_cards_known() -> Option<Known> {
+    known(Game::Omaha, &[b"AsAh", b"KcKdKhKs"], b"2c7c9c", b"")
 }
 
 /// Omaha, Kc Kd Kh, which lacks a card, against a royal flush, with 4c Ts Js Qs on the board.
-fn three_own_cards_known() -> Known {
-    let none = CardSet::empty();
-    Known {
-        game: Game::Omaha,
-        count: 2,
-        hands: [
-            three(44, 45, 46),
-            four(1, 5, 47, 51),
-            none,
-            none,
-            none,
-            none,
-            none,
-            none,
-            none,
-            none,
-        ],
-        board: four(8, 35, 39, 43),
-        dead: none,
-    }
+fn three_own_cards_known() -> Option<Known> {
+    known(Game::Omaha, &[b"KcKdKh", b"2d3dKsAs"], b"4cTsJsQs", b"")
 }
 
 /// The table of two hands or of ten in which the first two play for a pot.
-fn table_of(known: Known) -> Option<Table> {
+fn table_of(known: Option<Known>) -> Option<Table> {
+    let known = known?;
     let eligible = [0b11, 0, 0, 0, 0, 0, 0, 0, 0, 0];
     if known.count == 2 {
         return Some(Table {
@@ -133,6 +73,26 @@ fn next_of(known: &Known) -> Option<Next> {
     })
 }
 
+/// Whether the next street of a state has these slots, and a runout divides in so many ways.
+fn is_next(known: &Known, slots: &[Slot], divisions: u64) -> bool {
+    match next_of(known) {
+        Some(next) => has_slots(&next.step, slots) && next.divisions == divisions,
+        None => false,
+    }
+}
+
+/// How many cards may come on the next street of a state.
+fn unseen_next(known: &Known) -> Option<u32> {
+    Some(next_of(known)?.step.unseen.count())
+}
+
+/// How many cards the board and the first two hands have after the first choice of the next street.
+fn counts_after(known: &Known) -> Option<(u32, [u32; 2])> {
+    let after = next_of(known)?.after;
+    let hands = [after.hands[0].count(), after.hands[1].count()];
+    Some((after.board.count(), hands))
+}
+
 /// How many cards the board has, and how many on each street behind; 0 behind the last.
 fn board_sizes(known: Known) -> [u32; 5] {
     let mut sizes = [0; 5];
@@ -166,11 +126,6 @@ fn sum_of(table: &Table) -> Option<Tally> {
     }
 }
 
-/// The table's own count.
-fn own_count(table: &Table) -> Option<Tally> {
-    all_settled::<Brand>(table, Blank::new(1))
-}
-
 /// Why a table has no sum; none where it has one.
 fn fault_in(table: &Table) -> Option<StreetFault> {
     match summed::<Brand>(table, Blank::new(1)) {
@@ -179,10 +134,10 @@ fn fault_in(table: &Table) -> Option<StreetFault> {
     }
 }
 
-/// Why a state has no sum.
-fn fault_of(known: &Known) -> Option<StreetFault> {
-    match table_of(*known) {
-        Some(table) => fault_in(&table),
+/// Why a table that there is has no sum.
+fn fault_of(table: &Option<Table>) -> Option<StreetFault> {
+    match table {
+        Some(table) => fault_in(table),
         None => None,
     }
 }
@@ -220,27 +175,38 @@ fn is_twice_in_each_pot(sum: &Tally, own: &Tally) -> bool {
     true
 }
 
+/// So many cards for the board.
+fn board_slot(count: u8) -> Slot {
+    Slot {
+        receiver: Receiver::Board,
+        count,
+    }
+}
+
+/// So many cards for a hand.
+fn hand_slot(hand: u8, count: u8) -> Slot {
+    Slot {
+        receiver: Receiver::Hand(hand),
+        count,
+    }
+}
+
 /// The turn comes first and then the river, so each two cards come in two ways. The board of five clubs makes
 /// 45 ties; of the others a king without an ace wins for the kings: one time both, 33 times the king of clubs
 /// and 41 times that of diamonds.
 #[test]
 fn a_runout_from_the_flop_divides_in_two_ways(rt: HostRuntime) -> Result<(), Fail> {
     let table = table_of(flop_spot()).ok_or("no table")?;
-    let next = next_of(&table.known).ok_or("no street")?;
-    let turn = Slot {
-        receiver: Receiver::Board,
-        count: 1,
-    };
-    assert_eq!(rt; next.step.used, 1);
-    let slot = next.step.slots[0];
-    assert_eq!(rt; slot, turn);
-    assert_eq!(rt; next.step.unseen.count(), 45);
-    assert_eq!(rt; next.divisions, 2);
+    assert!(rt; is_next(&table.known, &[board_slot(1)], 2));
+    assert_eq!(rt; unseen_next(&table.known), Some(45));
     let sum = sum_of(&table).ok_or("no sum")?;
+    let cells = [
+        (0, 0, Side::High, cell(2 * 870, 2 * 45, 2 * 75)),
+        (0, 1, Side::High, cell(2 * 75, 2 * 45, 2 * 870)),
+    ];
     assert_eq!(rt; sum.runouts(), 45 * 44);
-    assert_eq!(rt; sum.cell(0, 0, Side::High), cell(2 * 870, 2 * 45, 2 * 75));
-    assert_eq!(rt; sum.cell(0, 1, Side::High), cell(2 * 75, 2 * 45, 2 * 870));
-    assert_eq!(rt; sum.units(0, 0), 2 * 870 * 5040 + 2 * 45 * 2520);
+    assert!(rt; has_cells(&sum, &cells));
+    assert!(rt; has_units(&sum, &[(0, 0, 2 * 870 * 5040 + 2 * 45 * 2520)]));
     let own = own_count(&table).ok_or("no runout")?;
     assert_eq!(rt; own.runouts(), 990);
     assert!(rt; is_twice_in_each_pot(&sum, &own));
@@ -250,35 +216,18 @@ fn a_runout_from_the_flop_divides_in_two_ways(rt: HostRuntime) -> Result<(), Fai
 /// Of four cards to come two are the flop's in six ways.
 #[test]
 fn a_board_of_one_card_goes_to_three(rt: HostRuntime) -> Result<(), Fail> {
-    let next = next_of(&one_on_board()).ok_or("no street")?;
-    let two_more = Slot {
-        receiver: Receiver::Board,
-        count: 2,
-    };
-    assert_eq!(rt; next.step.used, 1);
-    let slot = next.step.slots[0];
-    assert_eq!(rt; slot, two_more);
-    assert_eq!(rt; next.divisions, 6);
-    assert_eq!(rt; board_sizes(one_on_board()), [1, 3, 4, 5, 0]);
+    let known = one_on_board().ok_or("not known")?;
+    assert!(rt; is_next(&known, &[board_slot(2)], 6));
+    assert_eq!(rt; board_sizes(known), [1, 3, 4, 5, 0]);
     Ok(())
 }
 
 /// Each of two hands with three cards to come gets one, in three ways; who lacks none gets none.
 #[test]
 fn hands_of_stud_get_one_card(rt: HostRuntime) -> Result<(), Fail> {
-    let next = next_of(&stud_spot()).ok_or("no street")?;
-    let last = Slot {
-        receiver: Receiver::Hand(1),
-        count: 1,
-    };
-    assert_eq!(rt; next.step.used, 2);
-    let slot = next.step.slots[0];
-    assert_eq!(rt; slot.count, 1);
-    let slot = next.step.slots[1];
-    assert_eq!(rt; slot, last);
-    assert_eq!(rt; next.divisions, 9);
-    let (first, second) = (next.after.hands[0], next.after.hands[1]);
-    assert_eq!(rt; (first.count(), second.count()), (5, 5));
+    let known = stud_spot().ok_or("not known")?;
+    assert!(rt; is_next(&known, &[hand_slot(0, 1), hand_slot(1, 1)], 9));
+    assert_eq!(rt; counts_after(&known), Some((0, [5, 5])));
     Ok(())
 }
 
@@ -286,41 +235,34 @@ fn hands_of_stud_get_one_card(rt: HostRuntime) -> Result<(), Fail> {
 #[test]
 fn hands_of_draw_get_all_cards(rt: HostRuntime) -> Result<(), Fail> {
     let table = table_of(draw_spot()).ok_or("no table")?;
-    let next = next_of(&table.known).ok_or("no street")?;
-    assert_eq!(rt; next.step.used, 2);
-    assert_eq!(rt; next.divisions, 1);
-    let (first, second) = (next.after.hands[0], next.after.hands[1]);
-    assert_eq!(rt; (first.count(), second.count()), (5, 5));
+    assert!(rt; is_next(&table.known, &[hand_slot(0, 1), hand_slot(1, 1)], 1));
+    assert_eq!(rt; counts_after(&table.known), Some((0, [5, 5])));
     let sum = sum_of(&table).ok_or("no sum")?;
+    let cells = [
+        (0, 0, Side::Low, cell(44 * 43, 0, 0)),
+        (0, 1, Side::Low, cell(0, 0, 44 * 43)),
+    ];
     assert_eq!(rt; sum.runouts(), 44 * 43);
-    assert_eq!(rt; sum.cell(0, 0, Side::Low), cell(44 * 43, 0, 0));
-    assert_eq!(rt; sum.cell(0, 1, Side::Low), cell(0, 0, 44 * 43));
+    assert!(rt; has_cells(&sum, &cells));
     Ok(())
 }
 
 /// Own cards that aren't known come with the next street, all of them, and the board's one by one.
 #[test]
 fn own_cards_of_omaha_come_with_the_board(rt: HostRuntime) -> Result<(), Fail> {
-    let next = next_of(&two_own_cards_known()).ok_or("no street")?;
-    let own = Slot {
-        receiver: Receiver::Hand(0),
-        count: 2,
-    };
-    assert_eq!(rt; next.step.used, 2);
-    let slot = next.step.slots[0];
-    assert_eq!(rt; slot.receiver, Receiver::Board);
-    let slot = next.step.slots[0];
-    assert_eq!(rt; slot.count, 1);
-    let slot = next.step.slots[1];
-    assert_eq!(rt; slot, own);
-    assert_eq!(rt; next.divisions, 2);
-    let first = next.after.hands[0];
-    assert_eq!(rt; (next.after.board.count(), first.count()), (4, 4));
+    let known = two_own_cards_known().ok_or("not known")?;
+    assert!(rt; is_next(&known, &[board_slot(1), hand_slot(0, 2)], 2));
+    assert_eq!(rt; counts_after(&known), Some((4, [4, 4])));
+    Ok(())
+}
+
+#[test]
+fn a_hand_that_lacks_a_card_of_omaha_is_summed(rt: HostRuntime) -> Result<(), Fail> {
     let table = table_of(three_own_cards_known()).ok_or("no table")?;
     let sum = sum_of(&table).ok_or("no sum")?;
     assert_eq!(rt; sum.runouts(), 41 * 40);
-    assert_eq!(rt; sum.cell(0, 0, Side::High), cell(0, 0, 41 * 40));
-    assert_eq!(rt; sum.units(0, 1), 41 * 40 * 5040);
+    assert!(rt; has_cells(&sum, &[(0, 0, Side::High, cell(0, 0, 41 * 40))]));
+    assert!(rt; has_units(&sum, &[(0, 1, 41 * 40 * 5040)]));
     Ok(())
 }
 
@@ -328,20 +270,34 @@ fn own_cards_of_omaha_come_with_the_board(rt: HostRuntime) -> Result<(), Fail> {
 /// street have 141,181,040, which divide in nine ways.
 #[test]
 fn sums_are_refused_by_name(rt: HostRuntime) -> Result<(), Fail> {
-    assert_eq!(rt; fault_of(&dark_stud()), Some(StreetFault::DeckShort));
-    assert_eq!(rt; fault_of(&dark_draw()), Some(StreetFault::AboveLimit));
-    assert_eq!(rt; fault_of(&stud_spot()), Some(StreetFault::AboveLimit));
-    assert_eq!(rt; fault_of(&turn_spot()), None);
-    let next = next_of(&turn_spot()).ok_or("no street")?;
-    assert_eq!(rt; fault_of(&next.after), Some(StreetFault::LastStreet));
-    assert!(rt; next_of(&next.after).is_none());
+    assert_eq!(rt;
+        fault_of(&table_of(dark_stud())),
+        Some(StreetFault::DeckShort)
+    );
+    assert_eq!(rt;
+        fault_of(&table_of(dark_draw())),
+        Some(StreetFault::AboveLimit)
+    );
+    assert_eq!(rt;
+        fault_of(&table_of(stud_spot())),
+        Some(StreetFault::AboveLimit)
+    );
+    let turn = table_of(turn_spot()).ok_or("no table")?;
+    assert!(rt; sum_of(&turn).is_some());
+    let river = next_of(&turn.known).ok_or("no street")?.after;
+    assert_eq!(rt;
+        fault_of(&table_of(Some(river))),
+        Some(StreetFault::LastStreet)
+    );
+    assert!(rt; next_of(&river).is_none());
     Ok(())
 }
 
 #[test]
-fn the_laws_of_streets_can_be_called() {
-    let known = flop_spot();
+fn the_laws_of_streets_can_be_called() -> Result<(), Fail> {
+    let known = flop_spot().ok_or("not known")?;
     street_walk::law_streets_go_on(&known);
     street_walk::law_streets_add_up(&known);
     street_walk::law_final_cards_add_up(&known);
+    Ok(())
 }

@@ -131,7 +131,8 @@ impl PlayerSet {
     pub fn passing<F: Fn(u8) -> bool>(end: u8, test: F) -> PlayerSet
         requires few { end ≤ 16 }
         requires callable { (p : ℕ) → p < end → F.pre test p }
-        ensures { (passes : ℕ → Bool) → ((p : ℕ) (pass : Bool) → p < end → F.post test p pass → pass ≡ passes p)
+        ensures { (passes : ℕ → Bool)
+            → ((p : ℕ) (pass : Bool) → p < end → F.post test p pass → pass ≡ passes p)
             → result ≡ players_where passes end }
     {
         let mut set = PlayerSet::empty();

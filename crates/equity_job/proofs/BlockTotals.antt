@@ -7,7 +7,7 @@ use Rattle.card_sets.specs.State.{State}
 use Rattle.runout_ranges.specs.Shapes.{IsShapeOf, slots_of}
 use Rattle.runout_ranges.specs.Slots.{counts_of}
 use Rattle.runout_ranges.specs.declared.shapes.Shape.{Shape}
-use Rattle.runout_ranges.proofs.Numbers.{length_runouts, ways_some}
+use Rattle.runout_ranges.proofs.CallerLemmas.{length_runouts, ways_some}
 use Rattle.showdown_tally.specs.Cells.{Sums, cell_at, units_at}
 use Rattle.showdown_tally.specs.Showdown.{Showdown, wins, ties, loses, units}
 use Rattle.showdown_tally.specs.Tallies.{Counts, cell_over, runouts_after}

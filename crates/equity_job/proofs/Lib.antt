@@ -1,3 +1,4 @@
+pub mod CallerLemmas
 pub mod BlockLists
 pub mod OnlyRunout
 pub mod BlockSums

@@ -49,8 +49,10 @@ pub fn count_block<L: Ledger>(
     steps: &mut Steps<L>,
 ) -> Tally
     requires { block < blocks_of (length (runouts_after (state_of job.now.table.known))) }
-    ensures counts { Counts (deal_of job.now.table) (block_of (runouts_after (state_of job.now.table.known)) block) result }
-    ensures steps { steps.new ≡ steps.old + length (block_of (runouts_after (state_of job.now.table.known)) block) }
+    ensures counts { Counts (deal_of job.now.table)
+        (block_of (runouts_after (state_of job.now.table.known)) block) result }
+    ensures steps { steps.new
+        ≡ steps.old + length (block_of (runouts_after (state_of job.now.table.known)) block) }
 {
     let mut tally = Tally::zero();
     fill_block(job, block, scratch, &mut tally, steps);
@@ -66,8 +68,10 @@ pub fn fill_block<L: Ledger>(
     steps: &mut Steps<L>,
 )
     requires { block < blocks_of (length (runouts_after (state_of job.now.table.known))) }
-    ensures counts { Counts (deal_of job.now.table) (block_of (runouts_after (state_of job.now.table.known)) block) tally.new }
-    ensures steps { steps.new ≡ steps.old + length (block_of (runouts_after (state_of job.now.table.known)) block) }
+    ensures counts { Counts (deal_of job.now.table)
+        (block_of (runouts_after (state_of job.now.table.known)) block) tally.new }
+    ensures steps { steps.new
+        ≡ steps.old + length (block_of (runouts_after (state_of job.now.table.known)) block) }
 {
     if is_full(job) {
         settle_known(job, block, tally, steps);
@@ -114,12 +118,19 @@ struct Span {
 
 /// Where a block of a job stands.
 fn span_of(job: &Job, block: u32) -> Span
+    // The job has such a block.
     requires { block < blocks_of (length (runouts_after (state_of job.now.table.known))) }
+
+    // It lies in the listing, and has no more runouts than a block may have.
     ensures order { result.first ≤ result.end }
     ensures inside { result.end ≤ length (runouts_after (state_of job.now.table.known)) }
     ensures few { result.end - result.first ≤ BLOCK }
-    ensures block { slice_range (runouts_after (state_of job.now.table.known)) result.first result.end ≡ block_of (runouts_after (state_of job.now.table.known)) block }
-    ensures size { length (block_of (runouts_after (state_of job.now.table.known)) block) ≡ result.end - result.first }
+
+    // It is the block by the definition, of which the last may be short.
+    ensures block { slice_range (runouts_after (state_of job.now.table.known)) result.first result.end
+        ≡ block_of (runouts_after (state_of job.now.table.known)) block }
+    ensures size { length (block_of (runouts_after (state_of job.now.table.known)) block)
+        ≡ result.end - result.first }
 {
     let first = u64::from(block) * BLOCK;
     let end = (first + BLOCK).min(job.runouts);
@@ -135,14 +146,24 @@ fn count_span<F: Leaf, L: Ledger>(
     counts: &mut [[u32; 2048]],
     steps: &mut Steps<L>,
 )
+    // The leaf counts the job's deal, and the last slot lacks no fewer cards than it deals at once.
     requires deal { F.deal leaf.old ≡ deal_of job.now.table }
     requires some { 0 < length (slots (state_of job.now.table.known)) }
-    requires deep { F.depth (deal_of job.now.table) ≤ last_count (slots (state_of job.now.table.known)) }
+    requires deep { F.depth (deal_of job.now.table)
+        ≤ last_count (slots (state_of job.now.table.known)) }
+
+    // The span lies in the listing, and has no more runouts than a block may have.
     requires order { span.first ≤ span.end }
     requires inside { span.end ≤ length (runouts_after (state_of job.now.table.known)) }
     requires few { span.end - span.first ≤ BLOCK }
+
+    // There are two rows for each of up to ten pots.
     requires places { length counts.old ≡ 20 }
-    ensures counts { AreSideCounts (deal_of job.now.table) (slice_range (runouts_after (state_of job.now.table.known)) span.first span.end) counts.new }
+
+    // What they held is forgotten.
+    ensures counts { AreSideCounts (deal_of job.now.table)
+        (slice_range
+        (runouts_after (state_of job.now.table.known)) span.first span.end) counts.new }
     ensures steps { steps.new ≡ steps.old + (span.end - span.first) }
 {
     clear_counts(counts, &job.table);
@@ -154,8 +175,10 @@ fn count_span<F: Leaf, L: Ledger>(
 fn settle_known<L: Ledger>(job: &Job, block: u32, tally: &mut Tally, steps: &mut Steps<L>)
     requires none { job.now.shape.used ≡ 0 }
     requires block { block < blocks_of (length (runouts_after (state_of job.now.table.known))) }
-    ensures counts { Counts (deal_of job.now.table) (block_of (runouts_after (state_of job.now.table.known)) block) tally.new }
-    ensures steps { steps.new ≡ steps.old + length (block_of (runouts_after (state_of job.now.table.known)) block) }
+    ensures counts { Counts (deal_of job.now.table)
+        (block_of (runouts_after (state_of job.now.table.known)) block) tally.new }
+    ensures steps { steps.new
+        ≡ steps.old + length (block_of (runouts_after (state_of job.now.table.known)) block) }
 {
     tally.clear();
     let mut runout = Runout::new();

@@ -15,9 +15,13 @@ use step_count::Steps;
 /// Adds to a tally of the first block of a job those of all others, one after another.
 #[inline(never)]
 fn add_others<L: Ledger>(job: &Job, scratch: &mut Scratch, total: &mut Tally, steps: &mut Steps<L>)
-    requires first { Counts (deal_of job.now.table) (blocks_below (runouts_after (state_of job.now.table.known)) 1) total.old }
-    ensures counts { Counts (deal_of job.now.table) (runouts_after (state_of job.now.table.known)) total.new }
-    ensures steps { steps.new + length (blocks_below (runouts_after (state_of job.now.table.known)) 1) ≡ steps.old + length (runouts_after (state_of job.now.table.known)) }
+    requires first { Counts (deal_of job.now.table)
+        (blocks_below (runouts_after (state_of job.now.table.known)) 1) total.old }
+    ensures counts { Counts (deal_of job.now.table)
+        (runouts_after (state_of job.now.table.known)) total.new }
+    ensures steps { steps.new
+        + length (blocks_below (runouts_after (state_of job.now.table.known)) 1)
+        ≡ steps.old + length (runouts_after (state_of job.now.table.known)) }
 {
     let mut tally = Tally::zero();
     for block in 1..job.blocks() {
@@ -33,7 +37,8 @@ pub fn count_blocks<L: Ledger>(
     total: &mut Tally,
     steps: &mut Steps<L>,
 )
-    ensures counts { Counts (deal_of job.now.table) (runouts_after (state_of job.now.table.known)) total.new }
+    ensures counts { Counts (deal_of job.now.table)
+        (runouts_after (state_of job.now.table.known)) total.new }
     ensures some { 0 < total.new.runouts }
     ensures steps { steps.new ≡ steps.old + length (runouts_after (state_of job.now.table.known)) }
 {
@@ -50,7 +55,8 @@ fn count_on<L: Ledger>(job: &Job, scratch: &mut Scratch, total: &mut Tally, blan
     requires name { blank.name ≡ L.name }
     requires parts { blank.parts ≡ L.parts }
     requires some { 0 < blank.parts }
-    ensures counts { Counts (deal_of job.now.table) (runouts_after (state_of job.now.table.known)) total.new }
+    ensures counts { Counts (deal_of job.now.table)
+        (runouts_after (state_of job.now.table.known)) total.new }
     ensures some { 0 < total.new.runouts }
 {
     let mut steps = Steps::<L>::new(blank);
@@ -59,7 +65,8 @@ fn count_on<L: Ledger>(job: &Job, scratch: &mut Scratch, total: &mut Tally, blan
 
 /// Makes a tally that of all runouts of a job, whatever it held, for a caller that counts no steps.
 pub fn count_job(job: &Job, scratch: &mut Scratch, total: &mut Tally)
-    ensures counts { Counts (deal_of job.now.table) (runouts_after (state_of job.now.table.known)) total.new }
+    ensures counts { Counts (deal_of job.now.table)
+        (runouts_after (state_of job.now.table.known)) total.new }
     ensures some { 0 < total.new.runouts }
 {
     count_on::<Brand>(job, scratch, total, Blank::new(1));

@@ -47,7 +47,8 @@ impl Job {
         ensures made { IfOk result (λ job. job.table ≡ table.now) }
         ensures short { IsErrOf result JobFault.DeckShort ↔ IsDeckShort (state_of table.now.known) }
         ensures above { IsErrOf result JobFault.AboveLimit
-            ↔ ((¬ IsDeckShort (state_of table.now.known)) × IsAboveLimit (state_of table.now.known)) }
+            ↔ ((¬ IsDeckShort (state_of table.now.known))
+            × IsAboveLimit (state_of table.now.known)) }
     {
         let Some(shape) = shape(&table.known) else {
             return Err(JobFault::DeckShort);

@@ -14,12 +14,14 @@ pub fn law_blocks_are_all()
 /// The sums of two parts of a listing are those of both.
 pub fn law_block_sums_add()
     ensures { (deal : Showdown) (some more : List (List (List ℕ))) (old other new : Sums)
-        → Counts deal some old → Counts deal more other → IsSum old other new → Counts deal (some ++ more) new }
+        → Counts deal some old → Counts deal more other → IsSum old other new
+        → Counts deal (some ++ more) new }
 {}
 
 /// The total of the sums of all blocks is that of all runouts.
 pub fn law_blocks_add_up()
     ensures { (deal : Showdown) (all : List (List (List ℕ))) (part : ℕ → Sums) (total : Sums)
-        → ((block : ℕ) → block < blocks_of (length all) → Counts deal (block_of all block) (part block))
+        → ((block : ℕ) → block < blocks_of (length all)
+        → Counts deal (block_of all block) (part block))
         → IsTotal part (blocks_of (length all)) total → Counts deal all total }
 {}

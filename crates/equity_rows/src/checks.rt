@@ -141,7 +141,37 @@ const SIDE_POTS_CHANGES: &[Change] = &[
         "Uncalled bet (2400) returned to a\n",
         "hand 88 rejected line 20 UncalledAmount 2500\n",
     ),
+    (
+        29,
+        "Total pot 3501 Main pot 1500. Side pot 2001. | Rake 0\n",
+        "hand 88 rejected line 29 Chips 3501 3500\n",
+    ),
     (29, "", "hand 88 rejected line 32 Unfinished\n"),
+    (
+        3,
+        "Seat 1: a (1000000000000000 in chips)\n",
+        "hand 88 rejected line 3 AmountTooLarge\n",
+    ),
+    (
+        4,
+        "Seat 2: a (500 in chips)\n",
+        "hand 88 rejected line 4 BadHeader\n",
+    ),
+    (
+        5,
+        "Seat 3: c (1500 in chips)\nSeat 11: z (5 in chips)\n",
+        "hand 88 rejected line 6 BadHeader\n",
+    ),
+    (
+        12,
+        "*** FLOP *** [7h 8h 7h]\n",
+        "hand 88 rejected line 12 CardTwice 7h\n",
+    ),
+    (
+        12,
+        "*** FLOP *** [7h 8h\n",
+        "hand 88 rejected line 12 BadCards\n",
+    ),
     (
         1,
         "PokerStars Hand #88: Badugi Limit (50/100)\n",

@@ -1,6 +1,6 @@
 //! Words in no form, and failed reads and writes.
 
-use crate::runs::{AMPLE, Edges, all_report, ends};
+use crate::runs::{AMPLE, Edges, all_report, ends, front};
 use std::test::Fail;
 
 /// A spot line and its report, and the usage line.
@@ -85,26 +85,28 @@ fn a_failed_read_keeps_the_closed_spots(rt: HostRuntime) -> Result<(), Fail> {
     Ok(())
 }
 
-/// The front of the report, of so many bytes at the most.
-fn front(most: usize) -> &'static [u8] {
-    let report = REPORT.as_bytes();
-    &report[..most.min(report.len())]
-}
-
 /// A write that fails leaves a front of the report.
 #[test]
 fn a_failed_write_leaves_a_front(rt: HostRuntime) -> Result<(), Fail> {
     let alloc = rt.alloc();
     for call in 0..40 {
         let edges = Edges {
-            piece: 5,
+            taken: 5,
             write_fault: Some(call),
             ..AMPLE
         };
-        let written = front(call as usize * 5);
+        let written = front(REPORT.as_bytes(), call as usize * 5);
         let status = if written.len() < REPORT.len() { 4 } else { 0 };
         ends(&rt, alloc, &["spots"], SPOT, edges, status, written)?;
     }
     let full = Edges { room: 20, ..AMPLE };
-    ends(&rt, alloc, &["spots"], SPOT, full, 4, front(20))
+    ends(
+        &rt,
+        alloc,
+        &["spots"],
+        SPOT,
+        full,
+        4,
+        front(REPORT.as_bytes(), 20),
+    )
 }

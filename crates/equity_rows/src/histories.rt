@@ -163,6 +163,39 @@ x collected $2 from pot\n\
 *** SUMMARY ***\n\
 Total pot $2 | Rake $0\n";
 
+/// A short hand of two players that is run twice, all in on the turn.
+pub(crate) const TWICE: &str = "\
+PokerStars Hand #2: Hold'em No Limit (5/10)\n\
+Table 'T' 2-max Seat #1 is the button\n\
+Seat 1: x (100 in chips)\n\
+Seat 2: y (100 in chips)\n\
+x: posts small blind 5\n\
+y: posts big blind 10\n\
+*** HOLE CARDS ***\n\
+x: calls 5\n\
+y: checks\n\
+*** FLOP *** [2c 7d 9h]\n\
+y: checks\n\
+x: checks\n\
+*** TURN *** [2c 7d 9h] [4s]\n\
+y: bets 90 and is all-in\n\
+x: calls 90 and is all-in\n\
+*** FIRST RIVER *** [2c 7d 9h 4s] [Jd]\n\
+*** SECOND RIVER *** [2c 7d 9h 4s] [Kc]\n\
+*** SHOW DOWN ***\n\
+y: shows [Ks Kh]\n\
+x: shows [As Ah]\n\
+x collected 100 from pot\n\
+y collected 100 from pot\n\
+*** SUMMARY ***\n\
+Total pot 200 | Rake 0\n";
+
+/// What `check` reports of it.
+pub(crate) const TWICE_REPORT: &str = "hand 2 accepted holdem rake 0 twice\n\
+pot 0 gross 200 rake 0 checked\n\
+paid 100 x\n\
+paid 100 y\n";
+
 /// A text with another line, or with none, in place of one. Lines count from 1.
 pub(crate) fn with_line(
     alloc: Global,

@@ -4,13 +4,21 @@
 #[cfg(test)]
 mod audits;
 #[cfg(test)]
+mod broken_ends;
+#[cfg(test)]
 mod bytes;
+#[cfg(test)]
+mod changed_hands;
 #[cfg(test)]
 mod checks;
 #[cfg(test)]
 mod counts;
 #[cfg(test)]
+mod cut_off;
+#[cfg(test)]
 mod faults;
+#[cfg(test)]
+mod forms;
 #[cfg(test)]
 mod games;
 #[cfg(test)]

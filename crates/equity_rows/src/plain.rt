@@ -13,7 +13,8 @@ use step_count::Steps;
 
 /// The tally of all runouts of a job, one runout after another. It takes one step a runout, and no memory.
 pub(crate) fn count_plain<L: Ledger>(job: &Job, steps: &mut Steps<L>) -> Tally
-    ensures counts { Counts (deal_of job.now.table) (runouts_after (state_of job.now.table.known)) result }
+    ensures counts { Counts (deal_of job.now.table)
+        (runouts_after (state_of job.now.table.known)) result }
     ensures some { 0 < result.runouts }
     ensures steps { steps.new ≡ steps.old + length (runouts_after (state_of job.now.table.known)) }
 {

@@ -5,10 +5,14 @@ ghost use Rattle.std.specs.List.Sorted.{IsStrictlyIncreasing};
 
 use crate::histories::with_line;
 use byte_ends::{MemorySink, MemorySource};
-use run_engine::run_alone;
+use card_sets::Memory;
+use run_engine::{run as run_shared, run_alone};
 use std::alloc::{AllocError, Global};
 use std::process::Abort;
+use std::sync::Wait;
 use std::test::Fail;
+use std::thread::Threads;
+use steal_pool::OpenGate;
 
 /// What a run did.
 #[derive(Drop)]
@@ -17,11 +21,12 @@ pub(crate) struct Ran {
     pub(crate) written: Vec<u8>,
 }
 
-/// The ends of a run: how many bytes a read gives and a write takes at the most, the calls that fail,
+/// The ends of a run: how many bytes a read gives and how many a write takes at the most, the calls that fail,
 /// and the room of the sink.
 #[derive(Clone, Copy)]
 pub(crate) struct Edges {
     pub(crate) piece: usize,
+    pub(crate) taken: usize,
     pub(crate) read_fault: Option<u64>,
     pub(crate) write_fault: Option<u64>,
     pub(crate) room: usize,
@@ -30,6 +35,7 @@ pub(crate) struct Edges {
 /// Ends with no fault, and with room enough.
 pub(crate) const AMPLE: Edges = Edges {
     piece: 4096,
+    taken: 4096,
     read_fault: None,
     write_fault: None,
     room: 65_536,
@@ -46,18 +52,56 @@ fn listed(alloc: Global, call: Option<u64>) -> Result<Vec<u64>, AllocError>
     Ok(calls)
 }
 
-/// Runs these words over this input.
-pub(crate) fn run(alloc: Global, words: &[&str], input: &[u8], edges: Edges) -> Result<Ran, Fail> {
+/// The first bytes, so many at the most.
+pub(crate) fn front(bytes: &[u8], most: usize) -> &[u8] {
+    &bytes[..most.min(bytes.len())]
+}
+
+/// The words of a command.
+fn owned(alloc: Global, words: &[&str]) -> Result<Vec<String>, AllocError> {
     let mut owned = Vec::new(alloc);
     for word in words {
         owned.push(String::from_str(alloc, word)?)?;
     }
-    let piece = edges.piece.max(1);
-    let bytes = input.to_vec(alloc)?;
-    let mut source = MemorySource::new(bytes, piece, listed(alloc, edges.read_fault)?);
-    let sink = MemorySink::new(alloc, edges.room, piece, listed(alloc, edges.write_fault)?);
-    let mut sink = sink.map_err(|_| "no memory for the sink")?;
+    Ok(owned)
+}
+
+/// A source of this input.
+fn source_of(alloc: Global, input: &[u8], edges: Edges) -> Result<MemorySource, AllocError> {
+    let calls = listed(alloc, edges.read_fault)?;
+    Ok(MemorySource::new(input.to_vec(alloc)?, edges.piece.max(1), calls))
+}
+
+/// A sink.
+fn sink_of(alloc: Global, edges: Edges) -> Result<MemorySink, Memory> {
+    let calls = listed(alloc, edges.write_fault)?;
+    MemorySink::new(alloc, edges.room, edges.taken.max(1), calls)
+}
+
+/// Runs these words over this input.
+pub(crate) fn run(alloc: Global, words: &[&str], input: &[u8], edges: Edges) -> Result<Ran, Fail> {
+    let owned = owned(alloc, words)?;
+    let mut source = source_of(alloc, input, edges)?;
+    let mut sink = sink_of(alloc, edges)?;
     let status = run_alone(alloc, &owned, &mut source, &mut sink);
+    Ok(Ran {
+        status,
+        written: sink.bytes().to_vec(alloc)?,
+    })
+}
+
+/// The same with several workers, as many as the words say.
+pub(crate) fn run_by_workers<R: Threads + Wait + Sync>(
+    rt: &R,
+    alloc: Global,
+    words: &[&str],
+    input: &[u8],
+    edges: Edges,
+) -> Result<Ran, Fail> {
+    let owned = owned(alloc, words)?;
+    let mut source = source_of(alloc, input, edges)?;
+    let mut sink = sink_of(alloc, edges)?;
+    let status = run_shared(rt, alloc, &owned, &mut source, &mut sink, &OpenGate);
     Ok(Ran {
         status,
         written: sink.bytes().to_vec(alloc)?,

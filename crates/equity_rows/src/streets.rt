@@ -24,7 +24,7 @@ fn adds(
     ends(rt, alloc, &["streets"], input, AMPLE, status, &written)
 }
 
-const ACES: &str = "PokerStars Hand #96: Hold'em No Limit (10/20)
+pub(crate) const ACES: &str = "PokerStars Hand #96: Hold'em No Limit (10/20)
 Table '9 7' 2-max Seat #1 is the button
 Seat 1: x (1000 in chips)
 Seat 2: y (1000 in chips)
@@ -44,7 +44,7 @@ y collected 2000 from pot
 Total pot 2000 | Rake 0
 ";
 
-const ACES_REPORT: &str = "hand 96 accepted holdem rake 0
+pub(crate) const ACES_REPORT: &str = "hand 96 accepted holdem rake 0
 pot 0 gross 2000 rake 0 checked
 paid 2000 y
 all-in preflop runouts 1712304

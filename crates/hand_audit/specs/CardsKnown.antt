@@ -11,7 +11,7 @@ use Rattle.betting_replay.specs.Boards.{board_up_to, second_board}
 use Rattle.betting_replay.specs.CardLaws.{Among}
 use Rattle.betting_replay.specs.Known.{cards_at}
 use Rattle.betting_replay.specs.Places.{owned}
-use Rattle.betting_replay.specs.Tables.{dead}
+use Rattle.betting_replay.specs.Tables.{dead_cards}
 use Rattle.showdown_tally.specs.declared.table.Table.{Table}
 
 -- a hand is what its seat has on the street, by the whole text, and its cards belong to the seat
@@ -29,7 +29,7 @@ pub record IsStillHidden (table : Table) (card : ℕ) : Type 0 where
 pub record KnowsCards (g : Header) (players : ℕ) (h : List Event) (street : Street) (seats : List ℕ) (table : Table) : Type 0 where
   pub hands : (i : ℕ) → i < table.known.count → IsHandOf g h street (slice_index_or seats i 0) (slice_index_or table.known.hands i [])
   pub board : table.known.board ≡ board_up_to h street
-  pub dead : table.known.dead ≡ dead g players h
+  pub dead : table.known.dead ≡ dead_cards g players h
   pub later : (card : ℕ) → has_card (owned g.game h 0) card ≡ true → has_card (board_up_to h street) card ≡ false → IsStillHidden table card
   pub second : (second : List ℕ) → second_board h ≡ Some second → (card : ℕ) → has_card second card ≡ true → IsStillHidden table card
 

@@ -25,7 +25,7 @@ use Rattle.hand_audit.specs.Showings.{rake, showing_of}
 use Rattle.hand_audit.specs.Departs.{is_total, event_cause, end_cause, departs_from}
 use Rattle.hand_audit.specs.Verdict.{read_all}
 use Rattle.hand_audit.specs.declared.settling.HandSettled.{HandSettled}
-use Rattle.hand_audit.specs.Settling.{IsOfHand}
+use Rattle.hand_audit.specs.SettlementAnswers.{IsOfHand}
 
 -- the name of a seat line is within the line
 abbrev pub HasName : Event → List ℕ → Type 0

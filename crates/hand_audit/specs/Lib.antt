@@ -7,7 +7,7 @@ pub mod MarkNumbers
 pub mod Settle
 pub mod Showings
 pub mod Winning
-pub mod Settling
+pub mod SettlementAnswers
 pub mod Departs
 pub mod KnownTables
 pub mod PotSeats

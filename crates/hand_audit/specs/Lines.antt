@@ -1,8 +1,8 @@
 -- The events of the lines of a hand.
-use Rattle.std.specs.Prelude.{ℕ, ◌==◌, Bool, false, if◌then◌else◌, List, [], ◌∷◌, ◌++◌, take, codes, Option, Some, None, option_map, option_and_then, Result, Ok, Err}
+use Rattle.std.specs.Prelude.{ℕ, ◌==◌, Bool, false, if◌then◌else◌, List, [], ◌∷◌, ◌++◌, Option, Some, None, option_map, Result, Ok, Err}
 use Rattle.std.specs.List.{list_any, slice_range}
 use Rattle.card_sets.specs.PlayerSets.{players_where}
-use Rattle.line_text.specs.Amounts.{digit_count, number_of}
+use Rattle.line_text.specs.Amounts.{number_of}
 use Rattle.history_text.specs.declared.events.Header.{Header}
 use Rattle.history_text.specs.declared.events.Event.{Event}
 use Rattle.history_text.specs.declared.events.Event.TheVariants.{Seat, Post, Deal, Street, Act, Discard, Pat}
@@ -11,8 +11,7 @@ use Rattle.history_text.specs.declared.events.Part.{Part}
 use Rattle.history_text.specs.declared.events.Part.TheVariants.{Preamble, Play, Summary as SummaryPart}
 use Rattle.history_text.specs.declared.events.TextFault.{TextFault}
 use Rattle.history_text.specs.Lines.{line_event}
-use Rattle.history_text.specs.Seats.{seat_line}
-use Rattle.history_text.specs.Texts.{behind}
+use Rattle.history_text.specs.Seats.{seat_digits}
 use Rattle.betting_replay.specs.Places.{is_at}
 
 -- the part of the next line, by the events so far, the latest first
@@ -53,14 +52,9 @@ with_line_by line so_far (Err fault) = so_far
 abbrev pub with_line : Header → SoFar → List ℕ → SoFar
 with_line header so_far line = with_line_by line so_far (read_at header so_far line)
 
--- the number that the digits at the front of a text say
-abbrev pub front_number : List ℕ → ℕ
-front_number text = number_of (take (digit_count text) text)
-
 -- the number of a seat line, in form or not, a seat or not; none where the line is no seat line
 unfoldable pub seat_number : List ℕ → Option ℕ
-seat_number line =
-    option_and_then (λ seat. option_map (λ text. front_number text) (behind (codes "Seat ") line)) (seat_line line)
+seat_number line = option_map (λ digits. number_of digits) (seat_digits line)
 
 -- the same of a line of the Preamble; none in the other parts
 abbrev pub seat_at : Part → List ℕ → Option ℕ

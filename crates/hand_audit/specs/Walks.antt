@@ -8,7 +8,7 @@ use Rattle.betting_replay.specs.Later.{later_begun, later_streets, listed}
 use Rattle.betting_replay.specs.Table.{Table as Replayed}
 use Rattle.hand_audit.specs.Keeping.{Keeps}
 use Rattle.hand_audit.specs.Lines.{nothing}
-use Rattle.hand_audit.specs.Settling.{IsOfHand}
+use Rattle.hand_audit.specs.SettlementAnswers.{IsOfHand}
 use Rattle.hand_audit.specs.Showings.{showing_of}
 use Rattle.hand_audit.specs.Verdict.{read_all}
 use Rattle.hand_audit.specs.declared.streets.Walked.{Walked}

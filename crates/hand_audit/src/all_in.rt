@@ -69,7 +69,7 @@ fn known_there(game: Game, replay: &Replay, street: Street) -> AtPoint
         contenders: PlayerSet::of(replay.all_in_contenders()),
         cards: cards_on(replay, street),
         board: replay.board_at(street),
-        dead: replay.dead(),
+        dead: replay.dead_cards(),
     }
 }
 
@@ -82,7 +82,8 @@ pub(crate) fn all_in_on(game: Game, replay: &Replay, street: Street, lines: &[Po
 
 /// The all-in of a hand, by its replay and what its pots hold.
 pub(crate) fn all_in_by(game: Game, replay: &Replay, lines: &[PotLine]) -> AllIn
-    ensures { eligible_of lines.now ≡ eligible_in (pots (paid_in replay.now)) → result ≡ all_in_by game replay.now }
+    ensures { eligible_of lines.now ≡ eligible_in (pots (paid_in replay.now))
+        → result ≡ all_in_by game replay.now }
 {
     match replay.all_in_point() {
         Some(street) => all_in_at(&known_there(game, replay, street), lines),

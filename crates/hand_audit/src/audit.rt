@@ -6,7 +6,7 @@ ghost use Rattle.hand_audit.specs.Departs.{begins_hand};
 ghost use Rattle.hand_audit.specs.Verdict.{audit_of, accepted_by};
 ghost use Rattle.hand_audit.specs.Lines.{SoFar};
 ghost use Rattle.hand_audit.specs.Showings.{showing_of};
-ghost use Rattle.hand_audit.specs.Settling.{IsOfHand};
+ghost use Rattle.hand_audit.specs.SettlementAnswers.{IsOfHand};
 ghost use Rattle.hand_audit.specs.Keeping.{Keeps};
 
 use crate::all_in::all_in_by;
@@ -24,7 +24,8 @@ use std::alloc::Global;
 
 /// The verdict on a hand in which no line departs.
 fn accepted(header: &Header, players: u16, hand: Hand, settled: HandSettled) -> HandAudit
-    ensures { (so_far : SoFar) → Keeps hand header.now players so_far → IsOfHand (showing_of header.now players so_far.events) settled
+    ensures { (so_far : SoFar) → Keeps hand header.now players so_far
+        → IsOfHand (showing_of header.now players so_far.events) settled
         → result ≡ accepted_by header.now players so_far }
 {
     let all_in = all_in_by(header.game, &hand.replay, settled.pots.items());

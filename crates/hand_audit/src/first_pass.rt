@@ -1,23 +1,22 @@
 //! The first pass over the lines of a hand: who plays.
 
-ghost use Rattle.std.specs.Prelude.{◌≡◌, ℕ, ◌+◌, ◌≤◌, ◌<◌, ◌++◌, ◌∷◌, [], List, All, IfOk, IfSome, false, slice_index_or, Option, OnOk, option_map, codes, drop, length};
+ghost use Rattle.std.specs.Prelude.{◌≡◌, ℕ, ◌+◌, ◌≤◌, ◌<◌, ◌++◌, ◌∷◌, [], List, All, IfOk, IfSome, false, slice_index_or, Option, OnOk, option_map, drop, length};
 ghost use Rattle.line_text.specs.Amounts.{digit_count, number_of};
 ghost use Rattle.line_text.specs.Lines.{lines};
 ghost use Rattle.history_text.specs.declared.events.Event.{Event};
 ghost use Rattle.history_text.specs.declared.events.Header.{Header};
 ghost use Rattle.history_text.specs.declared.events.Part.TheVariants.{Preamble};
-ghost use Rattle.history_text.specs.Texts.{behind};
 ghost use Rattle.history_text.specs.Within.{IsSeated};
 ghost use Rattle.betting_replay.specs.Limits.{Fits};
 ghost use Rattle.betting_replay.specs.Seats.{by_seat};
-ghost use Rattle.hand_audit.specs.Lines.{SoFar, nothing, front_number, seat_number, seat_at, is_again, with_seat, player_of, players_in, players_of};
+ghost use Rattle.hand_audit.specs.Lines.{SoFar, nothing, seat_number, seat_at, is_again, with_seat, player_of, players_in, players_of};
 ghost use Rattle.hand_audit.specs.Keeping.{AreReads};
 ghost use Rattle.hand_audit.specs.Passing.{HasNumbers, HasReads, Notes, Passes, Took, digits_text, with_read};
 
 use crate::hand::{Read, part_after, read, seat_name};
 use card_sets::{Memory, PlayerSet};
-use history_text::{Event, Header, Names, Part, seat_line};
-use line_text::{digit_count, next_line};
+use history_text::{Event, Header, Names, Part, seat_digits};
+use line_text::next_line;
 use std::alloc::{AllocError, Global};
 use std::collections::BTreeSet;
 
@@ -30,7 +29,9 @@ const READS_ROOM: usize = 64;
 /// What the pass keeps of the lines so far.
 #[derive(Drop)]
 pub(crate) struct Pass<'a> {
+    /// The seats and names of the seat lines.
     pub(crate) names: Names,
+    /// The part of the next line.
     pub(crate) part: Part,
     /// Who plays.
     pub(crate) players: PlayerSet,
@@ -45,15 +46,8 @@ pub(crate) struct Pass<'a> {
 pub(crate) struct Passed {
     /// Bit s for seat s.
     pub(crate) players: u16,
+    /// What the first lines say.
     pub(crate) reads: Vec<Read>,
-}
-
-/// What stands behind the word that begins a seat line.
-#[tactic(auto, unfolding(history_text::specs::Texts::behind))]
-fn behind_seat(line: &[u8]) -> Option<&[u8]>
-    ensures { option_map (λ rest. rest.now) result ≡ behind (codes "Seat ") line.now }
-{
-    line.strip_prefix(b"Seat ")
 }
 
 /// Digits without the zeros before their number; none where they say 0.
@@ -69,25 +63,19 @@ fn without_zeros(digits: &[u8]) -> &[u8]
     &[]
 }
 
-/// The number that the digits at the front say, digit by digit.
-fn front_number(text: &[u8]) -> &[u8]
-    ensures { result.now ≡ digits_text (front_number text.now) }
-{
-    without_zeros(&text[..digit_count(text)])
-}
-
 /// The number of a seat line, in form or not, a seat or not.
 #[tactic(auto, unfolding(crate::specs::Lines::seat_number))]
 fn seat_number(line: &[u8]) -> Option<&[u8]>
-    ensures { option_map (λ digits. digits.now) result ≡ option_map digits_text (seat_number line.now) }
+    ensures { option_map (λ digits. digits.now) result
+        ≡ option_map digits_text (seat_number line.now) }
 {
-    seat_line(line)?;
-    Some(front_number(behind_seat(line)?))
+    Some(without_zeros(seat_digits(line)?))
 }
 
 /// The number of a seat line of the Preamble.
 fn seat_at(part: Part, line: &[u8]) -> Option<&[u8]>
-    ensures { option_map (λ digits. digits.now) result ≡ option_map digits_text (seat_at part line.now) }
+    ensures { option_map (λ digits. digits.now) result
+        ≡ option_map digits_text (seat_at part line.now) }
 {
     match part {
         Part::Preamble => seat_number(line),
@@ -97,7 +85,8 @@ fn seat_at(part: Part, line: &[u8]) -> Option<&[u8]>
 
 /// Whether a seat line of this number stood.
 fn is_again(seats: &BTreeSet<&[u8]>, seat: Option<&[u8]>) -> bool
-    ensures { (before : List ℕ) (number : Option ℕ) → option_map (λ digits. digits.now) seat.entry ≡ option_map digits_text number
+    ensures { (before : List ℕ) (number : Option ℕ)
+        → option_map (λ digits. digits.now) seat.entry ≡ option_map digits_text number
         → HasNumbers seats.now before → result ≡ is_again before number }
 {
     match seat {
@@ -108,7 +97,8 @@ fn is_again(seats: &BTreeSet<&[u8]>, seat: Option<&[u8]>) -> bool
 
 /// A seat line of this number stands.
 fn note_seat<'a>(seats: &mut BTreeSet<&'a [u8]>, seat: Option<&'a [u8]>) -> Result<(), AllocError>
-    ensures { OnOk result ((before : List ℕ) (number : Option ℕ) → option_map (λ digits. digits.now) seat.entry ≡ option_map digits_text number
+    ensures { OnOk result ((before : List ℕ) (number : Option ℕ)
+        → option_map (λ digits. digits.now) seat.entry ≡ option_map digits_text number
         → HasNumbers seats.old before → HasNumbers seats.new (with_seat before number)) }
 {
     if let Some(seat) = seat {
@@ -158,7 +148,8 @@ impl<'a> Pass<'a> {
     /// Of no line.
     fn new(alloc: Global) -> Result<Pass<'a>, AllocError>
         ensures passes { IfOk result (λ pass. Passes pass nothing []) }
-        ensures reads { IfOk result (λ pass. (header : Header) (left : List (List ℕ)) → HasReads pass header left left) }
+        ensures reads { IfOk result (λ pass. (header : Header) (left : List (List ℕ))
+            → HasReads pass header left left) }
     {
         Ok(Pass {
             names: Names::new(alloc),
@@ -173,7 +164,8 @@ impl<'a> Pass<'a> {
     /// adds nothing.
     fn take(&mut self, header: &Header, line: &'a [u8]) -> Result<bool, Memory>
         requires { All IsSeated self.old.names }
-        ensures took { IfOk result (λ ends. (so_far : SoFar) (seats : List ℕ) → Passes self.old so_far seats
+        ensures took { IfOk result (λ ends. (so_far : SoFar) (seats : List ℕ)
+            → Passes self.old so_far seats
             → Took self.new header.now so_far seats line.now ends) }
         ensures notes { IfOk result (λ ends. Notes self.old self.new header.now line.now ends) }
     {
@@ -216,8 +208,10 @@ pub(crate) fn players_of(
     start: usize,
 ) -> Result<Passed, Memory>
     requires { start ≤ length bytes.now }
-    ensures players { IfOk result (λ passed. passed.players ≡ players_of header.now (lines (drop start bytes.now))) }
-    ensures reads { IfOk result (λ passed. AreReads header.now [] Preamble passed.reads.items (lines (drop start bytes.now))) }
+    ensures players { IfOk result (λ passed. passed.players
+        ≡ players_of header.now (lines (drop start bytes.now))) }
+    ensures reads { IfOk result (λ passed.
+        AreReads header.now [] Preamble passed.reads.items (lines (drop start bytes.now))) }
 {
     let mut pass = Pass::new(alloc)?;
     let mut at = start;

@@ -46,7 +46,8 @@ pub(crate) fn follow(
     requires within { start ≤ length bytes.now }
     requires reads { AreReads header.now [] Preamble reads.now (lines (drop start bytes.now)) }
     requires numbers { first + length (lines (drop start bytes.now)) < 2 ^ 32 }
-    ensures { IfOk result (λ followed. Follows header.now players first (lines (drop start bytes.now)) followed) }
+    ensures { IfOk result (λ followed.
+        Follows header.now players first (lines (drop start bytes.now)) followed) }
 {
     let mut hand = Hand::new(alloc, header, players);
     let mut at = start;

@@ -9,7 +9,7 @@ ghost use Rattle.betting_replay.specs.Events.{button_after};
 ghost use Rattle.betting_replay.specs.Tables.{StandsFor};
 ghost use Rattle.hand_audit.specs.Lines.{SoFar, nothing, part_after, read_at, named_by, with_event};
 ghost use Rattle.hand_audit.specs.Collections.{collected_by, taken};
-ghost use Rattle.hand_audit.specs.Settling.{IsOfHand};
+ghost use Rattle.hand_audit.specs.SettlementAnswers.{IsOfHand};
 ghost use Rattle.hand_audit.specs.Showings.{paid_in, rake_by, showing_at};
 ghost use Rattle.hand_audit.specs.Departs.{is_total, total_cause, event_cause};
 ghost use Rattle.hand_audit.specs.Keeping.{Keeps, Goes, HasName, IsRead, IsSound, EndsAs};
@@ -32,12 +32,19 @@ use std::alloc::{AllocError, Global};
 /// What is kept of the lines of a hand so far.
 #[derive(Drop)]
 pub(crate) struct Hand {
+    /// The replay of their events.
     pub(crate) replay: Replay,
+    /// The seats and names of the seat lines.
     pub(crate) names: Names,
+    /// The part of the next line.
     pub(crate) part: Part,
+    /// What was collected, in the order of the lines.
     pub(crate) collections: Vec<Collection>,
+    /// The seat of the button; 0 before it is said.
     pub(crate) button: u8,
+    /// The stated rake; 0 before a total line.
     pub(crate) rake: u64,
+    /// Whether a total line stood.
     pub(crate) total: bool,
 }
 
@@ -171,7 +178,9 @@ impl Hand {
 
     /// Why a total line departs.
     fn total_cause(&self, e: &Event) -> Option<Cause>
-        ensures { result ≡ total_cause (put_in_all (paid_in self.now.replay)) (taken self.now.collections.items) e.now }
+        ensures { result
+            ≡ total_cause (put_in_all (paid_in self.now.replay))
+            (taken self.now.collections.items) e.now }
     {
         let Event::Total { units, rake } = *e else {
             return None;
@@ -204,8 +213,10 @@ impl Hand {
         requires sound { IsSound self.old }
         requires said { IsRead self.old.names header.now self.old.part line.now said.now }
         ensures sound { OnOk result (IsSound self.new) }
-        ensures goes { IfOk result (λ cause. (players : ℕ) (so_far : SoFar) → Keeps self.old header.now players so_far
-            → Goes self.new header.now players so_far line.now (read_at header.now so_far line.now) cause) }
+        ensures goes { IfOk result (λ cause. (players : ℕ) (so_far : SoFar)
+            → Keeps self.old header.now players so_far
+            → Goes self.new header.now players so_far line.now
+            (read_at header.now so_far line.now) cause) }
     {
         let e = match said {
             Ok(e) => e,
@@ -236,10 +247,13 @@ impl Hand {
     ) -> Result<Option<Cause>, Memory>
         requires names { All IsSeated self.old.names }
         requires sound { IsSound self.old }
-        requires said { IfSome said (λ said. IsRead self.old.names header.now self.old.part line.now said.now) }
+        requires said { IfSome said (λ said.
+            IsRead self.old.names header.now self.old.part line.now said.now) }
         ensures sound { OnOk result (IsSound self.new) }
-        ensures goes { IfOk result (λ cause. (players : ℕ) (so_far : SoFar) → Keeps self.old header.now players so_far
-            → Goes self.new header.now players so_far line.now (read_at header.now so_far line.now) cause) }
+        ensures goes { IfOk result (λ cause. (players : ℕ) (so_far : SoFar)
+            → Keeps self.old header.now players so_far
+            → Goes self.new header.now players so_far line.now
+            (read_at header.now so_far line.now) cause) }
     {
         match said {
             Some(said) => self.take_read(header, line, said),
@@ -254,8 +268,11 @@ impl Hand {
     fn settle(&self, alloc: Global, game: Game) -> Result<HandSettled, Memory>
         requires sound { IsSound self.now }
         requires total { self.now.total ≡ true }
-        ensures { IfOk result (λ settled. AreDecided (showing_at game self.now.replay self.now.collections.items self.now.button) (pots (paid_in self.now.replay))
-            → IsOfHand (showing_at game self.now.replay self.now.collections.items self.now.button) settled) }
+        ensures { IfOk result (λ settled.
+            AreDecided (showing_at game self.now.replay self.now.collections.items self.now.button)
+            (pots (paid_in self.now.replay))
+            → IsOfHand (showing_at game self.now.replay self.now.collections.items self.now.button)
+            settled) }
     {
         let all = pots_of(alloc, &self.replay)?;
         let standings = Standings::of(&self.replay, game, self.button);
@@ -270,7 +287,9 @@ impl Hand {
         game: Game,
     ) -> Result<Result<HandSettled, Cause>, Memory>
         requires sound { IsSound self.now }
-        ensures { IfOk result (λ end. (header : Header) (players : ℕ) (so_far : SoFar) → Keeps self.now header players so_far → header.game ≡ game → EndsAs header players so_far.events end) }
+        ensures { IfOk result (λ end. (header : Header) (players : ℕ) (so_far : SoFar)
+            → Keeps self.now header players so_far → header.game ≡ game
+            → EndsAs header players so_far.events end) }
     {
         if !self.total {
             return Ok(Err(Cause::Unfinished));

@@ -142,7 +142,16 @@ fn holds(
     eligible: &[u16; 10],
 ) -> bool
     requires { count ≤ 10 }
-    ensures { result ≡ holds (record { game = game; count = count; hands = hands.now; board = board; dead = dead; pots = pots; eligible = eligible.now }) }
+    ensures { result
+        ≡ holds (record {
+          game = game;
+          count = count;
+          hands = hands.now;
+          board = board;
+          dead = dead;
+          pots = pots;
+          eligible = eligible.now;
+        }) }
 {
     let hands = &hands[..];
     board.is_apart(dead)

@@ -39,7 +39,8 @@ use showdown_tally::law_values_keep_order;
 /// seats the opening stacks, less what was put in, and what was collected, are the opening stacks
 /// less the stated rake.
 pub fn law_chips_are_kept()
-    ensures { (number : ℕ) (line : List ℕ) (lines : List (List ℕ)) (header : Header) → header_of line ≡ Ok header
+    ensures { (number : ℕ) (line : List ℕ) (lines : List (List ℕ)) (header : Header)
+        → header_of line ≡ Ok header
         → (settlement : Settlement) (all_in : AllIn) (names : List (ℕ × List ℕ)) (players : ℕ)
         → audit_of number (line ∷ lines) ≡ Some (Accepted settlement all_in names players)
         → KeepsChips header (events_of header lines) settlement.rake }
@@ -49,10 +50,12 @@ pub fn law_chips_are_kept()
 /// who wins, what a seat got differs from what the rules give it by no more than the sides of parts that
 /// it wins.
 pub fn law_pots_are_split_by_the_rules()
-    ensures { (number : ℕ) (line : List ℕ) (lines : List (List ℕ)) (header : Header) → header_of line ≡ Ok header
+    ensures { (number : ℕ) (line : List ℕ) (lines : List (List ℕ)) (header : Header)
+        → header_of line ≡ Ok header
         → (settlement : Settlement) (all_in : AllIn) (names : List (ℕ × List ℕ)) (players : ℕ)
         → audit_of number (line ∷ lines) ≡ Some (Accepted settlement all_in names players)
-        → settlement.fits ≡ true → IsSplitRightly (showing_of header players (events_of header lines)) }
+        → settlement.fits ≡ true
+        → IsSplitRightly (showing_of header players (events_of header lines)) }
 {}
 
 /// A law on boards. What is split of a pot of which it is known who wins: in a hand that was run once all that
@@ -72,7 +75,8 @@ pub fn law_a_lone_player_wins_a_side_of_each_part()
 /// rake are what it holds, what is due of it is as much as was collected, and where there is a pot the
 /// rakes of all pots are together the stated rake.
 pub fn law_pots_add_up()
-    ensures { (number : ℕ) (line : List ℕ) (lines : List (List ℕ)) (header : Header) → header_of line ≡ Ok header
+    ensures { (number : ℕ) (line : List ℕ) (lines : List (List ℕ)) (header : Header)
+        → header_of line ≡ Ok header
         → (settlement : Settlement) (all_in : AllIn) (names : List (ℕ × List ℕ)) (players : ℕ)
         → audit_of number (line ∷ lines) ≡ Some (Accepted settlement all_in names players)
         → settlement.fits ≡ true → PotsAddUp settlement }
@@ -90,7 +94,8 @@ pub fn law_pots_add_up()
 /// A law on pots. Of a hand that is accepted: of each part of each pot of two players or more of which it
 /// is known who wins, somebody wins the first side.
 pub fn law_checked_pots_are_won()
-    ensures { (number : ℕ) (line : List ℕ) (lines : List (List ℕ)) (header : Header) → header_of line ≡ Ok header
+    ensures { (number : ℕ) (line : List ℕ) (lines : List (List ℕ)) (header : Header)
+        → header_of line ≡ Ok header
         → (settlement : Settlement) (all_in : AllIn) (names : List (ℕ × List ℕ)) (players : ℕ)
         → audit_of number (line ∷ lines) ≡ Some (Accepted settlement all_in names players)
         → IsWonBySomebody (showing_of header players (events_of header lines)) }
@@ -106,7 +111,8 @@ pub fn law_checked_pots_are_won()
 /// A law on rejections. Of a hand that is rejected at a line: every line before it, behind the header
 /// line, can be read, and its event may stand after those of the lines before.
 pub fn law_lines_before_stand()
-    ensures { (number : ℕ) (line : List ℕ) (lines : List (List ℕ)) (header : Header) → header_of line ≡ Ok header
+    ensures { (number : ℕ) (line : List ℕ) (lines : List (List ℕ)) (header : Header)
+        → header_of line ≡ Ok header
         → (departs : ℕ) (cause : Cause) (hundredths : Bool)
         → audit_of number (line ∷ lines) ≡ Some (Rejected departs cause hundredths)
         → Stand header (players_of header lines) nothing lines (departs - number - 1) }
@@ -117,9 +123,12 @@ pub fn law_lines_before_stand()
 /// up to the point; and no card that comes to the board later is in a hand or dead, and none of the second
 /// board of a hand that was run twice.
 pub fn law_all_in_cards()
-    ensures { (number : ℕ) (line : List ℕ) (lines : List (List ℕ)) (header : Header) → header_of line ≡ Ok header
-        → (settlement : Settlement) (street : Street) (seats : List ℕ) (table : Table) (names : List (ℕ × List ℕ)) (players : ℕ)
-        → audit_of number (line ∷ lines) ≡ Some (Accepted settlement (AllIn.Known street seats table) names players)
+    ensures { (number : ℕ) (line : List ℕ) (lines : List (List ℕ)) (header : Header)
+        → header_of line ≡ Ok header
+        → (settlement : Settlement) (street : Street) (seats : List ℕ) (table : Table)
+        (names : List (ℕ × List ℕ)) (players : ℕ)
+        → audit_of number (line ∷ lines)
+        ≡ Some (Accepted settlement (AllIn.Known street seats table) names players)
         → KnowsCards header players (events_of header lines) street seats table }
 {
     law_places_are_apart();
@@ -131,10 +140,12 @@ pub fn law_all_in_cards()
 /// A law on all-ins that are unknown. Of a hand that is accepted whose all-in is unknown: the hand has an
 /// all-in point, and the cards of a contender at it aren't known there.
 pub fn law_unknown_all_ins_have_unknown_cards()
-    ensures { (number : ℕ) (line : List ℕ) (lines : List (List ℕ)) (header : Header) → header_of line ≡ Ok header
+    ensures { (number : ℕ) (line : List ℕ) (lines : List (List ℕ)) (header : Header)
+        → header_of line ≡ Ok header
         → (settlement : Settlement) (names : List (ℕ × List ℕ)) (players : ℕ)
         → audit_of number (line ∷ lines) ≡ Some (Accepted settlement AllIn.Unknown names players)
-        → all_known_at header (events_of header lines) (point header players (events_of header lines)) ≡ false }
+        → all_known_at header (events_of header lines)
+        (point header players (events_of header lines)) ≡ false }
 {
     law_places_are_apart();
     law_cards_belong();
@@ -149,11 +160,13 @@ pub fn law_unknown_all_ins_have_unknown_cards()
 /// of the streets up to it, and no card that comes to the board later is in a hand or dead, and none of the
 /// second board of a hand that was run twice.
 pub fn law_later_streets_know_cards()
-    ensures { (number : ℕ) (line : List ℕ) (lines : List (List ℕ)) (header : Header) → header_of line ≡ Ok header
+    ensures { (number : ℕ) (line : List ℕ) (lines : List (List ℕ)) (header : Header)
+        → header_of line ≡ Ok header
         → (settlement : Settlement) (all_in : AllIn) (names : List (ℕ × List ℕ)) (players : ℕ)
         → audit_of number (line ∷ lines) ≡ Some (Accepted settlement all_in names players)
         → (found : Point) → point header players (events_of header lines) ≡ Some found
-        → All (IsKnownOn header players (events_of header lines) found) (states_of header players (events_of header lines)) }
+        → All (IsKnownOn header players (events_of header lines) found)
+        (states_of header players (events_of header lines)) }
 {
     law_places_are_apart();
     law_cards_belong();
@@ -166,20 +179,26 @@ pub fn law_later_streets_know_cards()
 /// behind it is the one that comes next in the game behind the one before, and the first is the one behind
 /// that of the point.
 pub fn law_later_streets_come_in_order()
-    ensures { (number : ℕ) (line : List ℕ) (lines : List (List ℕ)) (header : Header) → header_of line ≡ Ok header
+    ensures { (number : ℕ) (line : List ℕ) (lines : List (List ℕ)) (header : Header)
+        → header_of line ≡ Ok header
         → (settlement : Settlement) (all_in : AllIn) (names : List (ℕ × List ℕ)) (players : ℕ)
         → audit_of number (line ∷ lines) ≡ Some (Accepted settlement all_in names players)
         → (found : Point) → point header players (events_of header lines) ≡ Some found
-        → ComeInOrder header.game found.street (map (λ (state : StreetState). state.street) (states_of header players (events_of header lines))) }
+        → ComeInOrder header.game found.street
+        (map (λ (state : StreetState). state.street)
+        (states_of header players (events_of header lines))) }
 {}
 
 /// A law on the pots of all-ins. Of a hand that is accepted and has an all-in whose cards are known: the
 /// table has the pots of the hand, ten at the most, and in each pot a hand of the table is eligible
 /// exactly where its seat is.
 pub fn law_a_table_has_the_pots_of_the_hand()
-    ensures { (number : ℕ) (line : List ℕ) (lines : List (List ℕ)) (header : Header) → header_of line ≡ Ok header
-        → (settlement : Settlement) (street : Street) (seats : List ℕ) (table : Table) (names : List (ℕ × List ℕ)) (players : ℕ)
-        → audit_of number (line ∷ lines) ≡ Some (Accepted settlement (AllIn.Known street seats table) names players)
+    ensures { (number : ℕ) (line : List ℕ) (lines : List (List ℕ)) (header : Header)
+        → header_of line ≡ Ok header
+        → (settlement : Settlement) (street : Street) (seats : List ℕ) (table : Table)
+        (names : List (ℕ × List ℕ)) (players : ℕ)
+        → audit_of number (line ∷ lines)
+        ≡ Some (Accepted settlement (AllIn.Known street seats table) names players)
         → HasPotsOf settlement seats table }
 {}
 
@@ -188,7 +207,8 @@ pub fn law_a_table_has_the_pots_of_the_hand()
 /// best value on that side, and no card of any such five counts higher. On the low side the ace counts
 /// lowest. The final cards of whoever wins are known.
 pub fn law_a_mark_is_a_card_of_its_player()
-    ensures { (number : ℕ) (line : List ℕ) (lines : List (List ℕ)) (header : Header) → header_of line ≡ Ok header
+    ensures { (number : ℕ) (line : List ℕ) (lines : List (List ℕ)) (header : Header)
+        → header_of line ≡ Ok header
         → (settlement : Settlement) (all_in : AllIn) (names : List (ℕ × List ℕ)) (players : ℕ)
         → audit_of number (line ∷ lines) ≡ Some (Accepted settlement all_in names players)
         → MarksAreCards (showing_of header players (events_of header lines)) }

@@ -15,6 +15,9 @@
 //! Clauses see no passes and no state: `audit_of` is a definition over the list of the lines. What the code has kept so far stands for the
 //! lines so far (`Keeps`).
 //!
+//! What holds of every hand is said by the calls `law_..`. The proof of each lies in a folder of `proofs/lemmas/`, whose first line
+//! names it.
+//!
 //! It knows no other hand and prints nothing. Each call that takes memory takes the allocator, and answers `Memory` where it is refused.
 #![tactic(auto)]
 
@@ -44,7 +47,6 @@ mod worths;
 
 pub use audit::audit_hand;
 pub use cause::Cause;
-pub use collections::Collection;
 pub use laws::{
     law_a_lone_player_wins_a_side_of_each_part, law_a_mark_is_a_card_of_its_player,
     law_a_table_has_the_pots_of_the_hand, law_all_in_cards, law_checked_pots_are_won,

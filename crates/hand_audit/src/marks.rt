@@ -61,7 +61,9 @@ fn top_card(side: Side, five: CardSet) -> u8
 /// How high the highest card of those fives counts that have a number.
 fn mark_with(side: Side, fives: Fives, number: u32) -> u8
     requires { AreFives fives }
-    ensures value { result ≡ highest (map (top_card side) (filter (λ five. number_of_five side five == number) fives)) }
+    ensures value { result
+        ≡ highest
+        (map (top_card side) (filter (λ five. number_of_five side five == number) fives)) }
     ensures card { result < 52 }
 {
     let mut mark = 0;
@@ -122,8 +124,10 @@ pub(crate) fn marks(
     board: CardSet,
     hands: &[Option<CardSet>; 11],
 ) -> [u8; 11]
-    requires { (p : ℕ) → p < 11 → IfSome (slice_index_or hands.now p None) (λ own. is_full game board own ≡ true) }
-    ensures value { (p : ℕ) → p < 11 → slice_index_or result p 0 ≡ mark_of side game board (slice_index_or hands.now p None) }
+    requires { (p : ℕ) → p < 11
+        → IfSome (slice_index_or hands.now p None) (λ own. is_full game board own ≡ true) }
+    ensures value { (p : ℕ) → p < 11
+        → slice_index_or result p 0 ≡ mark_of side game board (slice_index_or hands.now p None) }
     ensures cards { (p : ℕ) → p < 11 → slice_index_or result p 0 < 52 }
 {
     let mut marks = [0; 11];

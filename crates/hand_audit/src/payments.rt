@@ -100,7 +100,9 @@ pub(crate) fn payments(
 ) -> Result<Vec<Payment>, AllocError>
     requires taken { taken_from (counts_from source) all.now ≤ most }
     requires given { given_in_all shares.now ≤ most }
-    ensures { IfOk result (λ pays. pays.items ≡ payments_from (λ p. payment checked (got_from (counts_from source) p all.now) shares.now p) 1 10) }
+    ensures { IfOk result (λ pays. pays.items
+        ≡ payments_from
+        (λ p. payment checked (got_from (counts_from source) p all.now) shares.now p) 1 10) }
 {
     let mut pays = Vec::new(alloc);
     for seat in 1..11 {
@@ -124,7 +126,9 @@ pub(crate) fn beyond(
 ) -> Option<Payment>
     requires taken { taken_from (counts_from source) all.now ≤ most }
     requires given { given_in_all shares.now ≤ most }
-    ensures { result ≡ beyond_from (λ p. payment checked (got_from (counts_from source) p all.now) shares.now p) (λ p. sides_of_seat p shares.now) 1 10 }
+    ensures { result
+        ≡ beyond_from (λ p. payment checked (got_from (counts_from source) p all.now) shares.now p)
+        (λ p. sides_of_seat p shares.now) 1 10 }
 {
     for seat in 1..11 {
         let got = got_of(all, source, seat, most);

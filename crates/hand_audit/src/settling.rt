@@ -6,7 +6,7 @@ ghost use Rattle.hand_audit.specs.Collections.{taken_from};
 ghost use Rattle.hand_audit.specs.PotNames.{counts_from, each_taken};
 ghost use Rattle.hand_audit.specs.Settle.{Showing, unfit_line};
 ghost use Rattle.hand_audit.specs.Winning.{Tells, IsReady, IsDecided, AreDecided};
-ghost use Rattle.hand_audit.specs.Settling.{IsOfPot, AreOfPots, IsOfHand};
+ghost use Rattle.hand_audit.specs.SettlementAnswers.{IsOfPot, AreOfPots, IsOfHand};
 
 use crate::collections::Collection;
 use crate::payments::{beyond, payments};
@@ -21,9 +21,13 @@ use std::alloc::{AllocError, Global};
 /// What became of the chips of a hand, and the first payment that is beyond its tolerance.
 #[derive(Drop)]
 pub(crate) struct HandSettled {
+    /// Whether each collection names one of the pots, and each pot one or more of them.
     pub(crate) fits: bool,
+    /// The pots.
     pub(crate) pots: PotLines,
+    /// The payments of the hand where the names don't fit, and else none.
     pub(crate) paid: Payments,
+    /// The first payment beyond its tolerance.
     pub(crate) beyond: Option<Payment>,
 }
 
@@ -44,7 +48,8 @@ fn settle_pot(
 ) -> Result<PotSettled, Memory>
     requires ready { IsReady standings.now }
     requires taken { taken_from (counts_from source) all.now ≤ pot.units }
-    ensures { IfOk result (λ one. (s : Showing) → Tells standings.now s → IsDecided s pot.eligible → s.collections ≡ all.now → IsOfPot s source pot one) }
+    ensures { IfOk result (λ one. (s : Showing) → Tells standings.now s → IsDecided s pot.eligible
+        → s.collections ≡ all.now → IsOfPot s source pot one) }
 {
     let eligible = PlayerSet::of(pot.eligible);
     let checked = standings.is_checked(eligible);
@@ -86,7 +91,8 @@ fn settle_pots(
     requires ready { IsReady standings.now }
     requires each { each_taken count number layers.now all.now ≡ true }
     requires numbers { number + length layers.now < 2 ^ 64 }
-    ensures { IfOk result (λ first. (s : Showing) → Tells standings.now s → AreDecided s layers.now → s.collections ≡ all.now
+    ensures { IfOk result (λ first. (s : Showing) → Tells standings.now s → AreDecided s layers.now
+        → s.collections ≡ all.now
         → AreOfPots s count number layers.now lines.old.items lines.new.items first) }
 {
     match layers {
@@ -128,7 +134,8 @@ pub(crate) fn settle(
 ) -> Result<HandSettled, Memory>
     requires ready { IsReady standings.now }
     requires taken { taken_from (counts_from Source.Any) all.now ≤ most }
-    ensures { IfOk result (λ one. (s : Showing) → Tells standings.now s → AreDecided s layers.now → s.collections ≡ all.now → pots s.paid ≡ layers.now → IsOfHand s one) }
+    ensures { IfOk result (λ one. (s : Showing) → Tells standings.now s → AreDecided s layers.now
+        → s.collections ≡ all.now → pots s.paid ≡ layers.now → IsOfHand s one) }
 {
     if !fits(layers, all) {
         let lines = unfit_lines(alloc, layers)?;

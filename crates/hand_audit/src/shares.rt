@@ -38,12 +38,18 @@ fn shares_by(
     first: PlayerSet,
     second: PlayerSet,
 ) -> Result<Shares, Memory>
+    // The marks are cards, and the button is a seat or none.
     requires ready { IsReady standings.now }
     requires marks { HasBothMarks on.now }
+
+    // Somebody wins the first side, and whoever wins has a seat of the table.
     requires some { 0 < first }
     requires first { OfSeats first }
     requires second { OfSeats second }
-    ensures value { IfOk result (λ all. (s : Showing) (board : List ℕ) → Tells standings.now s → TellsBoard on.now s.game board s.hands
+
+    // The shares are those of the rules, and all units are given.
+    ensures value { IfOk result (λ all. (s : Showing) (board : List ℕ) → Tells standings.now s
+        → TellsBoard on.now s.game board s.hands
         → all ≡ shares_by s (record { units = units; board = board }) first second) }
     ensures whole { IfOk result (λ all. given_in_all all ≡ units) }
 {
@@ -66,8 +72,10 @@ fn shares_of_part(
 ) -> Result<Shares, Memory>
     requires ready { IsReady standings.now }
     requires marks { HasBothMarks on.now }
-    ensures value { IfOk result (λ all. (s : Showing) (board : List ℕ) → Tells standings.now s → Decides on.now s board eligible → is_checked s eligible ≡ true
-        → all ≡ shares_among (is_alone eligible) s eligible (record { units = units; board = board })) }
+    ensures value { IfOk result (λ all. (s : Showing) (board : List ℕ) → Tells standings.now s
+        → Decides on.now s board eligible → is_checked s eligible ≡ true
+        → all ≡ shares_among (is_alone eligible) s eligible
+        (record { units = units; board = board })) }
     ensures few { IfOk result (λ all. given_in_all all ≤ units) }
 {
     if is_alone(eligible) {
@@ -102,8 +110,10 @@ fn shares_of_halves(
 ) -> Result<Shares, Memory>
     requires ready { IsReady standings.now }
     requires marks { HasBothMarks second.now }
-    ensures value { IfOk result (λ all. (s : Showing) (board : List ℕ) → Tells standings.now s → IsDecided s eligible
-        → s.second ≡ Some board → TellsHands second.now s.game board s.hands → is_checked s eligible ≡ true
+    ensures value { IfOk result (λ all. (s : Showing) (board : List ℕ) → Tells standings.now s
+        → IsDecided s eligible
+        → s.second ≡ Some board → TellsHands second.now s.game board s.hands
+        → is_checked s eligible ≡ true
         → all ≡ shares_of_parts s eligible (parts_of s units)) }
     ensures few { IfOk result (λ all. given_in_all all ≤ units) }
 {
@@ -123,7 +133,8 @@ pub(crate) fn shares_if(
     units: u64,
 ) -> Result<Shares, Memory>
     requires { IsReady standings.now }
-    ensures value { IfOk result (λ all. (s : Showing) → Tells standings.now s → IsDecided s eligible → checked ≡ is_checked s eligible
+    ensures value { IfOk result (λ all. (s : Showing) → Tells standings.now s → IsDecided s eligible
+        → checked ≡ is_checked s eligible
         → all ≡ shares_if checked s eligible (parts_of s units)) }
     ensures few { IfOk result (λ all. given_in_all all ≤ units) }
 {

@@ -73,7 +73,8 @@ impl Standings {
     /// Of a hand so far.
     pub(crate) fn of(replay: &Replay, game: Game, button: u8) -> Standings
         requires { button ≤ 10 }
-        ensures tells { (all : List Collection) → Tells result (showing_at game replay.now all button) }
+        ensures tells { (all : List Collection)
+            → Tells result (showing_at game replay.now all button) }
         ensures ready { IsReady result }
     {
         Standings {
@@ -101,7 +102,8 @@ impl Standings {
         requires ready { IsReady self.now }
         requires marks { HasMarks on.now }
         requires seats { OfSeats winners }
-        ensures value { (s : Showing) (side : Option Side) (board : List ℕ) → Tells self.now s → TellsSide on.now side s.game board s.hands
+        ensures value { (s : Showing) (side : Option Side) (board : List ℕ) → Tells self.now s
+            → TellsSide on.now side s.game board s.hands
             → result ≡ order_of side s board winners }
         ensures order { IsOrder winners result }
     {

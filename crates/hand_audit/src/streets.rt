@@ -35,8 +35,11 @@ pub struct StreetState {
 /// What a walk over the lines of a hand ends with.
 #[derive(Drop)]
 pub(crate) struct Walked {
+    /// What is kept of all lines.
     pub(crate) hand: Hand,
+    /// What became of the chips.
     pub(crate) settled: HandSettled,
+    /// The later streets, in their order.
     pub(crate) streets: Vec<Street>,
 }
 
@@ -76,7 +79,8 @@ fn add_states(
     lines: &[PotLine],
     streets: &[Street],
 ) -> Result<(), AllocError>
-    ensures { OnOk result (states.new.items ≡ states.old.items ++ map (state_on game replay.now (eligible_of lines.now)) streets.now) }
+    ensures { OnOk result (states.new.items
+        ≡ states.old.items ++ map (state_on game replay.now (eligible_of lines.now)) streets.now) }
 {
     match streets {
         [] => Ok(()),
@@ -95,7 +99,8 @@ fn states_on(
     lines: &[PotLine],
     streets: &[Street],
 ) -> Result<Vec<StreetState>, AllocError>
-    ensures { IfOk result (λ states. states.items ≡ map (state_on game replay.now (eligible_of lines.now)) streets.now) }
+    ensures { IfOk result (λ states. states.items
+        ≡ map (state_on game replay.now (eligible_of lines.now)) streets.now) }
 {
     let mut states = Vec::new(alloc);
     add_states(&mut states, game, replay, lines, streets)?;
@@ -126,7 +131,8 @@ fn walk(
 ) -> Result<Walked, Memory>
     requires within { start ≤ length bytes.now }
     requires none { NoneDeparts header.now players (lines (drop start bytes.now)) }
-    ensures { IfOk result (λ walked. Walks header.now players (lines (drop start bytes.now)) walked) }
+    ensures { IfOk result (λ walked.
+        Walks header.now players (lines (drop start bytes.now)) walked) }
 {
     let mut hand = Hand::new(alloc, header, players);
     let mut streets = Vec::new(alloc);

@@ -54,8 +54,10 @@ pub(crate) fn full_with(game: Game, board: CardSet, own: Option<CardSet>) -> Opt
 
 /// The final cards of each seat that can be shown down on this board, by seat.
 pub(crate) fn full_hands(replay: &Replay, game: Game, board: CardSet) -> [Option<CardSet>; 11]
-    ensures value { (p : ℕ) → p < 11 → slice_index_or result p None ≡ full_with game board (final_at replay.now p) }
-    ensures full { (p : ℕ) → p < 11 → IfSome (slice_index_or result p None) (λ own. is_full game board own ≡ true) }
+    ensures value { (p : ℕ) → p < 11
+        → slice_index_or result p None ≡ full_with game board (final_at replay.now p) }
+    ensures full { (p : ℕ) → p < 11
+        → IfSome (slice_index_or result p None) (λ own. is_full game board own ≡ true) }
 {
     let mut hands = [None; 11];
     for seat in 0..11u8 {
@@ -85,7 +87,8 @@ fn side_values(
     board: CardSet,
     hands: &[Option<CardSet>; 11],
 ) -> [Option<u32>; 11]
-    requires full { (p : ℕ) → p < 11 → IfSome (slice_index_or hands.now p None) (λ own. is_full game board own ≡ true) }
+    requires full { (p : ℕ) → p < 11
+        → IfSome (slice_index_or hands.now p None) (λ own. is_full game board own ≡ true) }
     ensures { Ranks side result (λ p. value_on side game board (slice_index_or hands.now p None)) }
 {
     law_values_keep_order();
@@ -119,7 +122,8 @@ impl OnSide {
 
     /// Of hands that can be shown down on a board.
     fn of(side: Option<Side>, game: Game, board: CardSet, hands: &[Option<CardSet>; 11]) -> OnSide
-        requires full { (p : ℕ) → p < 11 → IfSome (slice_index_or hands.now p None) (λ own. is_full game board own ≡ true) }
+        requires full { (p : ℕ) → p < 11
+            → IfSome (slice_index_or hands.now p None) (λ own. is_full game board own ≡ true) }
         ensures tells { TellsSide result side game board hands.now }
         ensures marks { HasMarks result }
     {
@@ -143,7 +147,8 @@ impl OnBoard {
 
     /// Of hands that can be shown down on a board.
     pub(crate) fn of(game: Game, board: CardSet, hands: &[Option<CardSet>; 11]) -> OnBoard
-        requires full { (p : ℕ) → p < 11 → IfSome (slice_index_or hands.now p None) (λ own. is_full game board own ≡ true) }
+        requires full { (p : ℕ) → p < 11
+            → IfSome (slice_index_or hands.now p None) (λ own. is_full game board own ≡ true) }
         ensures tells { TellsBoard result game board hands.now }
         ensures marks { HasBothMarks result }
     {

@@ -8,9 +8,7 @@ use Rattle.card_sets.specs.Disjoint.{apart}
 use Rattle.card_sets.specs.Games.{allowed}
 use Rattle.card_sets.specs.declared.games.Game.{Game}
 use Rattle.card_sets.specs.declared.games.Game.TheVariants.{Holdem, Omaha, Omaha8, Stud, Stud8, Razz, Draw5, Lowball27, Triple27}
-use Rattle.rank_high.proofs.Sublists.{IsPart, AreParts, AreParts-choose}
-use Rattle.rank_high.proofs.Sets.{Apart, Apart-apart, length-union}
-use Rattle.rank_high.proofs.SetParts.{set-part, Apart-parts, union-IsCardSet}
+use Rattle.card_sets.proofs.CallerLemmas.{IsPart, AreParts, AreParts-choose, Apart, Apart-apart, length-union, set-part, Apart-parts, union-IsCardSet}
 use Rattle.hand_choice.specs.AllowedFives.{AreFives}
 
 pub AreFives-append : (ls ms : List (List ℕ)) → AreFives ls → AreFives ms → AreFives (ls ++ ms)

@@ -1,3 +1,4 @@
-pub mod Pushed
-pub mod Plain
+pub mod CallerLemmas
+pub mod PushedChoices
+pub mod PlainChoices
 pub mod FiveSets

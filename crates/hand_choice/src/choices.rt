@@ -70,7 +70,8 @@ pub(crate) fn push_choices(
 )
     requires above { IsCardSet rest → IsRising (taken ++ rest) }
     requires room { length list.old + length (choose missing rest) ≤ 60 }
-    ensures { list.new ≡ list.old ++ map (λ more. union with (taken ++ more)) (choose missing rest) }
+    ensures { list.new
+        ≡ list.old ++ map (λ more. union with (taken ++ more)) (choose missing rest) }
 {
     if missing == 0 {
         list.push(with.union(taken));
@@ -109,7 +110,8 @@ pub(crate) fn push_pairs(
     requires above { IsCardSet rest → IsRising (taken ++ rest) }
     requires room { length list.old + length (choose missing rest) * length threes.now ≤ 60 }
     ensures { list.new ≡ list.old
-        ++ flat_map (λ more. map (λ three. union (taken ++ more) three) threes.now) (choose missing rest) }
+        ++ flat_map (λ more. map (λ three. union (taken ++ more) three) threes.now)
+        (choose missing rest) }
 {
     if missing == 0 {
         push_unions(taken, threes, list);

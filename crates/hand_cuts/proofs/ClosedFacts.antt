@@ -7,7 +7,7 @@ use Rattle.history_text.specs.Headers.{is_header}
 use Rattle.line_text.specs.Lines.{lines, closed, text_of, front_line, behind_line, has_newline, is_newline}
 use Rattle.hand_cuts.specs.Units.{UnitLines, up_to_header, hands_from, without_last, units_in}
 use Rattle.hand_cuts.specs.ClosedBytes.{begins_header, holds_header, closed_hands, ClosedHandsByBytes}
-use Rattle.hand_cuts.proofs.Parts.{front_closed, closed-newline, lines-newline, closed-none, behind_none, front_text}
+use Rattle.hand_cuts.proofs.LineParts.{front_closed, closed-newline, lines-newline, closed-none, behind_none, front_text}
 use Rattle.hand_cuts.proofs.HandLists.{hand_with, without_last-cons}
 
 -- the lines before the last header line

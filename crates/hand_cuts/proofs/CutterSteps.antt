@@ -1,4 +1,4 @@
--- The steps of a cutter.
+-- What is seen of a cutter as a piece is given, a unit is handed out or bytes are moved, by what its scan does.
 use Rattle.std.proofs.Common.{◌≡◌, ℕ, ◌+◌, ◌-◌, ◌≤◌, List, [], ◌∷◌, ◌++◌, length, take, drop, Option, Some, None, refl, sym, ap, subst, ◌∙◌, arith, append-nil, length-append, length-drop}
 use mathlib.Core.Bool.{true≢false}
 use Rattle.std.specs.Prelude.{slice_range, IsNone, IfNone, IfSome}

@@ -14,7 +14,7 @@ use Rattle.hand_cuts.specs.declared.scan.Head.{Head}
 use Rattle.hand_cuts.specs.declared.scan.Scan.{Scan}
 use Rattle.hand_cuts.specs.declared.units.CutKind.{CutKind}
 use Rattle.hand_cuts.specs.declared.units.CutKind.TheVariants.{Hands, Lines}
-use Rattle.hand_cuts.proofs.Parts.{lines_in-split, no_slice, slice-join, slice-rest}
+use Rattle.hand_cuts.proofs.LineParts.{lines_in-split, no_slice, slice-join, slice-rest}
 use Rattle.hand_cuts.proofs.HandLists.{passed-append, stops-at, hands-passed}
 use Rattle.hand_cuts.proofs.ScanSteps.{empty_slice, none_left}
 use Rattle.hand_cuts.proofs.HandScans.{lines_by_head, lines_by_scan, open_lines}

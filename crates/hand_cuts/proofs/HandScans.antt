@@ -11,7 +11,7 @@ use Rattle.hand_cuts.specs.declared.scan.Head.{Head}
 use Rattle.hand_cuts.specs.declared.scan.Scan.{Scan}
 use Rattle.hand_cuts.specs.declared.units.CutKind.TheVariants.{Hands}
 use Rattle.hand_cuts.specs.declared.units.Unit.{Unit as UnitPlace}
-use Rattle.hand_cuts.proofs.Parts.{lines-split, lines_in-split, closed-none, ends-append, slice-join, slice-rest}
+use Rattle.hand_cuts.proofs.LineParts.{lines-split, lines_in-split, closed-none, ends-append, slice-join, slice-rest}
 use Rattle.hand_cuts.proofs.ScanSteps.{head_of}
 use Rattle.hand_cuts.proofs.HandLists.{hand_with, stops-at, hands-passed, hands-between, hands-begin, without_last-cons}
 

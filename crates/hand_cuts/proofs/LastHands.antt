@@ -13,7 +13,7 @@ use Rattle.hand_cuts.specs.Scans.{IsScan, IsHead, HeadIs, HandsOut, finished, nu
 use Rattle.hand_cuts.specs.declared.scan.Head.{Head}
 use Rattle.hand_cuts.specs.declared.scan.Scan.{Scan}
 use Rattle.hand_cuts.specs.declared.units.CutKind.TheVariants.{Hands}
-use Rattle.hand_cuts.proofs.Parts.{lines-split, slice-rest, slice-all, lines-open}
+use Rattle.hand_cuts.proofs.LineParts.{lines-split, slice-rest, slice-all, lines-open}
 use Rattle.hand_cuts.proofs.HandLists.{hand_with, passed-one, hands-passed, hands-between, hands-begin}
 use Rattle.hand_cuts.proofs.HandScans.{Begins, lines_by_head, lines_by_scan, no_hands}
 

@@ -1,4 +1,4 @@
-pub mod Parts
+pub mod LineParts
 pub mod HandLists
 pub mod ClosedFacts
 pub mod UnitLaws
@@ -9,3 +9,4 @@ pub mod LastHands
 pub mod LineScans
 pub mod CutterSteps
 pub mod Forgetting
+pub mod CallerLemmas

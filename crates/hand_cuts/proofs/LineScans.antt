@@ -8,7 +8,7 @@ use Rattle.hand_cuts.specs.Units.{UnitLines, units_in, lines_in, each_from}
 use Rattle.hand_cuts.specs.Scans.{LineAt, IsScan, HandsOut, passed, gone_on, finished, number_at_end}
 use Rattle.hand_cuts.specs.declared.units.CutKind.TheVariants.{Lines}
 use Rattle.hand_cuts.specs.declared.scan.Scan.{Scan}
-use Rattle.hand_cuts.proofs.Parts.{closed-none, no_slice, slice-all, lines-open}
+use Rattle.hand_cuts.proofs.LineParts.{closed-none, no_slice, slice-all, lines-open}
 use Rattle.hand_cuts.proofs.ScanSteps.{nothing_passed, nothing_searched, empty_slice}
 use Rattle.hand_cuts.proofs.HandScans.{lines_by_line}
 

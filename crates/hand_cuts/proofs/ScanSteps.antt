@@ -1,4 +1,4 @@
--- The steps of a scan.
+-- What is true of a scan stays true as it passes a line, opens a hand, goes on or finishes.
 use Rattle.std.proofs.Common.{◌≡◌, ℕ, ◌+◌, ◌-◌, ◌<◌, ◌≤◌, Bool, true, false, cond, List, [], ◌∷◌, ◌++◌, length, drop, inl, Option, Some, None, nat_lt, refl, sym, ap, subst, ◌∙◌, arith, length-append}
 use Rattle.std.specs.Prelude.{slice_range, IfNone, IfSome, is_some}
 use Rattle.std.proofs.lemmas.Bool.{ltb-true}
@@ -9,7 +9,7 @@ use Rattle.hand_cuts.specs.Units.{up_to_header}
 use Rattle.hand_cuts.specs.Scans.{EndsLine, LineAt, IsScan, IsHead, HeadIs, Finds, SearchesAll, passed, begun, gone_on, finished, number_at_end, number_bound}
 use Rattle.hand_cuts.specs.declared.scan.Head.{Head}
 use Rattle.hand_cuts.specs.declared.scan.Scan.{Scan}
-use Rattle.hand_cuts.proofs.Parts.{front-slice, front_line-open, lines-split, ends-append, no_slice, slice-join, slice-all}
+use Rattle.hand_cuts.proofs.LineParts.{front-slice, front_line-open, lines-split, ends-append, no_slice, slice-join, slice-all}
 use Rattle.hand_cuts.proofs.HandLists.{passed-more}
 
 -- a line more behind a part

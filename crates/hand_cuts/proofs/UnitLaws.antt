@@ -1,12 +1,12 @@
--- The law of units.
+-- The law of units: those that are closed stay the first, whatever bytes follow.
 use Rattle.std.proofs.Common.{◌≡◌, ℕ, ◌+◌, Bool, true, false, cond, List, [], ◌∷◌, ◌++◌, length, refl, sym, ap, ◌∙◌, arith, append_assoc}
 use Rattle.history_text.specs.Headers.{is_header}
 use Rattle.line_text.specs.Lines.{lines, closed, unclosed}
-use Rattle.line_text.proofs.LawFacts.{all_close_lines}
+use Rattle.line_text.proofs.CallerLemmas.{all_close_lines}
 use Rattle.hand_cuts.specs.Units.{UnitLines, units_in, closed_units, lines_in, up_to_header, hands_from, each_from, without_last}
 use Rattle.hand_cuts.specs.Laws.{ClosedUnitsStay}
 use Rattle.hand_cuts.specs.declared.units.CutKind.TheVariants.{Hands, Lines}
-use Rattle.hand_cuts.proofs.Parts.{lines_in-split}
+use Rattle.hand_cuts.proofs.LineParts.{lines_in-split}
 use Rattle.hand_cuts.proofs.HandLists.{hand_with, without_last-cons}
 
 each-append : (n : ℕ) (xs ys : List (List ℕ)) → each_from n (xs ++ ys) ≡ each_from n xs ++ each_from (n + length xs) ys

@@ -12,10 +12,15 @@ use history_text::is_header;
 
 /// Hands out the next hand. One that no later header line closes counts only at the end.
 pub(crate) fn cut_hand(bytes: &[u8], closed: bool, scan: &mut Scan) -> Option<Unit>
+    // The scan is one of these bytes, and the numbers of their lines fit.
     requires scan { IsScan bytes.now scan.old }
     requires few { number_bound bytes.now scan.old ≤ INPUT_MAX + 1 }
+
+    // It stays so.
     ensures scan { IsScan bytes.now scan.new }
     ensures few { number_bound bytes.now scan.new ≤ number_bound bytes.now scan.old }
+
+    // The first hand of the rest is handed out, and none exactly where the rest has none.
     ensures none { IfNone result (NoUnit Hands closed bytes.now scan.old scan.new) }
     ensures some { IfSome result (λ unit. HandsOut Hands closed bytes.now scan.old scan.new unit) }
 {
@@ -74,11 +79,16 @@ fn next_head(bytes: &[u8], scan: &mut Scan) -> Option<Head>
 /// Hands out the hand that the end of a closed stream closes. What stands behind the last newline is its
 /// last line, or a hand of its own.
 fn last_hand(bytes: &[u8], closed: bool, scan: &mut Scan) -> Option<Unit>
+    // The scan is one of these bytes, the numbers of their lines fit, and no newline is left.
     requires scan { IsScan bytes.now scan.old }
     requires few { number_bound bytes.now scan.old ≤ INPUT_MAX + 1 }
     requires all { scan.old.searched ≡ length bytes.now }
+
+    // It stays a scan of them, and the numbers still fit.
     ensures scan { IsScan bytes.now scan.new }
     ensures few { number_bound bytes.now scan.new ≤ number_bound bytes.now scan.old }
+
+    // The first hand of the rest is handed out, and none exactly where the rest has none.
     ensures none { IfNone result (NoUnit Hands closed bytes.now scan.old scan.new) }
     ensures some { IfSome result (λ unit. HandsOut Hands closed bytes.now scan.old scan.new unit) }
 {

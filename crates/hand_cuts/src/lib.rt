@@ -5,6 +5,19 @@
 //! line that has its newline, and what is left by the end. `Cutter::forget` drops what was handed out.
 //! So a caller who reads a long stream holds the bytes of one open hand and one piece.
 //!
+//! It reads from no source, and knows newlines and header lines alone: any other line may say
+//! anything. Bytes before the first header line belong to no hand.
+//!
+//! So that a long hand in small pieces isn't looked at again for each, a `Scan` keeps how far its
+//! bytes were looked at:
+//!
+//! 1. The search for a newline begins where the last one ended without one.
+//! 2. Each line is asked once whether it is a header line, as soon as its newline is there.
+//! 3. The header line of the open hand is kept, by its place and its number, until the next one closes
+//!    the hand.
+//! 4. What was handed out is dropped by one move of the bytes behind it, and the places of the scan
+//!    go down by as much.
+//!
 //! Each byte is searched for a newline once, and moved only where something before it is dropped. No
 //! clause counts either.
 #![tactic(auto)]

@@ -13,7 +13,9 @@ pub enum CutKind {
 /// its last line with it.
 #[derive(Clone, Copy, Debug, PartialEq, Eq)]
 pub struct Unit {
+    /// Where it begins.
     pub first: usize,
+    /// Where it ends, behind its last byte.
     pub end: usize,
     /// The number of its first line in the stream, from 1.
     pub first_line: u32,

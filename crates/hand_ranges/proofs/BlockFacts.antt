@@ -6,8 +6,7 @@ use Rattle.card_sets.specs.declared.games.Game.TheVariants.{Holdem}
 use Rattle.card_sets.specs.declared.games.Side.{Side}
 use Rattle.card_sets.specs.declared.games.Side.TheVariants.{High}
 use Rattle.equity_job.specs.declared.limits.TheConstants.{RUNOUT_MAX}
-use Rattle.report_table.proofs.Listed.{every_same}
-use Rattle.report_table.proofs.SheetFacts.{then_lines}
+use Rattle.report_table.proofs.CallerLemmas.{every_same, then_lines}
 use Rattle.report_table.specs.Lines.{line_in}
 use Rattle.report_table.specs.Sheets.{Written, with_line, with_lines}
 use Rattle.report_table.specs.Spots.{every_hand, ev_line, hand_lines, refused_line, side_line}
@@ -17,7 +16,7 @@ use Rattle.hand_ranges.specs.declared.tally.RangeTally.{RangeTally}
 use Rattle.hand_ranges.specs.Blocks.{cell_of, counted_block, counted_line, known_block, no_cell, rejected_line, tally_block, tally_cell, tally_ends, tally_units}
 use Rattle.hand_ranges.specs.Choices.{choices, full_weight, runouts_of_choice, are_above, has_no_choice}
 use Rattle.hand_ranges.specs.Counted.{IsTallyOf, IsSmall, units_of}
-use Rattle.hand_ranges.specs.Spot.{Ranges}
+use Rattle.hand_ranges.specs.RangeSpot.{Ranges}
 
 -- the lines of a player are one of his side and one of what he may expect
 pub two_lines : (form : Form) (all : ℕ) (cell : ℕ → Side → Cell) (units : ℕ → ℕ) (hand : ℕ) →

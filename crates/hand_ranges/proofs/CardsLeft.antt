@@ -7,11 +7,12 @@ use Rattle.card_sets.specs.Disjoint.{apart, all_apart}
 use Rattle.card_sets.specs.Rising.{IsRising-cards_where}
 use Rattle.card_sets.specs.State.{State}
 use Rattle.card_sets.specs.declared.games.Game.TheVariants.{Holdem}
-use Rattle.rank_high.proofs.Sets.{Apart-apart, both}
 use Rattle.runout_ranges.specs.Slots.{slots, unseen, slot_of, hand_slots, counts_of}
 use Rattle.runout_ranges.specs.Ways.{binomial, ways}
 use Rattle.runout_ranges.specs.declared.shapes.Receiver.TheVariants.{Board}
-use Rattle.runout_ranges.proofs.Numbers.{length_runouts}
+use Rattle.card_sets.proofs.CallerLemmas.{Apart-apart}
+use Rattle.std.proofs.lemmas.Bool.{and_parts}
+use Rattle.runout_ranges.proofs.CallerLemmas.{length_runouts}
 use Rattle.showdown_tally.specs.Tallies.{runouts_after}
 use Rattle.equity_job.specs.Jobs.{IsDeckShort}
 
@@ -84,7 +85,7 @@ is_false false h = refl
 none_hold : (s : List ℕ) (sets : List (List ℕ)) (k : ℕ) → list_all (apart s) sets ≡ true → has_card s k ≡ true → holders k sets ≡ 0
 none_hold s [] k h x = refl
 none_hold s (t ∷ sets) k h x =
-    let hs = both (apart s t) (list_all (apart s) sets) h in
+    let hs = and_parts (apart s t) (list_all (apart s) sets) h in
     let out : bit (has_card t k) ≡ 0 = ap bit (is_false (has_card t k) (λ y. Apart-apart s t hs.0 k x y)) in
     omega (arith, out, none_hold s sets k hs.1 x)
 
@@ -92,7 +93,7 @@ none_hold s (t ∷ sets) k h x =
 free_or_held : (sets : List (List ℕ)) (k : ℕ) → all_apart sets ≡ true → bit (not (list_any (λ set. has_card set k) sets)) + holders k sets ≡ 1
 free_or_held [] k h = refl
 free_or_held (s ∷ sets) k h =
-    let hs = both (list_all (apart s) sets) (all_apart sets) h in
+    let hs = and_parts (list_all (apart s) sets) (all_apart sets) h in
     elim (has_card s k) as (λ b. has_card s k ≡ b → bit (not (b || list_any (λ set. has_card set k) sets)) + (bit b + holders k sets) ≡ 1) [
       | true ↦ λ e. omega (arith, none_hold s sets k hs.0 e)
       | false ↦ λ e. omega (arith, free_or_held sets k hs.1)

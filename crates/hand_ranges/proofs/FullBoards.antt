@@ -25,10 +25,7 @@ use Rattle.showdown_tally.specs.Settling.{number_of, ended, greater, top_below, 
 use Rattle.showdown_tally.specs.Showdown.{best, value_after, own_after, board_after, winners, part_of, units}
 use Rattle.showdown_tally.specs.Sides.{side_outcome, AreSideNumbersAfter}
 use Rattle.showdown_tally.specs.Tallies.{cell_over, units_over, runouts_after}
-use Rattle.showdown_tally.proofs.CountSums.{set_again}
-use Rattle.showdown_tally.proofs.PotFacts.{pot_cell, no_side, pot_winners}
-use Rattle.showdown_tally.proofs.SideWinners.{KeptSide, kept_side}
-use Rattle.showdown_tally.proofs.Winners.{is_set}
+use Rattle.showdown_tally.proofs.CallerLemmas.{set_again, pot_cell, no_side, pot_winners, KeptSide, kept_side, is_set}
 use Rattle.hand_ranges.specs.declared.spot.Weighted.{Weighted}
 use Rattle.hand_ranges.specs.Choices.{hands_in, numbers_below, deal_of_choice, full_cell, full_units}
 use Rattle.hand_ranges.specs.Sound.{AreHands}

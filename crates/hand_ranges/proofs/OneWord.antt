@@ -2,9 +2,8 @@
 use Rattle.std.proofs.Common.{◌≡◌, ℕ, suc, ◌+◌, ◌≤◌, Bool, true, false, not, cond, ◌||◌, ◌&&◌, ◌==◌, List, [], ◌∷◌, length, refl, sym, ap, ◌∙◌, arith}
 use Rattle.std.specs.List.{list_all, onto_first}
 use Rattle.spot_text.specs.Parts.{is_slash, is_dashes, is_dash, hand_words, board_words, dead_words}
-use Rattle.spot_text.proofs.Parts.{hand_first, some_hand, none_first}
-use Rattle.spot_text.proofs.Counting.{hands_end, hands_dash, hands_card}
-use Rattle.hand_ranges.specs.Spot.{is_one_word}
+use Rattle.spot_text.proofs.CallerLemmas.{hand_first, some_hand, none_first, hands_end, hands_dash, hands_card}
+use Rattle.hand_ranges.specs.RangeSpot.{is_one_word}
 
 -- whether hands are of one word each, where the first has its word already
 abbrev pub one_from : Bool → List (List (List ℕ)) → Bool

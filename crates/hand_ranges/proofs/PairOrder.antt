@@ -8,7 +8,7 @@ use mathlib.Core.Bool.{true≢false}
 use Rattle.card_sets.specs.Bits.{has-cards_where}
 use Rattle.card_sets.specs.Cards.{cards_above, deck, has_card, IsRising, RisingFrom}
 use Rattle.card_sets.specs.Rising.{IsRising-cards_where}
-use Rattle.spot_text.proofs.Apart.{and_left, has_past}
+use Rattle.card_sets.proofs.CallerLemmas.{and_first, has_past}
 use Rattle.hand_ranges.specs.Hands.{pair, pairs_of, all_pairs}
 use Rattle.hand_ranges.specs.declared.pairs.Pair.{Pair}
 
@@ -30,7 +30,7 @@ above_rising : (cards : List ℕ) (x : ℕ) → RisingFrom (x + 1) (cards_above 
 above_rising cards x = rising_raise (x + 1) (cards_above cards x) (IsRising-cards_where (λ k. nat_lt x k && has_card cards k)) (λ k held. elim (cases_lt k 52) [
   | inl inside ↦
       let both : (nat_lt x k && has_card cards k) ≡ true = sym (has-cards_where (λ j. nat_lt x j && has_card cards j) k inside) ∙ held in
-      let up : x < k = ltb-true x k (and_left (nat_lt x k) (has_card cards k) both) in
+      let up : x < k = ltb-true x k (and_first (nat_lt x k) (has_card cards k) both) in
       omega (arith, up)
   | inr past ↦ absurd (true≢false (sym held ∙ has_past 0 (cards_above cards x) k (IsRising-cards_where (λ j. nat_lt x j && has_card cards j)) past))
 ])

@@ -17,13 +17,12 @@ use Rattle.equity_job.specs.Jobs.{IsDeckShort, IsAboveLimit}
 use Rattle.equity_job.specs.declared.limits.TheConstants.{RUNOUT_MAX}
 use Rattle.runout_ranges.specs.Runouts.{HasMember}
 use Rattle.runout_ranges.specs.Ways.{binomial}
-use Rattle.runout_ranges.proofs.Filled.{first_part}
-use Rattle.runout_ranges.proofs.Numbers.{binomial_some}
+use Rattle.runout_ranges.proofs.CallerLemmas.{first_part, binomial_some}
 use Rattle.showdown_tally.specs.Tallies.{runouts_after}
 use Rattle.hand_ranges.specs.declared.spot.Weighted.{Weighted}
 use Rattle.hand_ranges.specs.Choices.{taken_from, choices, hands_in, is_disjoint, deal_of_choice, full_runouts, most_choices, runouts_of_choice, are_above}
 use Rattle.hand_ranges.specs.Sound.{IsHand, AreHands, AreRanges, IsSound}
-use Rattle.hand_ranges.specs.Spot.{Ranges}
+use Rattle.hand_ranges.specs.RangeSpot.{Ranges}
 use Rattle.hand_ranges.specs.Walks.{IsWalk, AreFew}
 use Rattle.hand_ranges.proofs.CardsLeft.{AreSets, runouts_twos, enough_twos}
 use Rattle.hand_ranges.proofs.TakenHands.{hands_push, hand_at, hands_sets, hands_twos, places_apart}

@@ -2,11 +2,9 @@
 use Rattle.std.proofs.Common.{◌≡◌, ℕ, ◌≤◌, Bool, true, false, ◌||◌, ◌&&◌, List, [], ◌∷◌, ◌++◌, length, map, refl, sym, ap, ◌∙◌, append_assoc, arith}
 use Rattle.std.specs.List.{flat_map, list_all, onto_first}
 use Rattle.spot_text.specs.Parts.{is_slash, is_dashes, is_dash, hand_words, board_words, dead_words, all_cards, cards_of, in_form}
-use Rattle.spot_text.proofs.Counting.{hands_end, hands_dash, hands_card}
-use Rattle.spot_text.proofs.Parts.{none_first, some_hand}
-use Rattle.spot_text.proofs.Whole.{cards_split, parts_same}
+use Rattle.spot_text.proofs.CallerLemmas.{hands_end, hands_dash, hands_card, none_first, some_hand, cards_split, parts_same}
 use Rattle.spot_text.specs.Spot.{repeated_after}
-use Rattle.hand_ranges.specs.Spot.{range_words, table_cards}
+use Rattle.hand_ranges.specs.RangeSpot.{range_words, table_cards}
 
 pub ranges_end : (w : List ℕ) (ws left : List (List ℕ)) → left ≡ w ∷ ws → (is_slash w || is_dashes w) ≡ true → range_words left ≡ []
 ranges_end w ws left more end = ap range_words more ∙ ap (flat_map (λ hand. hand)) (hands_end w ws end)

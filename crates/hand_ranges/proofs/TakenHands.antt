@@ -8,7 +8,8 @@ use Rattle.card_sets.specs.Disjoint.{apart, all_apart, all_empty}
 use Rattle.card_sets.specs.Games.{all_fit}
 use Rattle.card_sets.specs.declared.games.Game.TheVariants.{Holdem}
 use Rattle.std.specs.Prelude.{nat_le}
-use Rattle.rank_high.proofs.Sets.{Apart-sym, Apart-apart, apart-Apart, both}
+use Rattle.card_sets.proofs.CallerLemmas.{Apart-sym, Apart-apart, apart-Apart}
+use Rattle.std.proofs.lemmas.Bool.{and_parts}
 use Rattle.hand_ranges.specs.declared.spot.Weighted.{Weighted}
 use Rattle.hand_ranges.specs.Choices.{hands_in, is_disjoint, weight_of}
 use Rattle.hand_ranges.specs.Sound.{IsHand, AreHands}
@@ -97,11 +98,11 @@ nones_empty (suc n) = nones_empty n
 
 all_padded : (s : List ℕ) (sets : List (List ℕ)) (n : ℕ) → list_all (apart s) sets ≡ true → list_all (apart s) (sets ++ replicate n []) ≡ true
 all_padded s [] n h = all_none s n
-all_padded s (t ∷ sets) n h = let hs = both (apart s t) (list_all (apart s) sets) h in and_true _ _ hs.0 (all_padded s sets n hs.1)
+all_padded s (t ∷ sets) n h = let hs = and_parts (apart s t) (list_all (apart s) sets) h in and_true _ _ hs.0 (all_padded s sets n hs.1)
 
 pub padded_apart : (sets : List (List ℕ)) (n : ℕ) → all_apart sets ≡ true → all_apart (sets ++ replicate n []) ≡ true
 padded_apart [] n h = nones_apart n
-padded_apart (s ∷ sets) n h = let hs = both (list_all (apart s) sets) (all_apart sets) h in and_true _ _ (all_padded s sets n hs.0) (padded_apart sets n hs.1)
+padded_apart (s ∷ sets) n h = let hs = and_parts (list_all (apart s) sets) (all_apart sets) h in and_true _ _ (all_padded s sets n hs.0) (padded_apart sets n hs.1)
 
 small_padded : (hands : List (List ℕ)) (n : ℕ) → AreTwos hands → list_all (λ hand. nat_le (length hand) 2) (hands ++ replicate n []) ≡ true
 small_padded [] zero h = refl

@@ -9,7 +9,7 @@ use Rattle.hand_ranges.specs.declared.spot.Weighted.{Weighted}
 use Rattle.hand_ranges.specs.declared.tally.RangeCell.{RangeCell}
 use Rattle.hand_ranges.specs.declared.tally.RangeTally.{RangeTally}
 use Rattle.hand_ranges.specs.Choices.{weight_of, full_cell, full_units}
-use Rattle.hand_ranges.specs.Spot.{Ranges}
+use Rattle.hand_ranges.specs.RangeSpot.{Ranges}
 use Rattle.hand_ranges.specs.Walks.{Column, Choices, Weight, Wins, Ties, Losses, Units, none, added_by, hand_adds, hands_add, count_adds, GrowsBy, IsWithin, HasRoom}
 
 -- ---- one hand more

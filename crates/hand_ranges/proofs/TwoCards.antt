@@ -2,7 +2,7 @@
 use Rattle.std.proofs.Common.{◌≡◌, ℕ, [], ◌∷◌, sym, ap, ◌∙◌}
 use Rattle.card_sets.specs.Cards.{with_card}
 use Rattle.spot_text.specs.Parts.{set_of}
-use Rattle.spot_text.proofs.Gathering.{set_of-nil, set_of_more}
+use Rattle.spot_text.proofs.CallerLemmas.{set_of-nil, set_of_more}
 
 pub two_cards : (low high : ℕ) → with_card (with_card [] low) high ≡ set_of (low ∷ high ∷ [])
 two_cards low high =

@@ -11,10 +11,10 @@ use Rattle.hand_ranges.specs.declared.tally.RangeCell.{RangeCell}
 use Rattle.hand_ranges.specs.declared.tally.RangeTally.{RangeTally}
 use Rattle.hand_ranges.specs.Choices.{choices, is_disjoint, weight_of, walked, over_choices, full_cell, full_units, runouts_of_choice}
 use Rattle.hand_ranges.specs.Counted.{IsTallyOf}
-use Rattle.hand_ranges.specs.Spot.{Ranges}
+use Rattle.hand_ranges.specs.RangeSpot.{Ranges}
 use Rattle.hand_ranges.specs.Walks.{Column, Choices, Weight, Wins, Ties, Losses, Units, none, cell_in, number_in, added_by, GrowsBy, AreNoneBeyond}
-use Rattle.showdown_tally.proofs.DealtTo.{index_default}
-use Rattle.hand_ranges.proofs.Pruned.{choices_walked, length_walked, walked_same, walked_none}
+use Rattle.showdown_tally.proofs.CallerLemmas.{index_default}
+use Rattle.hand_ranges.proofs.ApartChoices.{choices_walked, length_walked, walked_same, walked_none}
 
 -- what a hand of a range adds
 abbrev pub step_of : (ranges : List (List Weighted)) (taken : List Weighted) (number : List Weighted → ℕ) (w : Weighted) → ℕ

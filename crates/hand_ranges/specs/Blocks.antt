@@ -17,7 +17,7 @@ use Rattle.hand_ranges.specs.declared.tally.RangeCell.{RangeCell}
 use Rattle.hand_ranges.specs.declared.tally.RangeTally.{RangeTally}
 use Rattle.hand_ranges.specs.Choices.{choices, full_weight, runouts_of_choice, are_above, has_no_choice}
 use Rattle.hand_ranges.specs.Counted.{wins_of, ties_of, losses_of, units_of}
-use Rattle.hand_ranges.specs.Spot.{Ranges, ranges_in}
+use Rattle.hand_ranges.specs.RangeSpot.{Ranges, ranges_in}
 
 -- the name of a fault, and then what it carries
 unfoldable pub fault_words : RangeFault → List (List ℕ)
@@ -38,31 +38,37 @@ rejected_line place number why = plain (rejected_name place number ++ why)
 -- the first line of a spot that is counted, as `spot 1 holdem choices 2 runouts 44 weight 3`
 unfoldable pub counted_line : ℕ → ℕ → ℕ → ℕ → Line
 counted_line place count runouts weight =
-    plain (spot_name place ++ game_word Holdem ∷ codes "choices" ∷ decimal count ∷ codes "runouts" ∷ decimal runouts ∷ codes "weight" ∷ decimal weight ∷ [])
+    plain (spot_name place ++ game_word Holdem ∷ codes "choices" ∷ decimal count ∷ codes "runouts"
+    ∷ decimal runouts ∷ codes "weight" ∷ decimal weight ∷ [])
 
 -- how the runouts of all choices end for a player, each as often as its choice counts
 abbrev pub cell_of : Ranges → ℕ → Side → Cell
-cell_of spot hand side = record { win = wins_of spot hand; tie = ties_of spot hand; lose = losses_of spot hand }
+cell_of spot hand side =
+    record { win = wins_of spot hand; tie = ties_of spot hand; lose = losses_of spot hand }
 
 -- a spot that is counted: its choices, the runouts of each and how often they count together, and then each player's lines.
 -- All runouts are those of a choice as often as the choices count
 unfoldable pub counted_block : Form → ℕ → Ranges → List ℕ
 counted_block form place spot =
     let all = runouts_of_choice spot * full_weight spot.ranges in
-    line_in form (counted_line place (length (choices spot.ranges)) (runouts_of_choice spot) (full_weight spot.ranges))
-    ++ flat_map (hand_lines form Holdem all (cell_of spot) (units_of spot)) (every_hand (length spot.ranges))
+    line_in form (counted_line place (length (choices spot.ranges)) (runouts_of_choice spot)
+    (full_weight spot.ranges))
+    ++ flat_map (hand_lines form Holdem all (cell_of spot) (units_of spot))
+    (every_hand (length spot.ranges))
 
 -- the block of a spot whose line is well written: it is refused where it has too many runouts, rejected where it has no
 -- choice, or counted
 unfoldable pub known_block : Form → ℕ → ℕ → Ranges → List ℕ
 known_block form place number spot =
     if are_above RUNOUT_MAX spot then line_in form (refused_line place Holdem)
-    else (if has_no_choice spot then line_in form (rejected_line place number (codes "NoChoice" ∷ []))
+    else (if has_no_choice spot
+    then line_in form (rejected_line place number (codes "NoChoice" ∷ []))
     else counted_block form place spot)
 
 -- the block of a spot: it is rejected for its fault, or what is known of it says the rest
 unfoldable pub ranges_block : Form → ℕ → ℕ → Result Ranges RangeFault → List ℕ
-ranges_block form place number (Err fault) = line_in form (rejected_line place number (fault_words fault))
+ranges_block form place number (Err fault) =
+    line_in form (rejected_line place number (fault_words fault))
 ranges_block form place number (Ok spot) = known_block form place number spot
 
 -- a spot, seen as a plain record
@@ -78,7 +84,11 @@ abbrev pub tally_cell : RangeTally → ℕ → RangeCell
 tally_cell tally hand = slice_index_or tally.cells hand no_cell
 
 abbrev pub tally_ends : RangeTally → ℕ → Side → Cell
-tally_ends tally hand side = record { win = (tally_cell tally hand).win; tie = (tally_cell tally hand).tie; lose = (tally_cell tally hand).lose }
+tally_ends tally hand side = record {
+  win = (tally_cell tally hand).win;
+  tie = (tally_cell tally hand).tie;
+  lose = (tally_cell tally hand).lose;
+}
 
 abbrev pub tally_units : RangeTally → ℕ → ℕ
 tally_units tally hand = slice_index tally.units hand
@@ -88,4 +98,5 @@ unfoldable pub tally_block : Form → ℕ → ℕ → RangeTally → List ℕ
 tally_block form place count tally =
     let all = tally.runouts * tally.weight in
     line_in form (counted_line place tally.choices tally.runouts tally.weight)
-    ++ flat_map (hand_lines form Holdem all (tally_ends tally) (tally_units tally)) (every_hand count)
+    ++ flat_map (hand_lines form Holdem all (tally_ends tally) (tally_units tally))
+    (every_hand count)

@@ -6,17 +6,20 @@ use Rattle.hand_ranges.specs.declared.tally.RangeTally.{RangeTally}
 use Rattle.hand_ranges.specs.declared.tally.RangeJobFault.{RangeJobFault}
 use Rattle.hand_ranges.specs.declared.tally.RangeJobFault.TheVariants.{AboveLimit, NoChoice}
 use Rattle.hand_ranges.specs.Choices.{choices, over_choices, full_cell, full_units, full_weight, runouts_of_choice, are_above, has_no_choice}
-use Rattle.hand_ranges.specs.Spot.{Ranges}
+use Rattle.hand_ranges.specs.RangeSpot.{Ranges}
 
 -- how the runouts of all choices end for a player, and the units that they give him, each as often as its choice counts
 abbrev pub wins_of : Ranges → ℕ → ℕ
-wins_of spot hand = over_choices (λ choice. (full_cell spot.board spot.dead hand choice).win) spot.ranges
+wins_of spot hand =
+    over_choices (λ choice. (full_cell spot.board spot.dead hand choice).win) spot.ranges
 
 abbrev pub ties_of : Ranges → ℕ → ℕ
-ties_of spot hand = over_choices (λ choice. (full_cell spot.board spot.dead hand choice).tie) spot.ranges
+ties_of spot hand =
+    over_choices (λ choice. (full_cell spot.board spot.dead hand choice).tie) spot.ranges
 
 abbrev pub losses_of : Ranges → ℕ → ℕ
-losses_of spot hand = over_choices (λ choice. (full_cell spot.board spot.dead hand choice).lose) spot.ranges
+losses_of spot hand =
+    over_choices (λ choice. (full_cell spot.board spot.dead hand choice).lose) spot.ranges
 
 abbrev pub units_of : Ranges → ℕ → ℕ
 units_of spot hand = over_choices (full_units spot.board spot.dead hand) spot.ranges
@@ -33,20 +36,26 @@ pub record IsTallyOf (spot : Ranges) (tally : RangeTally) : Type 0 where
   pub count : tally.choices ≡ length (choices spot.ranges)
   pub each : tally.runouts ≡ runouts_of_choice spot
   pub total : tally.weight ≡ full_weight spot.ranges
-  pub ends : (hand : ℕ) (d : RangeCell) → hand < length spot.ranges → IsCellOf spot hand (slice_index_or tally.cells hand d)
-  pub given : (hand : ℕ) → hand < length spot.ranges → slice_index tally.units hand ≡ units_of spot hand
+  pub ends : (hand : ℕ) (d : RangeCell) → hand < length spot.ranges →
+      IsCellOf spot hand (slice_index_or tally.cells hand d)
+  pub given : (hand : ℕ) → hand < length spot.ranges →
+      slice_index tally.units hand ≡ units_of spot hand
 
 -- the answer for a spot: that it has too many runouts, else that it has no choice, else its tally
 abbrev pub IsCountOf : Ranges → Result RangeTally RangeJobFault → Type 0
 IsCountOf spot (Err AboveLimit) = are_above RUNOUT_MAX spot ≡ true
 IsCountOf spot (Err NoChoice) = (are_above RUNOUT_MAX spot ≡ false) × (has_no_choice spot ≡ true)
-IsCountOf spot (Ok tally) = (are_above RUNOUT_MAX spot ≡ false) × (has_no_choice spot ≡ false) × IsTallyOf spot tally
+IsCountOf spot (Ok tally) =
+    (are_above RUNOUT_MAX spot ≡ false) × (has_no_choice spot ≡ false) × IsTallyOf spot tally
 
 -- the numbers of a tally are small enough to be written, and there is a runout
 pub record IsSmall (tally : RangeTally) (players : ℕ) : Type 0 where
   pub some : 0 < tally.runouts * tally.weight
   pub all : tally.runouts * tally.weight ≤ 10 ^ 28
-  pub wins : (hand : ℕ) (d : RangeCell) → hand < players → (slice_index_or tally.cells hand d).win ≤ 10 ^ 28
-  pub ties : (hand : ℕ) (d : RangeCell) → hand < players → (slice_index_or tally.cells hand d).tie ≤ 10 ^ 28
-  pub losses : (hand : ℕ) (d : RangeCell) → hand < players → (slice_index_or tally.cells hand d).lose ≤ 10 ^ 28
+  pub wins : (hand : ℕ) (d : RangeCell) → hand < players →
+      (slice_index_or tally.cells hand d).win ≤ 10 ^ 28
+  pub ties : (hand : ℕ) (d : RangeCell) → hand < players →
+      (slice_index_or tally.cells hand d).tie ≤ 10 ^ 28
+  pub losses : (hand : ℕ) (d : RangeCell) → hand < players →
+      (slice_index_or tally.cells hand d).lose ≤ 10 ^ 28
   pub given : (hand : ℕ) → hand < players → slice_index tally.units hand ≤ 10 ^ 32

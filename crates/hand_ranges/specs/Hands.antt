@@ -61,8 +61,10 @@ is_range word = are_items word && are_light (entries_of word)
 abbrev pub hand_of : List ℕ → List ℕ → Pair → Option Weighted
 hand_of board dead p =
     let hand = set_of (p.low ∷ p.high ∷ []) in
-    if nat_lt 0 p.weight && (apart hand board && apart hand dead) then Some (record { hand = hand; weight = p.weight }) else None
+    if nat_lt 0 p.weight && (apart hand board && apart hand dead)
+    then Some (record { hand = hand; weight = p.weight }) else None
 
 -- the hands of a range, rising
 abbrev pub hands_of : List ℕ → List ℕ → List ℕ → List Weighted
-hands_of board dead word = filter_map (hand_of board dead) (map (weighed (entries_of word)) all_pairs)
+hands_of board dead word =
+    filter_map (hand_of board dead) (map (weighed (entries_of word)) all_pairs)

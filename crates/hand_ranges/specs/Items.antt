@@ -26,7 +26,8 @@ is_rank_from from to rank = nat_le from rank && nat_le rank to
 -- whether an item names the hand of two cards, the lower first
 abbrev pub names : Item → ℕ → ℕ → Bool
 names (Pairs from to) low high = (rank_of low == rank_of high) && is_rank_from from to (rank_of low)
-names (Ranks top from to suits) low high = (rank_of high == top) && (is_rank_from from to (rank_of low) && suits_fit suits low high)
+names (Ranks top from to suits) low high =
+    (rank_of high == top) && (is_rank_from from to (rank_of low) && suits_fit suits low high)
 names (Cards a b) low high = ((low == a) && (high == b)) || ((low == b) && (high == a))
 
 -- the item of two ranks, the higher first: with `up` the pairs from one on, or each second rank from one on to that below the first
@@ -38,7 +39,8 @@ ranks_item top low suits up =
 abbrev pub plain_item : ℕ → ℕ → Bool → Option Item
 plain_item a b up =
     option_and_then (λ top. option_and_then (λ low.
-    if top == low then Some (Pairs low (if up then 12 else low)) else ranks_item top low Any up) (rank_named b)) (rank_named a)
+    if top == low then Some (Pairs low (if up then 12 else low))
+    else ranks_item top low Any up) (rank_named b)) (rank_named a)
 
 -- how a letter says that the suits are: `s` for one suit, `o` for two
 abbrev pub suits_named : ℕ → Option Suits
@@ -47,12 +49,15 @@ suits_named letter = if letter == 115 then Some One else (if letter == 111 then 
 -- the item of two letters of ranks and one of suits
 abbrev pub suited_item : ℕ → ℕ → ℕ → Bool → Option Item
 suited_item a b c up =
-    option_and_then (λ top. option_and_then (λ low. option_and_then (λ suits. ranks_item top low suits up) (suits_named c)) (rank_named b)) (rank_named a)
+    option_and_then (λ top. option_and_then (λ low. option_and_then (λ suits.
+    ranks_item top low suits up) (suits_named c)) (rank_named b)) (rank_named a)
 
 -- the item of two cards, which are different
 abbrev pub cards_item : ℕ → ℕ → ℕ → ℕ → Option Item
 cards_item a b c d =
-    option_and_then (λ first. option_and_then (λ second. if first == second then None else Some (Cards first second)) (card_of_letters c d)) (card_of_letters a b)
+    option_and_then (λ first. option_and_then (λ second.
+    if first == second then None else Some (Cards first second)) (card_of_letters c d))
+    (card_of_letters a b)
 
 -- the item of a text without a weight; a plus behind it is a 43
 abbrev pub item_of : List ℕ → Option Item
@@ -64,7 +69,9 @@ item_of text = None
 -- the weight that digits say, from 1 to 100
 abbrev pub weight_named : List ℕ → Option ℕ
 weight_named text =
-    if (digit_count text == length text) && (nat_le 1 (number_of text) && nat_le (number_of text) 100) then Some (number_of text) else None
+    if (digit_count text == length text)
+    && (nat_le 1 (number_of text) && nat_le (number_of text) 100)
+    then Some (number_of text) else None
 
 -- a colon
 abbrev pub is_colon : ℕ → Bool
@@ -72,12 +79,14 @@ is_colon byte = byte == 58
 
 -- an item with its weight
 abbrev pub entry_with : Option ℕ → Option Item → Option Entry
-entry_with weight item = option_and_then (λ w. option_and_then (λ i. Some (record { item = i; weight = w })) item) weight
+entry_with weight item =
+    option_and_then (λ w. option_and_then (λ i. Some (record { item = i; weight = w })) item) weight
 
 -- what a text says: an item, with the weight behind the first colon, or else 1
 abbrev pub entry_at : Option ℕ → List ℕ → Option Entry
 entry_at None text = entry_with (Some 1) (item_of text)
-entry_at (Some place) text = entry_with (weight_named (drop 1 (drop place text))) (item_of (take place text))
+entry_at (Some place) text =
+    entry_with (weight_named (drop 1 (drop place text))) (item_of (take place text))
 
 abbrev pub entry_of : List ℕ → Option Entry
 entry_of text = entry_at (position is_colon text) text

@@ -5,7 +5,7 @@ pub use Rattle.spot_text.specs.Parts
 pub mod Texts
 pub mod Items
 pub mod Hands
-pub mod Spot
+pub mod RangeSpot
 pub mod Sound
 pub mod Choices
 pub mod Taken

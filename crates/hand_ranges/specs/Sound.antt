@@ -6,7 +6,7 @@ use Rattle.card_sets.specs.Disjoint.{apart}
 use Rattle.card_sets.specs.declared.games.Game.TheVariants.{Holdem}
 use Rattle.spot_text.specs.Games.{board_fits}
 use Rattle.hand_ranges.specs.declared.spot.Weighted.{Weighted}
-use Rattle.hand_ranges.specs.Spot.{Ranges}
+use Rattle.hand_ranges.specs.RangeSpot.{Ranges}
 
 -- a hand of a range: two cards, on neither the board nor among the dead cards, with a weight from 1 to 100
 pub record IsHand (board dead : List ℕ) (w : Weighted) : Type 0 where
@@ -28,7 +28,8 @@ place_of hand = 52 * slice_index hand 0 + slice_index hand 1
 -- each hand stands before those behind it, so none stands twice
 abbrev pub are_rising : List Weighted → Bool
 are_rising [] = true
-are_rising (w ∷ hands) = list_all (λ later. nat_lt (place_of w.hand) (place_of later.hand)) hands && are_rising hands
+are_rising (w ∷ hands) =
+    list_all (λ later. nat_lt (place_of w.hand) (place_of later.hand)) hands && are_rising hands
 
 -- a range: hands in their order, no more than there are
 pub record IsRangeBeside (board dead : List ℕ) (hands : List Weighted) : Type 0 where
@@ -49,5 +50,6 @@ pub record IsSound (spot : Ranges) : Type 0 where
   pub fits : board_fits Holdem (length spot.board) ≡ true
   pub two : 2 ≤ length spot.ranges
   pub four : length spot.ranges ≤ 4
-  pub enough : length spot.board + length spot.dead + 2 * length spot.ranges + (5 - length spot.board) ≤ 52
+  pub enough : length spot.board + length spot.dead + 2 * length spot.ranges
+      + (5 - length spot.board) ≤ 52
   pub each : AreRanges spot.board spot.dead spot.ranges

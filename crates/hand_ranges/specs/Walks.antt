@@ -12,10 +12,11 @@ use Rattle.hand_ranges.specs.declared.tally.RangeCell.{RangeCell}
 use Rattle.hand_ranges.specs.declared.tally.RangeTally.{RangeTally}
 use Rattle.hand_ranges.specs.Choices.{walked, weight_of, full_cell, full_units, most_choices, runouts_of_choice}
 use Rattle.hand_ranges.specs.Sound.{AreHands, AreRanges, IsSound}
-use Rattle.hand_ranges.specs.Spot.{Ranges}
+use Rattle.hand_ranges.specs.RangeSpot.{Ranges}
 
 -- some hands are taken, one from each of the first ranges of a sound spot, and these ranges are left; their runouts are few
-pub record IsWalk (spot : Ranges) (ranges : List (List Weighted)) (taken : List Weighted) : Type 0 where
+pub record IsWalk (spot : Ranges) (ranges : List (List Weighted))
+    (taken : List Weighted) : Type 0 where
   pub sound : IsSound spot
   pub hands : AreHands spot.board spot.dead taken
   pub left : AreRanges spot.board spot.dead ranges
@@ -53,16 +54,21 @@ number_in tally (Units hand) = slice_index tally.units hand
 
 -- there are no runouts and no units for a player that there isn't
 abbrev pub AreNoneBeyond : ℕ → RangeTally → Type 0
-AreNoneBeyond count tally = (hand : ℕ) → count ≤ hand → (cell_in tally hand ≡ none) × (slice_index tally.units hand ≡ 0)
+AreNoneBeyond count tally =
+    (hand : ℕ) → count ≤ hand → (cell_in tally hand ≡ none) × (slice_index tally.units hand ≡ 0)
 
 -- what a choice adds to each: nothing for a player that there isn't
 abbrev pub added_by : Ranges → Column → List Weighted → ℕ
 added_by spot Choices choice = 1
 added_by spot Weight choice = weight_of choice
-added_by spot (Wins hand) choice = if nat_lt hand (length spot.ranges) then weight_of choice * (full_cell spot.board spot.dead hand choice).win else 0
-added_by spot (Ties hand) choice = if nat_lt hand (length spot.ranges) then weight_of choice * (full_cell spot.board spot.dead hand choice).tie else 0
-added_by spot (Losses hand) choice = if nat_lt hand (length spot.ranges) then weight_of choice * (full_cell spot.board spot.dead hand choice).lose else 0
-added_by spot (Units hand) choice = if nat_lt hand (length spot.ranges) then weight_of choice * full_units spot.board spot.dead hand choice else 0
+added_by spot (Wins hand) choice = if nat_lt hand (length spot.ranges)
+    then weight_of choice * (full_cell spot.board spot.dead hand choice).win else 0
+added_by spot (Ties hand) choice = if nat_lt hand (length spot.ranges)
+    then weight_of choice * (full_cell spot.board spot.dead hand choice).tie else 0
+added_by spot (Losses hand) choice = if nat_lt hand (length spot.ranges)
+    then weight_of choice * (full_cell spot.board spot.dead hand choice).lose else 0
+added_by spot (Units hand) choice = if nat_lt hand (length spot.ranges)
+    then weight_of choice * full_units spot.board spot.dead hand choice else 0
 
 -- what a hand's cell and units add, and what those of the hands below n add
 abbrev pub hand_adds : ℕ → ℕ → Cell → ℕ → Column → ℕ
@@ -78,7 +84,8 @@ hands_add n weight cells units Choices = 0
 hands_add n weight cells units Weight = 0
 hands_add n weight cells units (Wins hand) = if nat_lt hand n then weight * (cells hand).win else 0
 hands_add n weight cells units (Ties hand) = if nat_lt hand n then weight * (cells hand).tie else 0
-hands_add n weight cells units (Losses hand) = if nat_lt hand n then weight * (cells hand).lose else 0
+hands_add n weight cells units (Losses hand) =
+    if nat_lt hand n then weight * (cells hand).lose else 0
 hands_add n weight cells units (Units hand) = if nat_lt hand n then weight * units hand else 0
 
 -- what the count of a choice adds
@@ -95,11 +102,13 @@ abbrev pub sums_add : ℕ → ℕ → Sums → Column → ℕ
 sums_add n weight sums = hands_add n weight (λ h. cell_at sums 0 h High) (λ h. units_at sums 0 h)
 
 abbrev pub set_adds : ℕ → ℕ → ℕ → Column → ℕ
-set_adds n weight set = hands_add n weight (λ h. set_cell n h set) (λ h. part_of 5040 (hands_below set n) h)
+set_adds n weight set =
+    hands_add n weight (λ h. set_cell n h set) (λ h. part_of 5040 (hands_below set n) h)
 
 -- and what it adds to the choices and their weight too
 abbrev pub choice_adds : ℕ → ℕ → Sums → Column → ℕ
-choice_adds n weight sums = count_adds n weight (λ h. cell_at sums 0 h High) (λ h. units_at sums 0 h)
+choice_adds n weight sums =
+    count_adds n weight (λ h. cell_at sums 0 h High) (λ h. units_at sums 0 h)
 
 -- what a choice adds, and what all choices add that go on from some hands
 abbrev pub added : Ranges → List Weighted → Column → ℕ
@@ -111,7 +120,11 @@ all_added spot ranges taken column = walked ranges taken (added_by spot column)
 -- a cell, and so many times the runouts of another more
 abbrev pub cell_and : RangeCell → ℕ → Cell → RangeCell
 cell_and sum weight cell =
-    record { win = sum.win + weight * cell.win; tie = sum.tie + weight * cell.tie; lose = sum.lose + weight * cell.lose }
+    record {
+      win = sum.win + weight * cell.win;
+      tie = sum.tie + weight * cell.tie;
+      lose = sum.lose + weight * cell.lose;
+    }
 
 -- each number of the new tally is that of the old one, and so much more
 abbrev pub GrowsBy : RangeTally → RangeTally → (Column → ℕ) → Type 0

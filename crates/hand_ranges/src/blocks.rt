@@ -5,7 +5,7 @@ ghost use Rattle.report_table.specs.Sheets.{IsBetweenLines, with_lines};
 ghost use Rattle.hand_ranges.specs.Blocks.{known_block, ranges_block, seen_ranges};
 ghost use Rattle.hand_ranges.specs.Counted.{IsCountOf};
 ghost use Rattle.hand_ranges.specs.Sound.{IsSound};
-ghost use Rattle.hand_ranges.specs.Spot.{ranges_in};
+ghost use Rattle.hand_ranges.specs.RangeSpot.{ranges_in};
 
 use crate::RangeFault;
 use crate::lines::{counted_spot, no_choice_line, rejected_line};
@@ -72,7 +72,8 @@ pub fn write_ranges(
 ) -> Result<(), Memory>
     requires sound { IfOk spot.now (λ s. IsSound (ranges_in s)) }
     requires counted { IfOk spot.now (λ s. IsCountOf (ranges_in s) tally.now) }
-    ensures block { OnOk result (out.new.items ≡ out.old.items ++ ranges_block form place line (seen_ranges spot.now)) }
+    ensures block { OnOk result (out.new.items
+        ≡ out.old.items ++ ranges_block form place line (seen_ranges spot.now)) }
     ensures memory { OnErr result (out.new.items ≡ out.old.items) }
 {
     let mut sheet = Sheet::new(*out.allocator(), form);

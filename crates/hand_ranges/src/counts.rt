@@ -6,7 +6,7 @@ ghost use Rattle.showdown_tally.specs.Tallies.{Counts, runouts_after};
 ghost use Rattle.hand_ranges.specs.Choices.{are_above, deal_of_choice, most_choices, runouts_of_choice};
 ghost use Rattle.hand_ranges.specs.Counted.{IsCountOf};
 ghost use Rattle.hand_ranges.specs.Sound.{IsSound};
-ghost use Rattle.hand_ranges.specs.Spot.{ranges_in};
+ghost use Rattle.hand_ranges.specs.RangeSpot.{ranges_in};
 ghost use Rattle.hand_ranges.specs.Taken.{AreValues, chosen};
 ghost use Rattle.hand_ranges.specs.Walks.{AreFew, AreNoneBeyond, Column, number_in};
 ghost use Rattle.hand_ranges.specs.Walks.{GrowsBy, IsWalk, IsWithin, added, all_added};
@@ -42,10 +42,15 @@ fn add_choice(
     tally: &mut Tally,
     total: &mut RangeTally,
 )
+    // One hand of each range is taken, and what is kept of their values is right.
     requires walk { IsWalk (ranges_in spot.now) [] (chosen taken.now) }
     requires values { AreValues spot.now.board (chosen taken.now) taken.now.values }
+
+    // The tally has room for one choice more.
     requires few { total.old.choices < RUNOUT_MAX }
     requires within { IsWithin total.old }
+
+    // It grows by what the choice adds.
     ensures grows { GrowsBy total.old total.new (added (ranges_in spot.now) (chosen taken.now)) }
     ensures within { IsWithin total.new }
 {
@@ -67,11 +72,17 @@ fn add_choices(
     tally: &mut Tally,
     total: &mut RangeTally,
 )
+    // One hand of each of the first ranges is taken, and what is kept of their values is right.
     requires walk { IsWalk (ranges_in spot.now) ranges.now (chosen taken.now) }
     requires values { AreValues spot.now.board (chosen taken.now) taken.now.values }
+
+    // The tally has room for all choices that may go on from them.
     requires few { total.old.choices + most_choices ranges.now ≤ RUNOUT_MAX }
     requires within { IsWithin total.old }
-    ensures grows { GrowsBy total.old total.new (all_added (ranges_in spot.now) ranges.now (chosen taken.now)) }
+
+    // It grows by what those choices add in which no card is in two hands.
+    ensures grows { GrowsBy total.old total.new
+        (all_added (ranges_in spot.now) ranges.now (chosen taken.now)) }
     ensures within { IsWithin total.new }
     ensures few { total.new.choices ≤ total.old.choices + most_choices ranges.now }
 {
@@ -157,7 +168,8 @@ fn four_places(total: &RangeTally)
 pub fn count_ranges(spot: &RangeSpot, scratch: &mut Scratch) -> Result<RangeTally, RangeJobFault>
     requires { IsSound (ranges_in spot.now) }
     ensures count { IsCountOf (ranges_in spot.now) result }
-    ensures beyond { IfOk result (λ tally. AreNoneBeyond (length (ranges_in spot.now).ranges) tally) }
+    ensures beyond { IfOk result (λ tally.
+        AreNoneBeyond (length (ranges_in spot.now).ranges) tally) }
 {
     let runouts = runouts_of_choice(spot);
     if are_above(spot, runouts) {

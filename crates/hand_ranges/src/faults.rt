@@ -1,6 +1,7 @@
 //! Why a line with ranges is refused.
 
 use card_sets::Card;
+use report_table::Sheet;
 use std::alloc::AllocError;
 
 /// Why a line with ranges is refused. They are tested in this order over the whole line.
@@ -34,5 +35,31 @@ impl From<AllocError> for RangeFault {
 
     fn from(_: AllocError) -> RangeFault {
         RangeFault::Memory
+    }
+}
+
+impl RangeFault {
+    ghost use Rattle.std.specs.Prelude.{◌≡◌, OnOk};
+    ghost use Rattle.report_table.specs.Sheets.{with_words};
+    ghost use Rattle.hand_ranges.specs.Blocks.{fault_words};
+
+    /// Appends its name, and then what it carries.
+    #[tactic(auto, using(crate::proofs::SheetSteps::word_steps), unfolding(crate::specs::Blocks::fault_words))]
+    pub(crate) fn write(&self, sheet: &mut Sheet) -> Result<(), AllocError>
+        ensures { OnOk result (sheet.new ≡ with_words sheet.old (fault_words self.now)) }
+    {
+        match self {
+            RangeFault::UnknownWord => sheet.text("UnknownWord"),
+            RangeFault::BadCard => sheet.text("BadCard"),
+            RangeFault::BadRange => sheet.text("BadRange"),
+            RangeFault::TwiceCard(card) => {
+                sheet.text("TwiceCard")?;
+                sheet.word(&card.text())
+            }
+            RangeFault::BoardSize => sheet.text("BoardSize"),
+            RangeFault::PlayerCount => sheet.text("PlayerCount"),
+            RangeFault::DeckShort => sheet.text("DeckShort"),
+            RangeFault::Memory => sheet.text("Memory"),
+        }
     }
 }

@@ -6,7 +6,7 @@ ghost use Rattle.runout_ranges.specs.Runouts.{HasMember};
 ghost use Rattle.hand_ranges.specs.declared.spot.Weighted.{Weighted};
 ghost use Rattle.hand_ranges.specs.Choices.{choices, full_runouts, runouts_of_choice, walked};
 ghost use Rattle.hand_ranges.specs.Sound.{IsSound};
-ghost use Rattle.hand_ranges.specs.Spot.{ranges_in};
+ghost use Rattle.hand_ranges.specs.RangeSpot.{ranges_in};
 
 use crate::spot::RangeSpot;
 
@@ -21,5 +21,6 @@ pub fn law_choices_are_walked()
 pub fn law_choices_have_equal_runouts(spot: &RangeSpot)
     requires { IsSound (ranges_in spot.now) }
     ensures { (choice : List Weighted) → HasMember (choices (ranges_in spot.now).ranges) choice
-        → full_runouts spot.now.board spot.now.dead choice ≡ runouts_of_choice (ranges_in spot.now) }
+        → full_runouts spot.now.board spot.now.dead choice
+        ≡ runouts_of_choice (ranges_in spot.now) }
 {}

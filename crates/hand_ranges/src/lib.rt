@@ -13,6 +13,19 @@
 //!
 //! Behind an item may stand a colon and its weight, 1 to 100, and else it is 1. The weight of a hand
 //! is what its items add up to.
+//!
+//! 1. *Reading* (`read_ranges`). All 1,326 hands are listed once, and each item of a word adds its weight to
+//!    those that it names. The hands with a weight that meet neither the board nor the dead cards are the
+//!    range.
+//! 2. *Limit* (`count_ranges`). The sizes of the ranges and the runouts of a choice are multiplied, and more
+//!    than `RUNOUT_MAX` of them aren't counted.
+//! 3. *Walk* (`counts`). One hand is taken from each range in turn. A hand that shares a card with one taken
+//!    before leads to no choice, and the walk turns back there.
+//! 4. *Choices* (`counts`, `shown`). A whole choice is one job of `equity_job`. Beside a full board the value
+//!    of each hand is worked out as it is taken, and a choice costs as many comparisons as it has hands.
+//!
+//! The crate knows Texas Hold'em alone, and neither histories nor workers. It counts on the thread that calls
+//! it, in a room that it is lent; only what a line says takes memory.
 #![tactic(auto)]
 
 mod blocks;

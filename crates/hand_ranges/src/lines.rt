@@ -2,7 +2,7 @@
 
 ghost use Rattle.std.specs.Prelude.{◌≡◌, ◌+◌, ◌*◌, ◌<◌, ◌≤◌, [], ◌∷◌, codes, OnOk};
 ghost use Rattle.card_sets.specs.declared.games.Game.TheVariants.{Holdem};
-ghost use Rattle.report_table.specs.Sheets.{IsBetweenLines, with_line, with_lines, with_words};
+ghost use Rattle.report_table.specs.Sheets.{IsBetweenLines, with_line, with_lines};
 ghost use Rattle.report_table.specs.Spots.{hand_lines};
 ghost use Rattle.hand_ranges.specs.Blocks.{counted_line, fault_words, rejected_line, tally_block, tally_cell, tally_ends, tally_units};
 ghost use Rattle.hand_ranges.specs.Counted.{IsSmall};
@@ -13,26 +13,6 @@ use card_sets::{Game, Side};
 use report_table::Sheet;
 use std::alloc::AllocError;
 
-/// The name of a fault, and then what it carries.
-#[tactic(auto, using(crate::proofs::SheetSteps::word_steps), unfolding(crate::specs::Blocks::fault_words))]
-fn fault_text(sheet: &mut Sheet, fault: &RangeFault) -> Result<(), AllocError>
-    ensures { OnOk result (sheet.new ≡ with_words sheet.old (fault_words fault.now)) }
-{
-    match fault {
-        RangeFault::UnknownWord => sheet.text("UnknownWord"),
-        RangeFault::BadCard => sheet.text("BadCard"),
-        RangeFault::BadRange => sheet.text("BadRange"),
-        RangeFault::TwiceCard(card) => {
-            sheet.text("TwiceCard")?;
-            sheet.word(&card.text())
-        }
-        RangeFault::BoardSize => sheet.text("BoardSize"),
-        RangeFault::PlayerCount => sheet.text("PlayerCount"),
-        RangeFault::DeckShort => sheet.text("DeckShort"),
-        RangeFault::Memory => sheet.text("Memory"),
-    }
-}
-
 /// The line of a spot that isn't well written. Places and numbers of lines count from 1.
 #[tactic(auto, using(crate::proofs::SheetSteps::sheet_steps), unfolding(crate::specs::Blocks::rejected_line))]
 pub(crate) fn rejected_line(
@@ -42,10 +22,11 @@ pub(crate) fn rejected_line(
     why: &RangeFault,
 ) -> Result<(), AllocError>
     requires { IsBetweenLines sheet.old }
-    ensures { OnOk result (sheet.new ≡ with_line sheet.old (rejected_line place number (fault_words why.now))) }
+    ensures { OnOk result (sheet.new
+        ≡ with_line sheet.old (rejected_line place number (fault_words why.now))) }
 {
     sheet.rejected_name(place, number)?;
-    fault_text(sheet, why)?;
+    why.write(sheet)?;
     sheet.end()
 }
 
@@ -53,7 +34,8 @@ pub(crate) fn rejected_line(
 #[tactic(auto, using(crate::proofs::SheetSteps::sheet_steps), unfolding(crate::specs::Blocks::rejected_line))]
 pub(crate) fn no_choice_line(sheet: &mut Sheet, place: u64, number: u64) -> Result<(), AllocError>
     requires { IsBetweenLines sheet.old }
-    ensures { OnOk result (sheet.new ≡ with_line sheet.old (rejected_line place number (codes "NoChoice" ∷ []))) }
+    ensures { OnOk result (sheet.new
+        ≡ with_line sheet.old (rejected_line place number (codes "NoChoice" ∷ []))) }
 {
     sheet.rejected_name(place, number)?;
     sheet.text("NoChoice")?;
@@ -66,7 +48,8 @@ pub(crate) fn no_choice_line(sheet: &mut Sheet, place: u64, number: u64) -> Resu
 fn counted_line(sheet: &mut Sheet, place: u64, tally: &RangeTally) -> Result<(), AllocError>
     requires { IsBetweenLines sheet.old }
     ensures { OnOk result (sheet.new
-        ≡ with_line sheet.old (counted_line place tally.now.choices tally.now.runouts tally.now.weight)) }
+        ≡ with_line sheet.old
+        (counted_line place tally.now.choices tally.now.runouts tally.now.weight)) }
 {
     sheet.spot_and_game(place, Game::Holdem)?;
     sheet.text("choices")?;
@@ -101,7 +84,8 @@ fn hand_lines(sheet: &mut Sheet, all: u128, tally: &RangeTally, hand: u8) -> Res
     requires players { hand < 4 }
     requires small { IsSmall tally.now (hand + 1) }
     ensures { OnOk result (sheet.new ≡ with_lines sheet.old
-        (hand_lines sheet.old.form Holdem all (tally_ends tally.now) (tally_units tally.now) hand)) }
+        (hand_lines sheet.old.form Holdem all (tally_ends tally.now)
+        (tally_units tally.now) hand)) }
 {
     let cell = cell_of(tally, hand);
     sheet.wide_side_line(all, hand, Side::High, cell.win, cell.tie, cell.lose)?;
@@ -118,7 +102,8 @@ pub(crate) fn counted_spot(
     requires between { IsBetweenLines sheet.old }
     requires few { players ≤ 4 }
     requires small { IsSmall tally.now players }
-    ensures { OnOk result (sheet.new ≡ with_lines sheet.old (tally_block sheet.old.form place players tally.now)) }
+    ensures { OnOk result (sheet.new
+        ≡ with_lines sheet.old (tally_block sheet.old.form place players tally.now)) }
 {
     counted_line(sheet, place, tally)?;
     let all = u128::from(tally.runouts) * tally.weight;

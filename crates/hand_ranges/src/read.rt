@@ -1,14 +1,14 @@
 //! The reading of a line with ranges.
 
 ghost use Rattle.std.specs.Prelude.{◌≡◌, ◌≤◌, Ok, MatchResult};
-ghost use Rattle.hand_ranges.specs.Spot.{ranges_of, ranges_in, is_dealt_out, IsFaultOf};
+ghost use Rattle.hand_ranges.specs.RangeSpot.{ranges_of, ranges_in, is_dealt_out, IsFaultOf};
 
 use crate::RangeFault;
 use crate::pairs::all_pairs;
 use crate::spot::RangeSpot;
-use crate::walks::{are_ranges, behind_ranges, player_count, ranges_of};
+use crate::walks::{are_ranges, behind_ranges, ranges_of};
 use card_sets::Game;
-use spot_text::{Words, board_cards, board_fits, dead_cards, in_form, repeated_card};
+use spot_text::{Words, board_cards, board_fits, dead_cards, in_form, player_count, repeated_card};
 use std::alloc::Global;
 
 /// Whether fewer cards are left than the board lacks, once each of some players has a hand.
@@ -52,7 +52,7 @@ pub fn read_ranges(alloc: Global, line: &[u8]) -> Result<RangeSpot, RangeFault>
     if !board_fits(Game::Holdem, table) {
         return Err(RangeFault::BoardSize);
     }
-    let Some(count) = player_count(words) else {
+    let Some(count) = player_count(words, 4) else {
         return Err(RangeFault::PlayerCount);
     };
     let board = board_cards(table);

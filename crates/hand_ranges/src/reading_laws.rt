@@ -2,7 +2,7 @@
 
 ghost use Rattle.std.specs.Prelude.{◌≡◌, ℕ, List, Ok};
 ghost use Rattle.hand_ranges.specs.Sound.{IsSound};
-ghost use Rattle.hand_ranges.specs.Spot.{Ranges, ranges_of};
+ghost use Rattle.hand_ranges.specs.RangeSpot.{Ranges, ranges_of};
 
 /// What a line says of ranges may be dealt: two ranges to four of hands of two cards each, which neither
 /// the board nor the dead cards have, none twice in a range, of weights from 1 to 100; a board that a deal

@@ -9,7 +9,7 @@ ghost use Rattle.showdown_tally.specs.Showdown.{part_of};
 ghost use Rattle.showdown_tally.specs.Settling.{greater, is_top, top_below, tops_of};
 ghost use Rattle.showdown_tally.specs.Sides.{side_outcome};
 ghost use Rattle.hand_ranges.specs.Choices.{deal_of_choice};
-ghost use Rattle.hand_ranges.specs.Spot.{ranges_in};
+ghost use Rattle.hand_ranges.specs.RangeSpot.{ranges_in};
 ghost use Rattle.hand_ranges.specs.Taken.{AreValues, chosen, number_beside};
 ghost use Rattle.hand_ranges.specs.Walks.{Column, GrowsBy, IsWalk, IsWithin, added, set_adds};
 
@@ -71,10 +71,15 @@ fn units_beside(winners: PlayerSet, count: u8, hand: u8) -> u64
 
 /// So many times how the runout ends for each of the first so many hands, which some of them win.
 fn add_shares(total: &mut RangeTally, count: u8, weight: u64, winners: PlayerSet)
+    // There are four hands at the most, and the weight is that of a choice of them.
     requires count { count ≤ 4 }
     requires weight { weight ≤ 2 ^ 32 }
+
+    // The tally has room for one choice more.
     requires few { total.old.choices < RUNOUT_MAX }
     requires within { IsWithin total.old }
+
+    // It grows by what the winners of the runout add, which is small.
     ensures grows { GrowsBy total.old total.new (set_adds count weight winners) }
     ensures small { (column : Column) → set_adds count weight winners column ≤ 2 ^ 96 }
 {
@@ -137,7 +142,8 @@ fn winners(spot: &RangeSpot, taken: &Taken) -> PlayerSet
     requires walk { IsWalk (ranges_in spot.now) [] (chosen taken.now) }
     requires full { length spot.now.board ≡ 5 }
     requires values { AreValues spot.now.board (chosen taken.now) taken.now.values }
-    ensures { result ≡ side_outcome Side.High (deal_of_choice spot.now.board spot.now.dead (chosen taken.now)) 0 [] }
+    ensures { result ≡ side_outcome Side.High
+        (deal_of_choice spot.now.board spot.now.dead (chosen taken.now)) 0 [] }
 {
     law_values_keep_order();
     taken.facts();
@@ -146,11 +152,16 @@ fn winners(spot: &RangeSpot, taken: &Taken) -> PlayerSet
 
 /// Adds the count of a choice beside a full board, as often as it counts.
 pub(crate) fn add_shown(spot: &RangeSpot, taken: &Taken, total: &mut RangeTally)
+    // One hand of each range is taken, and their values are those beside the full board.
     requires walk { IsWalk (ranges_in spot.now) [] (chosen taken.now) }
     requires full { length spot.now.board ≡ 5 }
     requires values { AreValues spot.now.board (chosen taken.now) taken.now.values }
+
+    // The tally has room for one choice more.
     requires few { total.old.choices < RUNOUT_MAX }
     requires within { IsWithin total.old }
+
+    // It grows by what the choice adds.
     ensures grows { GrowsBy total.old total.new (added (ranges_in spot.now) (chosen taken.now)) }
     ensures within { IsWithin total.new }
 {

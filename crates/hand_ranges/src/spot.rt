@@ -18,6 +18,7 @@ pub struct Weighted {
 /// card and then by the higher one.
 #[derive(Debug, Drop)]
 pub struct Range {
+    /// The hands, rising.
     pub(crate) hands: Vec<Weighted>,
 }
 

@@ -51,10 +51,15 @@ pub(crate) fn add_hand(total: &mut RangeTally, hand: u8, weight: u64, cell: Cell
 
 /// The same for the first so many players.
 fn add_hands(total: &mut RangeTally, count: u8, weight: u64, tally: &Tally)
+    // There are four hands at the most, and the weight is that of a choice of them.
     requires count { count ≤ 4 }
     requires weight { weight ≤ 2 ^ 32 }
+
+    // The tally has room for one choice more.
     requires few { total.old.choices < RUNOUT_MAX }
     requires within { IsWithin total.old }
+
+    // It grows by what the count adds for these players, which is small.
     ensures grows { GrowsBy total.old total.new (sums_add count weight tally.now) }
     ensures small { (column : Column) → sums_add count weight tally.now column ≤ 2 ^ 96 }
 {
@@ -80,10 +85,15 @@ pub(crate) fn end_choice(total: &mut RangeTally, weight: u64)
 
 /// Adds the count of a choice of so many hands, as often as it counts.
 pub(crate) fn add_count(total: &mut RangeTally, count: u8, weight: u64, tally: &Tally)
+    // There are four hands at the most, and the weight is that of a choice of them.
     requires count { count ≤ 4 }
     requires weight { weight ≤ 2 ^ 32 }
+
+    // The tally has room for one choice more.
     requires few { total.old.choices < RUNOUT_MAX }
     requires within { IsWithin total.old }
+
+    // It grows by what the count adds, and by one choice.
     ensures grows { GrowsBy total.old total.new (choice_adds count weight tally.now) }
     ensures within { IsWithin total.new }
 {

@@ -17,8 +17,11 @@ use showdown_tally::Table;
 /// count together.
 #[derive(Clone, Copy)]
 pub(crate) struct Taken {
+    /// The hands, and behind them places that aren't looked at.
     hands: [Weighted; 4],
+    /// How many hands there are.
     pub(crate) count: u8,
+    /// How often they count together.
     pub(crate) weight: u64,
     /// What each hand is worth beside a full board.
     pub(crate) values: [Option<u32>; 4],
@@ -61,10 +64,13 @@ impl Taken {
     /// How many hands are taken, how often they count, and that no card is in two of them. A law:
     /// the call does nothing.
     pub(crate) fn facts(&self)
+        // There are as many as are counted, four at the most, with places for four.
         ensures count { length (take self.now.count self.now.hands) ≡ self.now.count }
         ensures few { self.now.count ≤ 4 }
         ensures places { length self.now.hands ≡ 4 }
         ensures values { length self.now.values ≡ 4 }
+
+        // No card is in two of them, and the weight is the product of theirs.
         ensures disjoint { is_disjoint (take self.now.count self.now.hands) ≡ true }
         ensures product { self.now.weight ≡ weight_of (take self.now.count self.now.hands) }
         ensures light { self.now.weight ≤ 2 ^ 32 }
@@ -86,8 +92,10 @@ impl Taken {
     #[inline]
     pub(crate) fn with(&self, w: Weighted, value: Option<u32>) -> Taken
         requires room { length (take self.now.count self.now.hands) < 4 }
-        requires apart { list_all (λ v. apart v.hand w.hand) (take self.now.count self.now.hands) ≡ true }
-        ensures hands { take result.count result.hands ≡ take self.now.count self.now.hands ++ w ∷ [] }
+        requires apart { list_all (λ v. apart v.hand w.hand) (take self.now.count self.now.hands)
+            ≡ true }
+        ensures hands { take result.count result.hands
+            ≡ take self.now.count self.now.hands ++ w ∷ [] }
         ensures values { result.values ≡ set self.now.values self.now.count value }
     {
         self.facts();

@@ -1,11 +1,11 @@
 //! The words of a line with ranges, part by part.
 
-ghost use Rattle.std.specs.Prelude.{◌≡◌, if◌then◌else◌, [], ◌∷◌, length, map, true, Some, None, IfSome, IfOk, IsTrue, is_some};
+ghost use Rattle.std.specs.Prelude.{◌≡◌, [], ◌∷◌, map, true, IfSome, IfOk, IsTrue, is_some};
 ghost use Rattle.std.specs.List.{list_all};
 ghost use Rattle.spot_text.specs.Words.{words_left};
 ghost use Rattle.spot_text.specs.Parts.{hand_words, board_words, dead_words};
 ghost use Rattle.hand_ranges.specs.Hands.{all_pairs, cleared, is_range, hands_of};
-ghost use Rattle.hand_ranges.specs.Spot.{is_one_word, are_few, range_words};
+ghost use Rattle.hand_ranges.specs.RangeSpot.{is_one_word, range_words};
 
 use crate::pairs::{Pair, range_of, weigh};
 use crate::spot::Range;
@@ -17,8 +17,10 @@ use std::alloc::{AllocError, Global};
 pub(crate) fn behind_ranges(words: Words) -> Option<Words>
     ensures some { is_some result ≡ list_all is_one_word (hand_words (words_left words.entry)) }
     ensures hands { IfSome result (λ table. hand_words (words_left table) ≡ [] ∷ []) }
-    ensures board { IfSome result (λ table. board_words (words_left table) ≡ board_words (words_left words.entry)) }
-    ensures dead { IfSome result (λ table. dead_words (words_left table) ≡ dead_words (words_left words.entry)) }
+    ensures board { IfSome result (λ table. board_words (words_left table)
+        ≡ board_words (words_left words.entry)) }
+    ensures dead { IfSome result (λ table. dead_words (words_left table)
+        ≡ dead_words (words_left words.entry)) }
 {
     let mut table = words;
     let mut full = false;
@@ -33,26 +35,6 @@ pub(crate) fn behind_ranges(words: Words) -> Option<Words>
         let _word = table.next();
     }
     if full { Some(table) } else { None }
-}
-
-/// The number of players, if they are two to four.
-pub(crate) fn player_count(words: Words) -> Option<u8>
-    ensures { let count = length (hand_words (words_left words.entry)) in
-        result ≡ (if are_few count then Some count else None) }
-{
-    let mut count = 1u8;
-    for word in words {
-        if ends_hands(word) {
-            break;
-        }
-        if is_dash(word) {
-            if count == 4 {
-                return None;
-            }
-            count += 1;
-        }
-    }
-    if count < 2 { None } else { Some(count) }
 }
 
 /// Whether the words of the ranges are ranges.
@@ -82,7 +64,8 @@ pub(crate) fn ranges_of(
 ) -> Result<Vec<Range>, AllocError>
     requires all { map cleared pairs.old ≡ all_pairs }
     requires ranges { IsTrue (list_all is_range (range_words (words_left words))) }
-    ensures { IfOk result (λ ranges. ranges.items ≡ map (hands_of board dead) (range_words (words_left words.entry))) }
+    ensures { IfOk result (λ ranges. ranges.items
+        ≡ map (hands_of board dead) (range_words (words_left words.entry))) }
 {
     let mut ranges = Vec::new(alloc);
     for word in words {

@@ -1,9 +1,9 @@
-pub mod Places
-pub mod Words
-pub mod Counts
-pub mod Headings
-pub mod Openings
-pub mod Longest
+pub mod MarkPlaces
+pub mod CardWords
+pub mod CardCounts
+pub mod HeaderPlaces
+pub mod OpeningLists
+pub mod LongestNames
 pub mod Within
 pub mod ExampleHands
 pub mod ExampleLines
@@ -11,3 +11,4 @@ pub mod ExampleHeaders
 pub mod WrittenLines
 pub mod WrittenMoves
 pub mod WrittenSeats
+pub mod CallerLemmas

@@ -315,7 +315,7 @@ front_opens : (text : List ℕ) → Has (Opens text) (seat_front text)
 unfolding seat_front
 front_opens text = by (digit_count text == 0)
   where
-    by : (b : Bool) → Has (Opens text) (if b then None else Some (seat_of (number_of (take (digit_count text) text)), drop (digit_count text) text))
+    by : (b : Bool) → Has (Opens text) (option_map (λ (front : List ℕ × List ℕ). (seat_of (number_of front.0), front.1)) (if b then None else Some (take (digit_count text) text, drop (digit_count text) text)))
     by true = tt
     by false = (seat_of_has (number_of (take (digit_count text) text)), (let e : length (drop (digit_count text) text) ≡ length text - digit_count text = length-drop (digit_count text) text in omega (arith, e)))
 

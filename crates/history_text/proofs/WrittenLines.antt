@@ -6,7 +6,7 @@ use Rattle.std.proofs.lemmas.Bool.Decides.{Decides-eqb}
 use Rattle.std.proofs.lemmas.List.{take_at, drop_at}
 use Rattle.std.proofs.lemmas.Slice.Eq.{starts_is}
 use Rattle.line_text.specs.Amounts.{digit_count, has_point}
-use Rattle.line_text.proofs.WrittenFacts.{written_amount_is_read}
+use Rattle.line_text.proofs.CallerLemmas.{written_amount_is_read}
 use Rattle.history_text.specs.declared.events.Header.{Header}
 use Rattle.history_text.specs.declared.events.PostKind.{PostKind}
 use Rattle.history_text.specs.declared.events.PostKind.TheVariants.{Small, Big, Both, Ante, BringIn}
@@ -20,7 +20,7 @@ use Rattle.history_text.specs.declared.events.TextFault.TheVariants.{BadAmount}
 use Rattle.history_text.specs.Reading.{◌>>=◌, money, some_money, follows, all_in_end, money_of}
 use Rattle.history_text.specs.Acts.{verb_of, post, call, bet, raise, perhaps_cards, fold, said, act_event}
 use Rattle.history_text.specs.Written.{IsOneOf, IsNamed, IsLongest, IsPaid, all_in_text, IsPostOf, SaysPost, SaysAct}
-use Rattle.history_text.proofs.Longest.{all_are_longest}
+use Rattle.history_text.proofs.LongestNames.{all_are_longest}
 
 -- what stands behind a front
 pub behind_front : (front rest : List ℕ) → behind front (front ++ rest) ≡ Some rest

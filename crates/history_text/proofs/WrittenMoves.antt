@@ -4,6 +4,7 @@ use Rattle.std.specs.Prelude.{codes, option_map, option_and_then}
 use Rattle.std.specs.Str.{bytes_eq}
 use Rattle.std.proofs.lemmas.Bool.{both_ways}
 use Rattle.std.proofs.lemmas.Slice.Eq.{bytes_eq-Decides}
+use Rattle.line_text.specs.Amounts.{number_of}
 use Rattle.history_text.specs.declared.events.Header.{Header}
 use Rattle.history_text.specs.declared.events.Part.{Part}
 use Rattle.history_text.specs.declared.events.Part.TheVariants.{Preamble, Play, Summary}
@@ -11,39 +12,65 @@ use Rattle.history_text.specs.declared.events.PotName.{PotName}
 use Rattle.history_text.specs.declared.events.PotName.TheVariants.{Only, Main, Side, SideNumber}
 use Rattle.history_text.specs.declared.events.Event.TheVariants as event
 use Rattle.history_text.specs.Texts.{behind, cut_last}
-use Rattle.history_text.specs.Reading.{follows}
+use Rattle.history_text.specs.Reading.{follows, digits_front, seat_front, seat_of}
 use Rattle.history_text.specs.Names.{seat_named}
 use Rattle.history_text.specs.Acts.{act_event}
 use Rattle.history_text.specs.Plays.{acted, dealt, returned, give_back, collected, collect, pot_of, play_event}
-use Rattle.history_text.specs.Seats.{seat_opening, seat_line, seat_event, seated, preamble_event}
+use Rattle.history_text.specs.Seats.{seat_opening, seat_digits, seat_event, seated, preamble_event}
 use Rattle.history_text.specs.Lines.{line_event}
 use Rattle.history_text.specs.Written.{IsOneOf, IsNamed, IsLongest, IsNobodysLine, StandsInPlay, IsPaid, ActsAreRead, PostsAreRead, IsPot, pot_text, return_text, won_text, collection_text, ReturnsAreRead, CollectionsAreRead}
 use Rattle.history_text.proofs.WrittenLines.{name_counts, none_counts, paid_is_read, act_read, posted}
 
 -- a line that stands in the play is read as a line of play
-no_seat : (names : List (ℕ × List ℕ)) (header : Header) (line : List ℕ) → seat_line line ≡ None → seated names header line ≡ None
-unfolding seat_line seated
-no_seat names header line h = by_opening (seat_opening line) h
+no_seat : (names : List (ℕ × List ℕ)) (header : Header) (line : List ℕ) → seat_digits line ≡ None → seated names header line ≡ None
+unfolding seat_digits seated seat_opening seat_front
+no_seat names header line h = by_word (behind (codes "Seat ") line) h
   where
-    by_cut : (opening : Option ℕ × List ℕ) (cut : Option (List ℕ × List ℕ)) →
-        option_map (λ (c : List ℕ × List ℕ). opening.0) cut ≡ None →
-        option_map (λ (c : List ℕ × List ℕ). seat_event names header (length line - length opening.1) opening.0 opening.1 c.0) cut ≡ None
-    by_cut opening None e = refl
-    by_cut opening (Some cut) e = absurd (cc)
+    by_cut : (digits text : List ℕ) (cut : Option (List ℕ × List ℕ)) →
+        option_map (λ (c : List ℕ × List ℕ). digits) cut ≡ None →
+        option_map (λ (c : List ℕ × List ℕ). seat_event names header (length line - length text) (seat_of (number_of digits)) text c.0) cut ≡ None
+    by_cut digits text None e = refl
+    by_cut digits text (Some cut) e = absurd (cc)
 
-    by_opening : (o : Option (Option ℕ × List ℕ)) →
-        option_and_then (λ opening. option_map (λ (c : List ℕ × List ℕ). opening.0) (cut_last (codes " in chips") opening.1)) o ≡ None →
-        option_and_then (λ opening.
-        option_map (λ (c : List ℕ × List ℕ). seat_event names header (length line - length opening.1) opening.0 opening.1 c.0) (cut_last (codes " in chips") opening.1)) o
+    by_mark : (digits : List ℕ) (o : Option (List ℕ)) →
+        option_and_then (λ (text : List ℕ). option_map (λ (c : List ℕ × List ℕ). digits) (cut_last (codes " in chips") text)) o ≡ None →
+        option_and_then (λ (opening : Option ℕ × List ℕ).
+        option_map (λ (c : List ℕ × List ℕ). seat_event names header (length line - length opening.1) opening.0 opening.1 c.0) (cut_last (codes " in chips") opening.1))
+        (option_map (λ (rest : List ℕ). (seat_of (number_of digits), rest)) o)
         ≡ None
-    by_opening None e = refl
-    by_opening (Some opening) e = by_cut opening (cut_last (codes " in chips") opening.1) e
+    by_mark digits None e = refl
+    by_mark digits (Some text) e = by_cut digits text (cut_last (codes " in chips") text) e
+
+    by_front : (o : Option (List ℕ × List ℕ)) →
+        option_and_then (λ (front : List ℕ × List ℕ).
+        option_and_then (λ (text : List ℕ). option_map (λ (c : List ℕ × List ℕ). front.0) (cut_last (codes " in chips") text)) (behind (codes ": ") front.1)) o
+        ≡ None →
+        option_and_then (λ (opening : Option ℕ × List ℕ).
+        option_map (λ (c : List ℕ × List ℕ). seat_event names header (length line - length opening.1) opening.0 opening.1 c.0) (cut_last (codes " in chips") opening.1))
+        (option_and_then (λ (number : Option ℕ × List ℕ). option_map (λ (rest : List ℕ). (number.0, rest)) (behind (codes ": ") number.1))
+        (option_map (λ (front : List ℕ × List ℕ). (seat_of (number_of front.0), front.1)) o))
+        ≡ None
+    by_front None e = refl
+    by_front (Some front) e = by_mark front.0 (behind (codes ": ") front.1) e
+
+    by_word : (o : Option (List ℕ)) →
+        option_and_then (λ (front : List ℕ × List ℕ).
+        option_and_then (λ (text : List ℕ). option_map (λ (c : List ℕ × List ℕ). front.0) (cut_last (codes " in chips") text)) (behind (codes ": ") front.1))
+        (option_and_then (λ (text : List ℕ). digits_front text) o)
+        ≡ None →
+        option_and_then (λ (opening : Option ℕ × List ℕ).
+        option_map (λ (c : List ℕ × List ℕ). seat_event names header (length line - length opening.1) opening.0 opening.1 c.0) (cut_last (codes " in chips") opening.1))
+        (option_and_then (λ (number : Option ℕ × List ℕ). option_map (λ (rest : List ℕ). (number.0, rest)) (behind (codes ": ") number.1))
+        (option_and_then (λ (text : List ℕ). seat_front text) o))
+        ≡ None
+    by_word None e = refl
+    by_word (Some text) e = by_front (digits_front text) e
 
 pub read_in_play : (names : List (ℕ × List ℕ)) (header : Header) (part : Part) (line : List ℕ) → StandsInPlay part line →
     line_event names header part line ≡ play_event names header line
 unfolding preamble_event
-read_in_play names header Preamble line (no_seat_line, no_button) =
-    let apart : seated names header line ≡ None = no_seat names header line no_seat_line in
+read_in_play names header Preamble line (no_digits, no_button) =
+    let apart : seated names header line ≡ None = no_seat names header line no_digits in
     rw (apart, no_button) refl
 read_in_play names header Play line stands = refl
 read_in_play names header Summary line stands = absurd stands

@@ -9,7 +9,7 @@ use Rattle.std.proofs.lemmas.List.{take_at, drop_at, length-append}
 use Rattle.std.proofs.lemmas.Slice.Eq.{bytes_eq-Decides}
 use Rattle.line_text.specs.Amounts.{digit_count, greatest}
 use Rattle.line_text.specs.Written.{Sign, NoSign, Dollar, Euro, Pound, Writes, sign_text, two_digits}
-use Rattle.line_text.proofs.WrittenFacts.{decimal_numeral, digits_in_front, written_amount_is_read}
+use Rattle.line_text.proofs.CallerLemmas.{decimal_numeral, digits_in_front, written_amount_is_read}
 use Rattle.history_text.specs.declared.events.Header.{Header}
 use Rattle.history_text.specs.declared.events.Event.TheVariants as event
 use Rattle.history_text.specs.Texts.{behind, last_place, one_later, cut_at, cut_last}

@@ -1,5 +1,5 @@
 -- Readers: what a text begins with, and what stands behind it, or the first fault from the left.
-use Rattle.std.specs.Prelude.{ℕ, ◌==◌, ◌&&◌, nat_le, if◌then◌else◌, Bool, true, false, List, length, take, drop, codes, Option, Some, None, Result, Ok, Err}
+use Rattle.std.specs.Prelude.{ℕ, ◌==◌, ◌&&◌, nat_le, if◌then◌else◌, Bool, true, false, List, length, take, drop, codes, Option, Some, None, option_map, Result, Ok, Err}
 use Rattle.std.specs.Str.{bytes_eq}
 use Rattle.line_text.specs.declared.amounts.Amount.{Amount}
 use Rattle.line_text.specs.declared.amounts.AmountFault.{AmountFault}
@@ -58,8 +58,12 @@ all_in_end text =
 abbrev pub seat_of : ℕ → Option ℕ
 seat_of number = if nat_le 1 number && nat_le number 10 then Some number else None
 
--- the digits at the front of a text: the seat that they say, if they say one, and what stands behind them
-unfoldable pub seat_front : List ℕ → Option (Option ℕ × List ℕ)
-seat_front text =
+-- the digits at the front of a text, if there are some, and what stands behind them
+abbrev pub digits_front : List ℕ → Option (List ℕ × List ℕ)
+digits_front text =
     let count = digit_count text in
-    if count == 0 then None else Some (seat_of (number_of (take count text)), drop count text)
+    if count == 0 then None else Some (take count text, drop count text)
+
+-- the seat that they say, if they say one, and what stands behind them
+unfoldable pub seat_front : List ℕ → Option (Option ℕ × List ℕ)
+seat_front text = option_map (λ front. (seat_of (number_of front.0), front.1)) (digits_front text)

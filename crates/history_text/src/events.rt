@@ -65,7 +65,12 @@ pub enum Act {
     /// So much is bet.
     Bet(u64),
     /// A raise by so much, to so much on the street.
-    Raise { by: u64, to: u64 },
+    Raise {
+        /// By how much.
+        by: u64,
+        /// To how much.
+        to: u64,
+    },
 }
 
 /// The pot that a collection names.
@@ -131,84 +136,131 @@ pub enum Verb {
     IsSittingOut,
 }
 
-/// What a line says. Seats are 1 to 10, and amounts are in the units of the hand: hundredths or chips.
+/// What a line says. Seats are 1 to 10, and amounts are in the units of the hand: hundredths or
+/// chips.
+///
+/// [`crate::read_line`] makes an event of a line. One of one's own is made field by field, and its
+/// cards by [`Cards::of`]:
+///
+/// ```
+/// let flop = Event::Street {
+///     street: Street::Flop,
+///     board: BoardNumber::Only,
+///     cards: Cards::of(&[Card::read(*b"Kh")?, Card::read(*b"9s")?, Card::read(*b"2c")?])?,
+/// };
+/// ```
 #[derive(Debug, Drop)]
 pub enum Event {
-    /// A seat line: the stack, and the places of the name in the line.
+    /// A seat line.
     Seat {
+        /// The seat.
         seat: u8,
+        /// The stack.
         units: u64,
+        /// Where the name begins in the line.
         name_first: usize,
+        /// Where the name ends, behind its last byte.
         name_end: usize,
     },
-    /// The seat of the button.
+    /// The button.
     Button {
+        /// Its seat.
         seat: u8,
     },
-    /// A blind, an ante or a bring-in, and whether the line says that the player is all-in.
+    /// A blind, an ante or a bring-in.
     Post {
+        /// Who posts.
         seat: u8,
+        /// What for.
         kind: PostKind,
+        /// How much.
         units: u64,
+        /// Whether the line says that the player is all-in.
         all_in: bool,
     },
-    /// Cards dealt to a seat; drawn where they stand in a second bracket.
+    /// Cards dealt to a seat.
     Deal {
+        /// To whom.
         seat: u8,
+        /// The cards of the line's last bracket.
         cards: Cards,
+        /// Whether they stand in a second bracket: these are drawn.
         drawn: bool,
     },
-    /// The marker of a street, with the board that it speaks of and that board's new cards.
+    /// The marker of a street.
     Street {
+        /// The street.
         street: Street,
+        /// The board that it speaks of.
         board: BoardNumber,
+        /// The board's new cards.
         cards: Cards,
     },
-    /// An act, whether the line says that the player is all-in, and the cards that a fold shows.
+    /// An act in turn.
     Act {
+        /// Who acts.
         seat: u8,
+        /// What is done.
         act: Act,
+        /// Whether the line says that the player is all-in.
         all_in: bool,
+        /// The cards that a fold shows.
         shown: Cards,
     },
     /// What comes back of a bet that nobody called.
     Uncalled {
+        /// To whom.
         seat: u8,
+        /// How much.
         units: u64,
     },
     /// What a player collects from a pot.
     Collect {
+        /// Who collects.
         seat: u8,
+        /// How much.
         units: u64,
+        /// From which pot.
         pot: PotName,
     },
     /// Cards that a player shows.
     Show {
+        /// Who shows.
         seat: u8,
+        /// What is shown.
         cards: Cards,
     },
     /// A player shows nothing.
     Muck {
+        /// Who.
         seat: u8,
     },
     /// The stated pot and rake.
     Total {
+        /// The pot, the rake with it.
         units: u64,
+        /// The rake.
         rake: u64,
     },
     /// The cards that the summary gives to a seat.
     SeatCards {
+        /// The seat.
         seat: u8,
+        /// Its cards.
         cards: Cards,
     },
-    /// So many cards are discarded, and those that are shown.
+    /// So many cards are discarded.
     Discard {
+        /// Who discards.
         seat: u8,
+        /// How many.
         count: u8,
+        /// Those that are shown.
         cards: Cards,
     },
     /// A player draws no card.
     Pat {
+        /// Who.
         seat: u8,
     },
     /// Anything else.
@@ -218,7 +270,8 @@ pub enum Event {
 /// Why a line is refused.
 #[derive(Clone, Copy, Debug, PartialEq, Eq, Drop)]
 pub enum TextFault {
-    /// A header whose game and limit aren't found, or whose name stands behind a word that makes it another game's.
+    /// A header whose game and limit aren't found, or whose name stands behind a word that makes it
+    /// another game's.
     UnknownGame,
     /// A header or a seat line that isn't in its form.
     BadHeader,

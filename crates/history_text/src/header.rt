@@ -2,11 +2,11 @@
 
 ghost use Rattle.std.specs.Prelude.{◌≡◌, ◌==◌, ◌||◌, ◌≤◌, ◌+◌, ◌-◌, [], ◌∷◌, drop, length, map, option_map, take, IfOk, IfSome, IsTrue, MatchOption};
 ghost use Rattle.std.specs.List.{list_all};
-ghost use Rattle.history_text.specs.Acts.{first_opening};
 ghost use Rattle.history_text.specs.Headers.{behind_name, behind_start, big_of, first_game, first_stakes, game_at, game_of, hand_number, header_behind, header_of, is_header, is_letter_or_space, is_other_word, is_start, is_title, last_word, limit_words, limits, opened, stakes_at, stakes_of, title, word_before};
 ghost use Rattle.card_sets.specs.Games.{all_games};
 ghost use Rattle.history_text.specs.Games.{capped_stakes, kept_header, seen_found, seen_named};
 
+use crate::openings::{Opening, first_opening};
 use crate::texts::{behind, cut_first, cut_last};
 use crate::{Header, Limit, TextFault};
 use card_sets::Game;
@@ -95,11 +95,10 @@ fn behind_start(line: &[u8]) -> Option<&[u8]>
 /// The limits.
 const LIMITS: [Limit; 3] = [Limit::NoLimit, Limit::PotLimit, Limit::Fixed];
 
-impl Limit {
-    /// The words that say it.
-    fn words(self) -> &'static [u8]
-        ensures { result.now ≡ limit_words self }
-    {
+impl Opening for Limit {
+    ghost words_in = { λ game limit. limit_words limit };
+
+    fn words(self, _game: Game) -> &'static [u8] {
         match self {
             Limit::NoLimit => b"No Limit",
             Limit::PotLimit => b"Pot Limit",
@@ -116,19 +115,6 @@ struct NamedGame<'a> {
     rest: &'a [u8],
 }
 
-/// The first of some limits that the text begins with, and what stands behind it.
-fn first_limit<'a>(limits: &[Limit], text: &'a [u8]) -> Option<(Limit, &'a [u8])>
-    ensures { option_map (λ read. (read.0, read.1.now)) result
-        ≡ first_opening limit_words limits.now text.now }
-{
-    for limit in limits {
-        if let Some(rest) = behind(text, limit.words()) {
-            return Some((*limit, rest));
-        }
-    }
-    None
-}
-
 /// What stands behind a game's name and a space.
 fn behind_name(game: Game, text: &[u8]) -> Option<&[u8]>
     ensures { option_map (λ rest. rest.now) result ≡ behind_name game text.now }
@@ -140,7 +126,7 @@ fn behind_name(game: Game, text: &[u8]) -> Option<&[u8]>
 fn named_at(game: Game, text: &[u8]) -> Option<NamedGame<'_>>
     ensures { option_map seen_named result ≡ game_at (game ∷ []) text.now }
 {
-    let (limit, rest) = first_limit(&LIMITS, behind_name(game, text)?)?;
+    let (limit, rest) = first_opening(game, &LIMITS, behind_name(game, text)?)?;
     Some(NamedGame { game, limit, rest })
 }
 

@@ -1,8 +1,9 @@
 //! Readers: what a text begins with and what stands behind it, or the first fault from the left.
 
 ghost use Rattle.std.specs.Prelude.{◌≡◌, ◌<◌, ◌≤◌, option_map, IfOk, IfSome, length};
+ghost use Rattle.line_text.specs.Amounts.{digit_count};
 ghost use Rattle.history_text.specs.Gives.{Gives};
-ghost use Rattle.history_text.specs.Reading.{all_in_end, follows, is_end, money, seat_front, seat_of, some_money};
+ghost use Rattle.history_text.specs.Reading.{all_in_end, digits_front, follows, is_end, money, seat_front, seat_of, some_money};
 
 use crate::TextFault;
 use crate::texts::behind;
@@ -69,16 +70,26 @@ fn seat_of(number: u64) -> Option<u8>
     }
 }
 
+/// The digits at the front, if there are some, and what stands behind them.
+#[tactic(auto, using(line_text::proofs::CallerLemmas::front_digits))]
+pub(crate) fn digits_front(text: &[u8]) -> Option<(&[u8], &[u8])>
+    ensures value { option_map (λ cut. (cut.0.now, cut.1.now)) result ≡ digits_front text.now }
+    ensures digits { IfSome result (λ cut. digit_count cut.0.now ≡ length cut.0.now) }
+    ensures length { IfSome result (λ cut. length cut.1.now ≤ length text.now) }
+{
+    let count = digit_count(text);
+    if count == 0 {
+        return None;
+    }
+    Some(text.split_at(count))
+}
+
 /// The seat that the digits at the front say, if they say one, and what stands behind them.
 #[tactic(auto, unfolding(crate::specs::Reading::seat_front))]
 pub(crate) fn seat_front(text: &[u8]) -> Option<(Option<u8>, &[u8])>
     ensures value { option_map (λ read. (read.0, read.1.now)) result ≡ seat_front text.now }
     ensures length { IfSome result (λ read. length read.1.now ≤ length text.now) }
 {
-    let count = digit_count(text);
-    if count == 0 {
-        return None;
-    }
-    let (digits, rest) = text.split_at(count);
+    let (digits, rest) = digits_front(text)?;
     Some((seat_of(number_of(digits)), rest))
 }

@@ -68,7 +68,8 @@ fn last_place(text: &[u8], mark: &[u8]) -> Option<usize>
 #[tactic(auto, unfolding(crate::specs::Texts::cut_first))]
 pub(crate) fn cut_first<'a>(text: &'a [u8], mark: &[u8]) -> Option<(&'a [u8], &'a [u8])>
     requires { 0 < length mark.now }
-    ensures value { option_map (λ cut. (cut.0.now, cut.1.now)) result ≡ cut_first mark.now text.now }
+    ensures value { option_map (λ cut. (cut.0.now, cut.1.now)) result
+        ≡ cut_first mark.now text.now }
     ensures lengths { IfSome result (λ cut.
         length cut.0.now + length mark.now + length cut.1.now ≡ length text.now) }
 {
@@ -80,7 +81,8 @@ pub(crate) fn cut_first<'a>(text: &'a [u8], mark: &[u8]) -> Option<(&'a [u8], &'
 #[tactic(auto, unfolding(crate::specs::Texts::cut_last))]
 pub(crate) fn cut_last<'a>(text: &'a [u8], mark: &[u8]) -> Option<(&'a [u8], &'a [u8])>
     requires { 0 < length mark.now }
-    ensures value { option_map (λ cut. (cut.0.now, cut.1.now)) result ≡ cut_last mark.now text.now }
+    ensures value { option_map (λ cut. (cut.0.now, cut.1.now)) result
+        ≡ cut_last mark.now text.now }
     ensures lengths { IfSome result (λ cut.
         length cut.0.now + length mark.now + length cut.1.now ≡ length text.now) }
 {

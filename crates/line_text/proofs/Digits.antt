@@ -1,11 +1,12 @@
 -- Digits at the front of a text, and numbers that are kept up to the greatest of their type.
-use Rattle.std.proofs.Common.{◌≡◌, ℕ, ◌+◌, ◌*◌, ◌<◌, min, Bool, true, false, not, cond, List, [], ◌∷◌, length, drop, refl, ap, ◌∙◌, arith, inl, inr, None}
+use Rattle.std.proofs.Common.{◌≡◌, ℕ, suc, ◌+◌, ◌*◌, ◌<◌, min, Bool, true, false, not, cond, List, [], ◌∷◌, length, take, drop, refl, sym, ap, subst, ◌∙◌, arith, inl, inr, None}
 use Rattle.std.specs.Prelude.{nat_lt, position, unwrap_or}
+use Rattle.std.specs.Char.{is_ascii_digit}
 use Rattle.std.specs.List.{prefix_len, position_or_len}
 use Rattle.std.proofs.lemmas.Bool.{cases_lt}
 use Rattle.std.proofs.lemmas.List.{drop_all}
 use Rattle.std.proofs.lemmas.List.Sums.{prefix_len-le-length}
-use Rattle.line_text.specs.Amounts.{written}
+use Rattle.line_text.specs.Amounts.{digit_count, written}
 
 -- the first place that passes, or the length
 place_or_end : (p : ℕ → Bool) (xs : List ℕ) → unwrap_or (position p xs) (length xs) ≡ position_or_len p xs
@@ -28,6 +29,19 @@ twice_not p (x ∷ xs) =
 -- the first place that fails, or the length
 pub failing_or_end : (p : ℕ → Bool) (xs : List ℕ) → unwrap_or (position (λ x. not (p x)) xs) (length xs) ≡ prefix_len p xs
 failing_or_end p xs = place_or_end (λ x. not (p x)) xs ∙ twice_not p xs
+
+-- the digits at the front of a text are digits alone
+front_more : (x : ℕ) (xs : List ℕ) → digit_count (take (digit_count xs) xs) ≡ length (take (digit_count xs) xs) → (b : Bool) → is_ascii_digit x ≡ b
+    → digit_count (take (digit_count (x ∷ xs)) (x ∷ xs)) ≡ length (take (digit_count (x ∷ xs)) (x ∷ xs))
+front_more x xs later true is =
+    let count : digit_count (x ∷ xs) ≡ suc (digit_count xs) = ap (λ b. cond b (1 + digit_count xs) 0) is ∙ omega arith in
+    subst (λ n. digit_count (take n (x ∷ xs)) ≡ length (take n (x ∷ xs))) (sym count)
+    (ap (λ b. cond b (1 + digit_count (take (digit_count xs) xs)) 0) is ∙ omega (arith, later))
+front_more x xs later false is = subst (λ n. digit_count (take n (x ∷ xs)) ≡ length (take n (x ∷ xs))) (sym (ap (λ b. cond b (1 + digit_count xs) 0) is)) refl
+
+pub front_digits : (xs : List ℕ) → digit_count (take (digit_count xs) xs) ≡ length (take (digit_count xs) xs)
+front_digits [] = refl
+front_digits (x ∷ xs) = front_more x xs (front_digits xs) (is_ascii_digit x) refl
 
 -- one digit more, kept up to the greatest
 pub digit_kept : (number greatest digit : ℕ) → min (min (min number greatest * 10) greatest + digit) greatest ≡ min (number * 10 + digit) greatest

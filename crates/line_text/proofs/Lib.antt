@@ -4,3 +4,4 @@ pub mod PlaceFacts
 pub mod LawFacts
 pub mod Digits
 pub mod WrittenFacts
+pub mod CallerLemmas

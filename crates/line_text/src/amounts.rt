@@ -16,11 +16,14 @@ const EURO: [u8; 3] = [0xe2, 0x82, 0xac];
 
 const POUND: [u8; 2] = [0xc2, 0xa3];
 
-/// An amount: its units, the place behind it, and whether it carried a sign or a point.
+/// An amount that was read at a place of a text.
 #[derive(Clone, Copy, Debug, PartialEq, Eq)]
 pub struct Amount {
+    /// How much it is.
     pub units: u64,
+    /// The place behind it.
     pub next: usize,
+    /// Whether it has a sign or a point.
     pub marked: bool,
 }
 

@@ -18,8 +18,11 @@ const MARK: [u8; 3] = [0xef, 0xbb, 0xbf];
 /// `next`.
 #[derive(Clone, Copy, Debug, PartialEq, Eq)]
 pub struct Line {
+    /// Where its text begins.
     pub first: usize,
+    /// Where its text ends, behind the last byte.
     pub end: usize,
+    /// Where the next line begins, or where the bytes end.
     pub next: usize,
 }
 

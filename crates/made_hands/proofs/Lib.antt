@@ -1,5 +1,5 @@
-pub mod Sets
-pub mod Drawn
-pub mod Text
-pub mod Numbered
-pub mod Short
+pub mod DifferentCards
+pub mod DrawnNumbers
+pub mod TextPieces
+pub mod NumberedHands
+pub mod TextLength

@@ -27,7 +27,8 @@ title_lines number =
 -- the seats with their stacks
 unfoldable pub seat_lines : Deal → List ℕ
 seat_lines d =
-    codes "Seat 1: A ($" ++ decimal d.first_stack ++ codes " in chips)\nSeat 2: B ($" ++ decimal d.second_stack
+    codes "Seat 1: A ($" ++ decimal d.first_stack ++ codes " in chips)\nSeat 2: B ($"
+    ++ decimal d.second_stack
     ++ codes " in chips)\n"
 
 -- the blinds, and what is done before the flop
@@ -38,7 +39,8 @@ blind_lines =
 -- the flop, and B's bet of all that he has left
 unfoldable pub flop_lines : Deal → List ℕ
 flop_lines d =
-    codes "*** FLOP *** " ++ cards_text (take 3 d.board) ++ codes "\nB: bets $" ++ decimal (d.second_stack - 1)
+    codes "*** FLOP *** " ++ cards_text (take 3 d.board) ++ codes "\nB: bets $"
+    ++ decimal (d.second_stack - 1)
     ++ codes " and is all-in\n"
 
 -- A's call, which puts him all in where he has no more than B
@@ -51,24 +53,28 @@ call_line d =
 unfoldable pub return_line : Deal → List ℕ
 return_line d =
     if nat_lt d.first_stack d.second_stack
-    then codes "Uncalled bet ($" ++ decimal (d.second_stack - d.first_stack) ++ codes ") returned to B\n"
+    then codes "Uncalled bet ($" ++ decimal (d.second_stack - d.first_stack)
+    ++ codes ") returned to B\n"
     else []
 
 -- the turn and the river
 unfoldable pub board_lines : Deal → List ℕ
 board_lines d =
-    codes "*** TURN *** " ++ cards_text (take 3 d.board) ++ codes " " ++ cards_text (take 1 (drop 3 d.board))
+    codes "*** TURN *** " ++ cards_text (take 3 d.board) ++ codes " "
+    ++ cards_text (take 1 (drop 3 d.board))
     ++ codes "\n*** RIVER *** " ++ cards_text (take 4 d.board) ++ codes " "
     ++ cards_text (take 1 (drop 4 d.board)) ++ codes "\n"
 
 -- the showdown: B made the last bet and shows first
 unfoldable pub shown_lines : Deal → List ℕ
 shown_lines d =
-    codes "*** SHOW DOWN ***\nB: shows " ++ cards_text d.second ++ codes "\nA: shows " ++ cards_text d.first ++ codes "\n"
+    codes "*** SHOW DOWN ***\nB: shows " ++ cards_text d.second ++ codes "\nA: shows "
+    ++ cards_text d.first ++ codes "\n"
 
 -- how the best five of A's seven cards compare with the best five of B's
 unfoldable pub compared : Deal → Ordering
-compared d = slice_cmp nat_cmp (best_high (union d.first d.board)) (best_high (union d.second d.board))
+compared d =
+    slice_cmp nat_cmp (best_high (union d.first d.board)) (best_high (union d.second d.board))
 
 -- that a player gets so many dollars
 unfoldable pub collected_line : List ℕ → ℕ → List ℕ
@@ -82,15 +88,18 @@ collected_lines Equal stake = collected_line (codes "A") stake ++ collected_line
 
 -- the summary
 unfoldable pub summary_lines : ℕ → List ℕ
-summary_lines stake = codes "*** SUMMARY ***\nTotal pot $" ++ decimal (2 * stake) ++ codes " | Rake $0\n"
+summary_lines stake =
+    codes "*** SUMMARY ***\nTotal pot $" ++ decimal (2 * stake) ++ codes " | Rake $0\n"
 
 -- a hand as far as the cards of the flop are bet on
 unfoldable pub betting_text : ℕ → Deal → List ℕ
-betting_text number d = title_lines number ++ seat_lines d ++ blind_lines ++ flop_lines d ++ call_line d ++ return_line d
+betting_text number d = title_lines number ++ seat_lines d ++ blind_lines ++ flop_lines d
+    ++ call_line d ++ return_line d
 
 -- and from the turn on
 unfoldable pub ending_text : Deal → List ℕ
-ending_text d = board_lines d ++ shown_lines d ++ collected_lines (compared d) (staked d) ++ summary_lines (staked d)
+ending_text d = board_lines d ++ shown_lines d ++ collected_lines (compared d) (staked d)
+    ++ summary_lines (staked d)
 
 -- a hand with its number
 unfoldable pub hand_text : ℕ → Deal → List ℕ

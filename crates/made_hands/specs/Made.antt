@@ -7,7 +7,8 @@ use Rattle.made_hands.specs.Lines.{hand_text}
 -- so many hands, the first of which has a number, from a state on; a hand takes eleven draws
 unfoldable pub hands_text : ℕ → ℕ → ℕ → List ℕ
 hands_text number x zero = []
-hands_text number x (suc more) = hand_text number (deal_of x) ++ hands_text (number + 1) (state_after 11 x) more
+hands_text number x (suc more) =
+    hand_text number (deal_of x) ++ hands_text (number + 1) (state_after 11 x) more
 
 -- so many hands, numbered from 1, from a seed
 abbrev pub made_text : ℕ → ℕ → List ℕ

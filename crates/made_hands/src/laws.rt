@@ -8,7 +8,8 @@ ghost use Rattle.made_hands.specs.Made.{made_text};
 /// The nine cards of a deal are nine different ones, so that each player has seven with the board,
 /// and the stacks are of 10 to 200 dollars.
 pub fn law_deals_are_whole()
-    ensures nine { (x : ℕ) → length (union (union (deal_of x).first (deal_of x).second) (deal_of x).board) ≡ 9 }
+    ensures nine { (x : ℕ)
+        → length (union (union (deal_of x).first (deal_of x).second) (deal_of x).board) ≡ 9 }
     ensures whole { (x : ℕ) → IsWhole (deal_of x) }
 {}
 

@@ -1,7 +1,8 @@
-pub mod Numbers
-pub mod Allowed
-pub mod Bests
+pub mod CallerLemmas
+pub mod BestNumbers
+pub mod TwoAndThree
+pub mod BestFives
 pub mod TwoParts
 pub mod LowCards
-pub mod Worths
+pub mod ValuesBeside
 pub mod LowRanks

@@ -9,19 +9,14 @@ use Rattle.card_sets.specs.Cards.{IsCardSet, has_card, rank_of, cards_above, min
 use Rattle.card_sets.specs.Bits.{cards_where_same, has-cards_where}
 use Rattle.card_sets.specs.Rising.{IsCardSet-rising}
 use Rattle.card_sets.specs.SuitBits.{filter-where}
-use Rattle.rank_high.proofs.Best.{greatest}
-use Rattle.rank_high.proofs.InOrder.{grouped}
-use Rattle.rank_high.proofs.Sets.{has_card-bound}
-use Rattle.rank_high.proofs.SetParts.{has_all, all-union, set-part, union-IsCardSet}
-use Rattle.rank_high.proofs.Sublists.{passing_part, part_of_passing}
 use Rattle.rank_low.specs.Low.{ace_low, count_of_low, low_groups, qualifies}
-use Rattle.rank_low.proofs.AceShapes.{set-FewOfEach}
-use Rattle.rank_low.proofs.BestFive.{qualifies-is, eight_turned}
-use Rattle.rank_low.proofs.LowestFive.{five_turned}
+use Rattle.card_sets.proofs.CallerLemmas.{greatest, has_card-bound, has_all, all-union, set-part, union-IsCardSet, passing_part, part_of_passing}
+use Rattle.rank_high.proofs.CallerLemmas.{grouped}
+use Rattle.rank_low.proofs.CallerLemmas.{set-FewOfEach, qualifies-is, eight_turned, five_turned}
 use Rattle.omaha_ranks.specs.Omaha.{fives, is_low, OnlyLowCards}
-use Rattle.omaha_ranks.proofs.Allowed.{AreTwoAndThree, allowed_most, allowed_least}
-use Rattle.omaha_ranks.proofs.Bests.{fives-are, placed-passing}
-use Rattle.omaha_ranks.proofs.Numbers.{eight-by}
+use Rattle.omaha_ranks.proofs.TwoAndThree.{AreTwoAndThree, allowed_most, allowed_least}
+use Rattle.omaha_ranks.proofs.BestFives.{fives-are, placed-passing}
+use Rattle.omaha_ranks.proofs.BestNumbers.{eight-by}
 
 -- a card of a set is counted at its rank
 counted : (cards : List ℕ) (card : ℕ) → has_card cards card ≡ true → 0 < count_of_low cards (rank_of (ace_low card))

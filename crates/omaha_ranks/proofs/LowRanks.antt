@@ -3,19 +3,14 @@ use Rattle.std.proofs.Common.{◌≡◌, ℕ, zero, suc, ◌≤◌, ◌<◌, ◌
 use Rattle.std.proofs.lemmas.Bool.{cases_lt}
 use Rattle.card_sets.specs.Cards.{rank_of, union, IsCardSet}
 use Rattle.rank_high.specs.High.{count_of_rank}
-use Rattle.rank_high.proofs.Best.{greatest}
-use Rattle.rank_high.proofs.Counts.{groups_counted-same, count_of_rank-cons}
-use Rattle.rank_high.proofs.RankLists.{same-rank_lists}
-use Rattle.rank_high.proofs.SetParts.{set-part, Apart-parts, count-union, union-IsCardSet}
-use Rattle.rank_high.proofs.Sets.{Apart-apart}
 use Rattle.rank_low.specs.Low.{ace_low, count_of_low, low_groups, low_a5, qualifies}
-use Rattle.rank_low.proofs.BestFive.{eight_turned}
-use Rattle.rank_low.proofs.LowCounts.{low-high, high_rank}
-use Rattle.rank_low.proofs.Turned.{ace_turned}
+use Rattle.card_sets.proofs.CallerLemmas.{greatest, set-part, Apart-parts, union-IsCardSet, Apart-apart}
+use Rattle.rank_high.proofs.CallerLemmas.{groups_counted-same, count_of_rank-cons, same-rank_lists, count-union}
+use Rattle.rank_low.proofs.CallerLemmas.{eight_turned, low-high, high_rank, ace_turned}
 use Rattle.omaha_ranks.specs.Omaha.{fives, ArePlaced, LowRanksDecide}
-use Rattle.omaha_ranks.proofs.Allowed.{allowed_most, allowed_least}
-use Rattle.omaha_ranks.proofs.Bests.{fives-are}
-use Rattle.omaha_ranks.proofs.Numbers.{eight-by}
+use Rattle.omaha_ranks.proofs.TwoAndThree.{allowed_most, allowed_least}
+use Rattle.omaha_ranks.proofs.BestFives.{fives-are}
+use Rattle.omaha_ranks.proofs.BestNumbers.{eight-by}
 use Rattle.omaha_ranks.proofs.TwoParts.{twin_of}
 
 -- no card has a rank above twelve

@@ -6,18 +6,13 @@ use Rattle.card_sets.specs.Choose.{choose}
 use Rattle.card_sets.specs.declared.games.Side.{Side}
 use Rattle.rank_high.specs.High.{value_of, is_flush, count_of_rank}
 use Rattle.rank_high.specs.Parts.{of_suit, plain_high}
-use Rattle.rank_high.proofs.Best.{greatest}
-use Rattle.rank_high.proofs.Counts.{groups_counted-same, ranks_counted-same}
-use Rattle.rank_high.proofs.Parts.{number, plain_number, plain-less, plain-same, flush_suit, one_of_four}
-use Rattle.rank_high.proofs.RankLists.{same-rank_lists, times-ranks, times}
-use Rattle.rank_high.proofs.Sublists.{IsPart, passing_part, part_of_passing, part_of_image, image_of_part, greatest_most, greatest_least}
 use Rattle.omaha_ranks.specs.Omaha.{fives, omaha_high, omaha_plain, omaha_suited, ArePlaced, IsByRanksOrSuit, RanksDecide}
 use Rattle.omaha_ranks.specs.Worth.{worth, best_with, best_own}
-use Rattle.omaha_ranks.proofs.Allowed.{AreTwoAndThree, allowed_most, allowed_least, with_two, greatest-flat}
-use Rattle.omaha_ranks.proofs.Worths.{five_worth, worth-five, same_greatest, none-union}
-use Rattle.rank_high.proofs.SetParts.{set-part, Apart-parts, all-union, count-union, union-IsCardSet}
-use Rattle.rank_high.proofs.Sets.{Apart-apart, length-union}
-use Rattle.omaha_ranks.proofs.Bests.{high-number, plain-five, suit-number}
+use Rattle.omaha_ranks.proofs.TwoAndThree.{AreTwoAndThree, allowed_most, allowed_least, with_two, greatest-flat}
+use Rattle.omaha_ranks.proofs.ValuesBeside.{five_worth, worth-five, same_greatest, none-union}
+use Rattle.card_sets.proofs.CallerLemmas.{greatest, IsPart, passing_part, part_of_passing, part_of_image, image_of_part, greatest_most, greatest_least, set-part, Apart-parts, all-union, union-IsCardSet, Apart-apart, length-union}
+use Rattle.rank_high.proofs.CallerLemmas.{groups_counted-same, ranks_counted-same, number, plain_number, plain-less, plain-same, flush_suit, one_of_four, same-rank_lists, times-ranks, times, count-union}
+use Rattle.omaha_ranks.proofs.BestFives.{high-number, plain-five, suit-number}
 
 -- two own cards and three of the board are five
 five : (own board two three : List ℕ) → ArePlaced own board → AreTwoAndThree own board two three → length (union two three) ≡ 5

@@ -29,11 +29,16 @@ fn worth(side: Side, cards: CardSet) -> u32
 /// The greater of a number and of what some cards are worth with the best so many of the rest. The
 /// bound is what they are worth with all of the rest.
 fn best_with(side: Side, kept: CardSet, rest: CardSet, missing: u32, bound: u32, best: u32) -> u32
+    // The kept cards and so many of the rest are five, of up to seven that are all different.
     requires five { length kept + missing ≡ 5 }
     requires enough { missing ≤ length rest }
     requires most { length kept + length rest ≤ 7 }
     requires apart { IsTrue (apart kept rest) }
+
+    // More cards to choose from are worth no less, so no choice beats the bound.
     requires bound { bound ≡ worth side (union kept rest) }
+
+    // Where the bound isn't above the number, no choice is looked at.
     ensures { result ≡ max best (best_with side kept missing rest) }
 {
     kept.rising();
@@ -66,12 +71,17 @@ pub(crate) fn best_own(
     board: CardSet,
     best: u32,
 ) -> u32
+    // Two of the own cards come to three of the board.
     requires two { length taken + missing ≡ 2 }
     requires least { 3 ≤ length board }
     requires most { length board ≤ 5 }
+
+    // No card is in two places.
     requires apart { IsTrue (apart taken rest) }
     requires own { IsTrue (apart taken board) }
     requires others { IsTrue (apart rest board) }
+
+    // The number is handed from choice to choice, so that a good one early spares the others.
     ensures { result ≡ max best (best_own side taken missing rest board) }
 {
     taken.rising();

@@ -69,7 +69,8 @@ fn post_twice<N: Naming>(
 
 /// The same with a ledger of its own, by the tally of all runouts; none where the job hasn't one block.
 fn posted_twice(alloc: Global, job: &Job, tally: &Tally) -> Result<Option<PostedTwice>, Memory>
-    requires { Counts (deal_of job.now.table) (runouts_after (state_of job.now.table.known)) tally.now }
+    requires { Counts (deal_of job.now.table)
+        (runouts_after (state_of job.now.table.known)) tally.now }
 {
     if job.blocks() != 1 {
         return Ok(None);

@@ -62,7 +62,9 @@ const FULL: [CoreEvent; 2] = [
 
 /// Two workers, each with one block in its queue.
 fn two_queues(alloc: Global) -> Result<State, Memory>
-    ensures { IfOk result (λ s. s ≡ record { queues = (0 ∷ []) ∷ (1 ∷ []) ∷ []; held = None ∷ None ∷ []; booked = [] }) }
+    ensures { IfOk result
+        (λ s. s
+        ≡ record { queues = (0 ∷ []) ∷ (1 ∷ []) ∷ []; held = None ∷ None ∷ []; booked = [] }) }
 {
     let first = Blocks::of(Vec::from_slice(alloc, &[0])?);
     let second = Blocks::of(Vec::from_slice(alloc, &[1])?);
@@ -77,22 +79,47 @@ fn two_queues(alloc: Global) -> Result<State, Memory>
     })
 }
 
-/// The blocks in a worker's queue; none where there is no such queue.
-fn queue(state: &State, worker: usize) -> &[u32] {
+/// The same; none for want of memory.
+fn queues_of_two(alloc: Global) -> Option<State> {
+    two_queues(alloc).ok()
+}
+
+/// The state behind some events, and how many were refused; none for want of memory.
+fn behind(alloc: Global, start: &State, events: &[CoreEvent]) -> Option<(State, u64)> {
+    run_core(alloc, start, events).ok()
+}
+
+/// Whether a worker's queue has these blocks.
+fn has_queue(state: &State, worker: usize, blocks: &[u32]) -> bool {
     match state.queues.items().get(worker) {
-        Some(queue) => queue.items(),
-        None => &[],
+        Some(queue) => queue.items() == blocks,
+        None => false,
     }
 }
 
+/// Whether the workers hold these.
+fn holds(state: &State, held: &[Option<u32>]) -> bool {
+    state.held.items() == held
+}
+
+/// Whether these blocks are booked.
+fn has_booked(state: &State, blocks: &[u32]) -> bool {
+    state.booked.items() == blocks
+}
+
+/// Whether an event is done.
+fn is_done(state: &mut State, event: CoreEvent) -> bool {
+    step(state, event) == Ok(Stepped::Done)
+}
+
 /// Whether each of some events is refused.
-fn are_refused(state: &mut State, events: &[CoreEvent]) -> Result<bool, Memory> {
+fn are_refused(state: &mut State, events: &[CoreEvent]) -> bool {
     for event in events {
-        if step(state, *event)? == Stepped::Done {
-            return Ok(false);
+        if step(state, *event) != Ok(Stepped::Refused) {
+            return false;
         }
     }
-    Ok(true)
+    true
 }
 
 /// One hand draws none and the other four of 43 cards, in 123,410 ways.
@@ -110,14 +137,14 @@ fn booked_of_two(alloc: Global, job: &Job) -> Result<Option<State>, Memory> {
 
 #[test]
 fn a_stolen_block_is_booked_by_the_thief(rt: HostRuntime) -> Result<(), Fail> {
-    let start = two_queues(rt.alloc()).ok().ok_or("memory")?;
-    let (last, refused) = run_core(rt.alloc(), &start, &STOLEN).ok().ok_or("memory")?;
+    let start = queues_of_two(rt.alloc()).ok_or("memory")?;
+    let (last, refused) = behind(rt.alloc(), &start, &STOLEN).ok_or("memory")?;
     assert_eq!(rt; refused, 1);
-    assert!(rt; last.booked.items() == [1, 0].as_slice());
-    assert!(rt; last.held.items() == [None, None].as_slice());
-    assert!(rt; queue(&last, 0).is_empty());
-    assert!(rt; queue(&last, 1).is_empty());
-    assert!(rt; queue(&start, 0) == [0].as_slice());
+    assert!(rt; has_booked(&last, &[1, 0]));
+    assert!(rt; holds(&last, &[None, None]));
+    assert!(rt; has_queue(&last, 0, &[]));
+    assert!(rt; has_queue(&last, 1, &[]));
+    assert!(rt; has_queue(&start, 0, &[0]));
     Ok(())
 }
 
@@ -126,41 +153,35 @@ fn both_blocks_of_a_job_are_booked(rt: HostRuntime) -> Result<(), Fail> {
     let job = job_of(TWO_BLOCKS).ok_or("no job")?;
     let last = booked_of_two(rt.alloc(), &job).ok().ok_or("memory")?;
     let last = last.ok_or("not two blocks")?;
-    assert!(rt; last.booked.items() == [1, 0].as_slice());
+    assert!(rt; has_booked(&last, &[1, 0]));
     Ok(())
 }
 
 #[test]
 fn a_refused_event_changes_nothing(rt: HostRuntime) -> Result<(), Fail> {
-    let mut state = two_queues(rt.alloc()).ok().ok_or("memory")?;
-    assert_eq!(rt; are_refused(&mut state, &WRONG), Ok(true));
-    assert!(rt; queue(&state, 0) == [0].as_slice());
-    assert!(rt; queue(&state, 1) == [1].as_slice());
-    assert!(rt; state.held.items() == [None, None].as_slice());
-    assert!(rt; state.booked.items().is_empty());
-    assert_eq!(rt;
-        step(&mut state, CoreEvent::Pop { worker: 0 }),
-        Ok(Stepped::Done)
-    );
-    assert_eq!(rt; are_refused(&mut state, &FULL), Ok(true));
-    assert!(rt; queue(&state, 1) == [1].as_slice());
-    assert!(rt; state.held.items() == [Some(0), None].as_slice());
+    let mut state = queues_of_two(rt.alloc()).ok_or("memory")?;
+    assert!(rt; are_refused(&mut state, &WRONG));
+    assert!(rt; has_queue(&state, 0, &[0]));
+    assert!(rt; has_queue(&state, 1, &[1]));
+    assert!(rt; holds(&state, &[None, None]));
+    assert!(rt; has_booked(&state, &[]));
+    assert!(rt; is_done(&mut state, CoreEvent::Pop { worker: 0 }));
+    assert!(rt; are_refused(&mut state, &FULL));
+    assert!(rt; has_queue(&state, 1, &[1]));
+    assert!(rt; holds(&state, &[Some(0), None]));
     Ok(())
 }
 
 #[test]
 fn a_pushed_block_comes_last(rt: HostRuntime) -> Result<(), Fail> {
-    let mut state = two_queues(rt.alloc()).ok().ok_or("memory")?;
+    let mut state = queues_of_two(rt.alloc()).ok_or("memory")?;
     let push = CoreEvent::Push {
         worker: 1,
         block: 7,
     };
-    assert_eq!(rt; step(&mut state, push), Ok(Stepped::Done));
-    assert_eq!(rt;
-        step(&mut state, CoreEvent::Pop { worker: 1 }),
-        Ok(Stepped::Done)
-    );
-    assert!(rt; state.held.items() == [None, Some(1)].as_slice());
-    assert!(rt; queue(&state, 1) == [7].as_slice());
+    assert!(rt; is_done(&mut state, push));
+    assert!(rt; is_done(&mut state, CoreEvent::Pop { worker: 1 }));
+    assert!(rt; holds(&state, &[None, Some(1)]));
+    assert!(rt; has_queue(&state, 1, &[7]));
     Ok(())
 }

@@ -1,8 +1,9 @@
-pub mod Walk
-pub mod Parts
-pub mod Whole
-pub mod Eligible
-pub mod Listed
+pub mod CallerLemmas
+pub mod LevelWalk
+pub mod WinnerWalk
+pub mod WholeSides
+pub mod EligiblePlayers
+pub mod SeatOrders
 pub mod TwoSides
-pub mod Shared
-pub mod Different
+pub mod SharedEvenly
+pub mod DifferentPots

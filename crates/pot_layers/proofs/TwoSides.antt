@@ -4,7 +4,7 @@ use Rattle.std.specs.Prelude.{if◌then◌else◌, sum_by}
 use Rattle.std.proofs.lemmas.List.Sums.{sum_by-cons}
 use Rattle.pot_layers.specs.Halves.{AreHalves, SharesHalves}
 use Rattle.pot_layers.specs.Split.{IsOrder, Differ, given, side_share, high_half, low_half, is_among}
-use Rattle.pot_layers.proofs.Whole.{halves}
+use Rattle.pot_layers.proofs.WholeSides.{halves}
 
 -- the sum over the seats of an order, of what is the same for each of them
 sum_same : (f g : ℕ → ℕ) (order : List ℕ) → ((seat : ℕ) → is_among seat order ≡ true → f seat ≡ g seat) → sum_by f order ≡ sum_by g order

@@ -180,7 +180,8 @@ fn add_rest(pots: &mut [Pot], last: u64, first: u64)
 /// The pots by level, or one pot of all contenders where none of them has paid.
 fn all_levels(alloc: Global, paid: &[Paid]) -> Result<Vec<Pot>, AllocError>
     requires { sum_by (λ p. p.live) paid.now < 2 ^ 64 }
-    ensures { IfOk result (λ pots. pots.items ≡ or_one paid.now (pots_from paid.now 0 (levels paid.now))) }
+    ensures { IfOk result
+        (λ pots. pots.items ≡ or_one paid.now (pots_from paid.now 0 (levels paid.now))) }
 {
     let mut pots = each_level(alloc, paid)?;
     if pots.is_empty() && any_contender(paid) {
@@ -198,7 +199,8 @@ fn all_levels(alloc: Global, paid: &[Paid]) -> Result<Vec<Pot>, AllocError>
 pub fn layers(alloc: Global, paid: &[Paid]) -> Result<Pots, Memory>
     requires { put_in_all paid.now < 2 ^ 64 }
     ensures pots { IfOk result (λ all. all ≡ pots paid.now) }
-    ensures whole { any_contender paid.now ≡ true → IfOk result (λ all. held all ≡ put_in_all paid.now) }
+    ensures whole { any_contender paid.now ≡ true
+        → IfOk result (λ all. held all ≡ put_in_all paid.now) }
 {
     let mut items = all_levels(alloc, paid)?;
     let above = above(paid, highest(paid));

@@ -116,7 +116,9 @@ fn parts(
     high_order: &[u8],
     low_order: &[u8],
 ) -> Result<Vec<Share>, AllocError>
-    ensures { IfOk result (λ parts. parts.items ≡ shares_from units winners.high winners.low high_order.now low_order.now 1 10) }
+    ensures { IfOk result
+        (λ parts. parts.items
+        ≡ shares_from units winners.high winners.low high_order.now low_order.now 1 10) }
 {
     let mut parts = Vec::new(alloc);
     let high = high_half(units, winners.low);
@@ -150,7 +152,8 @@ pub fn split(
     requires some { 0 < winners.high }
     requires high { IsOrder winners.high high_order.now }
     requires low { IsOrder winners.low low_order.now }
-    ensures parts { IfOk result (λ all. all ≡ shares units winners.high winners.low high_order.now low_order.now) }
+    ensures parts { IfOk result
+        (λ all. all ≡ shares units winners.high winners.low high_order.now low_order.now) }
     ensures whole { IfOk result (λ all. given_in_all all ≡ units) }
 {
     let items = parts(

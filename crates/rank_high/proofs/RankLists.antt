@@ -8,10 +8,9 @@ use Rattle.card_sets.specs.Choose.{choose}
 use Rattle.card_sets.specs.Rising.{IsCardSet-rising}
 use Rattle.rank_high.specs.High.{count_of_rank}
 use Rattle.rank_high.specs.Parts.{plain_high, RanksDecide}
-use Rattle.rank_high.proofs.Counts.{groups_counted-same, ranks_counted-same, count_of_rank-cons}
-use Rattle.rank_high.proofs.Best.{greatest}
-use Rattle.rank_high.proofs.Sublists.{IsPart, greatest_most, greatest_least, part_of_image, image_of_part}
-use Rattle.rank_high.proofs.Parts.{plain_number, best_plain-number}
+use Rattle.rank_high.proofs.CountedRanks.{groups_counted-same, ranks_counted-same, count_of_rank-cons}
+use Rattle.card_sets.proofs.CallerLemmas.{greatest, IsPart, greatest_most, greatest_least, part_of_image, image_of_part}
+use Rattle.rank_high.proofs.RanksOrSuit.{plain_number, best_plain-number}
 
 -- how often a rank is in a list of ranks
 abbrev pub times : List ℕ → ℕ → ℕ

@@ -5,6 +5,45 @@ ghost use Rattle.rank_high.specs.High.{value_of};
 
 use std::marker::Model;
 
+/// One pair without its ranks: the category is the first of six digits in base 16.
+pub(crate) const ONE_PAIR: u32 = 0x10_0000;
+
+/// Two pair without its ranks.
+pub(crate) const TWO_PAIR: u32 = 0x20_0000;
+
+/// Three of a kind without its ranks.
+pub(crate) const THREE_OF_A_KIND: u32 = 0x30_0000;
+
+/// A flush without its ranks.
+pub(crate) const FLUSH: u32 = 0x50_0000;
+
+/// A full house without its ranks.
+pub(crate) const FULL_HOUSE: u32 = 0x60_0000;
+
+/// Four of a kind without its ranks.
+pub(crate) const FOUR_OF_A_KIND: u32 = 0x70_0000;
+
+/// By how much a straight flush is above a straight of the same ranks: four categories.
+pub(crate) const STRAIGHT_TO_FLUSH: u32 = 0x40_0000;
+
+/// The straight of five to ace, with its ranks: five, four, three, two and one.
+pub(crate) const FIVE_TO_ACE: u32 = 0x45_4321;
+
+/// By how much a straight is above the next lower one: one in each of its five ranks.
+pub(crate) const NEXT_STRAIGHT: u32 = 0x1_1111;
+
+/// One in the digit of the first rank, which stands behind the category.
+pub(crate) const FIRST_RANK: u32 = 0x1_0000;
+
+/// One in the digit of the second rank.
+pub(crate) const SECOND_RANK: u32 = 0x1000;
+
+/// One in the digit of the third rank.
+pub(crate) const THIRD_RANK: u32 = 0x100;
+
+/// One in the digit of the fourth rank.
+pub(crate) const FOURTH_RANK: u32 = 0x10;
+
 /// What a high hand is worth; greater is better. Clauses see it as its number.
 #[derive(Clone, Copy, Debug, PartialEq, Eq, PartialOrd, Ord)]
 pub struct HighValue(u32);

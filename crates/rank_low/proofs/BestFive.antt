@@ -3,20 +3,18 @@ use Rattle.std.proofs.Common.{◌≡◌, ℕ, suc, zero, ◌+◌, ◌^◌, ◌�
 use Rattle.std.specs.Prelude.{filter, nat_lt}
 use Rattle.std.specs.List.{list_all}
 use Rattle.std.specs.Option.{option_map}
-use Rattle.std.proofs.lemmas.Bool.{eqb-true}
+use Rattle.std.proofs.lemmas.Bool.{eqb-true, and_parts}
 use Rattle.card_sets.specs.Cards.{IsCardSet}
 use Rattle.card_sets.specs.Choose.{choose}
 use Rattle.card_sets.specs.Rising.{IsCardSet-rising}
 use Rattle.rank_high.specs.ByRanks.{falling, held}
-use Rattle.rank_high.proofs.Best.{greatest}
-use Rattle.rank_high.proofs.Falling.{Falls, Falls-falling, Falls-wider, falling-same}
-use Rattle.rank_high.proofs.Hands.{both}
-use Rattle.rank_high.proofs.Sublists.{IsPart, greatest_most, greatest_least}
+use Rattle.card_sets.proofs.CallerLemmas.{greatest, IsPart, greatest_most, greatest_least}
+use Rattle.rank_high.proofs.CallerLemmas.{Falls, Falls-falling, Falls-wider, falling-same}
 use Rattle.rank_low.specs.Low.{low_a5, low_groups, count_of_low, ace_number, qualifies, least_of, best_low, best_eight}
 use Rattle.rank_low.specs.Lowest.{low_digits, IsLowest}
 use Rattle.rank_low.proofs.AceLists.{IsAceList}
 use Rattle.rank_low.proofs.AceShapes.{FewOfEach, flat-number}
-use Rattle.rank_low.proofs.Turned.{turned, ace_turned, AreAceLists, from_turned, least_of-IsLeast}
+use Rattle.rank_low.proofs.TurnedNumbers.{turned, ace_turned, AreAceLists, from_turned, least_of-IsLeast}
 use Rattle.rank_low.proofs.LowestFive.{five_turned, part-FewOfEach, all_of, lowest-least, low_digits-lt, groups-fall, reached, ace_five-number}
 use Rattle.rank_low.proofs.BestLow.{with_taken-AreAceLists}
 
@@ -90,7 +88,7 @@ pub record Qualifies (five : List ℕ) : Type 0 where
 pub qualifies-is : (five : List ℕ) → qualifies five ≡ true → Qualifies five
 unfolding qualifies
 qualifies-is five e =
-    let parts = both (length (low_groups five) == 5) (list_all (λ r. nat_lt r 8) (low_groups five)) e in
+    let parts = and_parts (length (low_groups five) == 5) (list_all (λ r. nat_lt r 8) (low_groups five)) e in
     record { groups = eqb-true (length (low_groups five)) 5 parts.0; low = parts.1 }
 
 pub is-qualifies : (five : List ℕ) → length (low_groups five) ≡ 5 → list_all (λ r. nat_lt r 8) (low_groups five) ≡ true → qualifies five ≡ true
@@ -106,7 +104,7 @@ lt-is a b h = grind arith
 -- falling ranks below eight
 falls-eight : (p : ℕ → Bool) (rs : List ℕ) → Falls p 13 rs → list_all (λ r. nat_lt r 8) rs ≡ true → Falls p 8 rs
 falls-eight p [] f h = tt
-falls-eight p (r ∷ rs) f h = (lt-true r 8 (both (nat_lt r 8) (list_all (λ r. nat_lt r 8) rs) h).0, f.1, f.2)
+falls-eight p (r ∷ rs) f h = (lt-true r 8 (and_parts (nat_lt r 8) (list_all (λ r. nat_lt r 8) rs) h).0, f.1, f.2)
 
 all-eight : (p : ℕ → Bool) (n : ℕ) (rs : List ℕ) → n ≤ 8 → Falls p n rs → list_all (λ r. nat_lt r 8) rs ≡ true
 all-eight p n [] h f = refl

@@ -5,11 +5,10 @@ use Rattle.std.proofs.lemmas.List.{map-append}
 use Rattle.card_sets.specs.Cards.{IsRising}
 use Rattle.card_sets.specs.Rising.{rising-IsCardSet}
 use Rattle.card_sets.specs.Choose.{choose}
-use Rattle.rank_high.proofs.Best.{greatest, greatest-append, choose-short}
-use Rattle.rank_high.proofs.Sublists.{IsPart, AreParts, AreParts-choose}
+use Rattle.card_sets.proofs.CallerLemmas.{greatest, greatest-append, choose-short, IsPart, AreParts, AreParts-choose}
 use Rattle.rank_low.specs.Low.{low_a5, ace_number, least_of}
 use Rattle.rank_low.proofs.AceShapes.{low_a5-IsAceList}
-use Rattle.rank_low.proofs.Turned.{ace_turned, AreAceLists, from_turned, to_turned}
+use Rattle.rank_low.proofs.TurnedNumbers.{ace_turned, AreAceLists, from_turned, to_turned}
 use Rattle.rank_low.proofs.LowestFive.{part-FewOfEach}
 
 part_behind : (taken part rest : List ℕ) → IsPart part rest → IsPart (taken ++ part) (taken ++ rest)

@@ -1,15 +1,11 @@
 -- A deuce-to-seven low by the ranks alone and the flush.
 use Rattle.std.proofs.Common.{◌≡◌, ℕ, ◌+◌, ◌^◌, ◌%◌, ◌<◌, ◌≤◌, ◌==◌, ◌&&◌, ◌||◌, List, [], ◌∷◌, refl, ap, ◌∙◌, sym, arith, Bool, true, false, cond, length, map, slice_index}
-use Rattle.std.proofs.lemmas.Bool.{eqb-true}
+use Rattle.std.proofs.lemmas.Bool.{eqb-true, and_parts}
 use Rattle.card_sets.specs.Cards.{suit_of, RisingFrom}
 use Rattle.rank_high.specs.High.{value_of, digits_from, groups, group_count, is_straight, is_wheel, is_flush, falls_by_one, category_of, pips, count_of_rank}
 use Rattle.rank_high.specs.Parts.{plain_high, best_plain, as_flush}
-use Rattle.rank_high.proofs.Counts.{AreBelow, AreBelow-groups_counted, length-groups, length-groups_counted, group_sizes}
-use Rattle.rank_high.proofs.Flush.{no_group, flush_category}
-use Rattle.rank_high.proofs.Hands.{both, one_suit}
-use Rattle.rank_high.proofs.Order.{AreDigits-map, digits_from-lt}
-use Rattle.rank_high.proofs.Parts.{flush_suit, best_plain-number, plain_number}
-use Rattle.rank_high.proofs.Best.{greatest, choose-all}
+use Rattle.rank_high.proofs.CallerLemmas.{AreBelow, AreBelow-groups_counted, length-groups, length-groups_counted, group_sizes, no_group, flush_category, one_suit, AreDigits-map, digits_from-lt, flush_suit, best_plain-number, plain_number}
+use Rattle.card_sets.proofs.CallerLemmas.{greatest, choose-all}
 use Rattle.card_sets.specs.Choose.{choose}
 use Rattle.rank_low.specs.Low.{low_27, is_run}
 use Rattle.rank_low.specs.Wheel.{without_wheel}
@@ -26,10 +22,10 @@ wheel_is (a ∷ b ∷ []) w = cc
 wheel_is (a ∷ b ∷ c ∷ []) w = cc
 wheel_is (a ∷ b ∷ c ∷ d ∷ []) w = cc
 wheel_is (a ∷ b ∷ c ∷ d ∷ e ∷ []) w =
-    let s = both ((a == 12) && (b == 3) && (c == 2) && (d == 1)) (e == 0) w in
-    let t = both ((a == 12) && (b == 3) && (c == 2)) (d == 1) s.0 in
-    let u = both ((a == 12) && (b == 3)) (c == 2) t.0 in
-    let v = both (a == 12) (b == 3) u.0 in
+    let s = and_parts ((a == 12) && (b == 3) && (c == 2) && (d == 1)) (e == 0) w in
+    let t = and_parts ((a == 12) && (b == 3) && (c == 2)) (d == 1) s.0 in
+    let u = and_parts ((a == 12) && (b == 3)) (c == 2) t.0 in
+    let v = and_parts (a == 12) (b == 3) u.0 in
     rw (eqb-true a 12 v.0, eqb-true b 3 v.1, eqb-true c 2 u.1, eqb-true d 1 t.1, eqb-true e 0 s.1) refl
 wheel_is (a ∷ b ∷ c ∷ d ∷ e ∷ f ∷ rest) w = cc
 

@@ -1,10 +1,11 @@
+pub mod CallerLemmas
 pub mod LowCounts
 pub mod AceLists
 pub mod AceShapes
-pub mod Turned
+pub mod TurnedNumbers
 pub mod LowestFive
 pub mod BestLow
-pub mod Made
+pub mod CountsAndGroups
 pub mod BestFive
 pub mod PlayerLaws
 pub mod DeuceRanks

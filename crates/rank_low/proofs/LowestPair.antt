@@ -2,24 +2,19 @@
 use Rattle.std.proofs.Common.{◌≡◌, ℕ, suc, zero, ◌+◌, ◌*◌, ◌^◌, ◌≤◌, ◌<◌, ◌==◌, List, ◌++◌, ◌∷◌, [], refl, ap, ◌∙◌, sym, arith, Bool, true, false, length, inl, inr, map, ◌⊎◌, Some}
 use Rattle.std.specs.Prelude.{◌&&◌, ◌||◌, not, nat_lt, slice_index_or}
 use Rattle.std.specs.Option.{option_map}
-use Rattle.std.proofs.lemmas.Bool.{cases_eq, cases_lt, eqb-true}
+use Rattle.std.proofs.lemmas.Bool.{cases_eq, cases_lt, eqb-true, and_parts}
 use Rattle.card_sets.specs.Cards.{IsCardSet, has_card}
 use Rattle.card_sets.specs.Choose.{choose}
 use Rattle.card_sets.specs.Rising.{IsCardSet-rising}
 use Rattle.rank_high.specs.High.{digits_from, groups_counted, ranks_counted, count_of_rank}
 use Rattle.rank_high.specs.ByRanks.{falling, held, except}
-use Rattle.rank_high.proofs.Best.{greatest}
-use Rattle.rank_high.proofs.Counts.{total-same, ranks_counted-same, length-groups_counted}
-use Rattle.rank_high.proofs.Falling.{Falls, Falls-falling, Falls-wider, falling-same}
-use Rattle.rank_high.proofs.Hands.{both}
-use Rattle.rank_high.proofs.Order.{first_less}
-use Rattle.rank_high.proofs.Reach.{Allowed, pick, pick-part, picked, weights, weights-total, weights-listed, weights-which, total-all, InDeck-part, count-part, falls_counted}
-use Rattle.rank_high.proofs.Sublists.{IsPart, greatest_most, greatest_least, part_of_image, image_of_part}
+use Rattle.card_sets.proofs.CallerLemmas.{greatest, IsPart, greatest_most, greatest_least, part_of_image, image_of_part}
+use Rattle.rank_high.proofs.CallerLemmas.{total-same, ranks_counted-same, length-groups_counted, Falls, Falls-falling, Falls-wider, falling-same, first_less, Allowed, pick, pick-part, picked, weights, weights-total, weights-listed, weights-which, total-all, InDeck-part, count-part, falls_counted}
 use Rattle.rank_low.specs.Low.{low_a5, low_groups, count_of_low, ace_number, ace_low, best_low}
 use Rattle.rank_low.specs.Lowest.{IsPairAndThree, IsThreeOthers}
 use Rattle.rank_low.proofs.LowCounts.{length-map_low, InDeck-low}
 use Rattle.rank_low.proofs.AceShapes.{FewOfEach, IsSizes, sizes_of, sizes_by, five_sizes, fours, threes, pairs, singles, number-by}
-use Rattle.rank_low.proofs.Turned.{turned, from_turned}
+use Rattle.rank_low.proofs.TurnedNumbers.{turned, from_turned}
 use Rattle.rank_low.proofs.LowestFive.{five_turned, part-FewOfEach, all_of, low_digits-lt, groups-fall}
 use Rattle.rank_low.proofs.BestLow.{with_taken-AreAceLists}
 use Rattle.rank_low.proofs.BestFive.{map_map, length-map_low_lists, some-choice}
@@ -153,7 +148,7 @@ shaped cards q t p o a =
     }
 
 other_rank : (pair : ℕ) (p : ℕ → Bool) (r : ℕ) → except pair p r ≡ true → ((r == pair) ≡ false) × (p r ≡ true)
-other_rank pair p r h = let two = both (not (r == pair)) (p r) h in (flip (r == pair) two.0, two.1)
+other_rank pair p r h = let two = and_parts (not (r == pair)) (p r) h in (flip (r == pair) two.0, two.1)
   where
     flip : (b : Bool) → not b ≡ true → b ≡ false
     flip true e = sym e

@@ -27,7 +27,8 @@ fn best_with(taken: CardSet, rest: CardSet, missing: u32) -> LowValue
     requires five { length taken + missing ≡ 5 }
     requires enough { missing ≤ length rest }
     ensures { Some result
-        ≡ option_map ace_number (least_of (map (λ more. low_a5 (taken ++ more)) (choose missing rest))) }
+        ≡ option_map ace_number
+        (least_of (map (λ more. low_a5 (taken ++ more)) (choose missing rest))) }
 {
     if missing == 0 {
         return ace_of_five(taken);

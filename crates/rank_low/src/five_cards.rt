@@ -26,7 +26,9 @@ fn is_run(ranks: &[u8]) -> bool
 fn first_sizes(counts: &[u8; 13], ranks: &[u8]) -> u32
     requires thirteen { All (λ rank. rank < 13) ranks.now }
     requires two { 2 ≤ length ranks.now }
-    ensures { result ≡ slice_index counts.now (slice_index ranks.now 0) * 16 + slice_index counts.now (slice_index ranks.now 1) }
+    ensures { result
+        ≡ slice_index counts.now (slice_index ranks.now 0) * 16
+        + slice_index counts.now (slice_index ranks.now 1) }
 {
     let first = counts[usize::from(ranks[0])];
     let second = counts[usize::from(ranks[1])];

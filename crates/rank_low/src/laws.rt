@@ -11,24 +11,28 @@ ghost use Rattle.rank_low.specs.Laws.{FiveToAceIsBest, RanksAloneCount, NoPairBe
 /// The ace-to-five numbers of two fives are in the order of what they are worth.
 pub fn law_ace_numbers_keep_order()
     ensures { (a b : List ℕ) → IsCardSet a → IsCardSet b → length a ≡ 5 → length b ≡ 5
-        → nat_cmp (ace_number (low_a5 a)) (ace_number (low_a5 b)) ≡ slice_cmp nat_cmp (low_a5 a) (low_a5 b) }
+        → nat_cmp (ace_number (low_a5 a)) (ace_number (low_a5 b))
+        ≡ slice_cmp nat_cmp (low_a5 a) (low_a5 b) }
 {}
 
 /// The deuce-to-seven numbers of two fives are in the order of what they are worth.
 pub fn law_deuce_numbers_keep_order()
     ensures { (a b : List ℕ) → length a ≡ 5 → length b ≡ 5
-        → nat_cmp (value_of (low_27 a)) (value_of (low_27 b)) ≡ slice_cmp nat_cmp (low_27 a) (low_27 b) }
+        → nat_cmp (value_of (low_27 a)) (value_of (low_27 b))
+        ≡ slice_cmp nat_cmp (low_27 a) (low_27 b) }
 {}
 
 /// The numbers of the best ace-to-five lows of two sets are in the order of what they are worth.
 pub fn law_best_ace_numbers_keep_order()
-    ensures { (a b x y : List ℕ) → IsCardSet a → IsCardSet b → best_low a ≡ Some x → best_low b ≡ Some y
+    ensures { (a b x y : List ℕ) → IsCardSet a → IsCardSet b → best_low a ≡ Some x
+        → best_low b ≡ Some y
         → nat_cmp (ace_number x) (ace_number y) ≡ slice_cmp nat_cmp x y }
 {}
 
 /// The numbers of the best lows of eight or better of two sets are in the order of what they are worth.
 pub fn law_best_eight_numbers_keep_order()
-    ensures { (a b x y : List ℕ) → IsCardSet a → IsCardSet b → best_eight a ≡ Some x → best_eight b ≡ Some y
+    ensures { (a b x y : List ℕ) → IsCardSet a → IsCardSet b → best_eight a ≡ Some x
+        → best_eight b ≡ Some y
         → nat_cmp (ace_number x) (ace_number y) ≡ slice_cmp nat_cmp x y }
 {}
 

@@ -5,7 +5,7 @@ use Rattle.std.proofs.Math.Pow.{pow_mono}
 use Rattle.std.proofs.lemmas.Nat.{pow_pos}
 use Rattle.std.proofs.lemmas.Nat.Bits.{bit_at_mask_inside}
 use Rattle.report_table.specs.Spots.{every_hand}
-use Rattle.showdown_tally.proofs.Winners.{hands_short}
+use Rattle.showdown_tally.proofs.CallerLemmas.{hands_short}
 use Rattle.card_sets.specs.PlayerSets.{hands_below, hands_of}
 
 -- where each bit below n is set, every hand below n is among those of the mask

@@ -19,7 +19,6 @@ use Rattle.hand_audit.specs.declared.settlement.Settlement.{Settlement}
 use Rattle.card_sets.specs.declared.streets.Street.{Street}
 use Rattle.runout_ranges.specs.Slots.{unseen, slots, counts_of}
 use Rattle.runout_ranges.specs.Ways.{ways}
-use Rattle.runout_ranges.proofs.Numbers.{binomial_none, length_runouts}
 use Rattle.report_table.specs.Equities.{IsFull}
 use Rattle.report_table.specs.HandEquities.{Figures, above_line, counted_all_in, every_pot, full_figures, given_to, gross_of, hand_expect, known_all_in, player_lines, player_name, pot_equities, pot_equity, pot_hand_lines, short_line, tally_figures}
 use Rattle.report_table.specs.Hands.{Seated}
@@ -27,13 +26,14 @@ use Rattle.report_table.specs.Lines.{line_in}
 use Rattle.equity_job.specs.declared.limits.TheConstants.{RUNOUT_MAX}
 use Rattle.report_table.specs.Spots.{every_hand}
 use Rattle.report_table.specs.declared.equity.Form.{Form}
-use Rattle.report_table.proofs.Listed.{every_same, hands_same, sums_same}
+use Rattle.report_table.proofs.SumsBelow.{every_same, hands_same, sums_same}
 use Rattle.report_table.proofs.SpotFacts.{some_runout}
 use Rattle.showdown_tally.specs.Cells.{Sums, units_at}
 use Rattle.showdown_tally.specs.Showdown.{Showdown, eligible_in, is_among, part_of, units, units_by_sides, winners}
 use Rattle.card_sets.specs.PlayerSets.{hands_of}
 use Rattle.showdown_tally.specs.Tallies.{Counts, runouts_after}
-use Rattle.showdown_tally.proofs.PotFacts.{no_side}
+use Rattle.runout_ranges.proofs.CallerLemmas.{binomial_none, length_runouts}
+use Rattle.showdown_tally.proofs.CallerLemmas.{no_side}
 
 -- the eligible hands of a pot are those of its mask
 pub eligible_by_mask : (masks : List ℕ) (k : ℕ) → k < length masks → slice_index_or (map hands_of masks) k [] ≡ hands_of (slice_index masks k)

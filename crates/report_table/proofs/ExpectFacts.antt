@@ -10,12 +10,11 @@ use Rattle.hand_audit.specs.declared.settlement.PotLine.{PotLine}
 use Rattle.showdown_tally.specs.Laws.{AddUp}
 use Rattle.showdown_tally.specs.Showdown.{Showdown, eligible_in, is_among, units, units_by_sides, winners}
 use Rattle.showdown_tally.specs.Tallies.{runouts_after, units_over}
-use Rattle.showdown_tally.proofs.PotFacts.{among_hands, eligible_pot}
-use Rattle.showdown_tally.proofs.Shares.{among_passed}
+use Rattle.showdown_tally.proofs.CallerLemmas.{among_hands, eligible_pot, among_passed}
 use Rattle.report_table.specs.ExpectLaws.{GivesAll, given_to_all}
 use Rattle.report_table.specs.HandEquities.{every_pot, gross_of}
 use Rattle.report_table.specs.Spots.{every_hand}
-use Rattle.report_table.proofs.Listed.{sums_same}
+use Rattle.report_table.proofs.SumsBelow.{sums_same}
 
 -- sums of zeros, of sums, of multiples and of equals
 sum_zero : {X : Type 0} (xs : List X) → sum_by (λ x. 0) xs ≡ 0

@@ -1,4 +1,4 @@
-pub mod Listed
+pub mod SumsBelow
 pub mod SheetFacts
 pub mod ReadBackFacts
 pub mod ExpectFacts
@@ -13,3 +13,4 @@ pub mod MadeFacts
 pub mod RunFacts
 pub mod TotalLaws
 pub mod StreetFacts
+pub mod CallerLemmas

@@ -5,7 +5,7 @@ use Rattle.report_table.specs.HandEquities.{full_figures, tally_figures}
 use Rattle.report_table.specs.Made.{counted_all_in, hand_units, known_all_in, no_all_in}
 use Rattle.report_table.specs.Totals.{is_counted}
 use Rattle.report_table.proofs.EquityFacts.{Agree-full}
-use Rattle.report_table.proofs.Listed.{sums_same}
+use Rattle.report_table.proofs.SumsBelow.{sums_same}
 use Rattle.showdown_tally.specs.Cells.{Sums}
 use Rattle.showdown_tally.specs.Showdown.{Showdown}
 

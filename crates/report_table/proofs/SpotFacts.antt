@@ -10,8 +10,8 @@ use Rattle.card_sets.specs.declared.games.Game.TheVariants.{Holdem, Omaha, Omaha
 use Rattle.card_sets.specs.declared.games.Side.{Side}
 use Rattle.card_sets.specs.declared.games.Side.TheVariants.{High, Low}
 use Rattle.runout_ranges.specs.Slots.{unseen, slots, counts_of}
-use Rattle.runout_ranges.proofs.Numbers.{length_runouts, ways_some}
-use Rattle.report_table.proofs.Listed.{every_same}
+use Rattle.runout_ranges.proofs.CallerLemmas.{length_runouts, ways_some}
+use Rattle.report_table.proofs.SumsBelow.{every_same}
 use Rattle.report_table.specs.Lines.{line_in}
 use Rattle.report_table.specs.declared.equity.Form.{Form}
 use Rattle.report_table.specs.Spots.{alone, counted_block, counted_line, every_hand, hand_lines}

@@ -49,12 +49,14 @@ bet_words hundredths (TooManyCards seat) = with_seat (codes "TooManyCards") seat
 
 -- a pot that isn't what was counted, as `Chips 3500 3400`
 unfoldable pub chips_words : Bool → ℕ → ℕ → List (List ℕ)
-chips_words hundredths stated counted = codes "Chips" ∷ money hundredths stated ∷ money hundredths counted ∷ []
+chips_words hundredths stated counted =
+    codes "Chips" ∷ money hundredths stated ∷ money hundredths counted ∷ []
 
 -- a payment beyond its tolerance, as `Split seat 1 due 34 got 36`
 unfoldable pub split_words : Bool → ℕ → ℕ → ℕ → List (List ℕ)
 split_words hundredths seat due got =
-    with_seat (codes "Split") seat ++ codes "due" ∷ money hundredths due ∷ codes "got" ∷ money hundredths got ∷ []
+    with_seat (codes "Split") seat
+    ++ codes "due" ∷ money hundredths due ∷ codes "got" ∷ money hundredths got ∷ []
 
 -- any cause
 abbrev pub cause_words : Bool → Cause → List (List ℕ)

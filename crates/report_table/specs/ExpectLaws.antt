@@ -10,7 +10,8 @@ use Rattle.report_table.specs.Spots.{every_hand}
 
 -- what all runouts together give all hands of a deal, of all its pots, in 1/5040 of a unit of money
 abbrev pub given_to_all : List PotLine → Showdown → ℕ
-given_to_all pots deal = sum_by (λ hand. given_to pots (full_figures deal) hand (length deal.pots)) (every_hand (length deal.state.hands))
+given_to_all pots deal = sum_by (λ hand. given_to pots (full_figures deal) hand (length deal.pots))
+    (every_hand (length deal.state.hands))
 
 -- what all pots of a deal hold
 abbrev pub held_by_all : List PotLine → Showdown → ℕ
@@ -18,7 +19,8 @@ held_by_all pots deal = sum_by (λ k. gross_of pots k) (every_pot (length deal.p
 
 -- each runout gives out all that the pots hold
 abbrev pub GivesAll : List PotLine → Showdown → Type 0
-GivesAll pots deal = given_to_all pots deal ≡ held_by_all pots deal * (5040 * length (runouts_after deal.state))
+GivesAll pots deal =
+    given_to_all pots deal ≡ held_by_all pots deal * (5040 * length (runouts_after deal.state))
 
 -- somebody may win each pot
 abbrev pub HasPlayers : Showdown → Type 0
@@ -26,4 +28,5 @@ HasPlayers deal = (k : ℕ) → k < length deal.pots → 0 < length (eligible_in
 
 -- somebody wins the low of each pot, whatever comes
 abbrev pub HasLows : Showdown → Type 0
-HasLows deal = (k : ℕ) → k < length deal.pots → All (λ runout. 0 < length (winners deal k Low runout)) (runouts_after deal.state)
+HasLows deal = (k : ℕ) → k < length deal.pots
+    → All (λ runout. 0 < length (winners deal k Low runout)) (runouts_after deal.state)

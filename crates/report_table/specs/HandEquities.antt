@@ -69,21 +69,27 @@ pot_ev_line all k name units = named (pot_name k ++ codes "ev" ∷ expected unit
 -- the lines of a hand in a pot: one for each side that the game is played for, the high first, and then what it may expect
 unfoldable pub pot_hand_lines : Form → Game → Figures → ℕ → List ℕ → ℕ → List ℕ
 pot_hand_lines form game figures k name hand =
-    flat_map (λ played. option_map_or (λ side. line_in form (pot_side_line figures.all k name side (figures.cell k hand side))) played []) (sides_of game)
+    flat_map (λ played. option_map_or (λ side.
+    line_in form (pot_side_line figures.all k name side (figures.cell k hand side))) played [])
+    (sides_of game)
     ++ line_in form (pot_ev_line figures.all k name (figures.units k hand))
 
 -- the lines of a hand of the table in a pot
 abbrev pub player_lines : Form → Game → Figures → Seated → List ℕ → ℕ → ℕ → List ℕ
-player_lines form game figures names seats k hand = pot_hand_lines form game figures k (player_name names seats hand) hand
+player_lines form game figures names seats k hand =
+    pot_hand_lines form game figures k (player_name names seats hand) hand
 
 -- the lines of a pot: those of each hand that is eligible in it, where two or more are
 unfoldable pub pot_equity : Form → Showdown → Figures → Seated → List ℕ → ℕ → List ℕ
 pot_equity form deal figures names seats k =
-    if nat_lt 1 (length (eligible_in deal k)) then flat_map (player_lines form deal.state.game figures names seats k) (eligible_in deal k) else []
+    if nat_lt 1 (length (eligible_in deal k))
+    then flat_map (player_lines form deal.state.game figures names seats k) (eligible_in deal k)
+    else []
 
 -- the lines of all pots
 abbrev pub pot_equities : Form → Showdown → Figures → Seated → List ℕ → List ℕ
-pot_equities form deal figures names seats = flat_map (pot_equity form deal figures names seats) (every_pot (length deal.pots))
+pot_equities form deal figures names seats =
+    flat_map (pot_equity form deal figures names seats) (every_pot (length deal.pots))
 
 -- what a pot holds, by its number; a pot that isn't there holds nothing
 abbrev pub gross_of : List PotLine → ℕ → ℕ
@@ -105,14 +111,18 @@ expect_line hundredths name units = named (codes "expect" ∷ money hundredths u
 -- what a hand of the table may expect
 abbrev pub hand_expect : Form → Settlement → Seated → List ℕ → Showdown → Figures → ℕ → List ℕ
 hand_expect form s names seats deal figures hand =
-    line_in form (expect_line s.hundredths (player_name names seats hand) (expected_units figures.all (given_to s.pots figures hand (length deal.pots))))
+    line_in form (expect_line s.hundredths (player_name names seats hand)
+    (expected_units figures.all (given_to s.pots figures hand (length deal.pots))))
 
 -- the first line of an all-in that is counted, as `all-in turn runouts 42`
 unfoldable pub all_in_line : Game → Street → ℕ → Line
-all_in_line game street all = plain (codes "all-in" ∷ unwrap_or (street_word game street) [] ∷ codes "runouts" ∷ decimal all ∷ [])
+all_in_line game street all =
+    plain (codes "all-in" ∷ unwrap_or (street_word game street) [] ∷ codes "runouts"
+    ∷ decimal all ∷ [])
 
 -- an all-in that is counted: its street, each pot with its hands, and then what each hand of the table may expect
-unfoldable pub counted_all_in : Form → Settlement → Seated → List ℕ → Street → Showdown → Figures → List ℕ
+unfoldable pub counted_all_in : Form → Settlement → Seated → List ℕ → Street → Showdown →
+    Figures → List ℕ
 counted_all_in form s names seats street deal figures =
     line_in form (all_in_line deal.state.game street figures.all)
     ++ pot_equities form deal figures names seats
@@ -129,7 +139,8 @@ above_line = plain (codes "all-in" ∷ [] ++ refused_words)
 -- else counted
 unfoldable pub known_all_in : Form → Settlement → Seated → List ℕ → Street → Showdown → List ℕ
 known_all_in form s names seats street deal =
-    if nat_lt (length (unseen deal.state)) (sum (counts_of (slots deal.state))) then line_in form short_line
+    if nat_lt (length (unseen deal.state)) (sum (counts_of (slots deal.state)))
+    then line_in form short_line
     else (if nat_lt RUNOUT_MAX (length (runouts_after deal.state)) then line_in form above_line
     else counted_all_in form s names seats street deal (full_figures deal))
 
@@ -137,13 +148,16 @@ known_all_in form s names seats street deal =
 abbrev pub all_in_block : Form → Settlement → Seated → AllIn → List ℕ
 all_in_block form s names None = line_in form (plain (codes "all-in" ∷ codes "none" ∷ []))
 all_in_block form s names Unknown = line_in form (plain (codes "all-in" ∷ codes "unknown" ∷ []))
-all_in_block form s names (Known street seats table) = known_all_in form s names seats street (deal_of table)
+all_in_block form s names (Known street seats table) =
+    known_all_in form s names seats street (deal_of table)
 
 -- the lines of a hand behind its verdict, where its equity is asked for; a hand with a line that departs has none
 abbrev pub equity_block : Form → Bool → HandAudit → List ℕ
 equity_block form asked (Rejected line cause hundredths) = []
-equity_block form asked (Accepted settlement all_in names players) = if asked then all_in_block form settlement names all_in else []
+equity_block form asked (Accepted settlement all_in names players) =
+    if asked then all_in_block form settlement names all_in else []
 
 -- the block of a hand: the verdict, and its equity where that is asked for
 unfoldable pub hand_block : Form → Bool → List ℕ → HandAudit → List ℕ
-hand_block form asked number audit = verdict_block form number audit ++ equity_block form asked audit
+hand_block form asked number audit =
+    verdict_block form number audit ++ equity_block form asked audit

@@ -28,11 +28,13 @@ hand_title number = codes "hand" ∷ number ∷ []
 
 -- the first words of the line of a hand with a line that departs, as `hand 88 rejected line 10`
 unfoldable pub rejected_title : List ℕ → ℕ → List (List ℕ)
-rejected_title number line = hand_title number ++ codes "rejected" ∷ codes "line" ∷ decimal line ∷ []
+rejected_title number line =
+    hand_title number ++ codes "rejected" ∷ codes "line" ∷ decimal line ∷ []
 
 -- a hand with a line that departs, as `hand 88 rejected line 10 CallAmount 50`
 unfoldable pub rejected_hand : List ℕ → ℕ → Bool → Cause → Line
-rejected_hand number line hundredths cause = plain (rejected_title number line ++ cause_words hundredths cause)
+rejected_hand number line hundredths cause =
+    plain (rejected_title number line ++ cause_words hundredths cause)
 
 -- that a hand was run twice
 abbrev pub twice_words : Bool → List (List ℕ)
@@ -42,7 +44,8 @@ twice_words twice = if twice then codes "twice" ∷ [] else []
 -- `hand 88 accepted holdem rake 0 twice`
 unfoldable pub accepted_line : List ℕ → Settlement → Line
 accepted_line number s =
-    plain (hand_title number ++ codes "accepted" ∷ game_word s.game ∷ codes "rake" ∷ money s.hundredths s.rake ∷ []
+    plain (hand_title number ++ codes "accepted" ∷ game_word s.game ∷ codes "rake"
+    ∷ money s.hundredths s.rake ∷ []
     ++ twice_words s.twice)
 
 -- the first words of the line of a pot, with what it holds; pots are numbered from 0
@@ -57,11 +60,13 @@ seen_word checked = if checked then codes "checked" else codes "unseen"
 -- the collections don't fit the pots
 unfoldable pub pot_state : Bool → Bool → ℕ → Bool → List (List ℕ)
 pot_state hundredths fits rake checked =
-    if fits then codes "rake" ∷ money hundredths rake ∷ seen_word checked ∷ [] else codes "unfit" ∷ []
+    if fits then codes "rake" ∷ money hundredths rake ∷ seen_word checked ∷ []
+    else codes "unfit" ∷ []
 
 -- the line of a pot, as `pot 0 gross 1500 rake 0 checked` or `pot 0 gross 1500 unfit`
 unfoldable pub pot_line : Bool → Bool → ℕ → PotLine → Line
-pot_line hundredths fits k pot = plain (pot_title hundredths k pot.gross ++ pot_state hundredths fits pot.rake pot.checked)
+pot_line hundredths fits k pot =
+    plain (pot_title hundredths k pot.gross ++ pot_state hundredths fits pot.rake pot.checked)
 
 -- what a payment should have been, where it is known who wins the pot and the payment isn't that
 unfoldable pub due_words : Bool → Bool → Payment → List (List ℕ)
@@ -71,7 +76,8 @@ due_words hundredths checked pay =
 -- who got what of a pot, as `paid 33 p2` or `paid 33 due 34 p1`
 unfoldable pub paid_line : Bool → Seated → Bool → Payment → Line
 paid_line hundredths names checked pay =
-    named (codes "paid" ∷ money hundredths pay.got ∷ [] ++ due_words hundredths checked pay) (name_text names pay.seat)
+    named (codes "paid" ∷ money hundredths pay.got ∷ []
+    ++ due_words hundredths checked pay) (name_text names pay.seat)
 
 -- some payments, in their order
 abbrev pub paid_lines : Form → Bool → Seated → Bool → List Payment → List ℕ
@@ -81,7 +87,8 @@ paid_lines form hundredths names checked payments =
 -- a pot, and the payments out of it
 unfoldable pub pot_lines : Form → Bool → Bool → Seated → ℕ → PotLine → List ℕ
 pot_lines form hundredths fits names k pot =
-    line_in form (pot_line hundredths fits k pot) ++ paid_lines form hundredths names pot.checked pot.paid
+    line_in form (pot_line hundredths fits k pot)
+    ++ paid_lines form hundredths names pot.checked pot.paid
 
 -- some pots, the first of which has a number
 abbrev pub pots_from : Form → Bool → Bool → Seated → ℕ → List PotLine → List ℕ
@@ -98,5 +105,7 @@ accepted_hand form number s names =
 
 -- the verdict on a hand
 abbrev pub verdict_block : Form → List ℕ → HandAudit → List ℕ
-verdict_block form number (Rejected line cause hundredths) = line_in form (rejected_hand number line hundredths cause)
-verdict_block form number (Accepted settlement all_in names players) = accepted_hand form number settlement names
+verdict_block form number (Rejected line cause hundredths) =
+    line_in form (rejected_hand number line hundredths cause)
+verdict_block form number (Accepted settlement all_in names players) =
+    accepted_hand form number settlement names

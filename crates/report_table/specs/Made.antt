@@ -22,7 +22,8 @@ hand_units figures count hand = sum_by (λ k. figures.units k hand) (every_pot c
 
 -- the units of the hand of a seat in all pots, over all runouts; a seat without a hand of the table has none
 abbrev pub seat_units : Figures → Showdown → List ℕ → ℕ → ℕ
-seat_units figures deal seats seat = option_map_or (hand_units figures (length deal.pots)) (hand_at seats deal seat) 0
+seat_units figures deal seats seat =
+    option_map_or (hand_units figures (length deal.pots)) (hand_at seats deal seat) 0
 
 -- a hand without a counted all-in
 abbrev pub no_all_in : AllInSums
@@ -31,11 +32,16 @@ no_all_in = record { runouts = 0; first = 0; second = 0 }
 -- a hand with a counted all-in: how many runouts it has, and what they give seats 1 and 2
 abbrev pub counted_all_in : Figures → Showdown → List ℕ → AllInSums
 counted_all_in figures deal seats =
-    record { runouts = figures.all; first = seat_units figures deal seats 1; second = seat_units figures deal seats 2 }
+    record {
+      runouts = figures.all;
+      first = seat_units figures deal seats 1;
+      second = seat_units figures deal seats 2;
+    }
 
 -- a hand with a known all-in
 unfoldable pub known_all_in : List ℕ → Showdown → AllInSums
-known_all_in seats deal = if is_counted deal then counted_all_in (full_figures deal) deal seats else no_all_in
+known_all_in seats deal =
+    if is_counted deal then counted_all_in (full_figures deal) deal seats else no_all_in
 
 abbrev pub all_in_sums : AllIn → AllInSums
 all_in_sums NoAllIn = no_all_in
@@ -62,16 +68,22 @@ pub record MadeTotals : Type 0 where
   pub all_ins : AllInSums
 
 abbrev pub made_sums : List HandAudit → MadeTotals
-made_sums hands = record { hands = length hands; accepted = count_by is_accepted hands; all_ins = sums_over hands }
+made_sums hands = record {
+  hands = length hands;
+  accepted = count_by is_accepted hands;
+  all_ins = sums_over hands;
+}
 
 -- the first words of the line of so many hands that were made, as `made hands 100 accepted 100`
 unfoldable pub made_title : ℕ → ℕ → List (List ℕ)
-made_title hands accepted = codes "made" ∷ codes "hands" ∷ decimal hands ∷ codes "accepted" ∷ decimal accepted ∷ []
+made_title hands accepted =
+    codes "made" ∷ codes "hands" ∷ decimal hands ∷ codes "accepted" ∷ decimal accepted ∷ []
 
 -- what stands behind them, as `runouts 99000 first 249480000 second 249480000`
 unfoldable pub made_columns : AllInSums → List (List ℕ)
 made_columns sums =
-    codes "runouts" ∷ money false sums.runouts ∷ codes "first" ∷ money false sums.first ∷ codes "second" ∷ money false sums.second ∷ []
+    codes "runouts" ∷ money false sums.runouts ∷ codes "first" ∷ money false sums.first
+    ∷ codes "second" ∷ money false sums.second ∷ []
 
 -- the line of so many hands that were made
 unfoldable pub made_line : ℕ → ℕ → AllInSums → Line
@@ -79,4 +91,5 @@ made_line hands accepted sums = plain (made_title hands accepted ++ made_columns
 
 -- the block of so many hands that were made, by the verdicts on them
 abbrev pub made_block : Form → ℕ → List HandAudit → List ℕ
-made_block form hands audits = line_in form (made_line hands (made_sums audits).accepted (made_sums audits).all_ins)
+made_block form hands audits =
+    line_in form (made_line hands (made_sums audits).accepted (made_sums audits).all_ins)

@@ -18,7 +18,9 @@ fields_of_line (named words name) = thirteen words name
 
 -- a reader that stands before the record of a line reads its fields, and then stands before what comes behind
 abbrev pub IsReadBack : Line → List ℕ → Type 0
-IsReadBack line later = next_record default_config state.StartRecord [] [] (line_in Csv line ++ later) ≡ Some (fields_of_line line, state.StartRecord, later)
+IsReadBack line later =
+    next_record default_config state.StartRecord [] [] (line_in Csv line ++ later)
+    ≡ Some (fields_of_line line, state.StartRecord, later)
 
 -- they are thirteen where the line has twelve words at the most
 abbrev pub HasThirteen : Line → Type 0

@@ -38,7 +38,8 @@ with_words w (word ∷ later) = with_words (with_word w word) later
 -- the line ends
 abbrev pub end_in : Form → Written → Written
 end_in Text w = record w { bytes = w.bytes ++ codes "\n"; begun = false }
-end_in Csv w = record w { bytes = w.bytes ++ row_text default_writer (thirteen w.fields []); fields = [] }
+end_in Csv w =
+    record w { bytes = w.bytes ++ row_text default_writer (thirteen w.fields []); fields = [] }
 
 unfoldable pub with_end : Written → Written
 with_end w = end_in w.form w
@@ -46,7 +47,8 @@ with_end w = end_in w.form w
 -- a name stands last, and the line ends
 abbrev pub name_in : Form → Written → List ℕ → Written
 name_in Text w name = end_in Text (word_in Text w name)
-name_in Csv w name = record w { bytes = w.bytes ++ row_text default_writer (thirteen w.fields name); fields = [] }
+name_in Csv w name =
+    record w { bytes = w.bytes ++ row_text default_writer (thirteen w.fields name); fields = [] }
 
 unfoldable pub with_name : Written → List ℕ → Written
 with_name w name = name_in w.form w name

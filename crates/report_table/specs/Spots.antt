@@ -51,7 +51,8 @@ share way count all = way ∷ decimal count ∷ percent count all ∷ []
 -- a side, and how all runouts end there
 unfoldable pub side_columns : ℕ → Side → Cell → List (List ℕ)
 side_columns all side cell =
-    side_word side ∷ [] ++ share (codes "win") cell.win all ++ share (codes "tie") cell.tie all ++ share (codes "lose") cell.lose all
+    side_word side ∷ [] ++ share (codes "win") cell.win all ++ share (codes "tie") cell.tie all
+    ++ share (codes "lose") cell.lose all
 
 -- how all runouts end for a hand on a side, as `hand 1 high win 42 95.45 tie 0 0.00 lose 2 4.55`
 unfoldable pub side_line : ℕ → ℕ → Side → Cell → Line
@@ -65,12 +66,14 @@ ev_line all hand units = plain (hand_name hand ++ codes "ev" ∷ expected units 
 -- the number of all runouts, how they end for each hand on a side, and the units that they give each hand
 unfoldable pub hand_lines : Form → Game → ℕ → (ℕ → Side → Cell) → (ℕ → ℕ) → ℕ → List ℕ
 hand_lines form game all cell units hand =
-    flat_map (λ played. option_map_or (λ side. line_in form (side_line all hand side (cell hand side))) played []) (sides_of game)
+    flat_map (λ played. option_map_or (λ side.
+    line_in form (side_line all hand side (cell hand side))) played []) (sides_of game)
     ++ line_in form (ev_line all hand (units hand))
 
 -- the first line of a spot that is counted, as `spot 1 holdem runouts 44`
 unfoldable pub counted_line : ℕ → Game → ℕ → Line
-counted_line place game all = plain (spot_name place ++ game_word game ∷ codes "runouts" ∷ decimal all ∷ [])
+counted_line place game all =
+    plain (spot_name place ++ game_word game ∷ codes "runouts" ∷ decimal all ∷ [])
 
 -- a spot that is counted: how many runouts there are, and how all of them end for each hand
 unfoldable pub counted_block : Form → ℕ → State → List ℕ
@@ -78,7 +81,8 @@ counted_block form place state =
     let runouts = runouts_after state in
     let all = length runouts in
     line_in form (counted_line place state.game all)
-    ++ flat_map (hand_lines form state.game all (cell_over (alone state) runouts 0) (units_over (alone state) runouts 0))
+    ++ flat_map (hand_lines form state.game all (cell_over (alone state) runouts 0)
+    (units_over (alone state) runouts 0))
     (every_hand (length state.hands))
 
 -- that there are more runouts than are counted
@@ -92,7 +96,8 @@ refused_line place game = plain (spot_name place ++ game_word game ∷ [] ++ ref
 -- the first words of the line of a spot that isn't well written, with the number of the line that was read, as
 -- `spot 2 rejected line 3`
 unfoldable pub rejected_name : ℕ → ℕ → List (List ℕ)
-rejected_name place number = spot_name place ++ codes "rejected" ∷ codes "line" ∷ decimal number ∷ []
+rejected_name place number =
+    spot_name place ++ codes "rejected" ∷ codes "line" ∷ decimal number ∷ []
 
 -- a spot that isn't well written, and why, as `spot 2 rejected line 3 TwiceCard As`
 unfoldable pub rejected_line : ℕ → ℕ → SpotFault → Line
@@ -108,5 +113,6 @@ seen_spot (Err fault) = Err fault
 unfoldable pub spot_block : Form → ℕ → ℕ → Result State SpotFault → List ℕ
 spot_block form place number (Err fault) = line_in form (rejected_line place number fault)
 spot_block form place number (Ok state) =
-    if nat_lt RUNOUT_MAX (length (runouts_after state)) then line_in form (refused_line place state.game)
+    if nat_lt RUNOUT_MAX (length (runouts_after state))
+    then line_in form (refused_line place state.game)
     else counted_block form place state

@@ -33,29 +33,34 @@ street_line street all = plain (street_name street ++ codes "runouts" ∷ decima
 
 -- a street that is counted: how many runouts are left, and each pot with its hands
 unfoldable pub counted_street : Form → Seated → List ℕ → Street → Showdown → Figures → List ℕ
-counted_street form names seats street deal figures = line_in form (street_line street figures.all) ++ pot_equities form deal figures names seats
+counted_street form names seats street deal figures =
+    line_in form (street_line street figures.all) ++ pot_equities form deal figures names seats
 
 -- a street on which all cards are known, as `street river runouts 1` and the pots. Fewer cards may come than are lacking, or there
 -- are too many runouts, only where that is so of the all-in; it would be `street river refused`
 unfoldable pub known_street : Form → Seated → List ℕ → Street → Showdown → List ℕ
 known_street form names seats street deal =
-    if is_counted deal then counted_street form names seats street deal (full_figures deal) else line_in form (word_line street (codes "refused"))
+    if is_counted deal then counted_street form names seats street deal (full_figures deal)
+    else line_in form (word_line street (codes "refused"))
 
 -- a street, as `street river unknown` where the cards of a contender on it aren't known
 abbrev pub table_street : Form → Seated → List ℕ → Street → Option Table → List ℕ
 table_street form names seats street None = line_in form (word_line street (codes "unknown"))
-table_street form names seats street (Some table) = known_street form names seats street (deal_of table)
+table_street form names seats street (Some table) =
+    known_street form names seats street (deal_of table)
 
 -- a street behind an all-in, whose hands are those of the table there; without a known one there is none
 abbrev pub all_in_street : Form → Seated → StreetState → AllIn → List ℕ
 all_in_street form names state NoAllIn = []
 all_in_street form names state Unknown = []
-all_in_street form names state (Known street seats table) = table_street form names seats state.street state.table
+all_in_street form names state (Known street seats table) =
+    table_street form names seats state.street state.table
 
 -- the block of a street of a hand
 abbrev pub street_block : Form → HandAudit → StreetState → List ℕ
 street_block form (Rejected line cause hundredths) state = []
-street_block form (Accepted settlement all_in names players) state = all_in_street form names state all_in
+street_block form (Accepted settlement all_in names players) state =
+    all_in_street form names state all_in
 
 -- whether an all-in is counted
 abbrev pub is_counted_all_in : AllIn → Bool
@@ -70,7 +75,8 @@ has_counted (Accepted settlement all_in names players) = is_counted_all_in all_i
 
 -- the blocks of some streets of a hand, one behind the other; there are none where its all-in isn't counted
 unfoldable pub street_blocks : Form → HandAudit → List StreetState → List ℕ
-street_blocks form audit states = if has_counted audit then flat_map (street_block form audit) states else []
+street_blocks form audit states =
+    if has_counted audit then flat_map (street_block form audit) states else []
 
 -- an equity of a table that may be known: that of the table, and else any
 abbrev pub IsOfTable : Option Table → Equity → Type 0

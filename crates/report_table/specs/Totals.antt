@@ -41,12 +41,14 @@ playing names players = filter (λ who. bit_at players who.0 == 1) names
 -- the players of a hand, in that order; a hand with a line that departs has none
 abbrev pub players_in : HandAudit → List Player
 players_in (Rejected line cause hundredths) = []
-players_in (Accepted s all_in names players) = map (λ who. record { hundredths = s.hundredths; name = who.1 }) (playing names players)
+players_in (Accepted s all_in names players) =
+    map (λ who. record { hundredths = s.hundredths; name = who.1 }) (playing names players)
 
 -- each of some players once, where it first stands
 abbrev pub each_once : List Player → List Player
 each_once [] = []
-each_once (player ∷ later) = player ∷ filter (λ other. not (same_player player other)) (each_once later)
+each_once (player ∷ later) =
+    player ∷ filter (λ other. not (same_player player other)) (each_once later)
 
 -- all players of some hands, in the order of their first seat lines
 abbrev pub all_players : List HandAudit → List Player
@@ -69,11 +71,13 @@ paid_from pots k = option_map_or (λ pot. pot.paid) (slice_get pots k) []
 -- what a seat collected of a hand with so many pots: out of each of them, and by the payments of the hand, which there are where
 -- the names of the collections don't fit the pots
 abbrev pub collected_by : Settlement → ℕ → ℕ → ℕ
-collected_by s count seat = sum_by (λ k. got_by (paid_from s.pots k) seat) (every_pot count) + got_by s.paid seat
+collected_by s count seat =
+    sum_by (λ k. got_by (paid_from s.pots k) seat) (every_pot count) + got_by s.paid seat
 
 -- what a hand of the table could expect of all pots, as it is printed
 abbrev pub expected_by : Settlement → Showdown → ℕ → ℕ
-expected_by s deal hand = expected_units (full_figures deal).all (given_to s.pots (full_figures deal) hand (length deal.pots))
+expected_by s deal hand = expected_units (full_figures deal).all
+    (given_to s.pots (full_figures deal) hand (length deal.pots))
 
 -- which hand of the table a seat has, where it is a contender; the seats are given hand by hand
 abbrev pub hand_at : List ℕ → Showdown → ℕ → Option ℕ
@@ -90,12 +94,18 @@ hand_alone = record { hands = 1; all_ins = 0; collected = 0; expected = 0 }
 -- a hand with a counted all-in in which he has a hand of the table; the table has all pots of the hand
 abbrev pub hand_all_in : Settlement → Showdown → ℕ → ℕ → PlayerSums
 hand_all_in s deal seat hand =
-    record { hands = 1; all_ins = 1; collected = collected_by s (length deal.pots) seat; expected = expected_by s deal hand }
+    record {
+      hands = 1;
+      all_ins = 1;
+      collected = collected_by s (length deal.pots) seat;
+      expected = expected_by s deal hand;
+    }
 
 -- a hand with a known all-in
 unfoldable pub known_sums : Settlement → List ℕ → Showdown → ℕ → PlayerSums
 known_sums s seats deal seat =
-    option_map_or (hand_all_in s deal seat) (if is_counted deal then hand_at seats deal seat else None) hand_alone
+    option_map_or (hand_all_in s deal seat)
+    (if is_counted deal then hand_at seats deal seat else None) hand_alone
 
 -- what a hand in which no line departs gives a seat that plays
 abbrev pub seat_sums : Settlement → AllIn → ℕ → PlayerSums
@@ -106,12 +116,14 @@ seat_sums s (Known street seats table) seat = known_sums s seats (deal_of table)
 -- what it gives a player who has one of these seats, and nothing where he has none
 abbrev pub seated_sums : Settlement → AllIn → Seated → Player → PlayerSums
 seated_sums s all_in seated player =
-    if beq player.hundredths s.hundredths then option_map_or (seat_sums s all_in) (seat_named player.name seated) no_sums else no_sums
+    if beq player.hundredths s.hundredths
+    then option_map_or (seat_sums s all_in) (seat_named player.name seated) no_sums else no_sums
 
 -- what a hand gives a player: nothing where he isn't one of its players
 abbrev pub sums_in : HandAudit → Player → PlayerSums
 sums_in (Rejected line cause hundredths) player = no_sums
-sums_in (Accepted s all_in names players) player = seated_sums s all_in (playing names players) player
+sums_in (Accepted s all_in names players) player =
+    seated_sums s all_in (playing names players) player
 
 -- what some hands give a player
 abbrev pub sums_over : List HandAudit → Player → PlayerSums
@@ -154,12 +166,14 @@ totals_line hands accepted rejected =
 -- the first words of the line of a player, as `total chips hands 1 allins 1`
 unfoldable pub total_title : Bool → PlayerSums → List (List ℕ)
 total_title hundredths sums =
-    codes "total" ∷ unit_word hundredths ∷ codes "hands" ∷ decimal sums.hands ∷ codes "allins" ∷ decimal sums.all_ins ∷ []
+    codes "total" ∷ unit_word hundredths ∷ codes "hands" ∷ decimal sums.hands ∷ codes "allins"
+    ∷ decimal sums.all_ins ∷ []
 
 -- the line of a player, as `total chips hands 1 allins 1 collected 3500 expected 2214 a`
 unfoldable pub total_line : Player → PlayerSums → Line
 total_line player sums =
-    named (total_title player.hundredths sums ++ codes "collected" ∷ money player.hundredths sums.collected
+    named (total_title player.hundredths sums
+    ++ codes "collected" ∷ money player.hundredths sums.collected
     ∷ codes "expected" ∷ money player.hundredths sums.expected ∷ []) player.name
 
 -- the lines of some players
@@ -168,7 +182,8 @@ player_lines form players = flat_map (λ entry. line_in form (total_line entry.0
 
 -- what a run comes to, as the report has it
 unfoldable pub run_block : Form → RunTotals → List ℕ
-run_block form t = line_in form (totals_line t.hands t.accepted t.rejected) ++ player_lines form t.players
+run_block form t =
+    line_in form (totals_line t.hands t.accepted t.rejected) ++ player_lines form t.players
 
 -- the totals of some hands, as the report has them
 abbrev pub totals_block : Form → List HandAudit → List ℕ

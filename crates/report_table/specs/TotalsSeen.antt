@@ -33,7 +33,9 @@ plus a b = record {
 
 -- the seat line at a place, where the seat plays
 abbrev pub player_at : Seated → ℕ → ℕ → Option (ℕ × List ℕ)
-player_at names players place = option_and_then (λ who. if bit_at players who.0 == 1 then Some who else None) (slice_get names place)
+player_at names players place =
+    option_and_then (λ who. if bit_at players who.0 == 1 then Some who else None)
+    (slice_get names place)
 
 -- whether a seat line is there and has the name
 abbrev pub has_name : List ℕ → Option (ℕ × List ℕ) → Bool
@@ -42,13 +44,15 @@ has_name text found = option_map_or (λ who. bytes_eq who.1 text) found false
 -- the seat line at a place, where the seat plays and no seat that plays has the name before
 abbrev pub first_at : Seated → ℕ → ℕ → Option (ℕ × List ℕ)
 first_at names players place =
-    option_and_then (λ who. if is_none (seat_named who.1 (playing (take place names) players)) then Some who else None)
+    option_and_then (λ who.
+    if is_none (seat_named who.1 (playing (take place names) players)) then Some who else None)
     (player_at names players place)
 
 -- the sums, with those of a player at the end where he has none yet
 abbrev pub with_player : List (Player × PlayerSums) → Player → List (Player × PlayerSums)
 with_player entries player =
-    if list_any (λ entry. same_player player entry.0) entries then entries else entries ++ (player, no_sums) ∷ []
+    if list_any (λ entry. same_player player entry.0) entries then entries
+    else entries ++ (player, no_sums) ∷ []
 
 -- the same for some players, one after the other
 abbrev pub with_players : List (Player × PlayerSums) → List Player → List (Player × PlayerSums)
@@ -59,10 +63,12 @@ with_players entries (player ∷ later) = with_players (with_player entries play
 abbrev pub with_more : List (Player × PlayerSums) → Player → PlayerSums → List (Player × PlayerSums)
 with_more [] player more = []
 with_more (entry ∷ entries) player more =
-    if same_player player entry.0 then (entry.0, plus entry.1 more) ∷ entries else entry ∷ with_more entries player more
+    if same_player player entry.0 then (entry.0, plus entry.1 more) ∷ entries
+    else entry ∷ with_more entries player more
 
 -- the sums, with what each player is given
-abbrev pub with_given : (Player → PlayerSums) → List (Player × PlayerSums) → List (Player × PlayerSums)
+abbrev pub with_given : (Player → PlayerSums) → List (Player × PlayerSums) →
+    List (Player × PlayerSums)
 with_given given entries = map (λ entry. (entry.0, plus entry.1 (given entry.0))) entries
 
 -- sums that so many hands may give a player: one hand gives at most 2 ^ 95 units

@@ -11,7 +11,8 @@ use Rattle.card_sets.specs.declared.streets.Street.{Street}
 use Rattle.card_sets.specs.declared.streets.Street.TheVariants.{First, Flop, Turn, Fourth, Fifth, Sixth, River, Draw, FirstDraw, SecondDraw, ThirdDraw, ShowDown, Summary}
 use Rattle.share_fractions.specs.Round.{fixed_text}
 use Rattle.spot_text.specs.declared.faults.SpotFault.{SpotFault}
-use Rattle.spot_text.specs.declared.faults.SpotFault.TheVariants.{UnknownWord, BadCard, TwiceCard, HandSize, BoardSize, PlayerCount, DeckShort}
+use Rattle.spot_text.specs.declared.faults.SpotFault.TheVariants.{TwiceCard}
+use Rattle.spot_text.specs.FaultNames.{fault_name}
 
 -- how a side is written
 abbrev pub side_word : Side → List ℕ
@@ -65,10 +66,5 @@ money hundredths units = fixed_text units (if hundredths then 2 else 0)
 
 -- the name of a spot's fault, and then what it carries
 unfoldable pub fault_words : SpotFault → List (List ℕ)
-fault_words UnknownWord = codes "UnknownWord" ∷ []
-fault_words BadCard = codes "BadCard" ∷ []
-fault_words (TwiceCard card) = codes "TwiceCard" ∷ text_of_card card ∷ []
-fault_words HandSize = codes "HandSize" ∷ []
-fault_words BoardSize = codes "BoardSize" ∷ []
-fault_words PlayerCount = codes "PlayerCount" ∷ []
-fault_words DeckShort = codes "DeckShort" ∷ []
+fault_words (TwiceCard card) = fault_name (TwiceCard card) ∷ text_of_card card ∷ []
+fault_words fault = fault_name fault ∷ []

@@ -40,7 +40,8 @@ impl Sheet {
     /// A name and an amount in units.
     #[tactic(auto, using(crate::proofs::SheetFacts::word_steps), unfolding(crate::specs::Causes::with_money))]
     fn name_and_money(&mut self, hundredths: bool, name: &str, units: u64) -> Result<(), AllocError>
-        ensures { OnOk result (self.new ≡ with_words self.old (with_money hundredths name.now units)) }
+        ensures { OnOk result (self.new
+            ≡ with_words self.old (with_money hundredths name.now units)) }
     {
         self.text(name)?;
         self.money(hundredths, u128::from(units))
@@ -79,7 +80,8 @@ impl Sheet {
     /// A stated pot and what was counted, in units.
     #[tactic(auto, using(crate::proofs::SheetFacts::word_steps), unfolding(crate::specs::Causes::chips_words))]
     fn chips(&mut self, hundredths: bool, stated: u64, counted: u128) -> Result<(), AllocError>
-        ensures { OnOk result (self.new ≡ with_words self.old (chips_words hundredths stated counted)) }
+        ensures { OnOk result (self.new
+            ≡ with_words self.old (chips_words hundredths stated counted)) }
     {
         self.text("Chips")?;
         self.money(hundredths, u128::from(stated))?;
@@ -89,7 +91,8 @@ impl Sheet {
     /// A seat, what it was due and what it got, in units.
     #[tactic(auto, using(crate::proofs::SheetFacts::word_steps), unfolding(crate::specs::Causes::split_words))]
     fn split(&mut self, hundredths: bool, seat: u8, due: u64, got: u64) -> Result<(), AllocError>
-        ensures { OnOk result (self.new ≡ with_words self.old (split_words hundredths seat due got)) }
+        ensures { OnOk result (self.new
+            ≡ with_words self.old (split_words hundredths seat due got)) }
     {
         self.name_and_seat("Split", seat)?;
         self.text("due")?;

@@ -19,7 +19,8 @@ impl Sheet {
     #[tactic(auto, using(crate::proofs::SheetFacts::sheet_steps))]
     fn all_in_word(&mut self, word: &str) -> Result<(), AllocError>
         requires { IsBetweenLines self.old }
-        ensures { OnOk result (self.new ≡ with_line self.old (plain (codes "all-in" ∷ word.now ∷ []))) }
+        ensures { OnOk result (self.new
+            ≡ with_line self.old (plain (codes "all-in" ∷ word.now ∷ []))) }
     {
         self.text("all-in")?;
         self.text(word)?;
@@ -37,7 +38,8 @@ impl Sheet {
         requires between { IsBetweenLines self.old }
         requires asked { is_asked equity.now ≡ true }
         requires equity { IsOfAllIn all_in.now equity.now }
-        ensures { OnOk result (self.new ≡ with_lines self.old (all_in_block self.old.form settlement.now names.now all_in.now)) }
+        ensures { OnOk result (self.new ≡ with_lines self.old
+            (all_in_block self.old.form settlement.now names.now all_in.now)) }
     {
         match all_in {
             AllIn::None => self.all_in_word("none"),
@@ -63,7 +65,8 @@ impl Sheet {
     fn hand(&mut self, number: &[u8], audit: &HandAudit, equity: &Equity) -> Result<(), AllocError>
         requires between { IsBetweenLines self.old }
         requires equity { IsOfHand audit.now equity.now }
-        ensures { OnOk result (self.new ≡ with_lines self.old (hand_block self.old.form (is_asked equity.now) number.now audit.now)) }
+        ensures { OnOk result (self.new ≡ with_lines self.old
+            (hand_block self.old.form (is_asked equity.now) number.now audit.now)) }
     {
         match audit {
             HandAudit::Rejected {
@@ -100,7 +103,8 @@ pub fn write_hand(
     form: Form,
 ) -> Result<(), Memory>
     requires equity { IsOfHand audit.now equity.now }
-    ensures block { OnOk result (out.new.items ≡ out.old.items ++ hand_block form (is_asked equity.now) number.now audit.now) }
+    ensures block { OnOk result (out.new.items
+        ≡ out.old.items ++ hand_block form (is_asked equity.now) number.now audit.now) }
     ensures memory { OnErr result (out.new.items ≡ out.old.items) }
 {
     let mut sheet = Sheet::new(*out.allocator(), form);

@@ -99,7 +99,8 @@ pub(crate) fn expected_by(pots: &[PotLine], table: &Table, tally: &Tally, hand: 
     requires some { 0 < tally.now.runouts }
     requires hand { hand < 10 }
     requires small { (k : ℕ) → k < 10 → units_at tally.now k hand ≤ 5040 * RUNOUT_MAX }
-    ensures value { result ≡ expected_units tally.now.runouts (given_to pots.now (tally_figures tally.now) hand (length (deal_of table.now).pots)) }
+    ensures value { result ≡ expected_units tally.now.runouts
+        (given_to pots.now (tally_figures tally.now) hand (length (deal_of table.now).pots)) }
     ensures bound { result ≤ 2 ^ 95 }
 {
     let given = given_to(pots, tally, hand, pot_count(table));
@@ -138,7 +139,8 @@ impl Sheet {
     ) -> Result<(), AllocError>
         requires between { IsBetweenLines self.old }
         requires some { 0 < all }
-        ensures { OnOk result (self.new ≡ with_line self.old (pot_side_line all k name.now side cell)) }
+        ensures { OnOk result (self.new
+            ≡ with_line self.old (pot_side_line all k name.now side cell)) }
     {
         self.pot_name(k)?;
         self.side_columns(all, side, cell)?;
@@ -191,7 +193,8 @@ impl Sheet {
         requires pot { k < length (deal_of shown.now.table.now).pots }
         requires few { k < 10 }
         ensures { OnOk result (self.new ≡ with_lines self.old
-            (pot_equity self.old.form (deal_of shown.now.table.now) (tally_figures tally.now) shown.now.names.now shown.now.seats.now k)) }
+            (pot_equity self.old.form (deal_of shown.now.table.now)
+            (tally_figures tally.now) shown.now.names.now shown.now.seats.now k)) }
     {
         let hands = pot_hands(shown.table, k);
         if hands.count() < 2 {
@@ -208,7 +211,8 @@ impl Sheet {
     #[tactic(auto, using(crate::proofs::SheetFacts::sheet_steps), unfolding(crate::specs::HandEquities::expect_line))]
     fn expect_line(&mut self, hundredths: bool, name: &[u8], units: u128) -> Result<(), AllocError>
         requires { IsBetweenLines self.old }
-        ensures { OnOk result (self.new ≡ with_line self.old (expect_line hundredths name.now units)) }
+        ensures { OnOk result (self.new
+            ≡ with_line self.old (expect_line hundredths name.now units)) }
     {
         self.text("expect")?;
         self.money(hundredths, units)?;
@@ -222,7 +226,8 @@ impl Sheet {
         requires hand { hand < 10 }
         requires small { (k : ℕ) → k < 10 → units_at tally.now k hand ≤ 5040 * RUNOUT_MAX }
         ensures { OnOk result (self.new ≡ with_lines self.old
-            (hand_expect self.old.form shown.now.settlement.now shown.now.names.now shown.now.seats.now (deal_of shown.now.table.now) (tally_figures tally.now) hand)) }
+            (hand_expect self.old.form shown.now.settlement.now shown.now.names.now
+            shown.now.seats.now (deal_of shown.now.table.now) (tally_figures tally.now) hand)) }
     {
         let units = expected_by(shown.settlement.pots.items(), shown.table, tally, hand);
         self.expect_line(shown.settlement.hundredths, player_name(shown, hand), units)
@@ -246,7 +251,8 @@ impl Sheet {
         requires between { IsBetweenLines self.old }
         requires some { 0 < tally.now.runouts }
         ensures { OnOk result (self.new ≡ with_lines self.old
-            (pot_equities self.old.form (deal_of shown.now.table.now) (tally_figures tally.now) shown.now.names.now shown.now.seats.now)) }
+            (pot_equities self.old.form (deal_of shown.now.table.now)
+            (tally_figures tally.now) shown.now.names.now shown.now.seats.now)) }
     {
         for k in 0..pot_count(shown.table) {
             self.pot_equity(shown, tally, k)?;
@@ -258,9 +264,12 @@ impl Sheet {
     fn expects(&mut self, shown: &Shown, tally: &Tally) -> Result<(), AllocError>
         requires between { IsBetweenLines self.old }
         requires some { 0 < tally.now.runouts }
-        requires small { (k hand : ℕ) → k < 10 → hand < 10 → units_at tally.now k hand ≤ 5040 * RUNOUT_MAX }
+        requires small { (k hand : ℕ) → k < 10 → hand < 10
+            → units_at tally.now k hand ≤ 5040 * RUNOUT_MAX }
         ensures { OnOk result (self.new ≡ with_lines self.old
-            (flat_map (hand_expect self.old.form shown.now.settlement.now shown.now.names.now shown.now.seats.now (deal_of shown.now.table.now) (tally_figures tally.now)) (every_hand (length (deal_of shown.now.table.now).state.hands)))) }
+            (flat_map (hand_expect self.old.form shown.now.settlement.now shown.now.names.now
+            shown.now.seats.now (deal_of shown.now.table.now) (tally_figures tally.now))
+            (every_hand (length (deal_of shown.now.table.now).state.hands)))) }
     {
         for hand in 0..hand_count(&shown.table.known) {
             self.hand_expect(shown, tally, hand)?;
@@ -278,9 +287,12 @@ impl Sheet {
     ) -> Result<(), AllocError>
         requires between { IsBetweenLines self.old }
         requires some { 0 < tally.now.runouts }
-        requires small { (k hand : ℕ) → k < 10 → hand < 10 → units_at tally.now k hand ≤ 5040 * RUNOUT_MAX }
+        requires small { (k hand : ℕ) → k < 10 → hand < 10
+            → units_at tally.now k hand ≤ 5040 * RUNOUT_MAX }
         ensures { OnOk result (self.new ≡ with_lines self.old
-            (counted_all_in self.old.form shown.now.settlement.now shown.now.names.now shown.now.seats.now street (deal_of shown.now.table.now) (tally_figures tally.now))) }
+            (counted_all_in self.old.form shown.now.settlement.now shown.now.names.now
+            shown.now.seats.now street (deal_of shown.now.table.now)
+            (tally_figures tally.now))) }
     {
         self.all_in_line(shown.table.known.game, street, tally.runouts())?;
         self.pot_equities(shown, tally)?;
@@ -320,7 +332,8 @@ impl Sheet {
         requires between { IsBetweenLines self.old }
         requires full { IsFull (deal_of shown.now.table.now) tally.now }
         ensures { OnOk result (self.new ≡ with_lines self.old
-            (known_all_in self.old.form shown.now.settlement.now shown.now.names.now shown.now.seats.now street (deal_of shown.now.table.now))) }
+            (known_all_in self.old.form shown.now.settlement.now shown.now.names.now
+            shown.now.seats.now street (deal_of shown.now.table.now))) }
     {
         if tally.runouts() == 0 {
             return self.deck_short();
@@ -339,7 +352,8 @@ impl Sheet {
         requires between { IsBetweenLines self.old }
         requires equity { IsEquityOf (deal_of shown.now.table.now) equity.now }
         ensures { OnOk result (self.new ≡ with_lines self.old
-            (known_all_in self.old.form shown.now.settlement.now shown.now.names.now shown.now.seats.now street (deal_of shown.now.table.now))) }
+            (known_all_in self.old.form shown.now.settlement.now shown.now.names.now
+            shown.now.seats.now street (deal_of shown.now.table.now))) }
     {
         match equity {
             Equity::Counted(tally) => self.full_all_in(shown, street, tally),

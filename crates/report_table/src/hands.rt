@@ -57,7 +57,8 @@ impl Sheet {
         cause: &Cause,
     ) -> Result<(), AllocError>
         requires { IsBetweenLines self.old }
-        ensures { OnOk result (self.new ≡ with_line self.old (rejected_hand number.now line hundredths cause.now)) }
+        ensures { OnOk result (self.new
+            ≡ with_line self.old (rejected_hand number.now line hundredths cause.now)) }
     {
         self.rejected_title(number, line)?;
         self.cause(hundredths, cause)?;
@@ -80,7 +81,8 @@ impl Sheet {
     #[tactic(auto, using(crate::proofs::SheetFacts::sheet_steps), unfolding(crate::specs::Hands::accepted_line))]
     fn accepted_line(&mut self, number: &[u8], settlement: &Settlement) -> Result<(), AllocError>
         requires { IsBetweenLines self.old }
-        ensures { OnOk result (self.new ≡ with_line self.old (accepted_line number.now settlement.now)) }
+        ensures { OnOk result (self.new
+            ≡ with_line self.old (accepted_line number.now settlement.now)) }
     {
         self.hand_title(number)?;
         self.text("accepted")?;
@@ -111,7 +113,8 @@ impl Sheet {
         rake: u64,
         checked: bool,
     ) -> Result<(), AllocError>
-        ensures { OnOk result (self.new ≡ with_words self.old (pot_state hundredths fits rake checked)) }
+        ensures { OnOk result (self.new
+            ≡ with_words self.old (pot_state hundredths fits rake checked)) }
     {
         if !fits {
             return self.text("unfit");
@@ -146,7 +149,8 @@ impl Sheet {
         checked: bool,
         pay: &Payment,
     ) -> Result<(), AllocError>
-        ensures { OnOk result (self.new ≡ with_words self.old (due_words hundredths checked pay.now)) }
+        ensures { OnOk result (self.new
+            ≡ with_words self.old (due_words hundredths checked pay.now)) }
     {
         if !checked || pay.got == pay.due {
             return Ok(());
@@ -165,7 +169,8 @@ impl Sheet {
         pay: &Payment,
     ) -> Result<(), AllocError>
         requires { IsBetweenLines self.old }
-        ensures { OnOk result (self.new ≡ with_line self.old (paid_line hundredths names.now checked pay.now)) }
+        ensures { OnOk result (self.new
+            ≡ with_line self.old (paid_line hundredths names.now checked pay.now)) }
     {
         self.text("paid")?;
         self.money(hundredths, u128::from(pay.got))?;
@@ -182,7 +187,8 @@ impl Sheet {
         payments: &[Payment],
     ) -> Result<(), AllocError>
         requires { IsBetweenLines self.old }
-        ensures { OnOk result (self.new ≡ with_lines self.old (paid_lines self.old.form hundredths names.now checked payments.now)) }
+        ensures { OnOk result (self.new ≡ with_lines self.old
+            (paid_lines self.old.form hundredths names.now checked payments.now)) }
     {
         for pay in payments {
             self.paid_line(hundredths, names, checked, pay)?;
@@ -201,7 +207,8 @@ impl Sheet {
         pot: &PotLine,
     ) -> Result<(), AllocError>
         requires { IsBetweenLines self.old }
-        ensures { OnOk result (self.new ≡ with_lines self.old (pot_lines self.old.form hundredths fits names.now k pot.now)) }
+        ensures { OnOk result (self.new
+            ≡ with_lines self.old (pot_lines self.old.form hundredths fits names.now k pot.now)) }
     {
         self.pot_line(hundredths, fits, k, pot)?;
         self.paid_lines(hundredths, names, pot.checked, pot.paid.items())
@@ -211,7 +218,8 @@ impl Sheet {
     fn pots(&mut self, settlement: &Settlement, names: &Names) -> Result<(), AllocError>
         requires { IsBetweenLines self.old }
         ensures { OnOk result (self.new ≡ with_lines self.old
-            (pots_from self.old.form settlement.now.hundredths settlement.now.fits names.now 0 settlement.now.pots)) }
+            (pots_from self.old.form settlement.now.hundredths settlement.now.fits names.now 0
+            settlement.now.pots)) }
     {
         let Settlement {
             hundredths,
@@ -233,7 +241,8 @@ impl Sheet {
         names: &Names,
     ) -> Result<(), AllocError>
         requires { IsBetweenLines self.old }
-        ensures { OnOk result (self.new ≡ with_lines self.old (accepted_hand self.old.form number.now settlement.now names.now)) }
+        ensures { OnOk result (self.new ≡ with_lines self.old
+            (accepted_hand self.old.form number.now settlement.now names.now)) }
     {
         self.accepted_line(number, settlement)?;
         self.pots(settlement, names)?;

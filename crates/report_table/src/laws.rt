@@ -19,7 +19,8 @@ use showdown_tally::{Table, law_pots_are_given_out};
 #[tactic(auto, unfolding(crate::specs::Words::money, share_fractions::specs::Round::fixed_text))]
 pub fn law_money_is_written_whole()
     ensures chips { (units : ℕ) → money false units ≡ decimal units }
-    ensures hundredths { (units : ℕ) → money true units ≡ decimal (units / 100) ++ codes "." ++ last_digits 2 units }
+    ensures hundredths { (units : ℕ)
+        → money true units ≡ decimal (units / 100) ++ codes "." ++ last_digits 2 units }
 {}
 
 /// A law: the record of a line is read back by a reader of CSV as the fields of the line, whatever its

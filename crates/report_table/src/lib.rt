@@ -1,7 +1,19 @@
 //! The blocks of the report: what is printed of a spot and of a hand, and of all hands of a run together.
 //!
 //! `write_spot`, `write_hand`, `write_street` and `Totals::write` each append one block to the bytes that they are lent:
-//! all of it, or, for want of memory, nothing. The crate knows of no input and of no output.
+//! all of it, or, for want of memory, nothing. The crate knows of no input and of no output, and it counts
+//! nothing: equities come with what it is to write.
+//!
+//! 1. *A block is whole or not there.* It is put together in a `Sheet` of its own, word by word, and appended
+//!    when it is whole.
+//! 2. *Both forms are one.* Words end as a line of text or as a record, in three methods of `Sheet`, so that
+//!    no line is written twice in the code.
+//! 3. *A number is rounded once.* What a hand may expect is added up in 1/5040 of a unit over all pots, and
+//!    then divided.
+//! 4. *Totals* (`players`). A map from a name and a unit of money to its sums, in the order in which names
+//!    were added. For a hand all that takes memory is done first, the keys and then the new names, which are
+//!    taken back where memory is wanting. Then the sums are added, which takes none. That is a few look-ups
+//!    for each seat line, however many hands there were.
 #![tactic(auto)]
 
 mod alone;

@@ -21,11 +21,14 @@ use showdown_tally::{Table, Tally};
 use std::alloc::AllocError;
 use std::marker::Model;
 
-/// How many runouts the counted all-in of a hand has, and what they give seats 1 and 2, in 1/5040 of a pot.
+/// What the runouts of the counted all-in of a hand come to.
 #[derive(Clone, Copy, Debug)]
 pub struct AllInSums {
+    /// How many runouts there are.
     pub runouts: u128,
+    /// What they give seat 1, in 1/5040 of a pot.
     pub first: u128,
+    /// What they give seat 2, in 1/5040 of a pot.
     pub second: u128,
 }
 
@@ -53,7 +56,8 @@ fn hand_units(tally: &Tally, count: u8, hand: u8) -> u128
 /// The units of the hand of a seat in all pots; none where it isn't a contender's.
 fn seat_units(seats: &[u8; 10], table: &Table, tally: &Tally, seat: u8) -> u128
     requires { IsFull (deal_of table.now) tally.now }
-    ensures value { result ≡ seat_units (full_figures (deal_of table.now)) (deal_of table.now) seats.now seat }
+    ensures value { result
+        ≡ seat_units (full_figures (deal_of table.now)) (deal_of table.now) seats.now seat }
     ensures bound { result ≤ 10 * 2 ^ 64 }
 {
     match hand_at(seats, table, seat) {
@@ -127,7 +131,8 @@ impl Model for MadeSums {
       all_ins = s.all_ins;
     } };
 
-    ghost invariant = { λ s. (s.hands ≤ 2 ^ 32) × (s.accepted ≤ s.hands) × AreSmall s.hands s.all_ins };
+    ghost invariant = { λ s. (s.hands ≤ 2 ^ 32) × (s.accepted ≤ s.hands)
+        × AreSmall s.hands s.all_ins };
 }
 
 impl MadeSums {
@@ -147,7 +152,8 @@ impl MadeSums {
         requires asked { is_asked equity.now ≡ true }
         requires equity { IsOfHand audit.now equity.now }
         requires few { self.old.hands < 2 ^ 32 }
-        ensures { (hands : List HandAudit) → self.old ≡ made_sums hands → self.new ≡ made_sums (hands ++ audit.now ∷ []) }
+        ensures { (hands : List HandAudit) → self.old ≡ made_sums hands
+            → self.new ≡ made_sums (hands ++ audit.now ∷ []) }
     {
         self.hands += 1;
         if let HandAudit::Accepted { all_in, .. } = audit {
@@ -168,7 +174,8 @@ impl MadeSums {
 
     /// Appends the line of so many hands that were made. Want of memory leaves `out` as it was.
     pub fn write(&self, out: &mut Vec<u8>, hands: u64, form: Form) -> Result<(), Memory>
-        ensures block { OnOk result (out.new.items ≡ out.old.items ++ line_in form (made_line hands self.now.accepted self.now.all_ins)) }
+        ensures block { OnOk result (out.new.items
+            ≡ out.old.items ++ line_in form (made_line hands self.now.accepted self.now.all_ins)) }
         ensures memory { OnErr result (out.new.items ≡ out.old.items) }
     {
         let mut sheet = Sheet::new(*out.allocator(), form);
@@ -182,7 +189,8 @@ impl Sheet {
     /// A name of a sum, and the sum.
     #[tactic(auto, using(crate::proofs::SheetFacts::word_steps))]
     fn name_and_sum(&mut self, name: &str, number: u128) -> Result<(), AllocError>
-        ensures { OnOk result (self.new ≡ with_words self.old (name.now ∷ money false number ∷ [])) }
+        ensures { OnOk result (self.new
+            ≡ with_words self.old (name.now ∷ money false number ∷ [])) }
     {
         self.text(name)?;
         self.money(false, number)

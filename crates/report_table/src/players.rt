@@ -53,7 +53,8 @@ fn plays(players: u16, seat: u8) -> bool
 impl<'a> Lineup<'a> {
     /// The keys of the names of all seat lines, in their order.
     pub(crate) fn keys(&self, alloc: Global) -> Result<Vec<PlayerKey>, AllocError>
-        ensures { IfOk result (λ keys. map player_of keys.items ≡ map (λ who. named_player self.now.hundredths who.1) self.now.names.now) }
+        ensures { IfOk result (λ keys. map player_of keys.items
+            ≡ map (λ who. named_player self.now.hundredths who.1) self.now.names.now) }
     {
         let mut keys = Vec::new(alloc);
         for place in 0..self.names.count() {
@@ -66,7 +67,8 @@ impl<'a> Lineup<'a> {
 
     /// The seat and the name of the seat line at a place, where the seat plays.
     fn player_at(&self, place: usize) -> Option<(u8, &'a [u8])>
-        ensures { option_map (λ who. (who.0, who.1.now)) result ≡ player_at self.now.names.now self.now.players place }
+        ensures { option_map (λ who. (who.0, who.1.now)) result
+            ≡ player_at self.now.names.now self.now.players place }
     {
         match self.names.at(place) {
             Some((seat, name)) if plays(self.players, seat) => Some((seat, name)),
@@ -87,7 +89,8 @@ impl<'a> Lineup<'a> {
     /// Whether a seat line before a place has the name and a seat that plays.
     fn has_before(&self, place: usize, name: &[u8]) -> bool
         requires { place ≤ length self.now.names.now }
-        ensures { result ≡ is_some (seat_named name.now (playing (take place self.now.names.now) self.now.players)) }
+        ensures { result ≡ is_some
+            (seat_named name.now (playing (take place self.now.names.now) self.now.players)) }
     {
         for earlier in 0..place {
             if self.has_name_at(earlier, name) {
@@ -100,7 +103,8 @@ impl<'a> Lineup<'a> {
     /// The same as `player_at`, where no seat that plays has the name before.
     fn first_at(&self, place: usize) -> Option<(u8, &'a [u8])>
         requires { place ≤ length self.now.names.now }
-        ensures { option_map (λ who. (who.0, who.1.now)) result ≡ first_at self.now.names.now self.now.players place }
+        ensures { option_map (λ who. (who.0, who.1.now)) result
+            ≡ first_at self.now.names.now self.now.players place }
     {
         match self.player_at(place) {
             Some((seat, name)) if !self.has_before(place, name) => Some((seat, name)),
@@ -111,8 +115,10 @@ impl<'a> Lineup<'a> {
 
 /// Puts a player who has no sums yet at the end, with those of no hand.
 fn push_player(players: &mut Players, key: PlayerKey) -> Result<(), AllocError>
-    requires { list_any (λ entry. same_player (player_of key) entry.0) (seen_entries players.old.entries) ≡ false }
-    ensures added { OnOk result (seen_entries players.new.entries ≡ seen_entries players.old.entries ++ (player_of key, no_sums) ∷ []) }
+    requires { list_any (λ entry. same_player (player_of key) entry.0)
+        (seen_entries players.old.entries) ≡ false }
+    ensures added { OnOk result (seen_entries players.new.entries
+        ≡ seen_entries players.old.entries ++ (player_of key, no_sums) ∷ []) }
     ensures kept { take (length players.old.entries) players.new.entries ≡ players.old.entries }
 {
     players.insert(key, PlayerSums::NONE)?;
@@ -135,8 +141,10 @@ fn add_player(players: &mut Players, hundredths: bool, name: &[u8]) -> Result<()
 /// Gives each player of a hand sums of no hand, where he has none yet. For want of memory some first of
 /// them have got theirs.
 fn add_each_player(players: &mut Players, lineup: &Lineup) -> Result<(), AllocError>
-    ensures added { OnOk result (seen_entries players.new.entries ≡ with_players (seen_entries players.old.entries)
-        (map (λ who. named_player lineup.now.hundredths who.1) (playing lineup.now.names.now lineup.now.players))) }
+    ensures added { OnOk result (seen_entries players.new.entries
+        ≡ with_players (seen_entries players.old.entries)
+        (map (λ who. named_player lineup.now.hundredths who.1)
+        (playing lineup.now.names.now lineup.now.players))) }
     ensures kept { take (length players.old.entries) players.new.entries ≡ players.old.entries }
 {
     for place in 0..lineup.names.count() {
@@ -149,8 +157,10 @@ fn add_each_player(players: &mut Players, lineup: &Lineup) -> Result<(), AllocEr
 
 /// The same, and want of memory changes nothing.
 pub(crate) fn add_players(players: &mut Players, lineup: &Lineup) -> Result<(), Memory>
-    ensures added { OnOk result (seen_entries players.new.entries ≡ with_players (seen_entries players.old.entries)
-        (map (λ who. named_player lineup.now.hundredths who.1) (playing lineup.now.names.now lineup.now.players))) }
+    ensures added { OnOk result (seen_entries players.new.entries
+        ≡ with_players (seen_entries players.old.entries)
+        (map (λ who. named_player lineup.now.hundredths who.1)
+        (playing lineup.now.names.now lineup.now.players))) }
     ensures memory { OnErr result (players.new.entries ≡ players.old.entries) }
 {
     let before = players.len();
@@ -186,13 +196,20 @@ pub(crate) fn add_sums(
     all_in: &AllIn,
     equity: &Equity,
 )
+    // The equity was asked for, and is that of the all-in.
     requires asked { is_asked equity.now ≡ true }
     requires equity { IsOfAllIn all_in.now equity.now }
+
+    // The seat lines are those of the hand, and each name has its key.
     requires unit { lineup.now.hundredths ≡ settlement.now.hundredths }
-    requires keys { map player_of keys.now ≡ map (λ who. named_player lineup.now.hundredths who.1) lineup.now.names.now }
+    requires keys { map player_of keys.now
+        ≡ map (λ who. named_player lineup.now.hundredths who.1) lineup.now.names.now }
+
+    // The sums have room for one hand more, and each player gets what the hand gives him.
     requires sums { AllAreOfHands (2 ^ 32) (seen_entries players.old.entries) }
     ensures added { seen_entries players.new.entries
-        ≡ with_given (seated_sums settlement.now all_in.now (playing lineup.now.names.now lineup.now.players)) (seen_entries players.old.entries) }
+        ≡ with_given (seated_sums settlement.now all_in.now
+        (playing lineup.now.names.now lineup.now.players)) (seen_entries players.old.entries) }
     ensures small { (count : ℕ) → AllAreOfHands count (seen_entries players.old.entries)
         → AllAreOfHands (count + 1) (seen_entries players.new.entries) }
 {

@@ -29,7 +29,12 @@ impl Model for Sheet {
 
     ghost Value = { Written };
 
-    ghost view = { λ s. record { form = s.form; bytes = s.bytes.items; begun = s.begun; fields = s.fields } };
+    ghost view = { λ s. record {
+      form = s.form;
+      bytes = s.bytes.items;
+      begun = s.begun;
+      fields = s.fields;
+    } };
 }
 
 /// The fields of a record so far. Clauses see the list of them.
@@ -110,7 +115,8 @@ impl Fields {
 
     /// The text of a record of thirteen fields, the last of which is a name.
     fn with_name(&mut self, alloc: Global, name: &[u8]) -> Result<Vec<u8>, AllocError>
-        ensures { IfOk result (λ text. text.items ≡ row_text default_writer (thirteen self.old name.now)) }
+        ensures { IfOk result (λ text. text.items
+            ≡ row_text default_writer (thirteen self.old name.now)) }
     {
         self.pad()?;
         self.push(name)?;
@@ -174,7 +180,8 @@ impl Sheet {
 
     /// The words so far become a line of text.
     fn end_text(&mut self) -> Result<(), AllocError>
-        ensures { OnOk result (self.new ≡ record self.old { bytes = self.old.bytes ++ codes "\n"; begun = false }) }
+        ensures { OnOk result (self.new
+            ≡ record self.old { bytes = self.old.bytes ++ codes "\n"; begun = false }) }
     {
         self.bytes.extend_from_slice(b"\n")?;
         self.begun = false;

@@ -25,9 +25,11 @@ impl Sheet {
         equity: &Equity,
     ) -> Result<(), AllocError>
         requires between { IsBetweenLines self.old }
-        requires enough { sum (counts_of (slots (state_of known.now))) ≤ length (unseen (state_of known.now)) }
+        requires enough { sum (counts_of (slots (state_of known.now)))
+            ≤ length (unseen (state_of known.now)) }
         requires equity { IsEquityOf (alone (state_of known.now)) equity.now }
-        ensures { OnOk result (self.new ≡ with_lines self.old (spot_block self.old.form place line (Ok (state_of known.now)))) }
+        ensures { OnOk result (self.new
+            ≡ with_lines self.old (spot_block self.old.form place line (Ok (state_of known.now)))) }
     {
         match equity {
             Equity::Counted(tally) => self.counted_spot(place, known, tally),
@@ -46,9 +48,11 @@ impl Sheet {
         equity: &Equity,
     ) -> Result<(), AllocError>
         requires between { IsBetweenLines self.old }
-        requires enough { IfOk known.now (λ k. sum (counts_of (slots (state_of k))) ≤ length (unseen (state_of k))) }
+        requires enough { IfOk known.now (λ k. sum (counts_of (slots (state_of k)))
+            ≤ length (unseen (state_of k))) }
         requires equity { IfOk known.now (λ k. IsEquityOf (alone (state_of k)) equity.now) }
-        ensures { OnOk result (self.new ≡ with_lines self.old (spot_block self.old.form place line (seen_spot known.now))) }
+        ensures { OnOk result (self.new
+            ≡ with_lines self.old (spot_block self.old.form place line (seen_spot known.now))) }
     {
         match known {
             Ok(known) => self.known_spot(place, line, known, equity),
@@ -69,9 +73,11 @@ pub fn write_spot(
     equity: &Equity,
     form: Form,
 ) -> Result<(), Memory>
-    requires enough { IfOk known.now (λ k. sum (counts_of (slots (state_of k))) ≤ length (unseen (state_of k))) }
+    requires enough { IfOk known.now (λ k. sum (counts_of (slots (state_of k)))
+        ≤ length (unseen (state_of k))) }
     requires equity { IfOk known.now (λ k. IsEquityOf (alone (state_of k)) equity.now) }
-    ensures block { OnOk result (out.new.items ≡ out.old.items ++ spot_block form place line (seen_spot known.now)) }
+    ensures block { OnOk result (out.new.items
+        ≡ out.old.items ++ spot_block form place line (seen_spot known.now)) }
     ensures memory { OnErr result (out.new.items ≡ out.old.items) }
 {
     let mut sheet = Sheet::new(*out.allocator(), form);

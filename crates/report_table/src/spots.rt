@@ -56,7 +56,8 @@ impl Sheet {
         fault: &SpotFault,
     ) -> Result<(), AllocError>
         requires { IsBetweenLines self.old }
-        ensures { OnOk result (self.new ≡ with_line self.old (rejected_line place number fault.now)) }
+        ensures { OnOk result (self.new
+            ≡ with_line self.old (rejected_line place number fault.now)) }
     {
         self.rejected_name(place, number)?;
         self.spot_fault(fault)?;
@@ -66,7 +67,8 @@ impl Sheet {
     /// The first words of a line of a spot, with its game. Places count from 1.
     #[tactic(auto, using(crate::proofs::SheetFacts::word_steps))]
     pub fn spot_and_game(&mut self, place: u64, game: Game) -> Result<(), AllocError>
-        ensures { OnOk result (self.new ≡ with_words self.old (spot_name place ++ game_word game ∷ [])) }
+        ensures { OnOk result (self.new
+            ≡ with_words self.old (spot_name place ++ game_word game ∷ [])) }
     {
         self.spot_name(place)?;
         self.text(game.word())
@@ -94,13 +96,17 @@ impl Sheet {
         tie: u128,
         lose: u128,
     ) -> Result<(), AllocError>
+        // There is a runout, and each number is small enough to be made a percentage.
         requires some { 0 < all }
         requires small { all ≤ 10 ^ 28 }
         requires wins { win ≤ 10 ^ 28 }
         requires ties { tie ≤ 10 ^ 28 }
         requires losses { lose ≤ 10 ^ 28 }
+
+        // The words of the side stand behind those before.
         ensures { OnOk result (self.new
-            ≡ with_words self.old (side_columns all side (record { win = win; tie = tie; lose = lose }))) }
+            ≡ with_words self.old
+            (side_columns all side (record { win = win; tie = tie; lose = lose }))) }
     {
         self.text(side_word(side))?;
         self.share("win", win, all)?;
@@ -139,13 +145,18 @@ impl Sheet {
         lose: u128,
     ) -> Result<(), AllocError>
         requires between { IsBetweenLines self.old }
+
+        // There is a runout, and each number is small enough to be made a percentage.
         requires some { 0 < all }
         requires small { all ≤ 10 ^ 28 }
         requires wins { win ≤ 10 ^ 28 }
         requires ties { tie ≤ 10 ^ 28 }
         requires losses { lose ≤ 10 ^ 28 }
+
+        // The line of the side stands behind the lines before.
         ensures { OnOk result (self.new
-            ≡ with_line self.old (side_line all hand side (record { win = win; tie = tie; lose = lose }))) }
+            ≡ with_line self.old
+            (side_line all hand side (record { win = win; tie = tie; lose = lose }))) }
     {
         self.hand_name(hand)?;
         self.wide_columns(all, side, win, tie, lose)?;
@@ -191,7 +202,8 @@ impl Sheet {
         requires some { 0 < tally.now.runouts }
         requires hand { hand < 10 }
         ensures { OnOk result (self.new ≡ with_lines self.old
-            (hand_lines self.old.form game tally.now.runouts (cell_at tally.now 0) (units_at tally.now 0) hand)) }
+            (hand_lines self.old.form game tally.now.runouts (cell_at tally.now 0)
+            (units_at tally.now 0) hand)) }
     {
         let all = tally.runouts();
         for played in &sides(game) {
@@ -222,9 +234,12 @@ impl Sheet {
         tally: &Tally,
     ) -> Result<(), AllocError>
         requires between { IsBetweenLines self.old }
-        requires enough { sum (counts_of (slots (state_of known.now))) ≤ length (unseen (state_of known.now)) }
-        requires counted { Counts (alone (state_of known.now)) (runouts_after (state_of known.now)) tally.now }
-        ensures { OnOk result (self.new ≡ with_lines self.old (counted_block self.old.form place (state_of known.now))) }
+        requires enough { sum (counts_of (slots (state_of known.now)))
+            ≤ length (unseen (state_of known.now)) }
+        requires counted { Counts (alone (state_of known.now))
+            (runouts_after (state_of known.now)) tally.now }
+        ensures { OnOk result (self.new
+            ≡ with_lines self.old (counted_block self.old.form place (state_of known.now))) }
     {
         self.counted_line(place, known.game, tally.runouts())?;
         for hand in 0..hand_count(known) {

@@ -122,7 +122,8 @@ impl Sheet {
         requires between { IsBetweenLines self.old }
         requires some { 0 < tally.now.runouts }
         ensures { OnOk result (self.new ≡ with_lines self.old
-            (counted_street self.old.form shown.now.names.now shown.now.seats.now street (deal_of shown.now.table.now) (tally_figures tally.now))) }
+            (counted_street self.old.form shown.now.names.now shown.now.seats.now street
+            (deal_of shown.now.table.now) (tally_figures tally.now))) }
     {
         self.street_line(street, tally.runouts())?;
         self.pot_equities(shown, tally)
@@ -138,7 +139,8 @@ impl Sheet {
         requires between { IsBetweenLines self.old }
         requires full { IsFull (deal_of shown.now.table.now) tally.now }
         ensures { OnOk result (self.new ≡ with_lines self.old
-            (known_street self.old.form shown.now.names.now shown.now.seats.now street (deal_of shown.now.table.now))) }
+            (known_street self.old.form shown.now.names.now shown.now.seats.now street
+            (deal_of shown.now.table.now))) }
     {
         if tally.runouts() == 0 {
             return self.street_word(street, "refused");
@@ -156,7 +158,8 @@ impl Sheet {
         requires between { IsBetweenLines self.old }
         requires equity { IsEquityOf (deal_of shown.now.table.now) equity.now }
         ensures { OnOk result (self.new ≡ with_lines self.old
-            (known_street self.old.form shown.now.names.now shown.now.seats.now street (deal_of shown.now.table.now))) }
+            (known_street self.old.form shown.now.names.now shown.now.seats.now street
+            (deal_of shown.now.table.now))) }
     {
         match equity {
             Equity::Counted(tally) => self.full_street(shown, street, tally),
@@ -176,7 +179,8 @@ impl Sheet {
     ) -> Result<(), AllocError>
         requires between { IsBetweenLines self.old }
         requires equity { IsOfStreet state.now equity.now }
-        ensures { OnOk result (self.new ≡ with_lines self.old (table_street self.old.form names.now seats.now state.now.street state.now.table)) }
+        ensures { OnOk result (self.new ≡ with_lines self.old
+            (table_street self.old.form names.now seats.now state.now.street state.now.table)) }
     {
         match &state.table {
             Some(table) => {
@@ -202,7 +206,8 @@ impl Sheet {
     ) -> Result<(), AllocError>
         requires between { IsBetweenLines self.old }
         requires equity { IsOfStreet state.now equity.now }
-        ensures { OnOk result (self.new ≡ with_lines self.old (street_block self.old.form audit.now state.now)) }
+        ensures { OnOk result (self.new
+            ≡ with_lines self.old (street_block self.old.form audit.now state.now)) }
     {
         match audit {
             HandAudit::Accepted {
@@ -228,7 +233,8 @@ pub fn write_street(
     form: Form,
 ) -> Result<(), Memory>
     requires equity { IsOfStreet state.now equity.now }
-    ensures block { OnOk result (out.new.items ≡ out.old.items ++ street_block form audit.now state.now) }
+    ensures block { OnOk result (out.new.items
+        ≡ out.old.items ++ street_block form audit.now state.now) }
     ensures memory { OnErr result (out.new.items ≡ out.old.items) }
 {
     let mut sheet = Sheet::new(*out.allocator(), form);

@@ -8,11 +8,13 @@ ghost use Rattle.report_table.specs.Totals.{Player, players_in, same_player, sum
 
 /// A law: no two lines of the totals have one name and one unit.
 pub fn law_no_player_is_listed_twice()
-    ensures { (hands : List HandAudit) → IsDistinct same_player (keys_of (totals_of hands).players) }
+    ensures { (hands : List HandAudit)
+        → IsDistinct same_player (keys_of (totals_of hands).players) }
 {}
 
 /// A law: the hands of a name in a unit are those of which it is a player.
 pub fn law_hands_are_those_that_are_played()
     ensures { (hands : List HandAudit) (player : Player)
-        → (sums_over hands player).hands ≡ count_by (λ hand. list_any (same_player player) (players_in hand)) hands }
+        → (sums_over hands player).hands
+        ≡ count_by (λ hand. list_any (same_player player) (players_in hand)) hands }
 {}

@@ -23,7 +23,8 @@ impl Sheet {
     pub(crate) fn totals_line(&mut self, accepted: u64, rejected: u64) -> Result<(), AllocError>
         requires between { IsBetweenLines self.old }
         requires few { accepted + rejected ≤ 2 ^ 32 }
-        ensures { OnOk result (self.new ≡ with_line self.old (totals_line (accepted + rejected) accepted rejected)) }
+        ensures { OnOk result (self.new
+            ≡ with_line self.old (totals_line (accepted + rejected) accepted rejected)) }
     {
         self.text("totals")?;
         self.text("hands")?;
@@ -52,7 +53,8 @@ impl Sheet {
     #[tactic(auto, using(crate::proofs::SheetFacts::sheet_steps), unfolding(crate::specs::Totals::total_line))]
     fn total_line(&mut self, key: &PlayerKey, sums: &PlayerSums) -> Result<(), AllocError>
         requires { IsBetweenLines self.old }
-        ensures { OnOk result (self.new ≡ with_line self.old (total_line (player_of key.now) sums.now)) }
+        ensures { OnOk result (self.new
+            ≡ with_line self.old (total_line (player_of key.now) sums.now)) }
     {
         self.total_title(key.hundredths, sums)?;
         self.text("collected")?;
@@ -65,7 +67,8 @@ impl Sheet {
     /// The lines of all players.
     pub(crate) fn player_lines(&mut self, players: &Players) -> Result<(), AllocError>
         requires { IsBetweenLines self.old }
-        ensures { OnOk result (self.new ≡ with_lines self.old (player_lines self.old.form (seen_entries players.now.entries))) }
+        ensures { OnOk result (self.new
+            ≡ with_lines self.old (player_lines self.old.form (seen_entries players.now.entries))) }
     {
         for place in 0..players.len() {
             if let Some((key, sums)) = players.get_index(place) {

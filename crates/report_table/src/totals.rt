@@ -37,7 +37,8 @@ impl Model for Totals {
       players = seen_entries t.players.entries;
     } };
 
-    ghost invariant = { λ t. (t.accepted + t.rejected ≤ 2 ^ 32) × AllAreOfHands t.accepted (seen_entries t.players.entries) };
+    ghost invariant = { λ t. (t.accepted + t.rejected ≤ 2 ^ 32)
+        × AllAreOfHands t.accepted (seen_entries t.players.entries) };
 }
 
 impl Totals {

@@ -90,17 +90,10 @@ impl Sheet {
     pub(crate) fn spot_fault(&mut self, fault: &SpotFault) -> Result<(), AllocError>
         ensures { OnOk result (self.new ≡ with_words self.old (fault_words fault.now)) }
     {
+        self.text(fault.name())?;
         match fault {
-            SpotFault::UnknownWord => self.text("UnknownWord"),
-            SpotFault::BadCard => self.text("BadCard"),
-            SpotFault::TwiceCard(card) => {
-                self.text("TwiceCard")?;
-                self.word(&card.text())
-            }
-            SpotFault::HandSize => self.text("HandSize"),
-            SpotFault::BoardSize => self.text("BoardSize"),
-            SpotFault::PlayerCount => self.text("PlayerCount"),
-            SpotFault::DeckShort => self.text("DeckShort"),
+            SpotFault::TwiceCard(card) => self.word(&card.text()),
+            _ => Ok(()),
         }
     }
 

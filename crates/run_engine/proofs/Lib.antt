@@ -1,16 +1,16 @@
 pub mod ReadFacts
 pub mod WriteFacts
-pub mod Ended
+pub mod RunEnds
 pub mod RunFacts
-pub mod Pieces
-pub mod Pulling
+pub mod InputPieces
+pub mod AskedUnits
 pub mod UnitFacts
 pub mod HandFacts
 pub mod RangeFacts
 pub mod WritingFacts
 pub mod SumFacts
 pub mod TotalsFacts
-pub mod Numbers
+pub mod HandNumbers
 mod LineRows
 mod WordSteps
 mod WordKinds

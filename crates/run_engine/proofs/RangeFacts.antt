@@ -7,7 +7,7 @@ use Rattle.hand_ranges.specs.Blocks.{seen_ranges}
 use Rattle.hand_ranges.specs.Choices.{are_above, has_no_choice}
 use Rattle.hand_ranges.specs.Counted.{IsCountOf}
 use Rattle.hand_ranges.specs.Sound.{IsSound}
-use Rattle.hand_ranges.specs.Spot.{IsFaultOf, Ranges, ranges_in, ranges_of}
+use Rattle.hand_ranges.specs.RangeSpot.{IsFaultOf, Ranges, ranges_in, ranges_of}
 use Rattle.hand_ranges.specs.declared.faults.RangeFault.{RangeFault}
 use Rattle.hand_ranges.specs.declared.faults.RangeFault.TheVariants.{UnknownWord, BadCard, BadRange, TwiceCard, BoardSize, PlayerCount, DeckShort, Memory}
 use Rattle.hand_ranges.specs.declared.spot.RangeSpot.{RangeSpot}

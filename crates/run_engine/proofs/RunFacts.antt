@@ -5,7 +5,7 @@ use Rattle.std.specs.List.{concat}
 use Rattle.std.proofs.Math.Seq.{take-nil}
 use Rattle.byte_ends.specs.Ends.{Rises, WritesAll, WritesFront}
 use Rattle.hand_cuts.specs.Units.{units_in}
-use Rattle.hand_cuts.proofs.UnitLaws.{closed_units_stay}
+use Rattle.hand_cuts.proofs.CallerLemmas.{closed_units_stay}
 use Rattle.run_engine.specs.declared.command.Command.{Command}
 use Rattle.run_engine.specs.declared.command.Mode.{Mode}
 use Rattle.run_engine.specs.declared.command.Mode.TheVariants.{Spots, Ranges, Check, Audit, Streets, Totals, Made}
@@ -24,7 +24,7 @@ use Rattle.run_engine.specs.Reporting.{IsWritten}
 use Rattle.run_engine.specs.UnitBlocks.{listed_in, listed_kind, place_after, unit_blocks}
 use Rattle.run_engine.specs.Writing.{WritesBlocks}
 use Rattle.run_engine.specs.Headline.{IsRun, Ends, IsMemoryShort, IsWriteFault, written_status}
-use Rattle.run_engine.proofs.Ended.{run_usage_short, run_finished, run_read_fault, run_write_fault, run_too_long, run_memory}
+use Rattle.run_engine.proofs.RunEnds.{run_usage_short, run_finished, run_read_fault, run_write_fault, run_too_long, run_memory}
 use Rattle.run_engine.proofs.UnitFacts.{blocks-append, blocks_by_units}
 use Rattle.run_engine.proofs.WriteFacts.{concat-append, writes_none}
 

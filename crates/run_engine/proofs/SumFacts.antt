@@ -16,8 +16,8 @@ use Rattle.run_engine.specs.Units.{IsBegun, Reader, Stands, left_over, started}
 use Rattle.run_engine.specs.declared.reading.Ending.{Ending}
 use Rattle.run_engine.specs.declared.reading.Ending.TheVariants.{Whole, Failed, TooLong, Open}
 use Rattle.run_engine.specs.declared.reading.Input.{Input}
-use Rattle.run_engine.proofs.Pieces.{stands_start}
-use Rattle.run_engine.proofs.Pulling.{begun_so_far}
+use Rattle.run_engine.proofs.InputPieces.{stands_start}
+use Rattle.run_engine.proofs.AskedUnits.{begun_so_far}
 
 -- the sums of the verdicts on the hands that were handed out; each hand took a byte or more
 pub record SumsSoFar {Sums : Type 0} (sums_of : List HandAudit → Sums) (limit : ℕ) (old now : Reader) (input : Input) (sums : Sums) : Type 0 where

@@ -5,7 +5,7 @@ use Rattle.std.proofs.lemmas.List.Sums.{sum_by-append, sum_by-cons}
 use Rattle.hand_cuts.specs.ClosedBytes.{closed_hands}
 use Rattle.hand_cuts.specs.Units.{UnitLines, each_from, hands_from, units_in}
 use Rattle.hand_cuts.specs.declared.units.CutKind.TheVariants as cut
-use Rattle.hand_cuts.proofs.ClosedFacts.{closed_hands_by_bytes}
+use Rattle.hand_cuts.proofs.CallerLemmas.{closed_hands_by_bytes}
 use Rattle.line_text.specs.Lines.{lines, closed as closed_lines}
 use Rattle.report_table.specs.declared.equity.Form.{Form}
 use Rattle.run_engine.specs.Closed.{closed}

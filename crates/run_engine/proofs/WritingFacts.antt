@@ -16,8 +16,8 @@ use Rattle.run_engine.specs.declared.command.Command.{Command}
 use Rattle.run_engine.specs.declared.listed.Listed.{Listed}
 use Rattle.run_engine.specs.declared.reading.Ending.{Ending}
 use Rattle.run_engine.specs.declared.reading.Input.{Input}
-use Rattle.run_engine.proofs.Pieces.{stands_start}
-use Rattle.run_engine.proofs.Pulling.{begun_so_far}
+use Rattle.run_engine.proofs.InputPieces.{stands_start}
+use Rattle.run_engine.proofs.AskedUnits.{begun_so_far}
 use Rattle.run_engine.proofs.UnitFacts.{blocks-append, blocks_by_units, listed_blocks, place-more, rejected-more, rejects_by_units}
 use Rattle.run_engine.proofs.WriteFacts.{concat-append, one_small, writes_join, writes_none, writes_then_front}
 

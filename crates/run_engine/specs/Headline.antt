@@ -47,8 +47,10 @@ pub record IsWriteFault (limit : ℕ) (command : Command) (old new : Ends) : Typ
   pub bytes : List ℕ
   pub counted : Counted limit old.left new.left bytes
   pub ending : Ending
-  pub ended : reads_input command.mode ≡ true → EndsSo limit old.left new.left old.read_faults new.read_faults bytes ending
-  pub written : WritesFront old.taken new.taken (report command (reported command.mode ending bytes))
+  pub ended : reads_input command.mode ≡ true →
+      EndsSo limit old.left new.left old.read_faults new.read_faults bytes ending
+  pub written : WritesFront old.taken new.taken
+      (report command (reported command.mode ending bytes))
   -- while the reading goes on nothing is written of a report that is one block for all hands
   pub going : reads_input command.mode ≡ true → ending ≡ Open → has_blocks command.mode ≡ true
 
@@ -67,9 +69,12 @@ pub record IsMemoryShort (limit : ℕ) (command : Command) (old new : Ends) : Ty
   pub counted : Counted limit old.left new.left bytes
   pub ending : Ending
   pub count : ℕ
-  pub ended : reads_input command.mode ≡ true → 0 < count → EndsSo limit old.left new.left old.read_faults new.read_faults bytes ending
-  pub written : WritesAll old.taken new.taken (concat (take count (blocks command (reported command.mode ending bytes))))
-  pub going : reads_input command.mode ≡ true → 0 < count → ending ≡ Open → has_blocks command.mode ≡ true
+  pub ended : reads_input command.mode ≡ true → 0 < count →
+      EndsSo limit old.left new.left old.read_faults new.read_faults bytes ending
+  pub written : WritesAll old.taken new.taken
+      (concat (take count (blocks command (reported command.mode ending bytes))))
+  pub going : reads_input command.mode ≡ true → 0 < count → ending ≡ Open →
+      has_blocks command.mode ≡ true
 
 -- a run whose words ask for a mode, or for none, that ends with a status, between these ends
 pub record IsRun (limit : ℕ) (asked : Option Command) (status : ℕ) (old new : Ends) : Type 0 where
@@ -80,7 +85,8 @@ pub record IsRun (limit : ℕ) (asked : Option Command) (status : ℕ) (old new 
   -- a failed read is told: no read failed, or the status is 3, 4 or 6
   pub read_told : (new.read_faults ≡ old.read_faults) ⊎ (status ≡ 3) ⊎ (status ≡ 4) ⊎ (status ≡ 6)
   -- 0 and 1: all was read and written; which of the two, by whether a spot or a hand was rejected
-  pub finished : (status ≡ 0) ⊎ (status ≡ 1) → IsSomeAnd asked (λ command. IsFinished limit command status old new)
+  pub finished : (status ≡ 0) ⊎ (status ≡ 1) →
+      IsSomeAnd asked (λ command. IsFinished limit command status old new)
   -- 2: the words are in no form, and the usage line is written
   pub usage : status ≡ 2 → IsNone asked × WritesAll old.taken new.taken usage_line
   -- with words in no form, and where hands are made, nothing is read
@@ -89,20 +95,25 @@ pub record IsRun (limit : ℕ) (asked : Option Command) (status : ℕ) (old new 
   pub read_fault : status ≡ 3 → IsSomeAnd asked (λ command. IsReadFault limit command old new)
   -- 4: only where a write failed
   pub write_fault : status ≡ 4 → IfSome asked (λ command. IsWriteFault limit command old new)
-  pub usage_fault : status ≡ 4 → IfNone asked (Rises old.write_faults new.write_faults × WritesFront old.taken new.taken usage_line)
+  pub usage_fault : status ≡ 4 → IfNone asked (Rises old.write_faults new.write_faults
+      × WritesFront old.taken new.taken usage_line)
   -- 5: only where the source gave more than the limit
   pub too_long : status ≡ 5 → IsSomeAnd asked (λ command. IsTooLong limit command old new)
   -- 6: memory ran out
   pub memory : status ≡ 6 → IfSome asked (λ command. IsMemoryShort limit command old new)
   pub usage_memory : status ≡ 6 → IfNone asked (new.taken ≡ old.taken)
   -- words that ask for a report of the input, no fault and an input within the limit end in 0 or 1, or for want of memory in 6
-  pub complete : reads asked ≡ true → IsFaultless old new → IfSome old.left (λ bytes. length bytes ≤ limit → (status ≡ 0) ⊎ (status ≡ 1) ⊎ (status ≡ 6))
+  pub complete : reads asked ≡ true → IsFaultless old new →
+      IfSome old.left (λ bytes. length bytes ≤ limit → (status ≡ 0) ⊎ (status ≡ 1) ⊎ (status ≡ 6))
   -- such words, no fault and an input above the limit end in 5, or for want of memory in 6
-  pub complete_long : reads asked ≡ true → IsFaultless old new → IfSome old.left (λ bytes. limit < length bytes → (status ≡ 5) ⊎ (status ≡ 6))
+  pub complete_long : reads asked ≡ true → IsFaultless old new →
+      IfSome old.left (λ bytes. limit < length bytes → (status ≡ 5) ⊎ (status ≡ 6))
   -- words that ask for hands that are made, and no failed write end in 0 or 1, or for want of memory in 6
-  pub complete_made : makes asked ≡ true → ¬ Rises old.write_faults new.write_faults → (status ≡ 0) ⊎ (status ≡ 1) ⊎ (status ≡ 6)
+  pub complete_made : makes asked ≡ true → ¬ Rises old.write_faults new.write_faults →
+      (status ≡ 0) ⊎ (status ≡ 1) ⊎ (status ≡ 6)
   -- words in no form and no failed write end in 2, or for want of memory in 6
-  pub complete_usage : IsNone asked → ¬ Rises old.write_faults new.write_faults → (status ≡ 2) ⊎ (status ≡ 6)
+  pub complete_usage : IsNone asked → ¬ Rises old.write_faults new.write_faults →
+      (status ≡ 2) ⊎ (status ≡ 6)
 
 -- the status of a run whose report was written, by how the reading ended and how many spots or hands are rejected; it has ended
 abbrev pub written_status : Ending → ℕ → ℕ

@@ -37,7 +37,9 @@ streets_told form LaterStreets hand audit = street_blocks form audit (states_in 
 -- the block of a hand, by its verdict
 abbrev pub block_by : Form → Told → UnitLines → Option HandAudit → List ℕ
 block_by form told hand None = []
-block_by form told hand (Some audit) = audit_block form (tells_all_in told) (number_text hand.lines) audit ++ streets_told form told hand audit
+block_by form told hand (Some audit) =
+    audit_block form (tells_all_in told) (number_text hand.lines) audit
+    ++ streets_told form told hand audit
 
 -- the block of a hand in a form; given is how much of it is told
 unfoldable pub hand_block : Form → Told → UnitLines → List ℕ

@@ -3,7 +3,7 @@ use Rattle.std.specs.Prelude.{◌≡◌, Bool, true, false, ◌&&◌, not, Resul
 use Rattle.equity_job.specs.declared.limits.TheConstants.{RUNOUT_MAX}
 use Rattle.hand_ranges.specs.Choices.{are_above, has_no_choice}
 use Rattle.hand_ranges.specs.Counted.{IsCountOf}
-use Rattle.hand_ranges.specs.Spot.{Ranges, ranges_in}
+use Rattle.hand_ranges.specs.RangeSpot.{Ranges, ranges_in}
 use Rattle.hand_ranges.specs.declared.faults.RangeFault.{RangeFault}
 use Rattle.hand_ranges.specs.declared.faults.RangeFault.TheVariants.{Memory}
 use Rattle.hand_ranges.specs.declared.spot.RangeSpot.{RangeSpot}

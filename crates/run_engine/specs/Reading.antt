@@ -17,7 +17,8 @@ piece = 16384
 
 -- these bytes count of what was taken: all of it, or as many as the limit allows; no more was taken than the limit and a piece
 abbrev pub Counted : ℕ → Option (List ℕ) → Option (List ℕ) → List ℕ → Type 0
-Counted limit old new bytes = (taken : List ℕ) × Takes old new taken × (bytes ≡ take limit taken) × (length taken ≤ limit + piece)
+Counted limit old new bytes = (taken : List ℕ) × Takes old new taken × (bytes ≡ take limit taken)
+    × (length taken ≤ limit + piece)
 
 -- the bytes are all that the source told, and it was read to its end
 abbrev pub ReadWhole : ℕ → Option (List ℕ) → Option (List ℕ) → List ℕ → Type 0
@@ -40,9 +41,12 @@ pub record ReadTooMuch (limit : ℕ) (old new : Option (List ℕ)) (bytes : List
 -- how the reading ended, or that it goes on
 abbrev pub EndsSo : ℕ → Option (List ℕ) → Option (List ℕ) → ℕ → ℕ → List ℕ → Ending → Type 0
 EndsSo limit old new faults faults' bytes Whole = ReadWhole limit old new bytes × (faults' ≡ faults)
-EndsSo limit old new faults faults' bytes Failed = ReadToFault limit old new bytes × Rises faults faults'
-EndsSo limit old new faults faults' bytes TooLong = ReadTooMuch limit old new bytes × (faults' ≡ faults)
-EndsSo limit old new faults faults' bytes Open = ReadToFault limit old new bytes × (faults' ≡ faults)
+EndsSo limit old new faults faults' bytes Failed =
+    ReadToFault limit old new bytes × Rises faults faults'
+EndsSo limit old new faults faults' bytes TooLong =
+    ReadTooMuch limit old new bytes × (faults' ≡ faults)
+EndsSo limit old new faults faults' bytes Open =
+    ReadToFault limit old new bytes × (faults' ≡ faults)
 
 -- what a report is made of: all bytes where the reading came to the end of the input, and else the closed part
 abbrev pub reported : Mode → Ending → List ℕ → List ℕ

@@ -5,7 +5,7 @@ use Rattle.std.specs.Result.{is_err}
 use Rattle.hand_audit.specs.declared.verdicts.HandAudit.{HandAudit}
 use Rattle.hand_cuts.specs.Units.{hands_from}
 use Rattle.hand_ranges.specs.Blocks.{ranges_block}
-use Rattle.hand_ranges.specs.Spot.{ranges_of}
+use Rattle.hand_ranges.specs.RangeSpot.{ranges_of}
 use Rattle.line_text.specs.Lines.{lines}
 use Rattle.made_hands.specs.Made.{made_text}
 use Rattle.report_table.specs.Made.{made_block}
@@ -68,7 +68,8 @@ blocks_in Check asked bytes = hand_blocks asked.form Verdict bytes
 blocks_in Audit asked bytes = hand_blocks asked.form AllIn bytes
 blocks_in Streets asked bytes = hand_blocks asked.form LaterStreets bytes
 blocks_in Totals asked bytes = totals_block asked.form (verdicts bytes) ∷ []
-blocks_in Made asked bytes = made_block asked.form asked.hands (verdicts (made_text asked.seed asked.hands)) ∷ []
+blocks_in Made asked bytes =
+    made_block asked.form asked.hands (verdicts (made_text asked.seed asked.hands)) ∷ []
 
 abbrev pub blocks : Command → List ℕ → List (List ℕ)
 blocks asked bytes = blocks_in asked.mode asked bytes
@@ -85,7 +86,8 @@ rejects_in Check asked bytes = rejected_hands bytes
 rejects_in Audit asked bytes = rejected_hands bytes
 rejects_in Streets asked bytes = rejected_hands bytes
 rejects_in Totals asked bytes = count_by (λ hand. not (is_accepted hand)) (verdicts bytes)
-rejects_in Made asked bytes = asked.hands - count_by is_accepted (verdicts (made_text asked.seed asked.hands))
+rejects_in Made asked bytes =
+    asked.hands - count_by is_accepted (verdicts (made_text asked.seed asked.hands))
 
 unfoldable pub rejects : Command → List ℕ → ℕ
 rejects asked bytes = rejects_in asked.mode asked bytes

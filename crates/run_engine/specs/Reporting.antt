@@ -11,7 +11,8 @@ use Rattle.run_engine.specs.declared.write_fault.WriteFault.{WriteFault}
 use Rattle.run_engine.specs.declared.write_fault.WriteFault.TheVariants.{Failed, Memory}
 
 -- the reading has ended, and the report of what was read is written
-pub record IsWritten (limit : ℕ) (command : Command) (ending : Ending) (rejected : ℕ) (old new : Ends) : Type 0 where
+pub record IsWritten (limit : ℕ) (command : Command) (ending : Ending) (rejected : ℕ)
+    (old new : Ends) : Type 0 where
   pub ended : ending ≡ Open → ⊥
   pub bytes : List ℕ
   pub counted : Counted limit old.left new.left bytes
@@ -24,4 +25,5 @@ pub record IsWritten (limit : ℕ) (command : Command) (ending : Ending) (reject
 abbrev pub Reports : ℕ → Command → Ending → Ends → Ends → Result ℕ WriteFault → Type 0
 Reports limit command ending old new (Ok rejected) = IsWritten limit command ending rejected old new
 Reports limit command ending old new (Err Failed) = IsWriteFault limit command old new
-Reports limit command ending old new (Err Memory) = IsMemoryShort limit command old new × (new.write_faults ≡ old.write_faults)
+Reports limit command ending old new (Err Memory) =
+    IsMemoryShort limit command old new × (new.write_faults ≡ old.write_faults)

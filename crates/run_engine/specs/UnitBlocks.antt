@@ -34,7 +34,8 @@ listed_kind (Hands told) = cut.Hands
 -- the block of a line, the first of some; a line with no word has none
 abbrev pub first_block : Form → Holding → ℕ → ℕ → List (List ℕ) → Option (List ℕ)
 first_block form holding place number [] = None
-first_block form holding place number (line ∷ later) = if is_blank line then None else Some (line_block form holding place number line)
+first_block form holding place number (line ∷ later) =
+    if is_blank line then None else Some (line_block form holding place number line)
 
 abbrev pub is_rejected_first : Holding → List (List ℕ) → Bool
 is_rejected_first holding [] = false
@@ -61,17 +62,21 @@ before (Some block) blocks = block ∷ blocks
 -- the place behind some units, and their blocks
 abbrev pub place_after : Form → Listed → ℕ → List UnitLines → ℕ
 place_after form listed place [] = place
-place_after form listed place (unit ∷ later) = place_after form listed (place_behind place (unit_block form listed place unit)) later
+place_after form listed place (unit ∷ later) =
+    place_after form listed (place_behind place (unit_block form listed place unit)) later
 
 abbrev pub unit_blocks : Form → Listed → ℕ → List UnitLines → List (List ℕ)
 unit_blocks form listed place [] = []
 unit_blocks form listed place (unit ∷ later) =
-    before (unit_block form listed place unit) (unit_blocks form listed (place_behind place (unit_block form listed place unit)) later)
+    before (unit_block form listed place unit)
+    (unit_blocks form listed (place_behind place (unit_block form listed place unit)) later)
 
 abbrev pub rejected_units : Listed → List UnitLines → ℕ
 rejected_units listed units = count_by (is_rejected_unit listed) units
 
 -- the outcome of making the block of a unit: none, or a block and whether it is rejected
 abbrev pub MakesBlock : Form → Listed → ℕ → UnitLines → List ℕ → Option Bool → Type 0
-MakesBlock form listed place unit block None = (unit_block form listed place unit ≡ None) × (is_rejected_unit listed unit ≡ false)
-MakesBlock form listed place unit block (Some rejected) = (unit_block form listed place unit ≡ Some block) × (is_rejected_unit listed unit ≡ rejected)
+MakesBlock form listed place unit block None =
+    (unit_block form listed place unit ≡ None) × (is_rejected_unit listed unit ≡ false)
+MakesBlock form listed place unit block (Some rejected) =
+    (unit_block form listed place unit ≡ Some block) × (is_rejected_unit listed unit ≡ rejected)

@@ -47,7 +47,8 @@ pub record Reader : Type 0 where
 
 -- how far the reading has come, and which units were handed out: whatever follows, the units of all bytes are those, and
 -- then the units of the bytes not yet handed out
-pub record Stands (limit : ℕ) (old now : Reader) (kind : CutKind) (input : Input) (done : List UnitLines) : Type 0 where
+pub record Stands (limit : ℕ) (old now : Reader) (kind : CutKind) (input : Input)
+    (done : List UnitLines) : Type 0 where
   pub kind_is : input.cutter.kind ≡ kind
   pub closed_is : input.cutter.closed ≡ is_whole input.ending
   pub inside : input.cutter.at ≤ length input.cutter.held
@@ -57,10 +58,12 @@ pub record Stands (limit : ℕ) (old now : Reader) (kind : CutKind) (input : Inp
   pub ends : EndsSo limit old.left now.left old.faults now.faults bytes input.ending
   pub goes_on : input.ending ≡ Open → length bytes ≡ input.cutter.given
   pub split : (whole : Bool) (more : List ℕ) → MayFollow input.cutter.closed whole more
-      → units_in kind whole 1 (bytes ++ more) ≡ done ++ units_in kind whole input.cutter.line (rest input.cutter ++ more)
+      → units_in kind whole 1 (bytes ++ more)
+      ≡ done ++ units_in kind whole input.cutter.line (rest input.cutter ++ more)
 
 -- some units are the first of what is reported
-pub record IsBegun (limit : ℕ) (old now : Reader) (kind : CutKind) (ending : Ending) (done : List UnitLines) : Type 0 where
+pub record IsBegun (limit : ℕ) (old now : Reader) (kind : CutKind) (ending : Ending)
+    (done : List UnitLines) : Type 0 where
   pub bytes : List ℕ
   pub counted : Counted limit old.left now.left bytes
   pub ends : EndsSo limit old.left now.left old.faults now.faults bytes ending
@@ -68,7 +71,8 @@ pub record IsBegun (limit : ℕ) (old now : Reader) (kind : CutKind) (ending : E
   pub front : units_in kind (is_whole ending) 1 bytes ≡ done ++ more
 
 -- the reading has ended, and some units are all of what is reported
-pub record IsEnded (limit : ℕ) (old now : Reader) (kind : CutKind) (ending : Ending) (done : List UnitLines) : Type 0 where
+pub record IsEnded (limit : ℕ) (old now : Reader) (kind : CutKind) (ending : Ending)
+    (done : List UnitLines) : Type 0 where
   pub ended : ending ≡ Open → ⊥
   pub bytes : List ℕ
   pub counted : Counted limit old.left now.left bytes
@@ -83,20 +87,27 @@ pub record IsUnit (limit : ℕ) (kind : CutKind) (held : List ℕ) (unit : UnitP
   pub numbers : unit.first_line + length (seen held unit).lines ≤ limit + 1
 
 -- a unit is handed out, and it takes a byte or more
-pub record HandsOver (limit : ℕ) (old now : Reader) (kind : CutKind) (before after : Input) (done : List UnitLines) (unit : UnitPlace) : Type 0 where
+pub record HandsOver (limit : ℕ) (old now : Reader) (kind : CutKind) (before after : Input)
+    (done : List UnitLines) (unit : UnitPlace) : Type 0 where
   pub unit_is : IsUnit limit kind after.cutter.held unit
   pub stands : Stands limit old now kind after (done ++ seen after.cutter.held unit ∷ [])
   pub fewer : left_over limit after < left_over limit before
 
 -- the outcome of asking for the next unit
-abbrev pub Pulls : ℕ → Reader → Reader → CutKind → Input → Input → List UnitLines → Result (Option UnitPlace) Memory → Type 0
-Pulls limit old now kind before after done (Ok (Some unit)) = HandsOver limit old now kind before after done unit
+abbrev pub Pulls : ℕ → Reader → Reader → CutKind → Input → Input → List UnitLines →
+    Result (Option UnitPlace) Memory → Type 0
+Pulls limit old now kind before after done (Ok (Some unit)) =
+    HandsOver limit old now kind before after done unit
 Pulls limit old now kind before after done (Ok None) = IsEnded limit old now kind after.ending done
-Pulls limit old now kind before after done (Err _) = (ending : Ending) × IsBegun limit old now kind ending done
+Pulls limit old now kind before after done (Err _) =
+    (ending : Ending) × IsBegun limit old now kind ending done
 
 -- the outcome of reading a piece
-abbrev pub ReadsPiece : ℕ → Reader → Reader → CutKind → CutterState → CutterState → List UnitLines → Result Ending Memory → Type 0
+abbrev pub ReadsPiece : ℕ → Reader → Reader → CutKind → CutterState → CutterState → List UnitLines →
+    Result Ending Memory → Type 0
 ReadsPiece limit old now kind before after done (Ok ending) =
     Stands limit old now kind (record { cutter = after; ending = ending }) done
-    × (left_over limit (record { cutter = after; ending = ending }) ≤ left_over limit (record { cutter = before; ending = Open }))
-ReadsPiece limit old now kind before after done (Err _) = (ending : Ending) × IsBegun limit old now kind ending done
+    × (left_over limit (record { cutter = after; ending = ending })
+    ≤ left_over limit (record { cutter = before; ending = Open }))
+ReadsPiece limit old now kind before after done (Err _) =
+    (ending : Ending) × IsBegun limit old now kind ending done

@@ -4,7 +4,7 @@ ghost use Rattle.std.specs.Prelude.{◌≡◌, ⊤, OnOk, true};
 ghost use Rattle.card_sets.specs.State.{state_of};
 ghost use Rattle.hand_ranges.specs.Counted.{IsCountOf};
 ghost use Rattle.hand_ranges.specs.Sound.{IsSound};
-ghost use Rattle.hand_ranges.specs.Spot.{ranges_in};
+ghost use Rattle.hand_ranges.specs.RangeSpot.{ranges_in};
 ghost use Rattle.report_table.specs.Equities.{IsEquityOf, IsOfAllIn, IsOfHand, is_asked};
 ghost use Rattle.report_table.specs.Streets.{IsOfStreet};
 ghost use Rattle.showdown_tally.specs.Deals.{deal_of};
@@ -25,7 +25,8 @@ pub(crate) trait Counter {
     /// Makes a tally that of all runouts of a job, whatever it held, with so many workers at the most.
     fn count(&mut self, job: &Job, workers: u32, tally: &mut Tally) -> Result<(), Memory>
         requires { ready }
-        ensures { OnOk result (Counts (deal_of job.now.table) (runouts_after (state_of job.now.table.known)) tally.new) };
+        ensures { OnOk result (Counts (deal_of job.now.table)
+            (runouts_after (state_of job.now.table.known)) tally.new) };
 
     /// Counts a spot with ranges, on the thread that asks.
     fn count_ranges(&mut self, spot: &RangeSpot) -> Result<RangeTally, RangeJobFault>
@@ -42,7 +43,8 @@ pub(crate) struct Alone {
 impl Alone {
     /// Makes a tally that of all runouts of a job, whatever it held.
     pub(crate) fn count_here(&mut self, job: &Job, tally: &mut Tally)
-        ensures { Counts (deal_of job.now.table) (runouts_after (state_of job.now.table.known)) tally.new }
+        ensures { Counts (deal_of job.now.table)
+            (runouts_after (state_of job.now.table.known)) tally.new }
     {
         if let Some(scratch) = &mut self.scratch {
             count_job(job, scratch, tally);
@@ -55,7 +57,8 @@ impl Alone {
     /// megabyte of stack that this takes.
     #[inline(never)]
     fn count_first(&mut self, job: &Job, tally: &mut Tally)
-        ensures { Counts (deal_of job.now.table) (runouts_after (state_of job.now.table.known)) tally.new }
+        ensures { Counts (deal_of job.now.table)
+            (runouts_after (state_of job.now.table.known)) tally.new }
     {
         let mut scratch = Scratch::new();
         count_job(job, &mut scratch, tally);

@@ -58,7 +58,8 @@ fn write_states<C: Counter>(
     block: &mut Vec<u8>,
 ) -> Result<(), Memory>
     requires ready { C.ready }
-    ensures { OnOk result (block.new.items ≡ block.old.items ++ flat_map (street_block form audit.now) states.now) }
+    ensures { OnOk result (block.new.items
+        ≡ block.old.items ++ flat_map (street_block form audit.now) states.now) }
 {
     for state in states {
         desk.ask_street(state)?;
@@ -78,12 +79,18 @@ fn write_streets<C: Counter>(
     desk: &mut Desk<C>,
     block: &mut Vec<u8>,
 ) -> Result<(), Memory>
+    // The bytes are a hand, and the verdict is that on it.
     requires ready { C.ready }
     requires header { IsTrue (begins_hand (lines bytes.now)) }
     requires audit { audit_of first (lines bytes.now) ≡ Some audit.now }
+
+    // The equity was asked for, and is that of the hand.
     requires asked { is_asked desk.old.equity ≡ true }
     requires equity { IsOfHand audit.now desk.old.equity }
-    ensures { OnOk result (block.new.items ≡ block.old.items ++ street_blocks form audit.now (states_in (lines bytes.now))) }
+
+    // The blocks of its later streets stand behind what there was.
+    ensures { OnOk result (block.new.items
+        ≡ block.old.items ++ street_blocks form audit.now (states_in (lines bytes.now))) }
 {
     if !has_counted(audit, &desk.equity) {
         return Ok(());
@@ -104,12 +111,18 @@ fn write_told<C: Counter>(
     desk: &mut Desk<C>,
     block: &mut Vec<u8>,
 ) -> Result<(), Memory>
+    // The bytes are a hand, and the verdict is that on it.
     requires ready { C.ready }
     requires header { IsTrue (begins_hand (lines bytes.now)) }
     requires audit { audit_of first (lines bytes.now) ≡ Some audit.now }
+
+    // The equity was asked for where it is told, and is that of the hand.
     requires asked { is_asked desk.old.equity ≡ tells_all_in told }
     requires equity { IsOfHand audit.now desk.old.equity }
-    ensures { OnOk result (block.new.items ≡ block.old.items ++ streets_told form told (record { first = first; lines = lines bytes.now }) audit.now) }
+
+    // What is told of its streets stands behind what there was.
+    ensures { OnOk result (block.new.items ≡ block.old.items
+        ++ streets_told form told (record { first = first; lines = lines bytes.now }) audit.now) }
 {
     match told {
         Told::Verdict | Told::AllIn => Ok(()),
@@ -131,8 +144,10 @@ pub(crate) fn write_lines<C: Counter>(
     requires ready { C.ready }
     requires header { IsTrue (begins_hand (lines bytes.now)) }
     requires numbers { first + length (lines bytes.now) < 2 ^ 32 }
-    ensures block { OnOk result (block.new.items ≡ block.old.items ++ hand_block form told (record { first = first; lines = lines bytes.now })) }
-    ensures rejected { IfOk result (λ rejected. rejected ≡ is_rejected_hand (record { first = first; lines = lines bytes.now })) }
+    ensures block { OnOk result (block.new.items ≡ block.old.items
+        ++ hand_block form told (record { first = first; lines = lines bytes.now })) }
+    ensures rejected { IfOk result (λ rejected. rejected
+        ≡ is_rejected_hand (record { first = first; lines = lines bytes.now })) }
 {
     let audit = audit_hand(alloc, bytes, first)?;
     desk.ask_hand(told.tells_all_in(), &audit)?;

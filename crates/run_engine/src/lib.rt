@@ -13,7 +13,8 @@
 //!    count it where it has many blocks.
 //! 6. *Status* (`runs`). Which end failed is told by its count of faults, and each status has its clause.
 //!
-//! It owns no poker and no figure: what is written is defined in `report_table`, what a hand is by `hand_audit`.
+//! It owns no poker and no figure: what is written is defined in `report_table`, what a hand is by `hand_audit`. It opens no
+//! file, since the ends are lent to it, and what threads there are are started by `steal_pool`.
 #![tactic(auto)]
 
 mod closing;

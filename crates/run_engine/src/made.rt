@@ -26,12 +26,22 @@ pub(crate) fn write_made<C: Counter, K: Sink>(
 ) -> Result<u64, WriteFault>
     requires ready { C.ready }
     requires few { asked.hands ≤ 10000 }
+
+    // On success the whole block is written, no count of faults rose, and the answer is right.
     ensures rejected { IfOk result (λ n. n ≡ rejects_in Made asked []) }
-    ensures written { OnOk result (WritesAll (K.taken sink.old) (K.taken sink.new) (concat (blocks_in Made asked []))) }
+    ensures written { OnOk result
+        (WritesAll (K.taken sink.old) (K.taken sink.new) (concat (blocks_in Made asked []))) }
     ensures fine { OnOk result (K.faults sink.new ≡ K.faults sink.old) }
-    ensures fault { IsErrOf result WriteFault.Failed → Rises (K.faults sink.old) (K.faults sink.new) }
-    ensures front { IsErrOf result WriteFault.Failed → WritesFront (K.taken sink.old) (K.taken sink.new) (concat (blocks_in Made asked [])) }
-    ensures memory { IsErrOf result WriteFault.Memory → WritesBlocks (K.taken sink.old) (K.taken sink.new) (blocks_in Made asked []) }
+
+    // Where a write failed the count of faults rose, and a front of the block is written.
+    ensures fault { IsErrOf result WriteFault.Failed
+        → Rises (K.faults sink.old) (K.faults sink.new) }
+    ensures front { IsErrOf result WriteFault.Failed
+        → WritesFront (K.taken sink.old) (K.taken sink.new) (concat (blocks_in Made asked [])) }
+
+    // For want of memory the block is written whole or not at all, and no count rose.
+    ensures memory { IsErrOf result WriteFault.Memory
+        → WritesBlocks (K.taken sink.old) (K.taken sink.new) (blocks_in Made asked []) }
     ensures calm { IsErrOf result WriteFault.Memory → K.faults sink.new ≡ K.faults sink.old }
 {
     law_made_text_is_short();

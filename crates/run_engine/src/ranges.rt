@@ -3,7 +3,7 @@
 ghost use Rattle.std.specs.Prelude.{◌≡◌, ◌++◌, IfOk, OnOk};
 ghost use Rattle.hand_ranges.specs.Blocks.{ranges_block, seen_ranges};
 ghost use Rattle.hand_ranges.specs.Sound.{IsSound};
-ghost use Rattle.hand_ranges.specs.Spot.{ranges_in, ranges_of};
+ghost use Rattle.hand_ranges.specs.RangeSpot.{ranges_in, ranges_of};
 ghost use Rattle.run_engine.specs.RangeLines.{IsCountFor, is_memory, is_no_choice, is_rejected_range};
 
 use crate::counter::{Counter, Desk};
@@ -68,7 +68,8 @@ pub(crate) fn write_range_line<C: Counter>(
     line: &[u8],
     desk: &mut Desk<C>,
 ) -> Result<bool, Memory>
-    ensures block { OnOk result (block.new.items ≡ block.old.items ++ ranges_block form numbers.place numbers.line (ranges_of line.now)) }
+    ensures block { OnOk result (block.new.items
+        ≡ block.old.items ++ ranges_block form numbers.place numbers.line (ranges_of line.now)) }
     ensures rejected { IfOk result (λ rejected. rejected ≡ is_rejected_range (ranges_of line.now)) }
 {
     law_lines_give_sound_ranges();

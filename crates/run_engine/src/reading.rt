@@ -53,9 +53,13 @@ impl Input {
 fn read_piece<S: Source>(source: &mut S, cutter: &mut Cutter) -> Result<Ending, Memory>
     requires { cutter.old.closed ≡ false }
     ensures told { (old : Reader) (kind : CutKind) (done : List UnitLines)
-        → Stands INPUT_MAX old (record { left = S.left source.old; faults = S.faults source.old }) kind (record { cutter = cutter.old; ending = Open }) done
-        → ReadsPiece INPUT_MAX old (record { left = S.left source.new; faults = S.faults source.new }) kind cutter.old cutter.new done result }
-    ensures onward { IfOk result (λ ending. ending ≡ Open → (cutter.old.given < cutter.new.given) × (cutter.new.given ≤ INPUT_MAX)) }
+        → Stands INPUT_MAX old (record { left = S.left source.old; faults = S.faults source.old })
+        kind (record { cutter = cutter.old; ending = Open }) done
+        → ReadsPiece INPUT_MAX old
+        (record { left = S.left source.new; faults = S.faults source.new })
+        kind cutter.old cutter.new done result }
+    ensures onward { IfOk result (λ ending. ending ≡ Open
+        → (cutter.old.given < cutter.new.given) × (cutter.new.given ≤ INPUT_MAX)) }
     ensures closed { IfOk result (λ ending. ending ≡ Open → cutter.new.closed ≡ false) }
 {
     let mut piece = [0u8; PIECE];
@@ -87,8 +91,10 @@ pub(crate) fn next_unit<S: Source>(
 ) -> Result<Option<Unit>, Memory>
     requires { input.old.ending ≡ Open → input.old.cutter.closed ≡ false }
     ensures { (old : Reader) (kind : CutKind) (done : List UnitLines)
-        → Stands INPUT_MAX old (record { left = S.left source.old; faults = S.faults source.old }) kind input.old done
-        → Pulls INPUT_MAX old (record { left = S.left source.new; faults = S.faults source.new }) kind input.old input.new done result }
+        → Stands INPUT_MAX old (record { left = S.left source.old; faults = S.faults source.old })
+        kind input.old done
+        → Pulls INPUT_MAX old (record { left = S.left source.new; faults = S.faults source.new })
+        kind input.old input.new done result }
 {
     'pieces: loop {
         if let Some(unit) = input.cutter.next_unit() {

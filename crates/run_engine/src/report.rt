@@ -38,7 +38,8 @@ fn write_unit<C: Counter>(
     requires empty { block.old.items ≡ [] }
     requires header { listed_kind listed ≡ Hands → begins_hand (lines bytes.now) ≡ true }
     requires few { numbers.line + length (lines bytes.now) < 2 ^ 32 }
-    ensures { IfOk result (λ told. MakesBlock form listed numbers.place (record { first = numbers.line; lines = lines bytes.now }) block.new.items told) }
+    ensures { IfOk result (λ told. MakesBlock form listed numbers.place
+        (record { first = numbers.line; lines = lines bytes.now }) block.new.items told) }
 {
     match listed {
         Listed::Spots { holding } => {
@@ -66,8 +67,18 @@ fn write_blocks<C: Counter, S: Source, K: Sink>(
     requires listed { listed_in asked.mode ≡ Some listed }
     requires start { input.old ≡ started (listed_kind listed) }
     ensures { Reports INPUT_MAX asked input.new.ending
-        (record { left = S.left source.old; read_faults = S.faults source.old; taken = K.taken sink.old; write_faults = K.faults sink.old })
-        (record { left = S.left source.new; read_faults = S.faults source.new; taken = K.taken sink.new; write_faults = K.faults sink.new }) result }
+        (record {
+          left = S.left source.old;
+          read_faults = S.faults source.old;
+          taken = K.taken sink.old;
+          write_faults = K.faults sink.old;
+        })
+        (record {
+          left = S.left source.new;
+          read_faults = S.faults source.new;
+          taken = K.taken sink.new;
+          write_faults = K.faults sink.new;
+        }) result }
 {
     let mut block = Vec::new(alloc);
     let mut place = 1;
@@ -115,8 +126,18 @@ pub(crate) fn write_report<C: Counter, S: Source, K: Sink>(
     requires reads { reads_input asked.mode ≡ true }
     requires start { input.old ≡ started (unit_kind asked.mode) }
     ensures { Reports INPUT_MAX asked input.new.ending
-        (record { left = S.left source.old; read_faults = S.faults source.old; taken = K.taken sink.old; write_faults = K.faults sink.old })
-        (record { left = S.left source.new; read_faults = S.faults source.new; taken = K.taken sink.new; write_faults = K.faults sink.new }) result }
+        (record {
+          left = S.left source.old;
+          read_faults = S.faults source.old;
+          taken = K.taken sink.old;
+          write_faults = K.faults sink.old;
+        })
+        (record {
+          left = S.left source.new;
+          read_faults = S.faults source.new;
+          taken = K.taken sink.new;
+          write_faults = K.faults sink.new;
+        }) result }
 {
     let Some(listed) = listed_in(asked.mode) else {
         return write_totals(alloc, asked, source, input, desk, sink);

@@ -44,8 +44,18 @@ pub fn run_alone<S: Source, K: Sink>(
     sink: &mut K,
 ) -> u8
     ensures { IsRun INPUT_MAX (command (map string_bytes words.now)) result
-        (record { left = S.left source.old; read_faults = S.faults source.old; taken = K.taken sink.old; write_faults = K.faults sink.old })
-        (record { left = S.left source.new; read_faults = S.faults source.new; taken = K.taken sink.new; write_faults = K.faults sink.new }) }
+        (record {
+          left = S.left source.old;
+          read_faults = S.faults source.old;
+          taken = K.taken sink.old;
+          write_faults = K.faults sink.old;
+        })
+        (record {
+          left = S.left source.new;
+          read_faults = S.faults source.new;
+          taken = K.taken sink.new;
+          write_faults = K.faults sink.new;
+        }) }
 {
     let mut desk = Desk {
         counter: Alone { scratch: None },
@@ -67,11 +77,22 @@ pub fn run<R: Threads + Wait + Sync, S: Source, K: Sink, G: Gate + Sync>(
     gate: &G,
 ) -> u8
     ensures { IsRun INPUT_MAX (command (map string_bytes words.now)) result
-        (record { left = S.left source.old; read_faults = S.faults source.old; taken = K.taken sink.old; write_faults = K.faults sink.old })
-        (record { left = S.left source.new; read_faults = S.faults source.new; taken = K.taken sink.new; write_faults = K.faults sink.new }) }
+        (record {
+          left = S.left source.old;
+          read_faults = S.faults source.old;
+          taken = K.taken sink.old;
+          write_faults = K.faults sink.old;
+        })
+        (record {
+          left = S.left source.new;
+          read_faults = S.faults source.new;
+          taken = K.taken sink.new;
+          write_faults = K.faults sink.new;
+        }) }
 {
     let by_workers = |job: &Job, workers: u32| -> Result<Tally, Memory>
-        ensures { IfOk result (λ tally. Counts (deal_of job.entry.now.table) (runouts_after (state_of job.entry.now.table.known)) tally) }
+        ensures { IfOk result (λ tally. Counts (deal_of job.entry.now.table)
+            (runouts_after (state_of job.entry.now.table.known)) tally) }
     { count_shared(rt, alloc, job, workers, gate) };
     let mut alone = Alone { scratch: None };
     let mut desk = Desk {
@@ -95,8 +116,18 @@ fn run_at<C: Counter, S: Source, K: Sink>(
 ) -> u8
     requires ready { C.ready }
     ensures { IsRun INPUT_MAX (command (map string_bytes words.now)) result
-        (record { left = S.left source.old; read_faults = S.faults source.old; taken = K.taken sink.old; write_faults = K.faults sink.old })
-        (record { left = S.left source.new; read_faults = S.faults source.new; taken = K.taken sink.new; write_faults = K.faults sink.new }) }
+        (record {
+          left = S.left source.old;
+          read_faults = S.faults source.old;
+          taken = K.taken sink.old;
+          write_faults = K.faults sink.old;
+        })
+        (record {
+          left = S.left source.new;
+          read_faults = S.faults source.new;
+          taken = K.taken sink.new;
+          write_faults = K.faults sink.new;
+        }) }
 {
     let asked = match read_words(alloc, words) {
         Ok(asked) => asked,
@@ -123,8 +154,18 @@ fn run_reading<C: Counter, S: Source, K: Sink>(
     requires reads { reads_input asked.mode ≡ true }
     requires few { asked.hands ≤ 10000 }
     ensures { IsRun INPUT_MAX (Some asked) result
-        (record { left = S.left source.old; read_faults = S.faults source.old; taken = K.taken sink.old; write_faults = K.faults sink.old })
-        (record { left = S.left source.new; read_faults = S.faults source.new; taken = K.taken sink.new; write_faults = K.faults sink.new }) }
+        (record {
+          left = S.left source.old;
+          read_faults = S.faults source.old;
+          taken = K.taken sink.old;
+          write_faults = K.faults sink.old;
+        })
+        (record {
+          left = S.left source.new;
+          read_faults = S.faults source.new;
+          taken = K.taken sink.new;
+          write_faults = K.faults sink.new;
+        }) }
 {
     let mut input = Input::start(alloc, unit_kind(asked.mode));
     match write_report(alloc, asked, source, &mut input, desk, sink) {
@@ -155,8 +196,18 @@ fn run_made<C: Counter, K: Sink>(
     requires makes { reads_input asked.mode ≡ false }
     requires few { asked.hands ≤ 10000 }
     ensures { (left : Option (List ℕ)) (faults : ℕ) → IsRun INPUT_MAX (Some asked) result
-        (record { left = left; read_faults = faults; taken = K.taken sink.old; write_faults = K.faults sink.old })
-        (record { left = left; read_faults = faults; taken = K.taken sink.new; write_faults = K.faults sink.new }) }
+        (record {
+          left = left;
+          read_faults = faults;
+          taken = K.taken sink.old;
+          write_faults = K.faults sink.old;
+        })
+        (record {
+          left = left;
+          read_faults = faults;
+          taken = K.taken sink.new;
+          write_faults = K.faults sink.new;
+        }) }
 {
     match write_made(alloc, asked, desk, sink) {
         Ok(rejected) => status_of(Ending::Whole, rejected),
@@ -167,8 +218,10 @@ fn run_made<C: Counter, K: Sink>(
 
 /// Writes the usage line, and answers the status of a run whose words are in no form.
 fn write_usage<K: Sink>(sink: &mut K) -> u8
-    ensures fine { result ≡ 2 → WritesAll (K.taken sink.old) (K.taken sink.new) usage_line × (K.faults sink.new ≡ K.faults sink.old) }
-    ensures fault { result ≡ 4 → Rises (K.faults sink.old) (K.faults sink.new) × WritesFront (K.taken sink.old) (K.taken sink.new) usage_line }
+    ensures fine { result ≡ 2 → WritesAll (K.taken sink.old) (K.taken sink.new) usage_line
+        × (K.faults sink.new ≡ K.faults sink.old) }
+    ensures fault { result ≡ 4 → Rises (K.faults sink.old) (K.faults sink.new)
+        × WritesFront (K.taken sink.old) (K.taken sink.new) usage_line }
     ensures known { (result ≡ 2) ⊎ (result ≡ 4) }
 {
     match write_all(sink, USAGE_LINE) {

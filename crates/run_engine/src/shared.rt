@@ -34,8 +34,10 @@ pub(crate) struct Shared<'a, F> {
 }
 
 impl<'a, F: Fn(&Job, u32) -> Result<Tally, Memory>> Counter for Shared<'a, F> {
-    ghost ready = { ((f : F) (job : _) (w : ℕ) → w < 2 ^ 32 → F.pre f job w) × ((f : F) (job : _) (w : ℕ) (r : _) → w < 2 ^ 32 → F.post f job w r
-        → IfOk r (λ tally. Counts (deal_of job.now.table) (runouts_after (state_of job.now.table.known)) tally)) };
+    ghost ready = { ((f : F) (job : _) (w : ℕ) → w < 2 ^ 32 → F.pre f job w)
+        × ((f : F) (job : _) (w : ℕ) (r : _) → w < 2 ^ 32 → F.post f job w r
+        → IfOk r (λ tally. Counts (deal_of job.now.table)
+        (runouts_after (state_of job.now.table.known)) tally)) };
 
     fn count(&mut self, job: &Job, workers: u32, tally: &mut Tally) -> Result<(), Memory> {
         if workers < 2 || job.blocks() < BLOCKS_MIN {
@@ -64,7 +66,8 @@ pub(crate) fn count_shared<R: Threads + Wait + Sync, G: Gate + Sync>(
     workers: u32,
     gate: &G,
 ) -> Result<Tally, Memory>
-    ensures { IfOk result (λ tally. Counts (deal_of job.now.table) (runouts_after (state_of job.now.table.known)) tally) }
+    ensures { IfOk result (λ tally.
+        Counts (deal_of job.now.table) (runouts_after (state_of job.now.table.known)) tally) }
 {
     let workers = workers.clamp(1, WORKERS_MAX);
     let closed = count_with_workers(rt, alloc, job, workers, gate)?;

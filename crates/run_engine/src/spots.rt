@@ -40,7 +40,8 @@ fn write_card_line<C: Counter>(
     desk: &mut Desk<C>,
 ) -> Result<bool, Memory>
     requires ready { C.ready }
-    ensures block { OnOk result (block.new.items ≡ block.old.items ++ spot_block form numbers.place numbers.line (spot_of line.now)) }
+    ensures block { OnOk result (block.new.items
+        ≡ block.old.items ++ spot_block form numbers.place numbers.line (spot_of line.now)) }
     ensures rejected { IfOk result (λ rejected. rejected ≡ is_err (spot_of line.now)) }
 {
     let known = read_spot(line);
@@ -67,7 +68,8 @@ fn write_line<C: Counter>(
     desk: &mut Desk<C>,
 ) -> Result<bool, Memory>
     requires ready { C.ready }
-    ensures block { OnOk result (block.new.items ≡ block.old.items ++ line_block form holding numbers.place numbers.line line.now) }
+    ensures block { OnOk result (block.new.items
+        ≡ block.old.items ++ line_block form holding numbers.place numbers.line line.now) }
     ensures rejected { IfOk result (λ rejected. rejected ≡ is_rejected_line holding line.now) }
 {
     match holding {
@@ -89,7 +91,8 @@ pub(crate) fn write_spot_line<C: Counter>(
 ) -> Result<Option<bool>, Memory>
     requires ready { C.ready }
     requires empty { block.old.items ≡ [] }
-    ensures { IfOk result (λ told. MakesBlock form (Spots holding) numbers.place (record { first = numbers.line; lines = lines bytes.now }) block.new.items told) }
+    ensures { IfOk result (λ told. MakesBlock form (Spots holding) numbers.place
+        (record { first = numbers.line; lines = lines bytes.now }) block.new.items told) }
 {
     let Some(line) = next_line(bytes, 0) else {
         return Ok(None);

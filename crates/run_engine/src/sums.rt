@@ -80,7 +80,8 @@ fn add_lines<C: Counter, H: HandSums>(
     requires numbers { first + length (lines bytes.now) < 2 ^ 32 }
     requires few { H.count sums.old < 2 ^ 32 }
     ensures { (hands : List HandAudit) → sums.old ≡ H.sums_of hands
-        → OnOk result (sums.new ≡ H.sums_of (hands ++ option_to_list (verdict_of (record { first = first; lines = lines bytes.now })))) }
+        → OnOk result (sums.new ≡ H.sums_of (hands
+        ++ option_to_list (verdict_of (record { first = first; lines = lines bytes.now })))) }
 {
     let audit = audit_hand(alloc, bytes, first)?;
     desk.ask_hand(true, &audit)?;
@@ -98,7 +99,10 @@ pub(crate) fn add_units<C: Counter, S: Source, H: HandSums>(
     requires ready { C.ready }
     requires start { input.old ≡ started HandUnits }
     requires none { sums.old ≡ H.sums_of [] }
-    ensures { SumsUp H.sums_of INPUT_MAX (record { left = S.left source.old; faults = S.faults source.old }) (record { left = S.left source.new; faults = S.faults source.new }) input.new.ending sums.new result }
+    ensures { SumsUp H.sums_of INPUT_MAX
+        (record { left = S.left source.old; faults = S.faults source.old })
+        (record { left = S.left source.new; faults = S.faults source.new })
+        input.new.ending sums.new result }
 {
     'hands: loop {
         let next = match next_unit(source, input) {

@@ -31,8 +31,18 @@ pub(crate) fn write_totals<C: Counter, S: Source, K: Sink>(
     requires mode { asked.mode ≡ TotalsMode }
     requires start { input.old ≡ started Hands }
     ensures { Reports INPUT_MAX asked input.new.ending
-        (record { left = S.left source.old; read_faults = S.faults source.old; taken = K.taken sink.old; write_faults = K.faults sink.old })
-        (record { left = S.left source.new; read_faults = S.faults source.new; taken = K.taken sink.new; write_faults = K.faults sink.new }) result }
+        (record {
+          left = S.left source.old;
+          read_faults = S.faults source.old;
+          taken = K.taken sink.old;
+          write_faults = K.faults sink.old;
+        })
+        (record {
+          left = S.left source.new;
+          read_faults = S.faults source.new;
+          taken = K.taken sink.new;
+          write_faults = K.faults sink.new;
+        }) result }
 {
     let mut totals = Totals::new(alloc);
     match add_units(alloc, source, input, desk, &mut totals) {

@@ -13,9 +13,9 @@ use Rattle.card_sets.specs.Rising.{has_card-low}
 use Rattle.runout_ranges.specs.Runouts.{runouts, left_by, HasMember}
 use Rattle.runout_ranges.specs.Walks.{length-runout}
 use Rattle.runout_ranges.specs.Ways.{Within, Fills, NoneTwice}
-use Rattle.runout_ranges.proofs.Next.{split, split_map, split_blocks, place}
+use Rattle.runout_ranges.proofs.ListPlaces.{split, split_map, split_blocks, place}
 use Rattle.runout_ranges.proofs.NextChoice.{place_choice, choose_within, choose_length, choose_rising, within_tail, within_later}
-use Rattle.runout_ranges.proofs.Numbers.{rising_left}
+use Rattle.runout_ranges.proofs.ListingLength.{rising_left}
 
 -- ---- members of lists that are made of others
 has_left : {X : Type 0} (xs ys : List X) (x : X) → HasMember xs x → HasMember (xs ++ ys) x

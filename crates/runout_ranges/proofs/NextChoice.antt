@@ -7,7 +7,7 @@ use Rattle.card_sets.specs.Choose.{choose}
 use Rattle.card_sets.specs.Rising.{has_card-low, RisingFrom-lower}
 use Rattle.runout_ranges.specs.Runouts.{Begins, Follows, Ends}
 use Rattle.runout_ranges.specs.Ways.{Within}
-use Rattle.runout_ranges.proofs.Next.{split, split_map}
+use Rattle.runout_ranges.proofs.ListPlaces.{split, split_map}
 
 -- a choice of a list has the list's head, or is one of the rest
 pub place_choice : (k c : ℕ) (cs at : List ℕ) (front back : List (List ℕ)) → choose (suc k) (c ∷ cs) ≡ front ++ at ∷ back

@@ -12,7 +12,6 @@ use Rattle.card_sets.specs.declared.games.Side.TheVariants.{High, Low}
 use Rattle.omaha_ranks.specs.Omaha.{ArePlaced}
 use Rattle.rank_high.specs.High.{count_of_rank}
 use Rattle.rank_high.specs.Parts.{of_suit, count_of_suit}
-use Rattle.rank_high.proofs.Sets.{length-union, apart-Apart, Apart-apart, Apart-sym, Apart-union}
 use Rattle.runout_ranges.specs.Runouts.{HasMember}
 use Rattle.runout_ranges.specs.Slots.{slots, unseen, counts_of}
 use Rattle.showdown_tally.specs.Flushes.{IsOnlySuit}
@@ -22,8 +21,8 @@ use Rattle.showdown_tally.specs.Showdown.{Showdown, own_after, board_after, elig
 use Rattle.showdown_tally.specs.SideCounts.{count_place, low_mark}
 use Rattle.showdown_tally.specs.Sides.{side_outcome}
 use Rattle.showdown_tally.specs.Tallies.{runouts_after}
-use Rattle.showdown_tally.proofs.Dealt.{Deals, IsChoice, filtered, runout_deals}
-use Rattle.showdown_tally.proofs.Full.{hand_of, known_sound, Sound, full_board}
+use Rattle.card_sets.proofs.CallerLemmas.{length-union, apart-Apart, Apart-apart, Apart-sym, Apart-union}
+use Rattle.showdown_tally.proofs.CallerLemmas.{Deals, IsChoice, filtered, runout_deals, hand_of, known_sound, Sound, full_board}
 use Rattle.runout_walk.specs.Bests.{best_set, best_value, plain_of, high_of, flush_of}
 use Rattle.runout_walk.specs.Boards.{IsBoardAlone, AreFirst, board_lacks}
 use Rattle.runout_walk.specs.BoardWith.{IsBoardWith, low_number}

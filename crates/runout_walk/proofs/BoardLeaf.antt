@@ -5,21 +5,21 @@ use Rattle.card_sets.specs.Choose.{choose}
 use Rattle.card_sets.specs.Games.{has_board, own_size}
 use Rattle.card_sets.specs.State.{State, state_of}
 use Rattle.runout_ranges.specs.Runouts.{HasMember}
-use Rattle.rank_high.proofs.Sets.{both}
 use Rattle.runout_ranges.specs.Shapes.{slots_of}
 use Rattle.runout_ranges.specs.Slots.{same_receiver, slots}
 use Rattle.runout_ranges.specs.declared.shapes.Receiver.TheVariants.{Board}
 use Rattle.runout_ranges.specs.declared.shapes.Shape.{Shape}
 use Rattle.runout_ranges.specs.declared.shapes.Slot.{Slot}
-use Rattle.runout_ranges.proofs.Steps.{as_many}
 use Rattle.showdown_tally.specs.Tallies.{runouts_after}
 use Rattle.showdown_tally.specs.declared.table.Table.{Table}
-use Rattle.showdown_tally.proofs.Full.{hand_of}
+use Rattle.std.proofs.lemmas.Bool.{and_parts}
+use Rattle.runout_ranges.proofs.CallerLemmas.{as_many}
+use Rattle.showdown_tally.proofs.CallerLemmas.{hand_of}
 use Rattle.runout_walk.specs.Boards.{AreFirst, IsBoardAlone, are_boards, board_lacks}
 use Rattle.runout_walk.specs.Listing.{IsEndOf, last_count, left_after}
 use Rattle.runout_walk.specs.declared.spot.Spot.{Spot}
 use Rattle.runout_walk.proofs.BoardDealt.{IsScene, first_cards, own_of, scene_of}
-use Rattle.runout_walk.proofs.Members.{some_member}
+use Rattle.runout_walk.proofs.ListingMembers.{some_member}
 
 -- no slot stands before the board's
 pub front_none : (st : State) (front : List (List ℕ)) → IsBoardAlone st → suc (length front) ≡ length (slots st) → front ≡ []
@@ -70,6 +70,6 @@ one_slot (slot ∷ next ∷ more) two = absurd (omega arith)
 
 pub boards_slots : (table : Table) (shape : Shape) (st : State) → are_boards table shape ≡ true → slots_of shape ≡ slots st → (0 < length (slots st)) × (2 ≤ last_count (slots st))
 boards_slots table shape st boards same =
-    let two : nat_le 2 (board_lacks (slots_of shape)) ≡ true = (both (has_board table.known.game) (nat_le 2 (board_lacks (slots_of shape))) boards).1 in
+    let two : nat_le 2 (board_lacks (slots_of shape)) ≡ true = (and_parts (has_board table.known.game) (nat_le 2 (board_lacks (slots_of shape))) boards).1 in
     let P : List Slot → Type 0 = λ some. (0 < length some) × (2 ≤ last_count some) in
     subst P same (one_slot (slots_of shape) (grind (arith, two)))

@@ -9,7 +9,6 @@ use Rattle.card_sets.specs.Cards.{cards_where, cards_below, has_card, union, wit
 use Rattle.card_sets.specs.Choose.{choose}
 use Rattle.card_sets.specs.Rising.{IsRising-cards_where, rising_front, with_card-push}
 use Rattle.card_sets.specs.State.{State}
-use Rattle.rank_high.proofs.Sets.{Apart}
 use Rattle.runout_ranges.specs.Runouts.{HasMember, runouts}
 use Rattle.runout_ranges.specs.Slots.{counts_of, slots, unseen, dealt}
 use Rattle.runout_ranges.specs.Ways.{Within}
@@ -17,12 +16,12 @@ use Rattle.runout_ranges.specs.declared.shapes.Receiver.TheVariants.{Board, Hand
 use Rattle.showdown_tally.specs.Laws.{IsFull}
 use Rattle.showdown_tally.specs.Showdown.{own_after, board_after}
 use Rattle.showdown_tally.specs.Tallies.{runouts_after}
-use Rattle.showdown_tally.proofs.Dealt.{Deals, IsChoice, runout_deals}
-use Rattle.showdown_tally.proofs.Full.{hand_of, Sound, unseen_free, any-index, full_own, full_board, full_apart}
+use Rattle.card_sets.proofs.CallerLemmas.{Apart}
+use Rattle.showdown_tally.proofs.CallerLemmas.{Deals, IsChoice, runout_deals, hand_of, Sound, unseen_free, any-index, full_own, full_board, full_apart}
 use Rattle.runout_walk.specs.Boards.{IsBoardAlone, board_lacks}
 use Rattle.runout_walk.specs.Pairs.{cards_of_pair}
 use Rattle.runout_walk.specs.declared.pair.Pair.{Pair}
-use Rattle.runout_walk.proofs.Members.{in_range, length-range, member-map}
+use Rattle.runout_walk.proofs.ListingMembers.{in_range, length-range, member-map}
 
 one-or : (f : ℕ → Bool) (p q : Bool) (n : ℕ) → (p ≡ true → q ≡ true → ⊥) → count_by f (cond (p || q) (n ∷ []) []) ≡ count_by f (cond p (n ∷ []) []) + count_by f (cond q (n ∷ []) [])
 one-or f true true n h = absurd (h refl refl)

@@ -2,7 +2,7 @@
 use Rattle.std.proofs.Common.{◌≡◌, ℕ, suc, ◌+◌, ◌<◌, ◌≤◌, ◌==◌, ◌&&◌, not, Bool, true, false, cond, List, [], ◌∷◌, ◌++◌, length, length-append, map, take, refl, sym, ap, ◌∙◌, arith, subst, inl, inr}
 use Rattle.std.specs.Prelude.{slice_index, nat_le, nat_lt}
 use Rattle.std.specs.List.{count_by, slice_range}
-use Rattle.std.proofs.lemmas.Bool.{cases_eq, cases_lt}
+use Rattle.std.proofs.lemmas.Bool.{cases_eq, cases_lt, and_parts}
 use Rattle.std.proofs.lemmas.List.Sums.{sum_by-cons}
 use mathlib.Core.Bool.{true≢false}
 use Rattle.card_sets.specs.Cards.{union, IsCardSet}
@@ -14,16 +14,14 @@ use Rattle.card_sets.specs.Rising.{IsRising-cards_where}
 use Rattle.card_sets.specs.State.{State}
 use Rattle.card_sets.specs.declared.games.Game.{Game}
 use Rattle.card_sets.specs.declared.games.Game.TheVariants.{Holdem, Omaha, Omaha8, Stud, Stud8, Razz, Draw5, Lowball27, Triple27}
-use Rattle.rank_high.proofs.Sets.{both}
 use Rattle.card_sets.specs.declared.games.Side.{Side}
 use Rattle.card_sets.specs.declared.games.Side.TheVariants.{High, Low}
-use Rattle.runout_ranges.proofs.NextChoice.{choose_length}
 use Rattle.runout_ranges.specs.Runouts.{HasMember}
 use Rattle.runout_ranges.specs.Slots.{counts_of, dealt, slots, unseen}
 use Rattle.runout_ranges.specs.declared.shapes.Receiver.TheVariants.{Hand}
 use Rattle.runout_ranges.specs.declared.shapes.Slot.{Slot}
-use Rattle.showdown_tally.proofs.Dealt.{Deals, runout_deals}
-use Rattle.showdown_tally.proofs.Full.{hand_of, hand_IsFull}
+use Rattle.runout_ranges.proofs.CallerLemmas.{choose_length}
+use Rattle.showdown_tally.proofs.CallerLemmas.{Deals, runout_deals, hand_of, hand_IsFull}
 use Rattle.showdown_tally.specs.Laws.{IsFull}
 use Rattle.showdown_tally.specs.Showdown.{Showdown, has_two_sides, own_after, board_after, eligible_in}
 use Rattle.showdown_tally.specs.SideCounts.{count_place, low_mark}
@@ -34,7 +32,7 @@ use Rattle.runout_walk.specs.Draws.{last_hand, most_draw}
 use Rattle.runout_walk.specs.Listing.{last_count}
 use Rattle.runout_walk.specs.Rivals.{count_both, value_with}
 use Rattle.runout_walk.specs.Worth.{IsDraw, AreNumbers, full_worth, number_of, worth, worth_after}
-use Rattle.runout_walk.proofs.Members.{count_map, count_same, in_range, some_member}
+use Rattle.runout_walk.proofs.ListingMembers.{count_map, count_same, in_range, some_member}
 use Rattle.runout_walk.proofs.DrawLists.{map_same}
 use Rattle.runout_walk.proofs.DrawSlots.{IsLastOf, last_deal, last_of_hands, last_set, no_board_slots, other_set}
 use Rattle.runout_walk.proofs.DrawWinners.{outcome_is, set_same, value_same}
@@ -54,8 +52,8 @@ no_board_size Triple27 e = refl
 
 pub draws_parts : (game : Game) (count : ℕ) → (not (has_board game) && nat_lt 0 count && nat_le count (most_draw game)) ≡ true → (board_size game ≡ 0) × (0 < count) × (count ≤ 3)
 draws_parts game count e =
-    let two = both (not (has_board game) && nat_lt 0 count) (nat_le count (most_draw game)) e in
-    let one = both (not (has_board game)) (nat_lt 0 count) two.0 in
+    let two = and_parts (not (has_board game) && nat_lt 0 count) (nat_le count (most_draw game)) e in
+    let one = and_parts (not (has_board game)) (nat_lt 0 count) two.0 in
     (no_board_size game one.0, some count one.1, few (has_two_sides game) count two.1)
   where
     some : (n : ℕ) → nat_lt 0 n ≡ true → 0 < n
@@ -69,7 +67,7 @@ draws_parts game count e =
 pub few_of_two : (game : Game) (count : ℕ) → (not (has_board game) && nat_lt 0 count && nat_le count (most_draw game)) ≡ true → has_two_sides game ≡ true → count ≤ 2
 few_of_two game count e two =
     let P : Bool → Type 0 = λ b. nat_le count (cond b 2 3) ≡ true in
-    few count (subst P two (both (not (has_board game) && nat_lt 0 count) (nat_le count (most_draw game)) e).1)
+    few count (subst P two (and_parts (not (has_board game) && nat_lt 0 count) (nat_le count (most_draw game)) e).1)
   where
     few : (n : ℕ) → nat_le n 2 ≡ true → n ≤ 2
     few n h = elim (cases_lt 2 n) [ inl l ↦ (let f : nat_le n 2 ≡ false = grind arith in absurd (true≢false (sym h ∙ f))) | inr ge ↦ ge ]

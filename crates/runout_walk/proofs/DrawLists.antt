@@ -10,12 +10,11 @@ use Rattle.card_sets.specs.Choose.{choose}
 use Rattle.card_sets.specs.Disjoint.{apart}
 use Rattle.runout_ranges.specs.Runouts.{HasMember}
 use Rattle.runout_ranges.specs.Ways.{binomial}
-use Rattle.runout_ranges.proofs.Numbers.{length_choose}
-use Rattle.runout_ranges.proofs.NextChoice.{choose_length}
+use Rattle.runout_ranges.proofs.CallerLemmas.{length_choose, choose_length}
 use Rattle.runout_walk.specs.Worth.{number_at, number_of, plane_base}
-use Rattle.runout_walk.proofs.Members.{in_range, length-range}
+use Rattle.runout_walk.proofs.ListingMembers.{in_range, length-range}
 use Rattle.runout_walk.proofs.PairListing.{choose-one, grows, two-first}
-use Rattle.runout_walk.proofs.Ranges.{map-map, range-append, range-empty, range-map}
+use Rattle.runout_walk.proofs.ListingRanges.{map-map, range-append, range-empty, range-map}
 
 -- one card more in a list
 pub put_card : (cards all rest left : List ℕ) (used card : ℕ) → used < length cards → rest ≡ card ∷ left → take used cards ++ rest ≡ all → take (used + 1) (set cards used card) ++ left ≡ all

@@ -11,7 +11,7 @@ use Rattle.runout_ranges.specs.Slots.{slot_of, hand_slots, counts_of, dealt, slo
 use Rattle.runout_ranges.specs.declared.shapes.Receiver.{Receiver}
 use Rattle.runout_ranges.specs.declared.shapes.Receiver.TheVariants.{Board, Hand}
 use Rattle.runout_ranges.specs.declared.shapes.Slot.{Slot}
-use Rattle.showdown_tally.proofs.Dealt.{Deals}
+use Rattle.showdown_tally.proofs.CallerLemmas.{Deals}
 use Rattle.runout_walk.specs.Draws.{hand_at, last_hand}
 use Rattle.runout_walk.specs.Listing.{last_count}
 

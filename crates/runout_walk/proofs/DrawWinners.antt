@@ -19,9 +19,8 @@ use Rattle.card_sets.specs.declared.games.Game.TheVariants.{Holdem, Omaha, Omaha
 use Rattle.card_sets.specs.declared.games.Side.{Side}
 use Rattle.card_sets.specs.declared.games.Side.TheVariants.{High, Low}
 use Rattle.rank_low.specs.Low.{low_a5, low_27, least_of}
-use Rattle.runout_ranges.proofs.Numbers.{length_choose, binomial_some}
-use Rattle.showdown_tally.proofs.KeptOrder.{best-KeepOrder}
-use Rattle.showdown_tally.proofs.PotFacts.{no_side}
+use Rattle.runout_ranges.proofs.CallerLemmas.{length_choose, binomial_some}
+use Rattle.showdown_tally.proofs.CallerLemmas.{best-KeepOrder, no_side}
 use Rattle.showdown_tally.specs.Laws.{IsFull}
 use Rattle.showdown_tally.specs.Numbers.{side_number}
 use Rattle.showdown_tally.specs.Showdown.{has_two_sides, Showdown, best, is_beaten_by, winners, own_after, board_after, value_after, eligible_in}

@@ -9,8 +9,8 @@ use Rattle.card_sets.specs.Games.{has_board}
 use Rattle.card_sets.specs.Rising.{IsCardSet-rising}
 use Rattle.card_sets.specs.declared.games.Game.{Game}
 use Rattle.rank_high.specs.High.{count_of_rank}
-use Rattle.rank_high.proofs.Sets.{Apart, Apart-apart, apart-Apart, has_card-bound}
-use Rattle.rank_high.proofs.SetParts.{has_union, count-union, union-IsCardSet}
+use Rattle.card_sets.proofs.CallerLemmas.{Apart, Apart-apart, apart-Apart, has_card-bound, has_union, union-IsCardSet}
+use Rattle.rank_high.proofs.CallerLemmas.{count-union}
 use Rattle.omaha_ranks.specs.Omaha.{ArePlaced}
 use Rattle.runout_walk.specs.BoardWith.{IsBoardWith, HasNoBoard, AreWorthWith, low_number}
 use Rattle.runout_walk.specs.HighParts.{plain_number}

@@ -8,7 +8,7 @@ use Rattle.card_sets.specs.declared.games.Game.{Game}
 use Rattle.card_sets.specs.declared.games.Game.TheVariants.{Holdem, Omaha, Omaha8, Stud, Stud8, Razz, Draw5, Lowball27, Triple27}
 use Rattle.rank_high.specs.High.{value_of, best_high}
 use Rattle.rank_high.specs.Parts.{best_plain, suited}
-use Rattle.rank_high.proofs.Sets.{Apart-apart, length-union}
+use Rattle.card_sets.proofs.CallerLemmas.{Apart-apart, length-union}
 use Rattle.omaha_ranks.specs.Omaha.{ArePlaced}
 use Rattle.runout_walk.specs.HighParts.{high_number, plain_number, suited_number, flush_part}
 use Rattle.runout_walk.proofs.HighLaws.{is_omaha, holdem_high, holdem_plain, holdem_suited}

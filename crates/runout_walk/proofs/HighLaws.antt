@@ -11,15 +11,10 @@ use Rattle.card_sets.specs.declared.games.Game.TheVariants.{Holdem, Omaha, Omaha
 use Rattle.card_sets.specs.declared.games.Side.TheVariants.{High, Low}
 use Rattle.rank_high.specs.High.{value_of, best_high}
 use Rattle.rank_high.specs.Parts.{of_suit, count_of_suit, best_plain, suited}
-use Rattle.rank_high.proofs.Best.{greatest, choose-short}
-use Rattle.rank_high.proofs.Parts.{best_high-IsByRanksOrSuit, suited-short, best_high-number, number}
-use Rattle.rank_high.proofs.RankLists.{ranks_decide as seven_decide}
-use Rattle.rank_high.proofs.SetParts.{count-union, union-IsCardSet}
-use Rattle.rank_high.proofs.Sets.{Apart-apart}
 use Rattle.omaha_ranks.specs.Omaha.{ArePlaced, SameRanks, omaha_high, omaha_plain, omaha_suited}
-use Rattle.omaha_ranks.proofs.Bests.{few_own, few_board}
-use Rattle.omaha_ranks.proofs.LowRanks.{low_ranks_decide}
-use Rattle.omaha_ranks.proofs.TwoParts.{ranks_or_a_suit, ranks_decide}
+use Rattle.card_sets.proofs.CallerLemmas.{greatest, choose-short, union-IsCardSet, Apart-apart}
+use Rattle.rank_high.proofs.CallerLemmas.{best_high-IsByRanksOrSuit, suited-short, best_high-number, number, ranks_decide as seven_decide, count-union}
+use Rattle.omaha_ranks.proofs.CallerLemmas.{few_own, few_board, low_ranks_decide, ranks_or_a_suit, ranks_decide}
 use Rattle.rank_low.specs.Low.{ace_number}
 use Rattle.showdown_tally.specs.Flushes.{IsOnlySuit}
 use Rattle.showdown_tally.specs.Numbers.{side_number, turned}

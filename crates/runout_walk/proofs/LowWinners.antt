@@ -15,9 +15,8 @@ use Rattle.card_sets.specs.declared.games.Game.TheVariants.{Holdem, Omaha, Omaha
 use Rattle.card_sets.specs.declared.games.Side.{Side}
 use Rattle.card_sets.specs.declared.games.Side.TheVariants.{High, Low}
 use Rattle.rank_low.specs.Low.{ace_number}
-use Rattle.rank_low.proofs.Turned.{ace_number-lt}
-use Rattle.showdown_tally.proofs.KeptOrder.{best-KeepOrder, is-eight}
-use Rattle.showdown_tally.proofs.SetMasks.{mask_below}
+use Rattle.rank_low.proofs.CallerLemmas.{ace_number-lt}
+use Rattle.showdown_tally.proofs.CallerLemmas.{best-KeepOrder, is-eight, mask_below}
 use Rattle.showdown_tally.specs.Laws.{IsFull}
 use Rattle.showdown_tally.specs.Numbers.{side_number, turned}
 use Rattle.showdown_tally.specs.Showdown.{has_two_sides, Showdown, best, is_beaten_by, winners, own_after, board_after, value_after, eligible_in}

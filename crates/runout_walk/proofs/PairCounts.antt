@@ -24,7 +24,7 @@ use Rattle.runout_walk.specs.declared.pair.Pair.{Pair}
 use Rattle.runout_walk.specs.declared.row.Row.{Row}
 use Rattle.runout_walk.proofs.BestHands.{Keeps}
 use Rattle.runout_walk.proofs.BoardDealt.{IsScene, plain_main, row_there}
-use Rattle.runout_walk.proofs.Members.{count_map}
+use Rattle.runout_walk.proofs.ListingMembers.{count_map}
 
 -- how many of one pass
 pub count_one : {X : Type 0} (test : X → Bool) (x : X) → count_by test (x ∷ []) ≡ cond (test x) 1 0

@@ -6,10 +6,10 @@ use Rattle.std.specs.List.{slice_range}
 use Rattle.std.proofs.lemmas.List.{length-map, map-append, take_more_set}
 use Rattle.card_sets.specs.Choose.{choose}
 use Rattle.runout_ranges.specs.Ways.{binomial}
-use Rattle.runout_ranges.proofs.Numbers.{length_choose}
+use Rattle.runout_ranges.proofs.CallerLemmas.{length_choose}
 use Rattle.runout_walk.specs.Pairs.{cards_of_pair}
 use Rattle.runout_walk.specs.declared.pair.Pair.{Pair}
-use Rattle.runout_walk.proofs.Ranges.{map-map, range-map, range-none}
+use Rattle.runout_walk.proofs.ListingRanges.{map-map, range-map, range-none}
 
 -- one pair more
 pub put_one : (pairs : List Pair) (used low high : ℕ) (rest left : List ℕ) (pair : Pair) (all : List (List ℕ)) → used < length pairs → cards_of_pair pair ≡ low ∷ high ∷ [] → rest ≡ high ∷ left

@@ -15,7 +15,7 @@ use Rattle.card_sets.specs.declared.games.Side.{Side}
 use Rattle.card_sets.specs.declared.games.Side.TheVariants.{High, Low}
 use Rattle.runout_ranges.specs.Runouts.{HasMember}
 use Rattle.runout_ranges.specs.Ways.{binomial}
-use Rattle.runout_ranges.proofs.Numbers.{length_choose}
+use Rattle.runout_ranges.proofs.CallerLemmas.{length_choose}
 use Rattle.showdown_tally.specs.Deals.{deal_of}
 use Rattle.showdown_tally.specs.Showdown.{eligible_in}
 use Rattle.showdown_tally.specs.SideCounts.{count_place}
@@ -27,7 +27,7 @@ use Rattle.runout_walk.specs.declared.row.Row.{Row}
 use Rattle.runout_walk.specs.declared.spot.Spot.{Spot}
 use Rattle.runout_walk.proofs.BestHands.{Keeps}
 use Rattle.runout_walk.proofs.BoardDealt.{IsScene, plain_main, row_there, scene_of, unflagged}
-use Rattle.runout_walk.proofs.Members.{count_map, count_same}
+use Rattle.runout_walk.proofs.ListingMembers.{count_map, count_same}
 use Rattle.runout_walk.proofs.PairListing.{two-first, two-first-length}
 use Rattle.runout_walk.proofs.RankCounts.{few_of_rank}
 

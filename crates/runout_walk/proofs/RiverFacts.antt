@@ -1,7 +1,7 @@
 -- Boards that lack one card.
 use Rattle.std.proofs.Common.{◌≡◌, ℕ, suc, ◌+◌, ◌<◌, ◌≤◌, ◌==◌, List, [], ◌∷◌, ◌++◌, length, refl, sym, ap, ◌∙◌, cond, arith, subst, Bool, true, Option, Some, None, set, inl, inr, get_or-set_same, get_or-set_other}
 use Rattle.std.specs.Prelude.{slice_get, slice_index}
-use Rattle.std.proofs.lemmas.Bool.{cases_eq, cases_lt}
+use Rattle.std.proofs.lemmas.Bool.{cases_eq, cases_lt, and_parts}
 use Rattle.std.specs.List.{count_by}
 use Rattle.card_sets.specs.Cards.{rank_of, suit_of, union}
 use Rattle.card_sets.specs.Choose.{choose}
@@ -13,7 +13,6 @@ use Rattle.card_sets.specs.declared.games.Side.TheVariants.{High}
 use Rattle.omaha_ranks.specs.Omaha.{ArePlaced, SameRanks}
 use Rattle.rank_high.specs.Parts.{count_of_suit}
 use Rattle.runout_ranges.specs.Runouts.{HasMember}
-use Rattle.rank_high.proofs.Sets.{both}
 use Rattle.runout_ranges.specs.Shapes.{slots_of}
 use Rattle.runout_ranges.specs.Slots.{slots, unseen}
 use Rattle.runout_ranges.specs.declared.shapes.Shape.{Shape}
@@ -22,8 +21,7 @@ use Rattle.showdown_tally.specs.Showdown.{Showdown, own_after, board_after, elig
 use Rattle.showdown_tally.specs.Sides.{side_outcome}
 use Rattle.showdown_tally.specs.Tallies.{runouts_after}
 use Rattle.showdown_tally.specs.declared.table.Table.{Table}
-use Rattle.showdown_tally.proofs.Dealt.{IsChoice}
-use Rattle.showdown_tally.proofs.Full.{hand_of}
+use Rattle.showdown_tally.proofs.CallerLemmas.{IsChoice, hand_of}
 use Rattle.runout_walk.specs.Bests.{best_set, high_of, plain_of}
 use Rattle.runout_walk.specs.Boards.{board_lacks}
 use Rattle.runout_walk.specs.BoardWith.{low_number}
@@ -40,15 +38,15 @@ use Rattle.runout_walk.proofs.BoardLeaf.{front_none}
 use Rattle.runout_walk.proofs.BoardRunouts.{board_alone, board_apart, count-union, own_alone, set_of_member}
 use Rattle.runout_walk.proofs.HighLaws.{high_of_few, same_low, same_plain}
 use Rattle.runout_walk.proofs.PairCounts.{count_one}
-use Rattle.runout_walk.proofs.Singles.{only_member}
+use Rattle.runout_walk.proofs.NoCardLeaf.{only_member}
 
 -- how many cards of the board pass a test with a last card
 card-count : (f : ℕ → Bool) (st : State) (card : ℕ) → IsScene st (card ∷ []) → count_by f (board_after st ((card ∷ []) ∷ [])) ≡ count_by f st.board + cond (f card) 1 0
 card-count f st card s =
     let choice : IsChoice (board_lacks (slots st)) 0 (unseen st) (card ∷ []) = set_of_member st (card ∷ []) s.alone s.member in
-    let both : count_by f (union st.board (card ∷ [])) ≡ count_by f st.board + count_by f (card ∷ []) = count-union f st.board (card ∷ []) s.board (rising-IsCardSet (card ∷ []) choice.1) (board_apart st (card ∷ []) choice.2) in
+    let and_parts : count_by f (union st.board (card ∷ [])) ≡ count_by f st.board + count_by f (card ∷ []) = count-union f st.board (card ∷ []) s.board (rising-IsCardSet (card ∷ []) choice.1) (board_apart st (card ∷ []) choice.2) in
     let there : count_by f (board_after st ((card ∷ []) ∷ [])) ≡ count_by f (union st.board (card ∷ [])) = ap (count_by f) (board_alone st (card ∷ []) s.alone) in
-    omega (arith, both, there, count_one f card)
+    omega (arith, and_parts, there, count_one f card)
 
 -- a card that may come last is in the deck
 pub in_deck : (st : State) (card : ℕ) → IsScene st (card ∷ []) → card < 52
@@ -147,7 +145,7 @@ river_of spot table front taken rest left same one last none_left all =
 -- the board of such a table lacks one card
 pub lacks_one : (table : Table) (shape : Shape) (st : State) → are_rivers table shape ≡ true → slots_of shape ≡ slots st → board_lacks (slots st) ≡ 1
 lacks_one table shape st rivers same =
-    let one : (board_lacks (slots_of shape) == 1) ≡ true = (both (has_board table.known.game) (board_lacks (slots_of shape) == 1) rivers).1 in
+    let one : (board_lacks (slots_of shape) == 1) ≡ true = (and_parts (has_board table.known.game) (board_lacks (slots_of shape) == 1) rivers).1 in
     let is : board_lacks (slots_of shape) ≡ 1 = grind (arith, one) in
     ap board_lacks (sym same) ∙ is
 

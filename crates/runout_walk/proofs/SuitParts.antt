@@ -7,9 +7,9 @@ use Rattle.card_sets.specs.Cards.{IsCardSet, has_card, suit_of, union, cards_whe
 use Rattle.card_sets.specs.Bits.{cards_where_same, has-cards_where}
 use Rattle.card_sets.specs.SuitBits.{filter-where}
 use Rattle.rank_high.specs.Parts.{of_suit, count_of_suit}
-use Rattle.rank_high.proofs.Sets.{Apart-apart, length-union}
 use Rattle.omaha_ranks.specs.Omaha.{ArePlaced}
-use Rattle.omaha_ranks.proofs.Bests.{placed-passing}
+use Rattle.card_sets.proofs.CallerLemmas.{Apart-apart, length-union}
+use Rattle.omaha_ranks.proofs.CallerLemmas.{placed-passing}
 
 -- so many cards of a suit as pass its test
 pub suit_count : (cards : List ℕ) (suit : ℕ) → length (of_suit cards suit) ≡ count_of_suit cards suit

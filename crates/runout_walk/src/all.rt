@@ -28,15 +28,25 @@ pub fn count_runouts_of<F: Leaf, L: Ledger>(
     hi: u64,
     steps: &mut Steps<L>,
 )
+    // The shape is that of the leaf's deal. It has a slot, and the last one lacks no fewer cards than the leaf deals.
     requires shape { IsShapeOf (F.deal leaf.old).state shape.now }
     requires some { 0 < length (slots (F.deal leaf.old).state) }
     requires deep { F.depth (F.deal leaf.old) ≤ last_count (slots (F.deal leaf.old).state) }
+
+    // Both places lie in the listing, whose length fits 64 bits.
     requires order { lo ≤ hi }
     requires inside { hi ≤ length (runouts_after (F.deal leaf.old).state) }
     requires fits64 { length (runouts_after (F.deal leaf.old).state) < 2 ^ 64 }
+
+    // Each pot has its two rows, and each of their counts has room for all of the runouts.
     requires places { 2 * length (F.deal leaf.old).pots ≤ length counts.old }
     requires fits { CountsFit (F.deal leaf.old) counts.old (hi - lo) }
-    ensures counts { CountsGrow (F.deal leaf.old) (slice_range (runouts_after (F.deal leaf.old).state) lo hi) counts.old counts.new }
+
+    // The runouts between the places are counted, and no others.
+    ensures counts { CountsGrow (F.deal leaf.old)
+        (slice_range (runouts_after (F.deal leaf.old).state) lo hi) counts.old counts.new }
+
+    // Sizes and deal stay, and the steps are as many as the runouts, whatever the leaf looks at.
     ensures places { length counts.new ≡ length counts.old }
     ensures steps { steps.new ≡ steps.old + (hi - lo) }
     ensures deal { F.deal leaf.new ≡ F.deal leaf.old }

@@ -76,7 +76,8 @@ pub(crate) fn ten_places(table: &Table)
 #[inline]
 pub(crate) fn are_hands(table: &Table, pot: u8)
     requires { pot < table.now.pots }
-    ensures { AreBelow (length (state_of table.now.known).hands) (eligible_in (deal_of table.now) pot) }
+    ensures { AreBelow (length (state_of table.now.known).hands)
+        (eligible_in (deal_of table.now) pot) }
 {
     ten_places(table);
 }
@@ -84,7 +85,8 @@ pub(crate) fn are_hands(table: &Table, pot: u8)
 /// The same of each pot.
 #[inline]
 pub(crate) fn all_are_hands(table: &Table)
-    ensures { (pot : ℕ) → pot < table.now.pots → AreBelow (length (state_of table.now.known).hands) (eligible_in (deal_of table.now) pot) }
+    ensures { (pot : ℕ) → pot < table.now.pots
+        → AreBelow (length (state_of table.now.known).hands) (eligible_in (deal_of table.now) pot) }
 {
     ten_places(table);
 }
@@ -92,8 +94,11 @@ pub(crate) fn all_are_hands(table: &Table)
 /// The best of the hands that are eligible in a pot, by numbers of the hands.
 pub(crate) fn pot_best(table: &Table, pot: u8, values: &[u32; 10]) -> Best
     requires { pot < table.now.pots }
-    ensures best { (value : ℕ → ℕ) → ((h : ℕ) → h < length (state_of table.now.known).hands → slice_index values.now h ≡ value h)
-        → (result.top ≡ best_value value (eligible_in (deal_of table.now) pot)) × (result.set ≡ best_set value (eligible_in (deal_of table.now) pot)) }
+    ensures best { (value : ℕ → ℕ)
+        → ((h : ℕ) → h < length (state_of table.now.known).hands
+        → slice_index values.now h ≡ value h)
+        → (result.top ≡ best_value value (eligible_in (deal_of table.now) pot))
+        × (result.set ≡ best_set value (eligible_in (deal_of table.now) pot)) }
     ensures small { result.set < 1024 }
 {
     ten_places(table);

@@ -36,14 +36,24 @@ fn count_suited(
     part: &Suited,
     counts: &mut [[u32; 2048]],
 )
+    // Each pot has a row for the first cards.
     requires rows { AreRowsOf (deal_of spot.now.table) taken rows.now }
     requires pots { length rows.now ≡ spot.now.table.pots }
-    requires member { HasMember (runouts_after (state_of spot.now.table.known)) ((taken ++ cards_of_pair pair.now) ∷ []) }
-    requires part { IsFlushPart (state_of spot.now.table.known) ((taken ++ cards_of_pair pair.now) ∷ []) part.now.board part.now.cards part.now.suit }
+
+    // With the pair they are a runout, after which a hand is worth its ranks or its flush with the part's cards.
+    requires member { HasMember (runouts_after (state_of spot.now.table.known))
+        ((taken ++ cards_of_pair pair.now) ∷ []) }
+    requires part { IsFlushPart (state_of spot.now.table.known)
+        ((taken ++ cards_of_pair pair.now) ∷ []) part.now.board part.now.cards part.now.suit }
+
+    // What is kept of flushes is right where it bears the deal's number, and each count has room for one more.
     requires flushes { AreFlushes (deal_of spot.now.table) flushes.old }
     requires counts { 2 * spot.now.table.pots ≤ length counts.old }
     requires fits { CountsFit (deal_of spot.now.table) counts.old 1 }
-    ensures counts { PairsGrow (deal_of spot.now.table) taken (pair.now ∷ []) counts.old counts.new }
+
+    // The runout is counted for each pot, and what is kept stays right.
+    ensures counts { PairsGrow (deal_of spot.now.table) taken
+        (pair.now ∷ []) counts.old counts.new }
     ensures same { length counts.new ≡ length counts.old }
     ensures flushes { AreFlushes (deal_of spot.now.table) flushes.new }
 {
@@ -67,20 +77,33 @@ fn count_pair(
     waits: &mut [u32],
     counts: &mut [[u32; 2048]],
 )
+    // Where the front's table of suits names none, no two cards of these suits make anybody a flush.
     requires suits { AreFivesWith spot.now.most front.now.taken front.now.suits }
     requires places { length front.now.suits ≡ 16 }
+
+    // Each pot has a row for the first cards, and with the pair these are a runout.
     requires rows { AreRowsOf (deal_of spot.now.table) front.now.taken rows.now }
     requires pots { length rows.now ≡ spot.now.table.pots }
-    requires member { HasMember (runouts_after (state_of spot.now.table.known)) ((front.now.taken ++ cards_of_pair pair.now) ∷ []) }
+    requires member { HasMember (runouts_after (state_of spot.now.table.known))
+        ((front.now.taken ++ cards_of_pair pair.now) ∷ []) }
+
+    // What is kept of flushes is right where it bears the deal's number.
     requires flushes { AreFlushes (deal_of spot.now.table) flushes.old }
+
+    // A deck has fewer pairs than may wait at a place; each count has room for those that it will get, and for one more.
     requires waits { length waits.old ≡ 169 }
     requires few { (place : ℕ) → slice_index waits.old place < 2000 }
     requires counts { 2 * spot.now.table.pots ≤ length counts.old }
     requires fits { AllFit (deal_of spot.now.table) rows.now waits.old counts.old 1 }
-    ensures counts { PairsWait (deal_of spot.now.table) front.now.taken rows.now (pair.now ∷ []) waits.old waits.new counts.old counts.new }
+
+    // The pair is counted, or waits where the rows say who wins; a place gets one more at the most.
+    ensures counts { PairsWait (deal_of spot.now.table) front.now.taken rows.now
+        (pair.now ∷ []) waits.old waits.new counts.old counts.new }
     ensures same { length counts.new ≡ length counts.old }
     ensures waits { length waits.new ≡ 169 }
     ensures few { (place : ℕ) → slice_index waits.new place ≤ slice_index waits.old place + 1 }
+
+    // What is kept stays right.
     ensures flushes { AreFlushes (deal_of spot.now.table) flushes.new }
 {
     law_values_keep_order();
@@ -103,16 +126,28 @@ fn count_pairs<L: Ledger>(
     counts: &mut [[u32; 2048]],
     steps: &mut Steps<L>,
 )
+    // Where the front's table of suits names none, no two cards of these suits make anybody a flush.
     requires suits { AreFivesWith spot.now.most front.now.taken front.now.suits }
     requires places { length front.now.suits ≡ 16 }
+
+    // Each pot has a row for the first cards, and with each pair these are a runout.
     requires rows { AreRowsOf (deal_of spot.now.table) front.now.taken rows.now }
     requires pots { length rows.now ≡ spot.now.table.pots }
-    requires pairs { (pair : Pair) → HasMember pairs.now pair → HasMember (runouts_after (state_of spot.now.table.known)) ((front.now.taken ++ cards_of_pair pair) ∷ []) }
+    requires pairs { (pair : Pair) → HasMember pairs.now pair
+        → HasMember (runouts_after (state_of spot.now.table.known))
+        ((front.now.taken ++ cards_of_pair pair) ∷ []) }
+
+    // A deck has fewer pairs than 2,000.
     requires few { length pairs.now < 2000 }
+
+    // What is kept of flushes is right where it bears the deal's number, and each count has room for all pairs.
     requires flushes { AreFlushes (deal_of spot.now.table) flushes.old }
     requires counts { 2 * spot.now.table.pots ≤ length counts.old }
     requires fits { CountsFit (deal_of spot.now.table) counts.old (length pairs.now) }
-    ensures counts { PairsGrow (deal_of spot.now.table) front.now.taken pairs.now counts.old counts.new }
+
+    // Each pair is counted for each pot, and what is kept stays right.
+    ensures counts { PairsGrow
+        (deal_of spot.now.table) front.now.taken pairs.now counts.old counts.new }
     ensures same { length counts.new ≡ length counts.old }
     ensures flushes { AreFlushes (deal_of spot.now.table) flushes.new }
     ensures steps { steps.new ≡ steps.old + length pairs.now }
@@ -128,13 +163,22 @@ fn count_pairs<L: Ledger>(
 /// Where a runout is counted for the only pot of a game with one side, with a pair as the last two cards.
 #[inline]
 fn one_place(spot: &Spot, flushes: &mut Flushes, front: &Front, row: &Row, pair: &Pair) -> u16
+    // Where the front's table of suits names none, no two cards of these suits make anybody a flush.
     requires suits { AreFivesWith spot.now.most front.now.taken front.now.suits }
     requires places { length front.now.suits ≡ 16 }
+
+    // The first pot has a row for the first cards, and with the pair these are a runout.
     requires row { IsRowFor (deal_of spot.now.table) 0 front.now.taken row.now }
     requires pot { 0 < spot.now.table.pots }
-    requires member { HasMember (runouts_after (state_of spot.now.table.known)) ((front.now.taken ++ cards_of_pair pair.now) ∷ []) }
+    requires member { HasMember (runouts_after (state_of spot.now.table.known))
+        ((front.now.taken ++ cards_of_pair pair.now) ∷ []) }
+
+    // What is kept of flushes is right where it bears the deal's number.
     requires flushes { AreFlushes (deal_of spot.now.table) flushes.old }
-    ensures value { result ≡ pair_place (deal_of spot.now.table) front.now.taken 0 Side.High pair.now }
+
+    // It is the set that wins the high, as a place of the pot's row, and what is kept stays right.
+    ensures value { result
+        ≡ pair_place (deal_of spot.now.table) front.now.taken 0 Side.High pair.now }
     ensures small { result < 2048 }
     ensures flushes { AreFlushes (deal_of spot.now.table) flushes.new }
 {
@@ -157,15 +201,28 @@ fn count_one_pot<L: Ledger>(
     cells: &mut [u32],
     steps: &mut Steps<L>,
 )
+    // Where the front's table of suits names none, no two cards of these suits make anybody a flush.
     requires suits { AreFivesWith spot.now.most front.now.taken front.now.suits }
     requires places { length front.now.suits ≡ 16 }
+
+    // The first pot has a row for the first cards, and with each pair these are a runout.
     requires row { IsRowFor (deal_of spot.now.table) 0 front.now.taken row.now }
     requires pot { 0 < spot.now.table.pots }
-    requires pairs { (pair : Pair) → HasMember pairs.now pair → HasMember (runouts_after (state_of spot.now.table.known)) ((front.now.taken ++ cards_of_pair pair) ∷ []) }
+    requires pairs { (pair : Pair) → HasMember pairs.now pair
+        → HasMember (runouts_after (state_of spot.now.table.known))
+        ((front.now.taken ++ cards_of_pair pair) ∷ []) }
+
+    // What is kept of flushes is right where it bears the deal's number.
     requires flushes { AreFlushes (deal_of spot.now.table) flushes.old }
+
+    // These are the counts of the high, each with room for all pairs.
     requires cells { length cells.old ≡ 2048 }
-    requires fits { (place : ℕ) → place < 2048 → slice_index cells.old place + length pairs.now < 2 ^ 32 }
-    ensures cells { CellsGrow (deal_of spot.now.table) front.now.taken 0 Side.High pairs.now cells.old cells.new }
+    requires fits { (place : ℕ) → place < 2048
+        → slice_index cells.old place + length pairs.now < 2 ^ 32 }
+
+    // Each pair is counted where the set that wins with it stands, and what is kept stays right.
+    ensures cells { CellsGrow
+        (deal_of spot.now.table) front.now.taken 0 Side.High pairs.now cells.old cells.new }
     ensures same { length cells.new ≡ 2048 }
     ensures flushes { AreFlushes (deal_of spot.now.table) flushes.new }
     ensures steps { steps.new ≡ steps.old + length pairs.now }
@@ -188,16 +245,28 @@ pub(crate) fn count_front<L: Ledger>(
     counts: &mut [[u32; 2048]],
     steps: &mut Steps<L>,
 )
+    // Where the front's table of suits names none, no two cards of these suits make anybody a flush.
     requires suits { AreFivesWith spot.now.most front.now.taken front.now.suits }
     requires places { length front.now.suits ≡ 16 }
+
+    // Each pot has a row for the first cards, and with each pair these are a runout.
     requires rows { AreRowsOf (deal_of spot.now.table) front.now.taken rows.now }
     requires pots { length rows.now ≡ spot.now.table.pots }
-    requires pairs { (pair : Pair) → HasMember pairs.now pair → HasMember (runouts_after (state_of spot.now.table.known)) ((front.now.taken ++ cards_of_pair pair) ∷ []) }
+    requires pairs { (pair : Pair) → HasMember pairs.now pair
+        → HasMember (runouts_after (state_of spot.now.table.known))
+        ((front.now.taken ++ cards_of_pair pair) ∷ []) }
+
+    // What is kept of flushes is right where it bears the deal's number.
     requires flushes { AreFlushes (deal_of spot.now.table) flushes.old }
+
+    // A deck has fewer pairs than 2,000, and each count has room for all of these.
     requires few { length pairs.now < 2000 }
     requires counts { 2 * spot.now.table.pots ≤ length counts.old }
     requires fits { CountsFit (deal_of spot.now.table) counts.old (length pairs.now) }
-    ensures counts { PairsGrow (deal_of spot.now.table) front.now.taken pairs.now counts.old counts.new }
+
+    // Each pair is counted for each pot, and what is kept stays right.
+    ensures counts { PairsGrow
+        (deal_of spot.now.table) front.now.taken pairs.now counts.old counts.new }
     ensures same { length counts.new ≡ length counts.old }
     ensures flushes { AreFlushes (deal_of spot.now.table) flushes.new }
     ensures steps { steps.new ≡ steps.old + length pairs.now }

@@ -72,7 +72,8 @@ pub fn clear_counts(counts: &mut [[u32; 2048]], table: &Table)
 fn add_at(row: &mut [u32], place: u16)
     requires inside { place < length row.old }
     requires fits { slice_index row.old place + 1 < 2 ^ 32 }
-    ensures counts { (at : ℕ) → slice_index row.new at ≡ slice_index row.old at + (if place == at then 1 else 0) }
+    ensures counts { (at : ℕ)
+        → slice_index row.new at ≡ slice_index row.old at + (if place == at then 1 else 0) }
     ensures places { length row.new ≡ length row.old }
 {
     row[usize::from(place)] += 1;
@@ -106,10 +107,16 @@ fn low_mark(low: u16) -> u16
 /// high at the place of its set, 1024 further where somebody has a low, and for the low at that of its set.
 #[inline]
 pub(crate) fn add_one(counts: &mut [[u32; 2048]], game: Game, pot: u8, high: u16, low: u16)
+    // The pot has its two rows, and the sets are of up to ten hands.
     requires inside { 2 * pot + 1 < length counts.old }
     requires high { high < 1024 }
     requires low { low < 1024 }
-    requires fits { (side : Side) → has_side side game ≡ true → count_at counts.old pot side (set_place side high low) + 1 < 2 ^ 32 }
+
+    // On each side that the game has there is room for one more.
+    requires fits { (side : Side) → has_side side game ≡ true
+        → count_at counts.old pot side (set_place side high low) + 1 < 2 ^ 32 }
+
+    // On each side that the game has one count is greater by one, and nothing else changes.
     ensures counts { AddsOne game pot high low counts.old counts.new }
     ensures places { length counts.new ≡ length counts.old }
 {

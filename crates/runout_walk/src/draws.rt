@@ -122,11 +122,14 @@ pub struct Draws {
     /// These are few.
     ghost few: { numbers.count ≤ 3 },
     /// The numbers are those of that hand.
-    ghost right: { AreNumbers numbers.count (only_side table.known.game) table.known.game (slice_index_or (state_of table.known).hands last []) numbers.rows numbers.planes },
+    ghost right: { AreNumbers numbers.count (only_side table.known.game) table.known.game
+        (slice_index_or (state_of table.known).hands last []) numbers.rows numbers.planes },
     /// There are as many lows,
     ghost low_deep: { has_two_sides table.known.game ≡ true → lows.count ≡ numbers.count },
     /// and they are those of that hand.
-    ghost low_right: { has_two_sides table.known.game ≡ true → (planes : List (List ℕ)) → AreNumbers lows.count Low table.known.game (slice_index_or (state_of table.known).hands last []) lows.rows planes },
+    ghost low_right: { has_two_sides table.known.game ≡ true → (planes : List (List ℕ))
+        → AreNumbers lows.count Low table.known.game
+        (slice_index_or (state_of table.known).hands last []) lows.rows planes },
     /// These are fewer.
     ghost low_few: { has_two_sides table.known.game ≡ true → numbers.count ≤ 2 },
 }
@@ -209,9 +212,15 @@ fn set_for(own: CardSet, size: u32, sets: &[CardSet], place: usize) -> CardSet
 fn numbers_with(side: Side, known: &Known, sets: &[CardSet]) -> [u32; 10]
     requires { board_size known.now.game ≡ 0 }
     ensures numbers { (h : ℕ) → h < length (state_of known.now).hands
-        → length (union (slice_index_or (state_of known.now).hands h []) (dealt (slots (state_of known.now)) sets.now (Hand h))) ≡ own_size known.now.game
-        → slice_index result h ≡ full_worth side known.now.game (union (slice_index_or (state_of known.now).hands h []) (dealt (slots (state_of known.now)) sets.now (Hand h))) }
-    ensures cards { (h : ℕ) → h < length (state_of known.now).hands → IsCardSet (slice_index_or (state_of known.now).hands h []) }
+        → length
+        (union (slice_index_or (state_of known.now).hands h [])
+        (dealt (slots (state_of known.now)) sets.now (Hand h))) ≡ own_size known.now.game
+        → slice_index result h
+        ≡ full_worth side known.now.game
+        (union (slice_index_or (state_of known.now).hands h [])
+        (dealt (slots (state_of known.now)) sets.now (Hand h))) }
+    ensures cards { (h : ℕ) → h < length (state_of known.now).hands
+        → IsCardSet (slice_index_or (state_of known.now).hands h []) }
     ensures board { IsCardSet (state_of known.now).board }
 {
     let mut numbers = [0; 10];

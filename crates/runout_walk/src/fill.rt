@@ -24,7 +24,8 @@ fn is_met(least: u8, low: u8, high: u8) -> bool
 /// Names what the rows from a base on are to be for: first cards of these ranks, and each pot in turn.
 fn name_rows(rows: &mut [Row], base: usize, pots: u8, ranks: [u8; 3], least: u8)
     requires room { base + pots ≤ length rows.old }
-    ensures names { (pot : ℕ) (row : Row) → pot < pots → slice_get rows.new (base + pot) ≡ Some row → IsNamed row pot ranks least }
+    ensures names { (pot : ℕ) (row : Row) → pot < pots → slice_get rows.new (base + pot) ≡ Some row
+        → IsNamed row pot ranks least }
     ensures away { (i : ℕ) → IsAway base pots i → slice_get rows.new i ≡ slice_get rows.old i }
     ensures places { length rows.new ≡ length rows.old }
 {
@@ -36,12 +37,21 @@ fn name_rows(rows: &mut [Row], base: usize, pots: u8, ranks: [u8; 3], least: u8)
 
 /// Puts who wins each pot at a place of its row, by what the hands are worth there. The rows stand from a base on.
 fn put_ends(rows: &mut [Row], base: usize, table: &Table, place: usize, worths: &Worths)
+    // From the base on there is a row for each pot, with a place for each two ranks.
     requires room { base + table.now.pots ≤ length rows.old }
     requires place { place < 169 }
-    ensures here { (pot : ℕ) (row : Row) (runout : List (List ℕ)) → pot < table.now.pots → slice_get rows.new (base + pot) ≡ Some row → AreWorthsAfter (state_of table.now.known) runout worths.now
+
+    // There each pot's row says who is best after any runout in which the hands are worth this.
+    ensures here { (pot : ℕ) (row : Row) (runout : List (List ℕ)) → pot < table.now.pots
+        → slice_get rows.new (base + pot) ≡ Some row
+        → AreWorthsAfter (state_of table.now.known) runout worths.now
         → IsBestAt (deal_of table.now) pot runout row place }
-    ensures others { (i : ℕ) (row : Row) → slice_get rows.new i ≡ Some row → (was : Row) × (slice_get rows.old i ≡ Some was) × IsButAt was place row }
-    ensures away { (i : ℕ) → IsAway base table.now.pots i → slice_get rows.new i ≡ slice_get rows.old i }
+
+    // A row changes at that place alone, and rows of no pot don't change.
+    ensures others { (i : ℕ) (row : Row) → slice_get rows.new i ≡ Some row
+        → (was : Row) × (slice_get rows.old i ≡ Some was) × IsButAt was place row }
+    ensures away { (i : ℕ) → IsAway base table.now.pots i
+        → slice_get rows.new i ≡ slice_get rows.old i }
     ensures places { length rows.new ≡ length rows.old }
 {
     for pot in 0..table.pots {
@@ -61,14 +71,29 @@ pub(crate) fn fill_rows(
     ranks: [u8; 3],
     least: u8,
 )
+    // From the base on there is a row for each pot.
     requires room { base + table.now.pots ≤ length rows.old }
+
+    // The game has a board, which lacks two cards behind the first ones, and each hand has all its own cards.
     requires dealt { IsTrue (has_board table.now.known.game) }
     requires first { AreFirst (state_of table.now.known) taken }
-    requires own { (h : ℕ) → h < length (state_of table.now.known).hands → length (slice_index_or (state_of table.now.known).hands h []) ≡ own_size table.now.known.game }
+    requires own { (h : ℕ) → h < length (state_of table.now.known).hands
+        → length (slice_index_or (state_of table.now.known).hands h [])
+        ≡ own_size table.now.known.game }
+
+    // The ranks are those of the first cards, in whichever order.
     requires ranks { AreRanksOf ranks taken }
-    ensures names { (pot : ℕ) (row : Row) → pot < table.now.pots → slice_get rows.new (base + pot) ≡ Some row → IsNamed row pot ranks least }
-    ensures rows { (pot : ℕ) (row : Row) → pot < table.now.pots → slice_get rows.new (base + pot) ≡ Some row → IsSideRow (deal_of table.now) pot ranks least row.mains row.lows row.tops }
-    ensures away { (i : ℕ) → IsAway base table.now.pots i → slice_get rows.new i ≡ slice_get rows.old i }
+
+    // Each pot's row is named for them, and says who is best with each two ranks, the lower one no less than the least.
+    ensures names { (pot : ℕ) (row : Row) → pot < table.now.pots
+        → slice_get rows.new (base + pot) ≡ Some row → IsNamed row pot ranks least }
+    ensures rows { (pot : ℕ) (row : Row) → pot < table.now.pots
+        → slice_get rows.new (base + pot) ≡ Some row
+        → IsSideRow (deal_of table.now) pot ranks least row.mains row.lows row.tops }
+
+    // Rows of no pot don't change.
+    ensures away { (i : ℕ) → IsAway base table.now.pots i
+        → slice_get rows.new i ≡ slice_get rows.old i }
     ensures places { length rows.new ≡ length rows.old }
 {
     table.known.board.rising();

@@ -19,11 +19,19 @@ const FLUSHES: usize = 2048;
 
 /// What each hand is worth as a flush with some cards of a suit on the board.
 fn hand_flushes(table: &Table, part: &Suited) -> [u32; 10]
+    // The game has a board, and each hand has all its own cards.
     requires dealt { IsTrue (has_board table.now.known.game) }
-    requires own { (h : ℕ) → h < length (state_of table.now.known).hands → length (slice_index_or (state_of table.now.known).hands h []) ≡ own_size table.now.known.game }
+    requires own { (h : ℕ) → h < length (state_of table.now.known).hands
+        → length (slice_index_or (state_of table.now.known).hands h [])
+        ≡ own_size table.now.known.game }
+
+    // Up to five cards of the board and their suit; no hand has one of the cards.
     requires suit { part.now.suit < 4 }
     requires five { length part.now.cards ≤ 5 }
-    requires apart { (h : ℕ) → h < length (state_of table.now.known).hands → IsTrue (apart (slice_index_or (state_of table.now.known).hands h []) part.now.cards) }
+    requires apart { (h : ℕ) → h < length (state_of table.now.known).hands
+        → IsTrue (apart (slice_index_or (state_of table.now.known).hands h []) part.now.cards) }
+
+    // Each hand has the number of its best flush of the suit with these cards, 0 where it has none.
     ensures { AreFlushesOf (state_of table.now.known) part.now.cards part.now.suit result }
 {
     let mut values = [0; 10];
@@ -98,13 +106,24 @@ impl Flushes {
 
     /// Works out what each hand is worth with some cards of a suit on the board, where it isn't known from before.
     fn work_out(&mut self, table: &Table, part: &Suited)
+        // The game has a board, and each hand has all its own cards.
         requires dealt { IsTrue (has_board table.now.known.game) }
-        requires own { (h : ℕ) → h < length (state_of table.now.known).hands → length (slice_index_or (state_of table.now.known).hands h []) ≡ own_size table.now.known.game }
+        requires own { (h : ℕ) → h < length (state_of table.now.known).hands
+            → length (slice_index_or (state_of table.now.known).hands h [])
+            ≡ own_size table.now.known.game }
+
+        // Up to five cards of the board and their suit; no hand has one of the cards.
         requires suit { part.now.suit < 4 }
         requires five { length part.now.cards ≤ 5 }
-        requires apart { (h : ℕ) → h < length (state_of table.now.known).hands → IsTrue (apart (slice_index_or (state_of table.now.known).hands h []) part.now.cards) }
+        requires apart { (h : ℕ) → h < length (state_of table.now.known).hands
+            → IsTrue (apart (slice_index_or (state_of table.now.known).hands h []) part.now.cards) }
+
+        // What is kept of flushes is right where it bears the deal's number.
         requires right { AreFlushes (deal_of table.now) self.old }
-        ensures values { AreFlushesOf (state_of table.now.known) part.now.cards part.now.suit self.new.last.values }
+
+        // What each hand is worth so is kept last, and all that is kept stays right.
+        ensures values { AreFlushesOf
+            (state_of table.now.known) part.now.cards part.now.suit self.new.last.values }
         ensures right { AreFlushes (deal_of table.now) self.new }
     {
         if self.last.are_of(self.stamp, part) {
@@ -122,15 +141,28 @@ impl Flushes {
     /// worked out once for all pots.
     #[inline(never)]
     fn make(&mut self, place: usize, table: &Table, pot: u8, part: &Suited) -> Best
+        // There are so many places for flushes.
         requires place { place < 2048 }
+
+        // The game has a board, and each hand has all its own cards.
         requires dealt { IsTrue (has_board table.now.known.game) }
-        requires own { (h : ℕ) → h < length (state_of table.now.known).hands → length (slice_index_or (state_of table.now.known).hands h []) ≡ own_size table.now.known.game }
+        requires own { (h : ℕ) → h < length (state_of table.now.known).hands
+            → length (slice_index_or (state_of table.now.known).hands h [])
+            ≡ own_size table.now.known.game }
+
+        // Up to five cards of the board and their suit; no hand has one of the cards.
         requires suit { part.now.suit < 4 }
         requires five { length part.now.cards ≤ 5 }
-        requires apart { (h : ℕ) → h < length (state_of table.now.known).hands → IsTrue (apart (slice_index_or (state_of table.now.known).hands h []) part.now.cards) }
+        requires apart { (h : ℕ) → h < length (state_of table.now.known).hands
+            → IsTrue (apart (slice_index_or (state_of table.now.known).hands h []) part.now.cards) }
+
+        // The pot is one of the table. What is kept of flushes is right where it bears the deal's number.
         requires inside { pot < table.now.pots }
         requires right { AreFlushes (deal_of table.now) self.old }
-        ensures flush { IsBestFlush (deal_of table.now) pot part.now.cards part.now.suit result.top result.set }
+
+        // The best flush of the pot's hands, and which of up to ten hands have it; what is kept stays right.
+        ensures flush { IsBestFlush
+            (deal_of table.now) pot part.now.cards part.now.suit result.top result.set }
         ensures small { result.set < 1024 }
         ensures right { AreFlushes (deal_of table.now) self.new }
     {
@@ -150,14 +182,25 @@ impl Flushes {
     /// The best flush of a pot with some cards of a suit on the board, which is worked out where it isn't kept.
     #[inline]
     pub(crate) fn best_for(&mut self, table: &Table, pot: u8, part: &Suited) -> Best
+        // The game has a board, and each hand has all its own cards.
         requires dealt { IsTrue (has_board table.now.known.game) }
-        requires own { (h : ℕ) → h < length (state_of table.now.known).hands → length (slice_index_or (state_of table.now.known).hands h []) ≡ own_size table.now.known.game }
+        requires own { (h : ℕ) → h < length (state_of table.now.known).hands
+            → length (slice_index_or (state_of table.now.known).hands h [])
+            ≡ own_size table.now.known.game }
+
+        // Up to five cards of the board and their suit; no hand has one of the cards.
         requires suit { part.now.suit < 4 }
         requires five { length part.now.cards ≤ 5 }
-        requires apart { (h : ℕ) → h < length (state_of table.now.known).hands → IsTrue (apart (slice_index_or (state_of table.now.known).hands h []) part.now.cards) }
+        requires apart { (h : ℕ) → h < length (state_of table.now.known).hands
+            → IsTrue (apart (slice_index_or (state_of table.now.known).hands h []) part.now.cards) }
+
+        // The pot is one of the table. What is kept of flushes is right where it bears the deal's number.
         requires inside { pot < table.now.pots }
         requires right { AreFlushes (deal_of table.now) self.old }
-        ensures flush { IsBestFlush (deal_of table.now) pot part.now.cards part.now.suit result.top result.set }
+
+        // The best flush of the pot's hands, and which of up to ten hands have it; what is kept stays right.
+        ensures flush { IsBestFlush
+            (deal_of table.now) pot part.now.cards part.now.suit result.top result.set }
         ensures small { result.set < 1024 }
         ensures right { AreFlushes (deal_of table.now) self.new }
     {

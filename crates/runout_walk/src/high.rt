@@ -35,11 +35,16 @@ pub(crate) fn plain_value(game: Game, own: CardSet, board: CardSet) -> u32
 /// What full own cards are worth as a flush of a suit, from 0 to 3, with cards of the board. 0 where they make none.
 #[inline]
 pub(crate) fn suited_value(game: Game, own: CardSet, cards: CardSet, suit: u8) -> u32
+    // The game has a board, and these are all own cards of a hand.
     requires game { IsTrue (has_board game) }
     requires own { length own ≡ own_size game }
+
+    // A suit, and up to five cards of the board, none of which is an own card.
     requires suit { suit < 4 }
     requires five { length cards ≤ 5 }
     requires apart { IsTrue (apart own cards) }
+
+    // The best five of the suit that the game allows of them.
     ensures { result ≡ suited_number game own cards suit }
 {
     own.rising();

@@ -39,7 +39,8 @@ fn put_row<L: Ledger>(
 )
     requires places { length row.now ≡ 52 }
     requires room { used + length cards.now ≤ length values.old }
-    ensures numbers { take (used + length cards.now) values.new ≡ take used values.old ++ map (slice_index row.now) cards.now }
+    ensures numbers { take (used + length cards.now) values.new
+        ≡ take used values.old ++ map (slice_index row.now) cards.now }
     ensures room { length values.new ≡ length values.old }
     ensures steps { steps.new ≡ steps.old + length cards.now }
 {
@@ -60,11 +61,18 @@ fn put_pairs<L: Ledger>(
     used: usize,
     steps: &mut Steps<L>,
 )
+    // From the base on the table has a row for each lower card of a draw.
     requires places { base + 52 ≤ length rows.now }
+
+    // Both places lie in the listing of the draws, and there is room for the numbers of those between them.
     requires order { range.lo ≤ range.hi }
     requires inside { range.hi ≤ length (choose 2 cards.now) }
     requires room { used + (range.hi - range.lo) ≤ length values.old }
-    ensures numbers { take (used + (range.hi - range.lo)) values.new ≡ take used values.old ++ map (number_at rows.now base) (slice_range (choose 2 cards.now) range.lo range.hi) }
+
+    // The first `used` stay, and behind them stand the numbers of the draws between the places, in order.
+    ensures numbers { take (used + (range.hi - range.lo)) values.new
+        ≡ take used values.old
+        ++ map (number_at rows.now base) (slice_range (choose 2 cards.now) range.lo range.hi) }
     ensures room { length values.new ≡ length values.old }
     ensures steps { steps.new ≡ steps.old + (range.hi - range.lo) }
 {
@@ -93,11 +101,18 @@ fn put_singles<L: Ledger>(
     values: &mut [u32],
     steps: &mut Steps<L>,
 )
+    // The table has a row a card; draws of one card have the first one.
     requires places { length rows.now ≡ 52 }
+
+    // Both places lie in the listing of the draws, and there is room for the numbers of those between them.
     requires order { range.lo ≤ range.hi }
     requires inside { range.hi ≤ length cards.now }
     requires room { range.hi - range.lo ≤ length values.old }
-    ensures numbers { (planes : List (List ℕ)) → take (range.hi - range.lo) values.new ≡ map (number_of rows.now planes) (slice_range (choose 1 cards.now) range.lo range.hi) }
+
+    // A table of three cards isn't looked at, whichever it is.
+    ensures numbers { (planes : List (List ℕ))
+        → take (range.hi - range.lo) values.new
+        ≡ map (number_of rows.now planes) (slice_range (choose 1 cards.now) range.lo range.hi) }
     ensures steps { steps.new ≡ steps.old + (range.hi - range.lo) }
 {
     put_row(&rows[0], &cards[range.lo..range.hi], values, 0, steps);
@@ -111,11 +126,18 @@ fn put_twos<L: Ledger>(
     values: &mut [u32],
     steps: &mut Steps<L>,
 )
+    // The table has a row for each lower card of a draw.
     requires places { length rows.now ≡ 52 }
+
+    // Both places lie in the listing of the draws, and there is room for the numbers of those between them.
     requires order { range.lo ≤ range.hi }
     requires inside { range.hi ≤ length (choose 2 cards.now) }
     requires room { range.hi - range.lo ≤ length values.old }
-    ensures numbers { (planes : List (List ℕ)) → take (range.hi - range.lo) values.new ≡ map (number_of rows.now planes) (slice_range (choose 2 cards.now) range.lo range.hi) }
+
+    // A table of three cards isn't looked at, whichever it is.
+    ensures numbers { (planes : List (List ℕ))
+        → take (range.hi - range.lo) values.new
+        ≡ map (number_of rows.now planes) (slice_range (choose 2 cards.now) range.lo range.hi) }
     ensures steps { steps.new ≡ steps.old + (range.hi - range.lo) }
 {
     put_pairs(rows, 0, cards, range, values, 0, steps);
@@ -142,11 +164,18 @@ fn put_triples<L: Ledger>(
     values: &mut [u32],
     steps: &mut Steps<L>,
 )
+    // A deck has no more cards.
     requires few { length cards.now ≤ 52 }
+
+    // Both places lie in the listing of the draws, and there is room for the numbers of those between them.
     requires order { range.lo ≤ range.hi }
     requires inside { range.hi ≤ length (choose 3 cards.now) }
     requires room { range.hi - range.lo ≤ length values.old }
-    ensures numbers { take (range.hi - range.lo) values.new ≡ map (number_of numbers.now.rows numbers.now.planes) (slice_range (choose 3 cards.now) range.lo range.hi) }
+
+    // For each lowest card there is a table of the two others.
+    ensures numbers { take (range.hi - range.lo) values.new
+        ≡ map (number_of numbers.now.rows numbers.now.planes)
+        (slice_range (choose 3 cards.now) range.lo range.hi) }
     ensures steps { steps.new ≡ steps.old + (range.hi - range.lo) }
 {
     let mut rest = cards;
@@ -179,13 +208,20 @@ pub(crate) fn put_draws<L: Ledger>(
     values: &mut [u32],
     steps: &mut Steps<L>,
 )
+    // The numbers are of draws of one to three cards, out of those of a deck.
     requires some { 1 ≤ numbers.now.count }
     requires few { numbers.now.count ≤ 3 }
     requires short { length cards.now ≤ 52 }
+
+    // Both places lie in the listing of the draws, and there is room for the numbers of those between them.
     requires order { range.lo ≤ range.hi }
     requires inside { range.hi ≤ length (choose numbers.now.count cards.now) }
     requires room { range.hi - range.lo ≤ length values.old }
-    ensures numbers { take (range.hi - range.lo) values.new ≡ map (number_of numbers.now.rows numbers.now.planes) (slice_range (choose numbers.now.count cards.now) range.lo range.hi) }
+
+    // At the front stand the numbers of the draws between the places, in order.
+    ensures numbers { take (range.hi - range.lo) values.new
+        ≡ map (number_of numbers.now.rows numbers.now.planes)
+        (slice_range (choose numbers.now.count cards.now) range.lo range.hi) }
     ensures steps { steps.new ≡ steps.old + (range.hi - range.lo) }
 {
     if numbers.count == 1 {
@@ -200,16 +236,26 @@ pub(crate) fn put_draws<L: Ledger>(
 /// The same of lows, of which there are draws of one or two cards, with a counter of its own.
 #[tactic(auto, using(crate::proofs::DrawLists::one_length))]
 fn put_on<L: Ledger>(lows: &Lows, cards: &[Card], range: Range, values: &mut [u32], blank: Blank)
+    // The blank makes the counter that `L` names.
     requires name { blank.name ≡ L.name }
     requires parts { blank.parts ≡ L.parts }
     requires one { 0 < blank.parts }
+
+    // The numbers are of draws of one or two cards, out of those of a deck.
     requires some { 1 ≤ lows.now.count }
     requires few { lows.now.count ≤ 2 }
     requires short { length cards.now ≤ 52 }
+
+    // Both places lie in the listing of the draws, and there is room for the numbers of those between them.
     requires order { range.lo ≤ range.hi }
     requires inside { range.hi ≤ length (choose lows.now.count cards.now) }
     requires room { range.hi - range.lo ≤ length values.old }
-    ensures numbers { (planes : List (List ℕ)) → take (range.hi - range.lo) values.new ≡ map (number_of lows.now.rows planes) (slice_range (choose lows.now.count cards.now) range.lo range.hi) }
+
+    // A table of three cards isn't looked at, whichever it is.
+    ensures numbers { (planes : List (List ℕ))
+        → take (range.hi - range.lo) values.new
+        ≡ map (number_of lows.now.rows planes)
+        (slice_range (choose lows.now.count cards.now) range.lo range.hi) }
 {
     let mut steps = Steps::<L>::new(blank);
     if lows.count == 1 {
@@ -221,13 +267,21 @@ fn put_on<L: Ledger>(lows: &Lows, cards: &[Card], range: Range, values: &mut [u3
 
 /// Puts the numbers of the same draws as lows at the front, where they have one or two cards. They take no second steps.
 pub(crate) fn put_lows(lows: &Lows, cards: &[Card], range: Range, values: &mut [u32])
+    // The numbers are of draws of one or two cards, out of those of a deck.
     requires some { 1 ≤ lows.now.count }
     requires few { lows.now.count ≤ 2 }
     requires short { length cards.now ≤ 52 }
+
+    // Both places lie in the listing of the draws, and there is room for the numbers of those between them.
     requires order { range.lo ≤ range.hi }
     requires inside { range.hi ≤ length (choose lows.now.count cards.now) }
     requires room { range.hi - range.lo ≤ length values.old }
-    ensures numbers { (planes : List (List ℕ)) → take (range.hi - range.lo) values.new ≡ map (number_of lows.now.rows planes) (slice_range (choose lows.now.count cards.now) range.lo range.hi) }
+
+    // A table of three cards isn't looked at, whichever it is.
+    ensures numbers { (planes : List (List ℕ))
+        → take (range.hi - range.lo) values.new
+        ≡ map (number_of lows.now.rows planes)
+        (slice_range (choose lows.now.count cards.now) range.lo range.hi) }
 {
     put_on::<Brand>(lows, cards, range, values, Blank::new(1));
 }

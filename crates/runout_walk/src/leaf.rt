@@ -49,16 +49,31 @@ pub trait Leaf {
         hi: u64,
         steps: &mut Steps<L>,
     )
+        // The front has all slots but the last one, which gets as many cards more as the leaf deals at once.
         requires last { suc (length front.now) ≡ length (slots (deal self.old).state) }
         requires deep { tail.left ≡ depth (deal self.old) }
+
+        // What the last slot has lies below the rest, which is the end of what is unseen, and each way to fill it makes a runout.
         requires above { IsCardSet tail.rest → IsRising (tail.taken ++ tail.rest) }
         requires end { IsEndOf tail.rest (left_after (unseen (deal self.old).state) front.now) }
-        requires members { (more : List ℕ) → HasMember (choose tail.left tail.rest) more → HasMember (runouts_after (deal self.old).state) (front.now ++ (tail.taken ++ more) ∷ []) }
+        requires members { (more : List ℕ) → HasMember (choose tail.left tail.rest) more
+            → HasMember (runouts_after (deal self.old).state)
+            (front.now ++ (tail.taken ++ more) ∷ []) }
+
+        // There is something between the places, and they lie in the listing of these ways.
         requires order { lo < hi }
         requires inside { hi ≤ length (choose tail.left tail.rest) }
+
+        // Each pot has its two rows, and each of their counts has room for all that are counted.
         requires places { 2 * length (deal self.old).pots ≤ length counts.old }
         requires fits { CountsFit (deal self.old) counts.old (hi - lo) }
-        ensures counts { CountsGrow (deal self.old) (map (λ more. front.now ++ (tail.taken ++ more) ∷ []) (slice_range (choose tail.left tail.rest) lo hi)) counts.old counts.new }
+
+        // The runouts between the places are counted, and no others.
+        ensures counts { CountsGrow (deal self.old)
+            (map (λ more. front.now ++ (tail.taken ++ more) ∷ [])
+            (slice_range (choose tail.left tail.rest) lo hi)) counts.old counts.new }
+
+        // Sizes and deal stay, and the steps are as many as the runouts, whatever the leaf looks at.
         ensures places { length counts.new ≡ length counts.old }
         ensures steps { steps.new ≡ steps.old + (hi - lo) }
         ensures deal { deal self.new ≡ deal self.old };

@@ -97,7 +97,8 @@ fn fill_pairs(
     requires places { base + 52 ≤ length rows.old }
     requires no_board { board_size game ≡ 0 }
     ensures pairs { ArePairsFrom least side game own rows.new base }
-    ensures before { (row : ℕ) → row < base + least → slice_index_or rows.new row [] ≡ slice_index_or rows.old row [] }
+    ensures before { (row : ℕ) → row < base + least
+        → slice_index_or rows.new row [] ≡ slice_index_or rows.old row [] }
     ensures places { length rows.new ≡ length rows.old }
 {
     for number in usize::from(least)..DECK {
@@ -187,8 +188,11 @@ impl Numbers {
 
     /// Makes them the numbers of a hand on a side, which are filled in where they aren't kept.
     pub(crate) fn serve(&mut self, side: Side, game: Game, own: CardSet, count: u8)
+        // The game has no board, and the hand draws up to three cards.
         requires no_board { board_size game ≡ 0 }
         requires few { count ≤ 3 }
+
+        // It is said of what they are the numbers; that they are right they keep of themselves.
         ensures side { self.new.side ≡ side }
         ensures game { self.new.game ≡ game }
         ensures own { self.new.own ≡ own }
@@ -218,7 +222,8 @@ pub(crate) struct Lows {
     /// The numbers of two cards, by the lower card and then the higher one. Those of one card alone stand in the first row.
     pub(crate) rows: [[u32; DECK]; DECK],
     /// They are right.
-    pub(crate) ghost right: { (planes : List (List ℕ)) → AreNumbers count Low game own rows planes },
+    pub(crate) ghost right: { (planes : List (List ℕ))
+        → AreNumbers count Low game own rows planes },
 }
 
 /// Fills in what a hand is worth as a low with each draw of one or two cards.

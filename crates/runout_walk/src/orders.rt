@@ -59,8 +59,12 @@ fn compare(values: &[u32], top: u32) -> Orders
 #[inline]
 fn orders_of(rivals: &Rivals, values: &[u32]) -> Orders
     requires { length values.now < 2 ^ 32 }
-    ensures times { (set : ℕ) → times_at rivals.now.below result.below set + times_at rivals.now.equal result.equal set + times_at rivals.now.above result.above set
-        ≡ count_by (λ value. winner_by rivals.now.top rivals.now.below rivals.now.equal rivals.now.above value == set) values.now }
+    ensures times { (set : ℕ)
+        → times_at rivals.now.below result.below set + times_at rivals.now.equal result.equal set
+        + times_at rivals.now.above result.above set
+        ≡ count_by
+        (λ value. winner_by rivals.now.top rivals.now.below rivals.now.equal rivals.now.above value
+        == set) values.now }
     ensures all { result.below + result.equal + result.above ≡ length values.now }
 {
     if rivals.below == rivals.equal && rivals.equal == rivals.above {
@@ -76,13 +80,20 @@ fn orders_of(rivals: &Rivals, values: &[u32]) -> Orders
 /// Adds how often each set wins.
 #[inline]
 fn add_orders(row: &mut [u32], rivals: &Rivals, orders: Orders)
+    // The row has a place for each set of up to ten hands, with a low and without one.
     requires places { length row.old ≡ 2048 }
     requires below { rivals.now.below < 2048 }
     requires equal { rivals.now.equal < 2048 }
     requires above { rivals.now.above < 2048 }
-    requires fits { (set : ℕ) → set < 2048 → slice_index row.old set + (orders.below + orders.equal + orders.above) < 2 ^ 32 }
+
+    // Each count has room for all of them, since the three sets may be the same.
+    requires fits { (set : ℕ) → set < 2048
+        → slice_index row.old set + (orders.below + orders.equal + orders.above) < 2 ^ 32 }
+
+    // A set that stands there more than once gets all that is added for it.
     ensures counts { (set : ℕ) → slice_index row.new set ≡ slice_index row.old set
-        + (times_at rivals.now.below orders.below set + times_at rivals.now.equal orders.equal set + times_at rivals.now.above orders.above set) }
+        + (times_at rivals.now.below orders.below set + times_at rivals.now.equal orders.equal set
+        + times_at rivals.now.above orders.above set) }
     ensures places { length row.new ≡ length row.old }
 {
     row[usize::from(rivals.below)] += orders.below;
@@ -92,14 +103,21 @@ fn add_orders(row: &mut [u32], rivals: &Rivals, orders: Orders)
 
 /// Counts who wins a pot where the last hand has each of some numbers.
 pub(crate) fn count_values(row: &mut [u32], rivals: &Rivals, values: &[u32])
+    // The row has a place for each set of up to ten hands, with a low and without one.
     requires places { length row.old ≡ 2048 }
     requires below { rivals.now.below < 2048 }
     requires equal { rivals.now.equal < 2048 }
     requires above { rivals.now.above < 2048 }
+
+    // Each count has room for all of the numbers, with which the same set may win.
     requires few { length values.now < 2 ^ 32 }
     requires fits { (set : ℕ) → set < 2048 → slice_index row.old set + length values.now < 2 ^ 32 }
+
+    // Each number adds one to the set that wins with it.
     ensures counts { (set : ℕ) → slice_index row.new set ≡ slice_index row.old set
-        + count_by (λ value. winner_by rivals.now.top rivals.now.below rivals.now.equal rivals.now.above value == set) values.now }
+        + count_by
+        (λ value. winner_by rivals.now.top rivals.now.below rivals.now.equal rivals.now.above value
+        == set) values.now }
     ensures places { length row.new ≡ length row.old }
 {
     let orders = orders_of(rivals, values);
@@ -109,7 +127,8 @@ pub(crate) fn count_values(row: &mut [u32], rivals: &Rivals, values: &[u32])
 /// The set that wins with a number.
 #[inline]
 fn winner(rivals: &Rivals, value: u32) -> u16
-    ensures { result ≡ winner_by rivals.now.top rivals.now.below rivals.now.equal rivals.now.above value }
+    ensures { result
+        ≡ winner_by rivals.now.top rivals.now.below rivals.now.equal rivals.now.above value }
 {
     if value < rivals.top {
         rivals.below
@@ -125,7 +144,8 @@ fn winner(rivals: &Rivals, value: u32) -> u16
 fn add_at(row: &mut [u32], place: u16)
     requires inside { place < length row.old }
     requires fits { slice_index row.old place + 1 < 2 ^ 32 }
-    ensures counts { (at : ℕ) → slice_index row.new at ≡ slice_index row.old at + (if place == at then 1 else 0) }
+    ensures counts { (at : ℕ)
+        → slice_index row.new at ≡ slice_index row.old at + (if place == at then 1 else 0) }
     ensures places { length row.new ≡ length row.old }
 {
     row[usize::from(place)] += 1;
@@ -140,15 +160,24 @@ pub(crate) fn count_marked(
     values: &[u32],
     lows: &[u32],
 )
+    // The row has a place for each set of up to ten hands, and 1,024 further one with a low.
     requires places { length row.old ≡ 2048 }
     requires below { high.now.below < 1024 }
     requires equal { high.now.equal < 1024 }
     requires above { high.now.above < 1024 }
+
+    // Each number has one on the low side, and each count has room for all of them.
     requires same { length lows.now ≡ length values.now }
     requires fits { (set : ℕ) → set < 2048 → slice_index row.old set + length values.now < 2 ^ 32 }
+
+    // Each number adds one to the set that wins the high with it, at the place that its low says.
     ensures counts { (set : ℕ) → slice_index row.new set ≡ slice_index row.old set
-        + count_both (λ value low_value. winner_by high.now.top high.now.below high.now.equal high.now.above value
-        + low_mark (winner_by low.now.top low.now.below low.now.equal low.now.above low_value) == set) values.now lows.now }
+        + count_both
+        (λ value low_value. winner_by high.now.top high.now.below high.now.equal high.now.above
+        value
+        + low_mark
+        (winner_by low.now.top low.now.below low.now.equal low.now.above low_value) == set)
+        values.now lows.now }
     ensures places { length row.new ≡ length row.old }
 {
     for place in 0..values.len() {

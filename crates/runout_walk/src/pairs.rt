@@ -33,7 +33,8 @@ pub(crate) struct Pairs {
 fn put_pairs(pairs: &mut [Pair], used: usize, low: Card, others: CardSet) -> usize
     requires { used + length others ≤ length pairs.old }
     ensures used { result ≡ used + length others }
-    ensures pairs { map cards_of_pair (take result pairs.new) ≡ map cards_of_pair (take used pairs.old) ++ map (λ high. low ∷ high ∷ []) others }
+    ensures pairs { map cards_of_pair (take result pairs.new)
+        ≡ map cards_of_pair (take used pairs.old) ++ map (λ high. low ∷ high ∷ []) others }
     ensures same { length pairs.new ≡ length pairs.old }
 {
     let mut used = used;
@@ -73,12 +74,17 @@ fn any_pair() -> Pair {
 /// The last pairs of a listing, those of so many cards, by their places among these.
 #[inline]
 fn last_pairs(listed: &[Pair], count: u32, lo: u64, hi: u64) -> &[Pair]
+    // So many cards have a pair, and the listing has as many pairs as they have, or more, up to those of a deck.
     requires deck { count ≤ 52 }
     requires two { 2 ≤ count }
     requires enough { binomial count 2 ≤ length listed.now }
     requires few { length listed.now ≤ 1326 }
+
+    // The places are among the pairs of so many cards.
     requires order { lo < hi }
     requires inside { hi ≤ binomial count 2 }
+
+    // The pairs of the last cards of a listing are its last ones, since lower cards come first.
     ensures { let before = length listed.now - binomial count 2 in
         result.now ≡ slice_range listed.now (before + lo) (before + hi) }
 {

@@ -24,7 +24,9 @@ pub(crate) struct Place {
 pub(crate) fn add_times(cells: &mut [u32], place: u16, times: u32)
     requires inside { place < length cells.old }
     requires fits { slice_index cells.old place + times < 2 ^ 32 }
-    ensures counts { (other : ℕ) → slice_index cells.new other ≡ slice_index cells.old other + (if place == other then times else 0) }
+    ensures counts { (other : ℕ)
+        → slice_index cells.new other
+        ≡ slice_index cells.old other + (if place == other then times else 0) }
     ensures places { length cells.new ≡ length cells.old }
 {
     cells[usize::from(place)] += times;
@@ -39,13 +41,23 @@ pub(crate) fn add_place(
     place: Place,
     times: u32,
 )
+    // The pot has its two rows, with 2,048 counts each.
     requires inside { 2 * pot + 1 < length counts.old }
     requires few_mains { place.main < 2048 }
     requires few_lows { place.low < 2048 }
+
+    // There is room at the high's place, and where there are two sides at the low's.
     requires fits_main { count_at counts.old pot Side.High place.main + times < 2 ^ 32 }
-    requires fits_low { IsTrue two_sides → count_at counts.old pot Side.Low place.low + times < 2 ^ 32 }
-    ensures high { (p k : ℕ) → count_at counts.new p Side.High k ≡ count_at counts.old p Side.High k + so_many times pot place.main place.low p Side.High k }
-    ensures low { (p k : ℕ) → IsTrue two_sides → count_at counts.new p Side.Low k ≡ count_at counts.old p Side.Low k + so_many times pot place.main place.low p Side.Low k }
+    requires fits_low { IsTrue two_sides
+        → count_at counts.old pot Side.Low place.low + times < 2 ^ 32 }
+
+    // These two counts grow. Where the game has no second side nothing is said of the low's rows.
+    ensures high { (p k : ℕ)
+        → count_at counts.new p Side.High k
+        ≡ count_at counts.old p Side.High k + so_many times pot place.main place.low p Side.High k }
+    ensures low { (p k : ℕ) → IsTrue two_sides
+        → count_at counts.new p Side.Low k
+        ≡ count_at counts.old p Side.Low k + so_many times pot place.main place.low p Side.Low k }
     ensures places { length counts.new ≡ length counts.old }
 {
     let first = 2 * usize::from(pot);
@@ -67,12 +79,20 @@ pub(crate) struct Wait {
 /// Counts the runouts that wait, for each pot.
 #[inline]
 pub(crate) fn put_wait(spot: &Spot, rows: &[Row], wait: Wait, counts: &mut [[u32; 2048]])
+    // Each pot has a row, and this is one of its places.
     requires pots { length rows.now ≡ spot.now.table.pots }
     requires inside { wait.ranks < 169 }
+
+    // Each pot has its two rows of counts, with room for those that wait.
     requires counts { 2 * spot.now.table.pots ≤ length counts.old }
     requires fits { WaitsFit (deal_of spot.now.table) rows.now wait.ranks wait.times counts.old 0 }
-    ensures counts { (pot number : ℕ) (side : Side) (row : Row) → pot < length (deal_of spot.now.table).pots → has_side side spot.now.table.known.game ≡ true → slice_get rows.now pot ≡ Some row
-        → count_at counts.new pot side number ≡ count_at counts.old pot side number + waiting row side wait.ranks wait.times number }
+
+    // For each pot they are counted where its row says who wins there.
+    ensures counts { (pot number : ℕ) (side : Side) (row : Row)
+        → pot < length (deal_of spot.now.table).pots
+        → has_side side spot.now.table.known.game ≡ true → slice_get rows.now pot ≡ Some row
+        → count_at counts.new pot side number
+        ≡ count_at counts.old pot side number + waiting row side wait.ranks wait.times number }
     ensures same { length counts.new ≡ length counts.old }
 {
     let two_sides = spot.table.known.game.has_side(Side::Low);
@@ -87,12 +107,21 @@ pub(crate) fn put_wait(spot: &Spot, rows: &[Row], wait: Wait, counts: &mut [[u32
 
 /// Counts the runouts that wait, so many at each place of the rows, for each pot.
 pub(crate) fn put_waits(spot: &Spot, rows: &[Row], waits: &[u32], counts: &mut [[u32; 2048]])
+    // Each pot has a row, with as many places as there are numbers of those that wait.
     requires pots { length rows.now ≡ spot.now.table.pots }
     requires waits { length waits.now ≡ 169 }
+
+    // Each pot has its two rows of counts, with room for all that wait.
     requires counts { 2 * spot.now.table.pots ≤ length counts.old }
     requires fits { AllFit (deal_of spot.now.table) rows.now waits.now counts.old 0 }
-    ensures counts { (pot number : ℕ) (side : Side) (row : Row) → pot < length (deal_of spot.now.table).pots → has_side side spot.now.table.known.game ≡ true → number < 2048 → slice_get rows.now pot ≡ Some row
-        → count_at counts.new pot side number ≡ count_at counts.old pot side number + waits_below row side waits.now number 169 }
+
+    // For each pot those of each place are counted where its row says who wins there.
+    ensures counts { (pot number : ℕ) (side : Side) (row : Row)
+        → pot < length (deal_of spot.now.table).pots
+        → has_side side spot.now.table.known.game ≡ true → number < 2048
+        → slice_get rows.now pot ≡ Some row
+        → count_at counts.new pot side number
+        ≡ count_at counts.old pot side number + waits_below row side waits.now number 169 }
     ensures same { length counts.new ≡ length counts.old }
 {
     for (ranks, times) in waits.iter().enumerate() {

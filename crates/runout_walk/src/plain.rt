@@ -49,7 +49,8 @@ impl Plain {
 fn values_on(side: Side, table: &Table, shape: &Shape, sets: &[CardSet]) -> [Option<u32>; 10]
     requires shape { IsShapeOf (state_of table.now.known) shape.now }
     requires runout { HasMember (runouts_after (state_of table.now.known)) sets.now }
-    ensures { has_side side table.now.known.game ≡ true → AreSideNumbersAfter side (state_of table.now.known) sets.now result }
+    ensures { has_side side table.now.known.game ≡ true
+        → AreSideNumbersAfter side (state_of table.now.known) sets.now result }
 {
     if table.known.game.has_side(side) {
         return values_after(side, table, shape, sets);
@@ -63,7 +64,8 @@ fn values_on(side: Side, table: &Table, shape: &Shape, sets: &[CardSet]) -> [Opt
 pub(crate) fn winners_on(table: &Table, side: Side, values: &[Option<u32>; 10], pot: u8) -> u16
     requires { pot < table.now.pots }
     ensures value { (runout : List (List ℕ))
-        → (has_side side table.now.known.game ≡ true → AreSideNumbersAfter side (state_of table.now.known) runout values.now)
+        → (has_side side table.now.known.game ≡ true
+        → AreSideNumbersAfter side (state_of table.now.known) runout values.now)
         → result ≡ side_outcome side (deal_of table.now) pot runout }
     ensures small { result < 1024 }
 {
@@ -75,10 +77,15 @@ pub(crate) fn winners_on(table: &Table, side: Side, values: &[Option<u32>; 10], 
 
 /// Counts one runout for each pot.
 fn count_one(table: &Table, shape: &Shape, sets: &[CardSet], counts: &mut [[u32; 2048]])
+    // The sets are a runout of the table, one for each slot of the shape.
     requires shape { IsShapeOf (state_of table.now.known) shape.now }
     requires runout { HasMember (runouts_after (state_of table.now.known)) sets.now }
+
+    // Each pot has its two rows, and each of their counts has room for one more.
     requires places { 2 * length (deal_of table.now).pots ≤ length counts.old }
     requires fits { CountsFit (deal_of table.now) counts.old 1 }
+
+    // The runout is counted once for each pot, on each side that the game has.
     ensures counts { CountsGrow (deal_of table.now) (sets.now ∷ []) counts.old counts.new }
     ensures places { length counts.new ≡ length counts.old }
 {

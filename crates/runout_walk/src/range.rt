@@ -78,15 +78,31 @@ pub(crate) fn count_range<F: Leaf, L: Ledger>(
     hi: u64,
     steps: &mut Steps<L>,
 )
-    requires at { IsAt (F.deal leaf.old) (F.depth (F.deal leaf.old)) (take branch.now.slot sets.old) branch.now.unseen branch.now.tail.taken branch.now.tail.rest branch.now.tail.left branch.now.later.now branch.now.each }
+    // The sets in front lead to this branch, and behind them there is room for those of the later slots.
+    requires at { IsAt (F.deal leaf.old) (F.depth (F.deal leaf.old))
+        (take branch.now.slot sets.old) branch.now.unseen branch.now.tail.taken
+        branch.now.tail.rest branch.now.tail.left branch.now.later.now branch.now.each }
     requires room { branch.now.slot + length branch.now.later.now ≤ length sets.old }
+
+    // There is something between the places, and they lie in the listing of the ways to go on.
     requires order { lo < hi }
-    requires inside { hi ≤ length (going_on branch.now.unseen branch.now.tail.taken branch.now.tail.rest branch.now.tail.left (counts_of branch.now.later.now)) }
+    requires inside { hi ≤ length
+        (going_on branch.now.unseen branch.now.tail.taken branch.now.tail.rest branch.now.tail.left
+        (counts_of branch.now.later.now)) }
+
+    // Each pot has its two rows, and each of their counts has room for all that are counted.
     requires places { 2 * length (F.deal leaf.old).pots ≤ length counts.old }
     requires fits { CountsFit (F.deal leaf.old) counts.old (hi - lo) }
+
+    // The ways to go on that are between the places are counted, each behind the sets in front, and no others.
     ensures counts { CountsGrow (F.deal leaf.old)
-        (map (λ more. take branch.now.slot sets.old ++ more) (slice_range (going_on branch.now.unseen branch.now.tail.taken branch.now.tail.rest branch.now.tail.left (counts_of branch.now.later.now)) lo hi))
+        (map (λ more. take branch.now.slot sets.old ++ more)
+        (slice_range
+        (going_on branch.now.unseen branch.now.tail.taken branch.now.tail.rest branch.now.tail.left
+        (counts_of branch.now.later.now)) lo hi))
         counts.old counts.new }
+
+    // Sizes, the sets in front and the deal stay, and the steps are as many as the runouts.
     ensures places { length counts.new ≡ length counts.old }
     ensures front { take branch.now.slot sets.new ≡ take branch.now.slot sets.old }
     ensures room { length sets.new ≡ length sets.old }

@@ -84,7 +84,8 @@ fn greatest_of_rank(rank: u8) -> Card
 /// The cards of the lowest rank of some cards. None where there is no card.
 #[inline]
 fn lowest_rank(cards: CardSet) -> Option<Lowest>
-    ensures { MatchOption result (cards ≡ []) (λ part. IsLowest cards part.rank part.count part.above) }
+    ensures { MatchOption result (cards ≡ [])
+        (λ part. IsLowest cards part.rank part.count part.above) }
 {
     cards.rising();
     let Some(card) = cards.first() else {
@@ -119,14 +120,29 @@ fn count_above(
     highs: CardSet,
     counts: &mut [[u32; 2048]],
 )
+    // Each pot has a row, and of a rank there are up to four cards.
     requires pots { length rows.now ≡ spot.now.table.pots }
     requires rank { rank < 13 }
     requires few { times ≤ 4 }
+
+    // Each pot has its two rows of counts, with room for all that end there.
     requires counts { 2 * spot.now.table.pots ≤ length counts.old }
-    requires fits { (pot number : ℕ) (side : Side) (row : Row) → pot < length (deal_of spot.now.table).pots → has_side side spot.now.table.known.game ≡ true → number < 2048 → slice_get rows.now pot ≡ Some row
-        → count_at counts.old pot side number + times * count_by (λ high. row_place row side (13 * rank + rank_of high) == number) highs < 2 ^ 32 }
-    ensures counts { (pot number : ℕ) (side : Side) (row : Row) → pot < length (deal_of spot.now.table).pots → has_side side spot.now.table.known.game ≡ true → number < 2048 → slice_get rows.now pot ≡ Some row
-        → count_at counts.new pot side number ≡ count_at counts.old pot side number + times * count_by (λ high. row_place row side (13 * rank + rank_of high) == number) highs }
+    requires fits { (pot number : ℕ) (side : Side) (row : Row)
+        → pot < length (deal_of spot.now.table).pots
+        → has_side side spot.now.table.known.game ≡ true → number < 2048
+        → slice_get rows.now pot ≡ Some row
+        → count_at counts.old pot side number
+        + times * count_by (λ high. row_place row side (13 * rank + rank_of high) == number) highs
+        < 2 ^ 32 }
+
+    // Each higher card adds as many as there are of the rank, where the row says who wins with the two ranks.
+    ensures counts { (pot number : ℕ) (side : Side) (row : Row)
+        → pot < length (deal_of spot.now.table).pots
+        → has_side side spot.now.table.known.game ≡ true → number < 2048
+        → slice_get rows.now pot ≡ Some row
+        → count_at counts.new pot side number
+        ≡ count_at counts.old pot side number
+        + times * count_by (λ high. row_place row side (13 * rank + rank_of high) == number) highs }
     ensures same { length counts.new ≡ length counts.old }
 {
     let mut rest = highs;
@@ -145,8 +161,13 @@ fn count_ranks(spot: &Spot, rows: &[Row], cards: CardSet, counts: &mut [[u32; 20
     requires pots { length rows.now ≡ spot.now.table.pots }
     requires counts { 2 * spot.now.table.pots ≤ length counts.old }
     requires fits { CountsFit (deal_of spot.now.table) counts.old (length (choose 2 cards)) }
-    ensures counts { (pot number : ℕ) (side : Side) (row : Row) → pot < length (deal_of spot.now.table).pots → has_side side spot.now.table.known.game ≡ true → number < 2048 → slice_get rows.now pot ≡ Some row
-        → count_at counts.new pot side number ≡ count_at counts.old pot side number + count_by (λ more. row_place row side (ranks_place more) == number) (choose 2 cards) }
+    ensures counts { (pot number : ℕ) (side : Side) (row : Row)
+        → pot < length (deal_of spot.now.table).pots
+        → has_side side spot.now.table.known.game ≡ true → number < 2048
+        → slice_get rows.now pot ≡ Some row
+        → count_at counts.new pot side number
+        ≡ count_at counts.old pot side number
+        + count_by (λ more. row_place row side (ranks_place more) == number) (choose 2 cards) }
     ensures same { length counts.new ≡ length counts.old }
 {
     let mut rest = cards;
@@ -170,13 +191,20 @@ pub(crate) fn count_by_ranks(
     rest: CardSet,
     counts: &mut [[u32; 2048]],
 )
+    // Each pot has a row for the first cards, with which no two cards make anybody a flush.
     requires rows { AreRowsOf (deal_of spot.now.table) taken rows.now }
     requires pots { length rows.now ≡ spot.now.table.pots }
     requires short { AreAllShort spot.now.most taken }
-    requires members { (more : List ℕ) → HasMember (choose 2 rest) more → HasMember (runouts_after (state_of spot.now.table.known)) ((taken ++ more) ∷ []) }
+
+    // Each two of the rest complete a runout, and each count has room for all of these.
+    requires members { (more : List ℕ) → HasMember (choose 2 rest) more
+        → HasMember (runouts_after (state_of spot.now.table.known)) ((taken ++ more) ∷ []) }
     requires counts { 2 * spot.now.table.pots ≤ length counts.old }
     requires fits { CountsFit (deal_of spot.now.table) counts.old (length (choose 2 rest)) }
-    ensures counts { ChoicesGrow (deal_of spot.now.table) taken (choose 2 rest) counts.old counts.new }
+
+    // All of them are counted for each pot, though by their ranks, and not one by one.
+    ensures counts { ChoicesGrow (deal_of spot.now.table) taken
+        (choose 2 rest) counts.old counts.new }
     ensures same { length counts.new ≡ length counts.old }
 {
     law_values_keep_order();

@@ -79,13 +79,18 @@ fn ten_places(table: &Table)
 /// The three sets that win a pot, where the best of the others is known and the last hand is eligible, or isn't.
 #[inline]
 fn sets_of(best: Top, last: u8, plays: bool) -> Rivals
+    // The last hand is one of ten, and so are the best of the others.
     requires last { last < 10 }
     requires room { 2 ^ last ≤ 512 }
     requires small { best.set < 1024 }
+
+    // Who is best of the others wins below that number, shares at it, and loses above it to the last hand, if that plays.
     ensures top { result.top ≡ best.number }
     ensures below { result.below ≡ best.set }
     ensures equal { result.equal ≡ best.set + (if plays then 2 ^ last else 0) }
     ensures above { result.above ≡ (if plays then 2 ^ last else best.set) }
+
+    // Each of the sets is a place of a row.
     ensures below_small { result.below < 2048 }
     ensures equal_small { result.equal < 2048 }
     ensures above_small { result.above < 2048 }
@@ -111,9 +116,16 @@ fn sets_of(best: Top, last: u8, plays: bool) -> Rivals
 /// Who wins a pot, by the number of the last hand.
 #[inline]
 fn rivals_of(table: &Table, pot: u8, last: u8, values: &[u32; 10]) -> Rivals
+    // The pot and the hand are of the table.
     requires inside { pot < table.now.pots }
     requires last { last < table.now.known.count }
-    ensures winner { (value : ℕ) → winner_by result.top result.below result.equal result.above value ≡ best_set (value_with values.now last value) (eligible_in (deal_of table.now) pot) }
+
+    // Whatever the number of the last hand is, the set that it picks of the three is that of the best.
+    ensures winner { (value : ℕ)
+        → winner_by result.top result.below result.equal result.above value
+        ≡ best_set (value_with values.now last value) (eligible_in (deal_of table.now) pot) }
+
+    // Each of them is a set of up to ten hands.
     ensures below { result.below < 1024 }
     ensures equal { result.equal < 1024 }
     ensures above { result.above < 1024 }
@@ -133,14 +145,24 @@ pub(crate) fn count_pots(
     values: &[u32],
     counts: &mut [[u32; 2048]],
 )
+    // The high's row of each pot or the low's, and a hand of the table.
     requires row { row < 2 }
     requires last { last < table.now.known.count }
+
+    // Each pot has its two rows, and each count has room for all of the numbers.
     requires few { length values.now < 2 ^ 32 }
     requires places { 2 * table.now.pots ≤ length counts.old }
-    requires fits { (pot set : ℕ) → pot < table.now.pots → set < 2048 → slice_index (slice_index_or counts.old (2 * pot + row) []) set + length values.now < 2 ^ 32 }
+    requires fits { (pot set : ℕ) → pot < table.now.pots → set < 2048
+        → slice_index (slice_index_or counts.old (2 * pot + row) []) set + length values.now
+        < 2 ^ 32 }
+
+    // For each pot each number adds one to the set of those who are best with it.
     ensures counts { (pot set : ℕ) → pot < table.now.pots → set < 2048
-        → slice_index (slice_index_or counts.new (2 * pot + row) []) set ≡ slice_index (slice_index_or counts.old (2 * pot + row) []) set
-        + count_by (λ value. best_set (value_with numbers.now last value) (eligible_in (deal_of table.now) pot) == set) values.now }
+        → slice_index (slice_index_or counts.new (2 * pot + row) []) set
+        ≡ slice_index (slice_index_or counts.old (2 * pot + row) []) set
+        + count_by
+        (λ value. best_set (value_with numbers.now last value)
+        (eligible_in (deal_of table.now) pot) == set) values.now }
     ensures places { length counts.new ≡ length counts.old }
 {
     for pot in 0..table.pots {
@@ -152,13 +174,20 @@ pub(crate) fn count_pots(
 /// The three sets that win the low of a pot, where 0 is the number of a hand without one: nobody where all have it.
 #[inline]
 fn low_sets_of(best: Top, last: u8, plays: bool) -> Rivals
+    // The last hand is one of ten, and so are the best of the others.
     requires last { last < 10 }
     requires room { 2 ^ last ≤ 512 }
     requires small { best.set < 1024 }
+
+    // As of a high, but that nobody wins with the number 0.
     ensures top { result.top ≡ best.number }
     ensures below { result.below ≡ (if best.number == 0 then 0 else best.set) }
-    ensures equal { result.equal ≡ (if best.number == 0 then 0 else best.set + (if plays then 2 ^ last else 0)) }
-    ensures above { result.above ≡ (if plays then 2 ^ last else (if best.number == 0 then 0 else best.set)) }
+    ensures equal { result.equal
+        ≡ (if best.number == 0 then 0 else best.set + (if plays then 2 ^ last else 0)) }
+    ensures above { result.above
+        ≡ (if plays then 2 ^ last else (if best.number == 0 then 0 else best.set)) }
+
+    // Each of the sets is a place of a row.
     ensures below_small { result.below < 2048 }
     ensures equal_small { result.equal < 2048 }
     ensures above_small { result.above < 2048 }
@@ -178,9 +207,16 @@ fn low_sets_of(best: Top, last: u8, plays: bool) -> Rivals
 /// Who wins the low of a pot, by the number of the last hand.
 #[inline]
 fn low_rivals_of(table: &Table, pot: u8, last: u8, values: &[u32; 10]) -> Rivals
+    // The pot and the hand are of the table.
     requires inside { pot < table.now.pots }
     requires last { last < table.now.known.count }
-    ensures winner { (value : ℕ) → winner_by result.top result.below result.equal result.above value ≡ some_set (value_with values.now last value) (eligible_in (deal_of table.now) pot) }
+
+    // Whatever the number of the last hand is, the set that it picks is that of the best low, or of nobody.
+    ensures winner { (value : ℕ)
+        → winner_by result.top result.below result.equal result.above value
+        ≡ some_set (value_with values.now last value) (eligible_in (deal_of table.now) pot) }
+
+    // Each of the sets is a place of a row.
     ensures below { result.below < 2048 }
     ensures equal { result.equal < 2048 }
     ensures above { result.above < 2048 }
@@ -199,14 +235,26 @@ pub(crate) fn count_lows(
     values: &[u32],
     counts: &mut [[u32; 2048]],
 )
+    // The last hand is of the table, and each pot has its two rows, of which each low's count has room for all numbers.
     requires last { last < table.now.known.count }
     requires few { length values.now < 2 ^ 32 }
     requires places { 2 * table.now.pots ≤ length counts.old }
-    requires fits { (pot set : ℕ) → pot < table.now.pots → set < 2048 → slice_index (slice_index_or counts.old (2 * pot + 1) []) set + length values.now < 2 ^ 32 }
+    requires fits { (pot set : ℕ) → pot < table.now.pots → set < 2048
+        → slice_index (slice_index_or counts.old (2 * pot + 1) []) set + length values.now
+        < 2 ^ 32 }
+
+    // For each pot each number adds one to the set of those who have the best low with it, or to nobody's.
     ensures counts { (pot set : ℕ) → pot < table.now.pots → set < 2048
-        → slice_index (slice_index_or counts.new (2 * pot + 1) []) set ≡ slice_index (slice_index_or counts.old (2 * pot + 1) []) set
-        + count_by (λ value. some_set (value_with numbers.now last value) (eligible_in (deal_of table.now) pot) == set) values.now }
-    ensures highs { (pot set : ℕ) → slice_index (slice_index_or counts.new (2 * pot) []) set ≡ slice_index (slice_index_or counts.old (2 * pot) []) set }
+        → slice_index (slice_index_or counts.new (2 * pot + 1) []) set
+        ≡ slice_index (slice_index_or counts.old (2 * pot + 1) []) set
+        + count_by
+        (λ value. some_set (value_with numbers.now last value)
+        (eligible_in (deal_of table.now) pot) == set) values.now }
+
+    // The high's rows don't change.
+    ensures highs { (pot set : ℕ)
+        → slice_index (slice_index_or counts.new (2 * pot) []) set
+        ≡ slice_index (slice_index_or counts.old (2 * pot) []) set }
     ensures places { length counts.new ≡ length counts.old }
 {
     for pot in 0..table.pots {
@@ -226,15 +274,30 @@ pub(crate) fn count_highs(
     low_values: &[u32],
     counts: &mut [[u32; 2048]],
 )
+    // The last hand is of the table, and each of its numbers has one on the low side.
     requires last { last < table.now.known.count }
     requires same { length low_values.now ≡ length values.now }
+
+    // Each pot has its two rows, of which each high's count has room for all numbers.
     requires places { 2 * table.now.pots ≤ length counts.old }
-    requires fits { (pot set : ℕ) → pot < table.now.pots → set < 2048 → slice_index (slice_index_or counts.old (2 * pot) []) set + length values.now < 2 ^ 32 }
+    requires fits { (pot set : ℕ) → pot < table.now.pots → set < 2048
+        → slice_index (slice_index_or counts.old (2 * pot) []) set + length values.now < 2 ^ 32 }
+
+    // For each pot each number adds one to the set of those who have the best high with it, where its low says.
     ensures counts { (pot set : ℕ) → pot < table.now.pots → set < 2048
-        → slice_index (slice_index_or counts.new (2 * pot) []) set ≡ slice_index (slice_index_or counts.old (2 * pot) []) set
-        + count_both (λ value low. best_set (value_with highs.now last value) (eligible_in (deal_of table.now) pot)
-        + low_mark (some_set (value_with lows.now last low) (eligible_in (deal_of table.now) pot)) == set) values.now low_values.now }
-    ensures lows { (pot set : ℕ) → slice_index (slice_index_or counts.new (2 * pot + 1) []) set ≡ slice_index (slice_index_or counts.old (2 * pot + 1) []) set }
+        → slice_index (slice_index_or counts.new (2 * pot) []) set
+        ≡ slice_index (slice_index_or counts.old (2 * pot) []) set
+        + count_both
+        (λ value low. best_set (value_with highs.now last value)
+        (eligible_in (deal_of table.now) pot)
+        + low_mark
+        (some_set (value_with lows.now last low) (eligible_in (deal_of table.now) pot)) == set)
+        values.now low_values.now }
+
+    // The low's rows don't change.
+    ensures lows { (pot set : ℕ)
+        → slice_index (slice_index_or counts.new (2 * pot + 1) []) set
+        ≡ slice_index (slice_index_or counts.old (2 * pot + 1) []) set }
     ensures places { length counts.new ≡ length counts.old }
 {
     for pot in 0..table.pots {

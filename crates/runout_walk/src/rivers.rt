@@ -49,12 +49,23 @@ pub fn are_rivers(table: &Table, shape: &Shape) -> bool
 
 /// What each hand is worth with a full board, as a high if there were no flushes.
 fn worths_at(known: &Known, board: CardSet) -> Worths
+    // The game has a board, and each hand has all its own cards.
     requires dealt { IsTrue (has_board known.now.game) }
-    requires own { (h : ℕ) → h < length (state_of known.now).hands → length (slice_index_or (state_of known.now).hands h []) ≡ own_size known.now.game }
+    requires own { (h : ℕ) → h < length (state_of known.now).hands
+        → length (slice_index_or (state_of known.now).hands h []) ≡ own_size known.now.game }
+
+    // The board is full, and no hand has a card of it.
     requires five { length board ≡ 5 }
-    requires away { (h : ℕ) → h < length (state_of known.now).hands → IsTrue (apart (slice_index_or (state_of known.now).hands h []) board) }
-    ensures highs { (h : ℕ) → h < length (state_of known.now).hands → slice_index result.highs h ≡ plain_number known.now.game (slice_index_or (state_of known.now).hands h []) board }
-    ensures lows { (h : ℕ) → h < length (state_of known.now).hands → number_of result.lows h ≡ low_number known.now.game (slice_index_or (state_of known.now).hands h []) board }
+    requires away { (h : ℕ) → h < length (state_of known.now).hands
+        → IsTrue (apart (slice_index_or (state_of known.now).hands h []) board) }
+
+    // Flushes are left aside; only the high has them.
+    ensures highs { (h : ℕ) → h < length (state_of known.now).hands
+        → slice_index result.highs h
+        ≡ plain_number known.now.game (slice_index_or (state_of known.now).hands h []) board }
+    ensures lows { (h : ℕ) → h < length (state_of known.now).hands
+        → number_of result.lows h
+        ≡ low_number known.now.game (slice_index_or (state_of known.now).hands h []) board }
 {
     let mut highs = [0; 10];
     let mut lows = [None; 10];
@@ -90,8 +101,10 @@ impl Won {
 
     /// Who wins by what the hands are worth.
     fn by(table: &Table, worths: &Worths) -> Won
-        ensures { (pot : ℕ) (runout : List (List ℕ)) → pot < table.now.pots → AreWorthsAfter (state_of table.now.known) runout worths.now
-            → IsWonBy (deal_of table.now) pot runout (slice_index result.highs pot) (slice_index result.lows pot) }
+        ensures { (pot : ℕ) (runout : List (List ℕ)) → pot < table.now.pots
+            → AreWorthsAfter (state_of table.now.known) runout worths.now
+            → IsWonBy (deal_of table.now) pot runout (slice_index result.highs pot)
+            (slice_index result.lows pot) }
     {
         ten_places(table);
         let mut highs = [0; 10];
@@ -141,8 +154,10 @@ fn full_board(spot: &Spot, card: Card) -> CardSet
 fn high_winners(spot: &Spot, won: &Won, card: Card, pot: u8) -> u16
     requires member { HasMember (runouts_after (state_of spot.now.table.known)) ((card ∷ []) ∷ []) }
     requires pot { pot < spot.now.table.pots }
-    requires won { IsWonBy (deal_of spot.now.table) pot ((card ∷ []) ∷ []) (slice_index won.now.highs pot) (slice_index won.now.lows pot) }
-    ensures value { result ≡ side_outcome Side.High (deal_of spot.now.table) pot ((card ∷ []) ∷ []) }
+    requires won { IsWonBy (deal_of spot.now.table) pot ((card ∷ []) ∷ [])
+        (slice_index won.now.highs pot) (slice_index won.now.lows pot) }
+    ensures value { result
+        ≡ side_outcome Side.High (deal_of spot.now.table) pot ((card ∷ []) ∷ []) }
     ensures small { result < 1024 }
 {
     law_values_keep_order();
@@ -157,11 +172,19 @@ fn high_winners(spot: &Spot, won: &Won, card: Card, pot: u8) -> u16
 
 /// Counts the runout of a last card for each pot.
 fn count_river(spot: &Spot, won: &Won, card: Card, counts: &mut [[u32; 2048]])
+    // The card completes a runout, and flushes aside it is known who wins each pot with it.
     requires member { HasMember (runouts_after (state_of spot.now.table.known)) ((card ∷ []) ∷ []) }
-    requires won { (pot : ℕ) → pot < length (deal_of spot.now.table).pots → IsWonBy (deal_of spot.now.table) pot ((card ∷ []) ∷ []) (slice_index won.now.highs pot) (slice_index won.now.lows pot) }
+    requires won { (pot : ℕ) → pot < length (deal_of spot.now.table).pots
+        → IsWonBy (deal_of spot.now.table) pot ((card ∷ []) ∷ []) (slice_index won.now.highs pot)
+        (slice_index won.now.lows pot) }
+
+    // Each pot has its two rows, and each of their counts has room for one more.
     requires places { 2 * length (deal_of spot.now.table).pots ≤ length counts.old }
     requires fits { CountsFit (deal_of spot.now.table) counts.old 1 }
-    ensures counts { CountsGrow (deal_of spot.now.table) (((card ∷ []) ∷ []) ∷ []) counts.old counts.new }
+
+    // The runout is counted for each pot, a flush too.
+    ensures counts { CountsGrow (deal_of spot.now.table)
+        (((card ∷ []) ∷ []) ∷ []) counts.old counts.new }
     ensures places { length counts.new ≡ length counts.old }
 {
     ten_pots(&spot.table);

@@ -67,18 +67,28 @@ impl Row {
     /// Puts who wins at a place.
     #[inline]
     pub(crate) fn put(&mut self, place: usize, ends: Ends)
+        // There is a place for each two ranks, and the sets are of up to ten hands, the high's with the mark of a low.
         requires place { place < 169 }
         requires main { ends.main < 2048 }
         requires low { ends.low < 1024 }
+
+        // The row stays that of its pot and its first cards.
         ensures pot { self.new.pot ≡ self.old.pot }
         ensures ranks { self.new.ranks ≡ self.old.ranks }
         ensures least { self.new.least ≡ self.old.least }
+
+        // At the place it says who wins, and what the best high is worth by ranks alone.
         ensures main { slice_index self.new.mains place ≡ ends.main }
         ensures low { slice_index self.new.lows place ≡ ends.low }
         ensures top { slice_index self.new.tops place ≡ ends.top }
-        ensures mains { (other : ℕ) → other ≢ place → slice_index self.new.mains other ≡ slice_index self.old.mains other }
-        ensures lows { (other : ℕ) → other ≢ place → slice_index self.new.lows other ≡ slice_index self.old.lows other }
-        ensures tops { (other : ℕ) → other ≢ place → slice_index self.new.tops other ≡ slice_index self.old.tops other }
+
+        // At every other place it says what it said.
+        ensures mains { (other : ℕ) → other ≢ place
+            → slice_index self.new.mains other ≡ slice_index self.old.mains other }
+        ensures lows { (other : ℕ) → other ≢ place
+            → slice_index self.new.lows other ≡ slice_index self.old.lows other }
+        ensures tops { (other : ℕ) → other ≢ place
+            → slice_index self.new.tops other ≡ slice_index self.old.tops other }
     {
         self.mains[place] = ends.main;
         self.lows[place] = ends.low;

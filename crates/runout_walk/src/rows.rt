@@ -82,9 +82,12 @@ impl Rows {
     fn has_one(&self, place: usize, pot: u8, ranks: &[u8; 3], least: u8) -> bool
         requires { place < 192 }
         ensures live { IsTrue result → slice_get self.now.live place ≡ Some true }
-        ensures pot { (row : Row) → IsTrue result → slice_get self.now.rows place ≡ Some row → row.pot ≡ pot }
-        ensures ranks { (row : Row) → IsTrue result → slice_get self.now.rows place ≡ Some row → row.ranks ≡ ranks.now }
-        ensures least { (row : Row) → IsTrue result → slice_get self.now.rows place ≡ Some row → row.least ≡ least }
+        ensures pot { (row : Row) → IsTrue result → slice_get self.now.rows place ≡ Some row
+            → row.pot ≡ pot }
+        ensures ranks { (row : Row) → IsTrue result → slice_get self.now.rows place ≡ Some row
+            → row.ranks ≡ ranks.now }
+        ensures least { (row : Row) → IsTrue result → slice_get self.now.rows place ≡ Some row
+            → row.least ≡ least }
     {
         self.live[place] && self.rows[place].is_for(pot, ranks, least)
     }
@@ -93,10 +96,14 @@ impl Rows {
     #[inline]
     fn has_all(&self, base: usize, pots: u8, ranks: &[u8; 3], least: u8) -> bool
         requires { base + pots ≤ 192 }
-        ensures live { (pot : ℕ) → IsTrue result → pot < pots → slice_get self.now.live (base + pot) ≡ Some true }
-        ensures pot { (pot : ℕ) (row : Row) → IsTrue result → pot < pots → slice_get self.now.rows (base + pot) ≡ Some row → row.pot ≡ pot }
-        ensures ranks { (pot : ℕ) (row : Row) → IsTrue result → pot < pots → slice_get self.now.rows (base + pot) ≡ Some row → row.ranks ≡ ranks.now }
-        ensures least { (pot : ℕ) (row : Row) → IsTrue result → pot < pots → slice_get self.now.rows (base + pot) ≡ Some row → row.least ≡ least }
+        ensures live { (pot : ℕ) → IsTrue result → pot < pots
+            → slice_get self.now.live (base + pot) ≡ Some true }
+        ensures pot { (pot : ℕ) (row : Row) → IsTrue result → pot < pots
+            → slice_get self.now.rows (base + pot) ≡ Some row → row.pot ≡ pot }
+        ensures ranks { (pot : ℕ) (row : Row) → IsTrue result → pot < pots
+            → slice_get self.now.rows (base + pot) ≡ Some row → row.ranks ≡ ranks.now }
+        ensures least { (pot : ℕ) (row : Row) → IsTrue result → pot < pots
+            → slice_get self.now.rows (base + pot) ≡ Some row → row.least ≡ least }
     {
         for pot in 0..pots {
             if !self.has_one(base + usize::from(pot), pot, ranks, least) {
@@ -109,10 +116,15 @@ impl Rows {
     /// Makes a row of each pot for first cards of the board stand in its place, where it isn't kept, and gives the place of the first.
     #[inline]
     pub(crate) fn ready(&mut self, table: &Table, taken: CardSet) -> usize
+        // The game has a board, which lacks two cards behind the first ones; the hands are full, and the rows in use are right.
         requires dealt { IsTrue (has_board table.now.known.game) }
         requires right { AreRows (deal_of table.now) self.old.live self.old.rows }
         requires first { AreFirst (state_of table.now.known) taken }
-        requires own { (h : ℕ) → h < length (state_of table.now.known).hands → length (slice_index_or (state_of table.now.known).hands h []) ≡ own_size table.now.known.game }
+        requires own { (h : ℕ) → h < length (state_of table.now.known).hands
+            → length (slice_index_or (state_of table.now.known).hands h [])
+            ≡ own_size table.now.known.game }
+
+        // From that place on there is a row for each pot, with these first cards, and the rows in use are right.
         ensures place { result + table.now.pots ≤ 192 }
         ensures rows { AreRowsFor (deal_of table.now) table.now.pots taken self.new.rows result }
         ensures right { AreRows (deal_of table.now) self.new.live self.new.rows }
@@ -131,7 +143,8 @@ impl Rows {
     fn set_live(&mut self, base: usize, pots: u8, live: bool)
         requires { base + pots ≤ 192 }
         ensures here { (pot : ℕ) → pot < pots → slice_get self.new.live (base + pot) ≡ Some live }
-        ensures away { (i : ℕ) → IsAway base pots i → slice_get self.new.live i ≡ slice_get self.old.live i }
+        ensures away { (i : ℕ) → IsAway base pots i
+            → slice_get self.new.live i ≡ slice_get self.old.live i }
         ensures rows { self.new.rows ≡ self.old.rows }
     {
         self.places();
@@ -143,13 +156,23 @@ impl Rows {
     /// Fills the rows for first cards of the board, whose ranks are given, in their places from one on. They are out of use meanwhile.
     #[inline(never)]
     fn put(&mut self, base: usize, table: &Table, taken: CardSet, ranks: [u8; 3], least: u8)
+        // From the place on there is a row for each pot.
         requires place { base + table.now.pots ≤ 192 }
+
+        // The game has a board, which lacks two cards behind the first ones; the hands are full, and the rows in use are right.
         requires dealt { IsTrue (has_board table.now.known.game) }
         requires right { AreRows (deal_of table.now) self.old.live self.old.rows }
         requires first { AreFirst (state_of table.now.known) taken }
-        requires own { (h : ℕ) → h < length (state_of table.now.known).hands → length (slice_index_or (state_of table.now.known).hands h []) ≡ own_size table.now.known.game }
+        requires own { (h : ℕ) → h < length (state_of table.now.known).hands
+            → length (slice_index_or (state_of table.now.known).hands h [])
+            ≡ own_size table.now.known.game }
+
+        // The ranks are those of the first cards, and no card that may follow them has a rank below the least.
         requires ranks { AreRanksOf ranks taken }
-        requires least { (card : ℕ) (more : List ℕ) → IsRising (taken ++ card ∷ more) → least ≤ rank_of card }
+        requires least { (card : ℕ) (more : List ℕ) → IsRising (taken ++ card ∷ more)
+            → least ≤ rank_of card }
+
+        // From the place on each pot's row is one for the first cards, and the rows in use are right.
         ensures rows { AreRowsFor (deal_of table.now) table.now.pots taken self.new.rows base }
         ensures right { AreRows (deal_of table.now) self.new.live self.new.rows }
     {
@@ -163,7 +186,8 @@ impl Rows {
     #[inline]
     pub(crate) fn stretch(&self, base: usize, pots: u8) -> &[Row]
         requires { base + pots ≤ 192 }
-        ensures rows { (pot : ℕ) (row : Row) → slice_get result.now pot ≡ Some row → (pot < pots) × (slice_get self.now.rows (base + pot) ≡ Some row) }
+        ensures rows { (pot : ℕ) (row : Row) → slice_get result.now pot ≡ Some row
+            → (pot < pots) × (slice_get self.now.rows (base + pot) ≡ Some row) }
         ensures count { length result.now ≡ pots }
     {
         self.places();

@@ -41,17 +41,27 @@ pub(crate) struct Ends {
 
 /// What each hand is worth with first cards of the board and one card of each of two ranks more, as a high if there were no flushes.
 pub(crate) fn worths_with(known: &Known, taken: CardSet, low: u8, high: u8) -> Worths
+    // The game has a board, which lacks two cards behind the first ones, and each hand has all its own cards.
     requires dealt { IsTrue (has_board known.now.game) }
     requires first { AreFirst (state_of known.now) taken }
-    requires own { (h : ℕ) → h < length (state_of known.now).hands → length (slice_index_or (state_of known.now).hands h []) ≡ own_size known.now.game }
+    requires own { (h : ℕ) → h < length (state_of known.now).hands
+        → length (slice_index_or (state_of known.now).hands h []) ≡ own_size known.now.game }
+
+    // Any two ranks, or one twice.
     requires low { low < 13 }
     requires high { high < 13 }
+
+    // This holds of each full board of such cards, whichever they are; where there is none it says nothing.
     ensures highs { (h : ℕ) (full : List ℕ) → h < length (state_of known.now).hands
-        → IsBoardWith (slice_index_or (state_of known.now).hands h []) (union (state_of known.now).board taken) low high full
-        → slice_index result.highs h ≡ plain_number known.now.game (slice_index_or (state_of known.now).hands h []) full }
+        → IsBoardWith (slice_index_or (state_of known.now).hands h [])
+        (union (state_of known.now).board taken) low high full
+        → slice_index result.highs h
+        ≡ plain_number known.now.game (slice_index_or (state_of known.now).hands h []) full }
     ensures lows { (h : ℕ) (full : List ℕ) → h < length (state_of known.now).hands
-        → IsBoardWith (slice_index_or (state_of known.now).hands h []) (union (state_of known.now).board taken) low high full
-        → number_of result.lows h ≡ low_number known.now.game (slice_index_or (state_of known.now).hands h []) full }
+        → IsBoardWith (slice_index_or (state_of known.now).hands h [])
+        (union (state_of known.now).board taken) low high full
+        → number_of result.lows h
+        ≡ low_number known.now.game (slice_index_or (state_of known.now).hands h []) full }
 {
     known.board.rising();
     taken.rising();
@@ -80,7 +90,9 @@ pub(crate) fn low_mark(low: u16) -> u16
 /// Who wins both sides of a pot by what the hands are worth.
 pub(crate) fn pot_ends(table: &Table, pot: u8, worths: &Worths) -> Ends
     requires { pot < table.now.pots }
-    ensures best { (runout : List (List ℕ)) → AreWorthsAfter (state_of table.now.known) runout worths.now → IsBestOf (deal_of table.now) pot runout result.main result.low result.top }
+    ensures best { (runout : List (List ℕ))
+        → AreWorthsAfter (state_of table.now.known) runout worths.now
+        → IsBestOf (deal_of table.now) pot runout result.main result.low result.top }
     ensures main { result.main < 2048 }
     ensures low { result.low < 1024 }
 {

@@ -36,14 +36,16 @@ pub(crate) struct Spot {
     /// The board is a set.
     pub(crate) ghost board: { IsCardSet table.known.board },
     /// The hands are sets.
-    pub(crate) ghost hands: { (h : ℕ) → h < length (state_of table.known).hands → IsCardSet (slice_index_or (state_of table.known).hands h []) },
+    pub(crate) ghost hands: { (h : ℕ) → h < length (state_of table.known).hands
+        → IsCardSet (slice_index_or (state_of table.known).hands h []) },
     /// There are so many pots.
     pub(crate) ghost pots: { length (deal_of table).pots ≡ table.pots },
 }
 
 /// Each hand is a set.
 fn hands_are_sets(known: &Known)
-    ensures { (h : ℕ) → h < length (state_of known.now).hands → IsCardSet (slice_index_or (state_of known.now).hands h []) }
+    ensures { (h : ℕ) → h < length (state_of known.now).hands
+        → IsCardSet (slice_index_or (state_of known.now).hands h []) }
 {
     let hands = &known.hands[..known.count as usize];
     for own in hands {

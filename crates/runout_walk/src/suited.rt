@@ -33,10 +33,14 @@ use showdown_tally::{Table, flush_suit, law_values_keep_order};
 /// What each hand is worth as a high with a full board.
 fn highs_with(known: &Known, board: CardSet) -> [u32; 10]
     requires dealt { IsTrue (has_board known.now.game) }
-    requires own { (h : ℕ) → h < length (state_of known.now).hands → length (slice_index_or (state_of known.now).hands h []) ≡ own_size known.now.game }
+    requires own { (h : ℕ) → h < length (state_of known.now).hands
+        → length (slice_index_or (state_of known.now).hands h []) ≡ own_size known.now.game }
     requires five { length board ≡ 5 }
-    requires away { (h : ℕ) → h < length (state_of known.now).hands → IsTrue (apart (slice_index_or (state_of known.now).hands h []) board) }
-    ensures { (h : ℕ) → h < length (state_of known.now).hands → slice_index result h ≡ high_number known.now.game (slice_index_or (state_of known.now).hands h []) board }
+    requires away { (h : ℕ) → h < length (state_of known.now).hands
+        → IsTrue (apart (slice_index_or (state_of known.now).hands h []) board) }
+    ensures { (h : ℕ) → h < length (state_of known.now).hands
+        → slice_index result h
+        ≡ high_number known.now.game (slice_index_or (state_of known.now).hands h []) board }
 {
     let mut highs = [0; 10];
     let hands = &known.hands[..known.count as usize];
@@ -49,12 +53,25 @@ fn highs_with(known: &Known, board: CardSet) -> [u32; 10]
 /// Who has the best high of a pot with a full board, hand by hand.
 #[inline(never)]
 pub(crate) fn high_set(table: &Table, pot: u8, board: CardSet) -> u16
+    // The game has a board, and each hand has all its own cards.
     requires dealt { IsTrue (has_board table.now.known.game) }
-    requires own { (h : ℕ) → h < length (state_of table.now.known).hands → length (slice_index_or (state_of table.now.known).hands h []) ≡ own_size table.now.known.game }
+    requires own { (h : ℕ) → h < length (state_of table.now.known).hands
+        → length (slice_index_or (state_of table.now.known).hands h [])
+        ≡ own_size table.now.known.game }
+
+    // The board is full, and no hand has a card of it.
     requires five { length board ≡ 5 }
-    requires away { (h : ℕ) → h < length (state_of table.now.known).hands → IsTrue (apart (slice_index_or (state_of table.now.known).hands h []) board) }
+    requires away { (h : ℕ) → h < length (state_of table.now.known).hands
+        → IsTrue (apart (slice_index_or (state_of table.now.known).hands h []) board) }
+
+    // The pot is one of the table.
     requires pot { pot < table.now.pots }
-    ensures set { (value : ℕ → ℕ) → ((h : ℕ) → h < length (state_of table.now.known).hands → high_number table.now.known.game (slice_index_or (state_of table.now.known).hands h []) board ≡ value h)
+
+    // Whatever says what each hand is worth as a high, these are the best of the pot's hands by it.
+    ensures set { (value : ℕ → ℕ)
+        → ((h : ℕ) → h < length (state_of table.now.known).hands
+        → high_number table.now.known.game
+        (slice_index_or (state_of table.now.known).hands h []) board ≡ value h)
         → result ≡ best_set value (eligible_in (deal_of table.now) pot) }
     ensures small { result < 1024 }
 {
@@ -89,8 +106,10 @@ fn bit_in(card: Card, suit: u8) -> u32 {
 #[inline]
 fn board_part(spot: &Spot, front: &Front, pair: &Pair, first: u8) -> Option<Suited>
     requires first { first < 4 }
-    requires member { HasMember (runouts_after (state_of spot.now.table.known)) ((front.now.taken ++ cards_of_pair pair.now) ∷ []) }
-    ensures { IsPart (state_of spot.now.table.known) ((front.now.taken ++ cards_of_pair pair.now) ∷ []) result }
+    requires member { HasMember (runouts_after (state_of spot.now.table.known))
+        ((front.now.taken ++ cards_of_pair pair.now) ∷ []) }
+    ensures { IsPart (state_of spot.now.table.known)
+        ((front.now.taken ++ cards_of_pair pair.now) ∷ []) result }
 {
     let table = &spot.table;
     table.known.board.rising();
@@ -115,8 +134,10 @@ fn board_part(spot: &Spot, front: &Front, pair: &Pair, first: u8) -> Option<Suit
 pub(crate) fn suited_part(spot: &Spot, front: &Front, pair: &Pair) -> Option<Suited>
     requires suits { AreFivesWith spot.now.most front.now.taken front.now.suits }
     requires places { length front.now.suits ≡ 16 }
-    requires member { HasMember (runouts_after (state_of spot.now.table.known)) ((front.now.taken ++ cards_of_pair pair.now) ∷ []) }
-    ensures { IsPart (state_of spot.now.table.known) ((front.now.taken ++ cards_of_pair pair.now) ∷ []) result }
+    requires member { HasMember (runouts_after (state_of spot.now.table.known))
+        ((front.now.taken ++ cards_of_pair pair.now) ∷ []) }
+    ensures { IsPart (state_of spot.now.table.known)
+        ((front.now.taken ++ cards_of_pair pair.now) ∷ []) result }
 {
     let first = front.suits[usize::from(pair.suits)];
     if first > 3 {
@@ -136,13 +157,26 @@ pub(crate) fn suited_place(
     pair: &Pair,
     part: &Suited,
 ) -> Place
+    // The pot is one of the table, and its row is one for the first cards.
     requires row { IsRowFor (deal_of spot.now.table) pot taken row.now }
     requires pot { pot < spot.now.table.pots }
-    requires member { HasMember (runouts_after (state_of spot.now.table.known)) ((taken ++ cards_of_pair pair.now) ∷ []) }
-    requires part { IsFlushPart (state_of spot.now.table.known) ((taken ++ cards_of_pair pair.now) ∷ []) part.now.board part.now.cards part.now.suit }
+
+    // With the pair they are a runout, after which a hand is worth its ranks or its flush with the part's cards.
+    requires member { HasMember (runouts_after (state_of spot.now.table.known))
+        ((taken ++ cards_of_pair pair.now) ∷ []) }
+    requires part { IsFlushPart (state_of spot.now.table.known)
+        ((taken ++ cards_of_pair pair.now) ∷ []) part.now.board part.now.cards part.now.suit }
+
+    // What is kept of flushes is right where it bears the deal's number.
     requires flushes { AreFlushes (deal_of spot.now.table) flushes.old }
-    ensures main { result.main ≡ count_place (deal_of spot.now.table) pot Side.High ((taken ++ cards_of_pair pair.now) ∷ []) }
-    ensures low { result.low ≡ count_place (deal_of spot.now.table) pot Side.Low ((taken ++ cards_of_pair pair.now) ∷ []) }
+
+    // By the definition the runout is counted at these places, and what is kept of flushes stays right.
+    ensures main { result.main
+        ≡ count_place (deal_of spot.now.table) pot Side.High
+        ((taken ++ cards_of_pair pair.now) ∷ []) }
+    ensures low { result.low
+        ≡ count_place (deal_of spot.now.table) pot Side.Low
+        ((taken ++ cards_of_pair pair.now) ∷ []) }
     ensures few_mains { result.main < 2048 }
     ensures few_lows { result.low < 1024 }
     ensures flushes { AreFlushes (deal_of spot.now.table) flushes.new }

@@ -39,7 +39,8 @@ fn sums(a: [u32; 4], b: [u32; 4]) -> [u32; 4]
 fn greater(a: [u32; 4], b: [u32; 4]) -> [u32; 4]
     ensures left { (s : ℕ) → s < 4 → slice_index a s ≤ slice_index result s }
     ensures right { (s : ℕ) → s < 4 → slice_index b s ≤ slice_index result s }
-    ensures bound { (most : ℕ) → ((s : ℕ) → slice_index a s ≤ most) → ((s : ℕ) → slice_index b s ≤ most) → (s : ℕ) → slice_index result s ≤ most }
+    ensures bound { (most : ℕ) → ((s : ℕ) → slice_index a s ≤ most)
+        → ((s : ℕ) → slice_index b s ≤ most) → (s : ℕ) → slice_index result s ≤ most }
 {
     [
         a[0].max(b[0]),
@@ -73,7 +74,8 @@ fn flush_part(game: Game, own: CardSet, suit: u8) -> u32
 #[inline]
 fn flush_counts(game: Game, own: CardSet, board: [u32; 4]) -> [u32; 4]
     requires { (s : ℕ) → slice_index board s ≤ 52 }
-    ensures value { (s : ℕ) → s < 4 → slice_index result s ≡ flush_part game (count_of_suit own s) + slice_index board s }
+    ensures value { (s : ℕ) → s < 4
+        → slice_index result s ≡ flush_part game (count_of_suit own s) + slice_index board s }
     ensures bound { (s : ℕ) → slice_index result s ≤ 104 }
 {
     [
@@ -164,7 +166,8 @@ fn are_few(counts: [u32; 4]) -> bool
 #[inline]
 pub(crate) fn suits_for(most: [u32; 4], taken: CardSet) -> Option<[u8; 16]>
     requires { (s : ℕ) → slice_index most s ≤ 104 }
-    ensures { MatchOption result (AreAllShort most taken) (λ suits. AreFivesWith most taken suits × (length suits ≡ 16)) }
+    ensures { MatchOption result (AreAllShort most taken)
+        (λ suits. AreFivesWith most taken suits × (length suits ≡ 16)) }
 {
     let counts = suit_counts(taken);
     let together = sums(most, counts);

@@ -22,12 +22,19 @@ pub(crate) struct Worth {
 /// What full own cards are worth with three cards of the board and one card of each of two ranks more, whichever cards these are: as a
 /// high, if there were no flushes, and as a low. Where there are no such cards the answer says nothing.
 pub(crate) fn worth_with(game: Game, own: CardSet, board: CardSet, low: u8, high: u8) -> Worth
+    // The game has a board, and these are all own cards of a hand.
     requires game { IsTrue (has_board game) }
     requires own { length own ≡ own_size game }
+
+    // The board has three cards, none of which is an own card.
     requires board { length board ≡ 3 }
     requires apart { IsTrue (apart own board) }
+
+    // Any two ranks, or one twice.
     requires low { low < 13 }
     requires high { high < 13 }
+
+    // Both numbers hold of each full board of such cards.
     ensures { AreWorthWith game own board low high result.high result.low }
 {
     own.rising();

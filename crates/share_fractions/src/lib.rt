@@ -1,4 +1,12 @@
 //! Fractions of whole numbers, rounded once, and their text with a fixed number of decimal places.
+//!
+//! 1. *Rounding* (`rounded`). The fraction in units of its last place and a half are added as one fraction,
+//!    and its whole part is the rounded number. So there is one division, and nothing is rounded twice. It is
+//!    one of 64 bits where both numbers fit, which takes a fraction of the time.
+//! 2. *Text* (`Fixed::write`). The whole part, a point and the last digits one by one, into bytes that are
+//!    lent.
+//!
+//! The crate has no floating point, takes no memory, and knows nothing of cards or money.
 #![tactic(auto)]
 
 ghost use Rattle.std.specs.Prelude.{◌≡◌, ℕ, ◌+◌, ◌*◌, ◌/◌, ◌%◌, ◌<◌, ◌≤◌, ◌^◌, ◌++◌, length, take, drop};
@@ -17,7 +25,9 @@ pub const LONGEST_TEXT: usize = 44;
 /// A number as a count of units of its last decimal place: 9545 with 2 places is 95.45.
 #[derive(Clone, Copy, Debug, PartialEq, Eq)]
 pub struct Fixed {
+    /// The number, in units of its last place.
     pub whole: u128,
+    /// How many decimal places it has.
     pub places: u32,
 }
 
@@ -66,10 +76,13 @@ fn last_digit(number: u128) -> u8
 
 /// The fraction with so many decimal places, rounded once, a half up.
 pub fn rounded(numerator: u128, denominator: u128, places: u32) -> Fixed
+    // There is a denominator, and the sum that is divided fits 128 bits.
     requires some { 0 < denominator }
     requires small { numerator ≤ 2 * 10 ^ 32 }
     requires small_too { denominator ≤ 10 ^ 32 }
     requires few { places ≤ 4 }
+
+    // It is the rounded fraction, with the places that were asked for.
     ensures value { result.whole ≡ round numerator denominator places }
     ensures places { result.places ≡ places }
 {

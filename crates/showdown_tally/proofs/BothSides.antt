@@ -16,8 +16,8 @@ use Rattle.card_sets.specs.Games.{allowed, has_side}
 use Rattle.card_sets.specs.declared.games.Game.{Game}
 use Rattle.rank_high.specs.High.{high, greatest_of}
 use mathlib.Core.Bool.{true≢false}
-use Rattle.showdown_tally.proofs.Tops.{and-false, plus_none, none_plus}
-use Rattle.showdown_tally.proofs.Shares.{sum_passed, whole_parts, all_among, some_winner}
+use Rattle.showdown_tally.proofs.MaskWinners.{and-false, plus_none, none_plus}
+use Rattle.showdown_tally.proofs.WholePots.{sum_passed, whole_parts, all_among, some_winner}
 
 -- what stands on the high side leaves the low side
 pub high_leaves_low : (pot mask : ℕ) (tops : List ℕ) (n p h : ℕ) → side_cells pot High mask tops n p h Low ≡ no_runout

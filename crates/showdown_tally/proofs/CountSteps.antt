@@ -16,9 +16,9 @@ use Rattle.showdown_tally.specs.Showdown.{is_among, part_of}
 use Rattle.showdown_tally.specs.declared.cells.Cell.{Cell}
 use Rattle.showdown_tally.specs.declared.cells.Outcome.{Outcome}
 use Rattle.showdown_tally.specs.declared.cells.Outcome.TheVariants.{Win, Tie, Lose}
-use Rattle.showdown_tally.proofs.Grown.{Grows-join, Grows-same, plus_assoc}
+use Rattle.showdown_tally.proofs.GrownSums.{Grows-join, Grows-same, plus_assoc}
 use Rattle.showdown_tally.proofs.SetFacts.{one_pot_more, one_pot_more_units}
-use Rattle.showdown_tally.proofs.Tops.{and-false, none_plus, plus_none}
+use Rattle.showdown_tally.proofs.MaskWinners.{and-false, none_plus, plus_none}
 use Rattle.showdown_tally.proofs.Winners.{is_set}
 
 -- a set that never wins gives nothing

@@ -14,7 +14,7 @@ use Rattle.showdown_tally.specs.SetShares.{sum_below}
 use Rattle.showdown_tally.specs.Showdown.{Showdown, eligible_in, is_beaten_by, value_after, winners}
 use Rattle.showdown_tally.specs.SideCounts.{count_place}
 use Rattle.showdown_tally.specs.Sides.{side_outcome}
-use Rattle.showdown_tally.proofs.Classes.{by_classes, below_same, by_same}
+use Rattle.showdown_tally.proofs.ClassSums.{by_classes, below_same, by_same}
 use Rattle.showdown_tally.proofs.SetMasks.{mask_hands, mask_below}
 
 -- a sum of two sums

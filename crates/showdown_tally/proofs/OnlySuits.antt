@@ -8,10 +8,8 @@ use Rattle.card_sets.specs.SuitBits.{filter-where}
 use Rattle.card_sets.specs.Disjoint.{apart}
 use Rattle.rank_high.specs.High.{value_of, best_high}
 use Rattle.rank_high.specs.Parts.{of_suit, best_plain, suited}
-use Rattle.rank_high.proofs.Parts.{best_high-IsByRanksOrSuit, suited-short}
-use Rattle.rank_high.proofs.SetParts.{set-part, Apart-parts}
-use Rattle.rank_high.proofs.Sets.{Apart-apart, length-union}
-use Rattle.rank_high.proofs.Sublists.{IsPart, part_of_passing}
+use Rattle.rank_high.proofs.CallerLemmas.{best_high-IsByRanksOrSuit, suited-short}
+use Rattle.card_sets.proofs.CallerLemmas.{set-part, Apart-parts, Apart-apart, length-union, IsPart, part_of_passing}
 use Rattle.showdown_tally.specs.Flushes.{IsOnlySuit}
 
 self_part : (xs : List ℕ) → IsPart xs xs

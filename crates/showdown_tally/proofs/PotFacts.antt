@@ -17,10 +17,10 @@ use Rattle.showdown_tally.specs.Settling.{tops_of, cell_by, ended}
 use Rattle.showdown_tally.specs.Showdown.{best, is_beaten_by, Showdown, is_among, winners_of, winners, eligible_in, own_after, board_after, value_after, wins, ties, loses, units, units_by_sides, has_two_sides}
 use Rattle.showdown_tally.specs.Tallies.{cell_over}
 use Rattle.showdown_tally.specs.Pots.{pots_cells, pots_units}
-use Rattle.showdown_tally.proofs.Tops.{among_one, some_among, or-false, and-false}
+use Rattle.showdown_tally.proofs.MaskWinners.{among_one, some_among, or-false, and-false}
 use Rattle.showdown_tally.proofs.Winners.{hands_short, is_set}
 use Rattle.showdown_tally.proofs.SideWinners.{KeptSide, side_winners-tops}
-use Rattle.showdown_tally.proofs.Full.{list_all-index}
+use Rattle.showdown_tally.proofs.FullHands.{list_all-index}
 
 -- the eligible hands of a pot, and of a pot that there isn't
 pub eligible_pot : (deal : Showdown) (pots : ℕ) (masks : List ℕ) (count pot : ℕ) → deal.pots ≡ map hands_of (take pots masks) → pot < length (take pots masks) → all_within count masks ≡ true → count ≤ 10

@@ -12,7 +12,7 @@ use Rattle.showdown_tally.specs.Settling.{ended, side_units, game_cells, game_un
 use Rattle.showdown_tally.specs.Showdown.{Showdown, is_among, winners, eligible_in, units, units_by_sides, has_two_sides, part_of}
 use Rattle.showdown_tally.specs.Tallies.{cell_over}
 use Rattle.showdown_tally.specs.Pots.{pots_cells, pots_units}
-use Rattle.showdown_tally.proofs.Tops.{plus_none, none_plus}
+use Rattle.showdown_tally.proofs.MaskWinners.{plus_none, none_plus}
 use Rattle.showdown_tally.proofs.Winners.{is_set}
 use Rattle.showdown_tally.proofs.BothSides.{units-both}
 use Rattle.showdown_tally.proofs.PotFacts.{side_tops, pot_cell, no_side, beyond_cell, beyond_units}

@@ -10,7 +10,7 @@ use Rattle.card_sets.specs.PlayerSets.{hands_below}
 use Rattle.showdown_tally.specs.declared.cells.Cell.{Cell}
 use Rattle.showdown_tally.specs.declared.cells.Outcome.TheVariants.{Win, Tie, Lose}
 use Rattle.showdown_tally.proofs.PotFacts.{among_hands}
-use Rattle.showdown_tally.proofs.Tops.{plus_none, none_plus}
+use Rattle.showdown_tally.proofs.MaskWinners.{plus_none, none_plus}
 use Rattle.showdown_tally.proofs.Winners.{is_set}
 
 pub among_set : (set count hand : ℕ) → hand < count → is_among hand (hands_below set count) ≡ is_set set hand

@@ -3,14 +3,13 @@ use Rattle.std.proofs.Common.{◌≡◌, ℕ, zero, suc, ◌<◌, ◌≤◌, ◌
 use Rattle.std.specs.Prelude.{nat_le, filter, ◌^◌}
 use Rattle.std.specs.Int.{bit_at}
 use Rattle.std.specs.List.{list_all}
-use Rattle.std.proofs.lemmas.Bool.{cases_eq, cases_lt}
+use Rattle.std.proofs.lemmas.Bool.{cases_eq, cases_lt, and_parts}
 use Rattle.std.proofs.lemmas.List.Folds.{list_all-append}
 use Rattle.std.proofs.lemmas.List.Elements.{filter-append}
 use Rattle.std.proofs.lemmas.Nat.Bits.{bit_at_above}
 use mathlib.Core.Bool.{true≢false}
 use Rattle.card_sets.specs.PlayerSets.{hands_below}
 use Rattle.showdown_tally.specs.Settling.{tops_below, is_top, number_of}
-use Rattle.rank_high.proofs.Sets.{both}
 
 abbrev pub is_set : ℕ → ℕ → Bool
 is_set mask h = bit_at mask h == 1
@@ -45,7 +44,7 @@ all_pass p mask (suc m) h =
 pub pass_all : (p : ℕ → Bool) (mask m j : ℕ) → list_all p (hands_below mask m) ≡ true → j < m → is_set mask j ≡ true → p j ≡ true
 pass_all p mask zero j h l b = absurd (omega arith)
 pass_all p mask (suc m) j h l b =
-    let two = both (list_all p (hands_below mask m)) (list_all p (cond (is_set mask m) (m ∷ []) [])) (sym (list_all-append p (hands_below mask m) _) ∙ h) in
+    let two = and_parts (list_all p (hands_below mask m)) (list_all p (cond (is_set mask m) (m ∷ []) [])) (sym (list_all-append p (hands_below mask m) _) ∙ h) in
     elim (cases_eq j m) [
       | inl e ↦
           let bit : is_set mask m ≡ true = ap (is_set mask) (sym e) ∙ b in

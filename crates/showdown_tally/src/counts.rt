@@ -1,5 +1,8 @@
 //! A tally made from two counts for each pot: how often each set of hands wins the high, with a low
 //! and without one, and how often each wins the low.
+//!
+//! The high's row tells the two apart, since with a low its winners share half of the pot, and without one
+//! all of it. A set that never wins costs a look at its counts.
 
 ghost use Rattle.std.specs.Prelude.{◌≡◌, ℕ, ◌+◌, ◌*◌, ◌<◌, ◌≤◌, ◌^◌, List, length};
 ghost use Rattle.card_sets.specs.declared.games.Side.{Side};
@@ -88,15 +91,23 @@ fn times_of(outcome: Outcome, times: u64) -> Cell
 /// their units: of the pot, or of half of it.
 #[inline]
 fn give_set(stake: &Stake, set: u16, times: u64, halved: bool, tally: &mut Tally)
+    // A set of the first hands, of up to ten, and a pot of ten.
     requires few { stake.now.count ≤ 10 }
     requires pot { stake.now.pot < 10 }
     requires set { set < 2 ^ stake.now.count }
+
+    // A count fits 32 bits, and what stands there, at most 2^60, can grow by so many times 5040 units.
     requires times { times < 4294967296 }
-    requires cells { (h : ℕ) → h < 10 → CellWithin (cell_at tally.old stake.now.pot h stake.now.side) 1152921504606846976 }
+    requires cells { (h : ℕ) → h < 10
+        → CellWithin (cell_at tally.old stake.now.pot h stake.now.side) 1152921504606846976 }
     requires units { (h : ℕ) → h < 10 → units_at tally.old stake.now.pot h ≤ 1152921504606846976 }
+
+    // Each of these hands gets as many wins, ties or losses, and its part of the units as often; the others get nothing.
     ensures { Grows tally.old tally.new
-        (times_cells stake.now.pot stake.now.side stake.now.hands stake.now.count set times stake.now.count)
-        (times_units stake.now.pot stake.now.hands stake.now.count halved set times stake.now.count) }
+        (times_cells stake.now.pot stake.now.side stake.now.hands stake.now.count set times
+        stake.now.count)
+        (times_units stake.now.pot stake.now.hands stake.now.count halved set times
+        stake.now.count) }
 {
     if times == 0 {
         return;
@@ -114,14 +125,26 @@ fn give_set(stake: &Stake, set: u16, times: u64, halved: bool, tally: &mut Tally
 /// The runouts of a side of a pot by its counts, and the units: of the pot, or of half of it, without
 /// a low, and of half of it with one.
 fn give_row(stake: &Stake, halved: bool, row: &[u32; 2048], tally: &mut Tally)
+    // Up to ten hands, and a pot of ten.
     requires few { stake.now.count ≤ 10 }
     requires pot { stake.now.pot < 10 }
-    requires cells { (h : ℕ) → h < 10 → cell_at tally.old stake.now.pot h stake.now.side ≡ no_runout }
+
+    // Nothing was counted on this side yet, and the units, at most 2^59, can grow.
+    requires cells { (h : ℕ) → h < 10
+        → cell_at tally.old stake.now.pot h stake.now.side ≡ no_runout }
     requires units { (h : ℕ) → h < 10 → units_at tally.old stake.now.pot h ≤ 576460752303423488 }
+
+    // For each set it is as if each of its runouts had been settled.
     ensures grown { Grows tally.old tally.new
-        (places_cells stake.now.pot stake.now.side stake.now.hands stake.now.count row.now (2 ^ stake.now.count))
-        (places_units stake.now.pot stake.now.hands stake.now.count halved row.now (2 ^ stake.now.count)) }
-    ensures small { (h : ℕ) → h < 10 → units_at tally.new stake.now.pot h ≤ units_at tally.old stake.now.pot h + 44332308831928320 }
+        (places_cells stake.now.pot stake.now.side stake.now.hands stake.now.count row.now
+        (2 ^ stake.now.count))
+        (places_units stake.now.pot stake.now.hands stake.now.count halved row.now
+        (2 ^ stake.now.count)) }
+
+    // No row gives a hand more than 5040 units for each of its 2,048 counts, which fit 32 bits.
+    ensures small { (h : ℕ) → h < 10
+        → units_at tally.new stake.now.pot h
+        ≤ units_at tally.old stake.now.pot h + 44332308831928320 }
 {
     for set in 0..1_u16 << stake.count {
         let alone = u64::from(row[set as usize]);
@@ -156,14 +179,24 @@ fn row_place(pot: u8, side: Side) -> usize
 /// The runouts of a side of a pot, and the units that the hands have of it, where the game is played
 /// for the side.
 fn give_side(table: &Table, counts: &[[u32; 2048]], pot: u8, side: Side, tally: &mut Tally)
+    // The pot is one of the table, and has its two rows.
     requires pot { pot < table.now.pots }
     requires rows { 2 * table.now.pots ≤ length counts.now }
+
+    // Nothing was counted on this side yet, and the units, at most 2^59, can grow.
     requires cells { (h : ℕ) → h < 10 → cell_at tally.old pot h side ≡ no_runout }
     requires units { (h : ℕ) → h < 10 → units_at tally.old pot h ≤ 576460752303423488 }
+
+    // In a game that isn't played for the side nothing changes.
     ensures grown { Grows tally.old tally.new
-        (given_cells table.now.known.game table.now.eligible counts.now table.now.known.count pot side)
-        (given_units table.now.known.game table.now.eligible counts.now table.now.known.count pot side) }
-    ensures small { (h : ℕ) → h < 10 → units_at tally.new pot h ≤ units_at tally.old pot h + 44332308831928320 }
+        (given_cells table.now.known.game table.now.eligible counts.now table.now.known.count pot
+        side)
+        (given_units table.now.known.game table.now.eligible counts.now table.now.known.count pot
+        side) }
+
+    // No row gives a hand more than 5040 units for each of its 2,048 counts, which fit 32 bits.
+    ensures small { (h : ℕ) → h < 10
+        → units_at tally.new pot h ≤ units_at tally.old pot h + 44332308831928320 }
 {
     ten_places(table);
     let game = table.known.game;
@@ -184,7 +217,8 @@ fn give_side(table: &Table, counts: &[[u32; 2048]], pot: u8, side: Side, tally: 
 fn give_pots(table: &Table, runouts: u64, counts: &[[u32; 2048]], tally: &mut Tally)
     requires rows { 2 * table.now.pots ≤ length counts.now }
     requires runouts { tally.old.runouts ≡ 0 }
-    requires cells { (pot hand : ℕ) (side : Side) → pot < 10 → hand < 10 → cell_at tally.old pot hand side ≡ no_runout }
+    requires cells { (pot hand : ℕ) (side : Side) → pot < 10 → hand < 10
+        → cell_at tally.old pot hand side ≡ no_runout }
     requires units { (pot hand : ℕ) → pot < 10 → hand < 10 → units_at tally.old pot hand ≡ 0 }
     ensures { (all : List (List (List ℕ))) → length all ≡ runouts
         → AreSideCounts (deal_of table.now) all counts.now

@@ -45,8 +45,11 @@ pub(crate) fn hands_after(known: &Known, shape: &Shape, sets: &[CardSet]) -> [Ca
     requires shape { IsShapeOf (state_of known.now) shape.now }
     requires runout { HasMember (runouts_after (state_of known.now)) sets.now }
     ensures ten { length result ≡ 10 }
-    ensures hands { (h : ℕ) → h < length (state_of known.now).hands → slice_index_or result h [] ≡ own_after (state_of known.now) sets.now h }
-    ensures full { (h : ℕ) → h < length (state_of known.now).hands → IsFull known.now.game (own_after (state_of known.now) sets.now h) (board_after (state_of known.now) sets.now) }
+    ensures hands { (h : ℕ) → h < length (state_of known.now).hands
+        → slice_index_or result h [] ≡ own_after (state_of known.now) sets.now h }
+    ensures full { (h : ℕ) → h < length (state_of known.now).hands
+        → IsFull known.now.game (own_after (state_of known.now) sets.now h)
+        (board_after (state_of known.now) sets.now) }
 {
     let mut full = [CardSet::empty(); 10];
     known.board.rising();

@@ -40,7 +40,8 @@ fn winner_set(values: &[Option<u32>; 10], hands: PlayerSet, count: u8) -> Player
 #[inline]
 pub fn side_outcome(table: &Table, side: Side, values: &[Option<u32>; 10], pot: u8) -> u16
     requires { pot < table.now.pots }
-    ensures value { (runout : List (List ℕ)) → AreSideNumbersAfter side (state_of table.now.known) runout values.now
+    ensures value { (runout : List (List ℕ))
+        → AreSideNumbersAfter side (state_of table.now.known) runout values.now
         → result ≡ side_outcome side (deal_of table.now) pot runout }
     ensures small { result < 1024 }
     ensures few { table.now.known.count ≤ 5 → result < 32 }

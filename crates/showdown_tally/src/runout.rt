@@ -32,9 +32,12 @@ pub(crate) fn side_values(
     board: CardSet,
 ) -> [Option<u32>; 10]
     requires few { length hands.now ≤ 10 }
-    requires full { (h : ℕ) → h < length hands.now → IsFull game (slice_index_or hands.now h []) board }
+    requires full { (h : ℕ) → h < length hands.now
+        → IsFull game (slice_index_or hands.now h []) board }
     ensures { (h : ℕ) → h < length hands.now
-        → number_of result h ≡ option_map (side_number side game) (best side game (slice_index_or hands.now h []) board) }
+        → number_of result h
+        ≡ option_map (side_number side game)
+        (best side game (slice_index_or hands.now h []) board) }
 {
     let mut values = [None; 10];
     if hands.is_empty() || !game.has_side(side) {

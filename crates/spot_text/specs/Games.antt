@@ -9,7 +9,8 @@ use Rattle.card_sets.specs.declared.streets.Street.TheVariants.{First}
 -- the first of some games that a word names
 abbrev pub named_among : List Game → List ℕ → Option Game
 named_among [] word = None
-named_among (game ∷ games) word = if bytes_eq word (game_word game) then Some game else named_among games word
+named_among (game ∷ games) word =
+    if bytes_eq word (game_word game) then Some game else named_among games word
 
 -- the game that a word names
 abbrev pub game_named : List ℕ → Option Game

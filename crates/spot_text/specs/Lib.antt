@@ -4,3 +4,4 @@ pub mod Games
 pub mod Spot
 pub mod Written
 pub mod Sections
+pub mod FaultNames

@@ -33,7 +33,8 @@ all_cards part = list_all (λ word. is_some (card_of_text word)) part
 
 -- whether each part is made of cards alone
 abbrev pub in_form : List (List ℕ) → Bool
-in_form others = list_all all_cards (hand_words others) && (all_cards (board_words others) && all_cards (dead_words others))
+in_form others = list_all all_cards (hand_words others)
+    && (all_cards (board_words others) && all_cards (dead_words others))
 
 -- the cards that words name, from the left
 abbrev pub cards_of : List (List ℕ) → List ℕ

@@ -13,12 +13,14 @@ behind_card section word = if is_some (card_of_text word) then Some section else
 -- the section behind a word, if the word may stand there
 abbrev pub section_behind : Section → List ℕ → Option Section
 section_behind Hands word =
-    if is_slash word then Some Dead else (if is_dashes word then Some Board else (if is_dash word then Some Hands else behind_card Hands word))
+    if is_slash word then Some Dead else (if is_dashes word then Some Board
+    else (if is_dash word then Some Hands else behind_card Hands word))
 section_behind Board word = if is_slash word then Some Dead else behind_card Board word
 section_behind Dead word = behind_card Dead word
 
 -- whether the words from a section on are cards, but for the marks between sections
 abbrev pub stands_from : Section → List (List ℕ) → Bool
 stands_from Hands words = in_form words
-stands_from Board words = all_cards (before_first is_slash words) && all_cards (after_first is_slash words)
+stands_from Board words =
+    all_cards (before_first is_slash words) && all_cards (after_first is_slash words)
 stands_from Dead words = all_cards words

@@ -17,12 +17,16 @@ repeated_after before [] = None
 repeated_after before (card ∷ cards) =
     if has_card before card then Some card else repeated_after (before ++ card ∷ []) cards
 
--- each hand has as many cards as the game allows; and there are two players to ten
+-- each hand has as many cards as the game allows
 abbrev pub hands_fit : Game → List (List (List ℕ)) → Bool
 hands_fit game hands = list_all (λ hand. hand_fits game (length hand)) hands
 
+-- there are two players or more, and no more than so many; on a spot line they are two to ten
+abbrev pub players_within : ℕ → ℕ → Bool
+players_within most count = nat_le 2 count && nat_le count most
+
 abbrev pub players_fit : ℕ → Bool
-players_fit count = nat_le 2 count && nat_le count 10
+players_fit count = players_within 10 count
 
 -- the state of the parts
 abbrev pub state_of_words : Game → List (List ℕ) → State
@@ -45,7 +49,8 @@ abbrev pub spot_of_sizes : Game → List (List ℕ) → Result State SpotFault
 spot_of_sizes game others =
     if hands_fit game (hand_words others) then
     (if board_fits game (length (board_words others)) then
-    (if players_fit (length (hand_words others)) then unless_short (state_of_words game others) else Err PlayerCount)
+    (if players_fit (length (hand_words others)) then unless_short (state_of_words game others)
+    else Err PlayerCount)
     else Err BoardSize)
     else Err HandSize
 
@@ -57,7 +62,8 @@ unless_repeated (Some card) game others = Err (TwiceCard card)
 -- what the words behind the game's say
 abbrev pub spot_behind : Game → List (List ℕ) → Result State SpotFault
 spot_behind game others =
-    if in_form others then unless_repeated (repeated_after [] (cards_of others)) game others else Err BadCard
+    if in_form others then unless_repeated (repeated_after [] (cards_of others)) game others
+    else Err BadCard
 
 -- the first word names the game
 abbrev pub spot_of_game : Option Game → List (List ℕ) → Result State SpotFault

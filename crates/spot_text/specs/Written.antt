@@ -37,7 +37,8 @@ hands_text (hand ∷ next ∷ hands) = texts hand ++ codes "-" ∷ hands_text (n
 -- the line of a game, hands, a board and dead cards
 abbrev pub spot_line : Game → List (List ℕ) → List ℕ → List ℕ → List ℕ
 spot_line game hands board dead =
-    join_with_byte 32 (game_word game ∷ (hands_text hands ++ codes "--" ∷ (texts board ++ codes "/" ∷ texts dead)))
+    join_with_byte 32 (game_word game
+    ∷ (hands_text hands ++ codes "--" ∷ (texts board ++ codes "/" ∷ texts dead)))
 
 -- their state
 abbrev pub state_of_cards : Game → List (List ℕ) → List ℕ → List ℕ → State

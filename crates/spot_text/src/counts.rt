@@ -1,10 +1,10 @@
 //! How many hands and cards a spot has.
 
-ghost use Rattle.std.specs.Prelude.{◌≡◌, if◌then◌else◌, length, Some, None};
+ghost use Rattle.std.specs.Prelude.{◌≡◌, ◌≤◌, if◌then◌else◌, length, Some, None};
 ghost use Rattle.spot_text.specs.Words.{words_left};
 ghost use Rattle.spot_text.specs.Parts.{hand_words, board_words};
 ghost use Rattle.spot_text.specs.Games.{board_fits};
-ghost use Rattle.spot_text.specs.Spot.{hands_fit, players_fit};
+ghost use Rattle.spot_text.specs.Spot.{hands_fit, players_within};
 
 use crate::games::least_own;
 use crate::marks::{ends_hands, is_dash, is_dashes, is_slash};
@@ -60,10 +60,11 @@ pub fn board_fits(game: Game, words: Words) -> bool
     count == 0 || count >= 3
 }
 
-/// The number of players, if they are two to ten.
-pub(crate) fn player_count(words: Words) -> Option<u8>
+/// The number of players, if they are two or more, and no more than so many.
+pub fn player_count(words: Words, most: u8) -> Option<u8>
+    requires { 2 ≤ most }
     ensures { let count = length (hand_words (words_left words.entry)) in
-        result ≡ (if players_fit count then Some count else None) }
+        result ≡ (if players_within most count then Some count else None) }
 {
     let mut count = 1u8;
     for word in words {
@@ -71,7 +72,7 @@ pub(crate) fn player_count(words: Words) -> Option<u8>
             break;
         }
         if is_dash(word) {
-            if count == 10 {
+            if count == most {
                 return None;
             }
             count += 1;

@@ -20,3 +20,23 @@ pub enum SpotFault {
     /// Fewer cards may still come than the board and the hands lack.
     DeckShort,
 }
+
+impl SpotFault {
+    ghost use Rattle.std.specs.Prelude.{◌≡◌};
+    ghost use Rattle.spot_text.specs.FaultNames.{fault_name};
+
+    /// Its name, as the report writes it before what the fault carries.
+    pub fn name(&self) -> &'static str
+        ensures { result.now ≡ fault_name self.now }
+    {
+        match self {
+            SpotFault::UnknownWord => "UnknownWord",
+            SpotFault::BadCard => "BadCard",
+            SpotFault::TwiceCard(_) => "TwiceCard",
+            SpotFault::HandSize => "HandSize",
+            SpotFault::BoardSize => "BoardSize",
+            SpotFault::PlayerCount => "PlayerCount",
+            SpotFault::DeckShort => "DeckShort",
+        }
+    }
+}

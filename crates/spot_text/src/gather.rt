@@ -115,11 +115,16 @@ fn hands_of(words: Words, count: u8) -> [CardSet; 10]
 
 /// The state of parts that have no card twice and whose sizes fit.
 pub(crate) fn known(game: Game, words: Words, count: u8) -> Known
+    // It is known how many hands there are.
     requires count { count ≡ length (hand_words (words_left words)) }
     requires few { count ≤ 10 }
+
+    // The sizes fit, and no card stands twice.
     requires hands { IsTrue (hands_fit game (hand_words (words_left words))) }
     requires board { IsTrue (board_fits game (length (board_words (words_left words)))) }
     requires differ { repeated_after [] (cards_of (words_left words)) ≡ None }
+
+    // The known cards are those that the words say.
     ensures state { state_of result ≡ state_of_words game (words_left words.entry) }
     ensures count { result.count ≡ count }
 {

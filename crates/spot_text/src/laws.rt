@@ -26,6 +26,7 @@ pub fn law_the_first_repeated_card()
 /// A spot that may be written, of a game, two to ten hands, a board and dead cards, is read as that
 /// spot.
 pub fn law_a_written_spot_is_read()
-    ensures { (game : Game) (hands : List (List ℕ)) (board dead : List ℕ) → MayBeWritten game hands board dead
+    ensures { (game : Game) (hands : List (List ℕ)) (board dead : List ℕ)
+        → MayBeWritten game hands board dead
         → spot_of (spot_line game hands board dead) ≡ Ok (state_of_cards game hands board dead) }
 {}

@@ -7,6 +7,12 @@
 //! A hand is two cards in `holdem`, four in `omaha` and `omaha8`, three to seven in `stud`, `stud8` and
 //! `razz`, and up to five that are kept in `draw5`, `lowball27` and `triple27`. Only the first three have
 //! a board, of three, four or five cards.
+//!
+//! A line is read where it lies, by one pass over its words for each question: whether each word may stand
+//! where it stands, which card is the first that stands twice, whether the hands and the board have the
+//! right sizes, and how many hands there are. Then each hand, the board and the dead cards are gathered by
+//! a pass of their own. So that is at most seventeen passes, in time that grows with the line alone. The
+//! crate takes no memory, and it knows neither where a line comes from nor what is counted of it.
 #![tactic(auto)]
 
 mod counts;
@@ -19,7 +25,7 @@ mod marks;
 mod spot;
 mod words;
 
-pub use counts::board_fits;
+pub use counts::{board_fits, player_count};
 pub use faults::SpotFault;
 pub use form::{card_of, in_form};
 pub use gather::{board_cards, dead_cards, repeated_card};

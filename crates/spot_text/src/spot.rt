@@ -51,7 +51,7 @@ pub fn read_spot(line: &[u8]) -> Result<Known, SpotFault>
     if !board_fits(game, words) {
         return Err(SpotFault::BoardSize);
     }
-    let Some(count) = player_count(words) else {
+    let Some(count) = player_count(words, 10) else {
         return Err(SpotFault::PlayerCount);
     };
     let known = known(game, words, count);

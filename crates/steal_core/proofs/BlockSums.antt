@@ -7,8 +7,7 @@ use Rattle.showdown_tally.specs.Cells.{Sums}
 use Rattle.showdown_tally.specs.Showdown.{Showdown, wins, ties, loses, units}
 use Rattle.showdown_tally.specs.Tallies.{Counts}
 use Rattle.equity_job.specs.Blocks.{block_of, blocks_of, blocks_below}
-use Rattle.equity_job.proofs.BlockLists.{blocks-all}
-use Rattle.equity_job.proofs.BlockTotals.{enough_blocks}
+use Rattle.equity_job.proofs.CallerLemmas.{blocks-all, enough_blocks}
 
 pub sum_flat : {X Y : Type 0} (h : Y → ℕ) (g : X → List Y) (xs : List X) → sum_by h (flat_map g xs) ≡ sum_by (λ x. sum_by h (g x)) xs
 sum_flat h g [] = refl

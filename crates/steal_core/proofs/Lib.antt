@@ -1,5 +1,5 @@
 pub mod BlockSums
-pub mod Weights
-pub mod Ranges
-pub mod Orders
-pub mod Runs
+pub mod BlockWeights
+pub mod NumberRanges
+pub mod AnyOrder
+pub mod RunEvents

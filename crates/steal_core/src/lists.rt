@@ -113,7 +113,9 @@ impl Queues {
     /// One block more at the back of a worker's queue. For want of memory all stays.
     pub(crate) fn push_at(&mut self, worker: u32, block: u32) -> Result<(), Memory>
         requires { worker < length self.old }
-        ensures pushed { OnOk result (self.new ≡ slice_set self.old worker (slice_index_or self.old worker [] ++ block ∷ [])) }
+        ensures pushed { OnOk result
+            (self.new
+            ≡ slice_set self.old worker (slice_index_or self.old worker [] ++ block ∷ [])) }
         ensures memory { OnErr result (self.new ≡ self.old) }
     {
         self.items[worker as usize].push(block)
@@ -123,7 +125,8 @@ impl Queues {
     pub(crate) fn take_front_at(&mut self, worker: u32) -> Option<u32>
         requires { worker < length self.old }
         ensures front { result ≡ slice_get (slice_index_or self.old worker []) 0 }
-        ensures rest { self.new ≡ slice_set self.old worker (drop 1 (slice_index_or self.old worker [])) }
+        ensures rest { self.new
+            ≡ slice_set self.old worker (drop 1 (slice_index_or self.old worker [])) }
     {
         self.items[worker as usize].take_front()
     }

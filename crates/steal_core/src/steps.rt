@@ -29,7 +29,8 @@ pub fn step(state: &mut State, event: CoreEvent) -> Result<Stepped, Memory>
 
 /// A push.
 fn push(state: &mut State, worker: u32, block: u32) -> Result<Stepped, Memory>
-    ensures answered { IfOk result (λ stepped. stepped ≡ answer (is_refused state.old (Push worker block))) }
+    ensures answered { IfOk result
+        (λ stepped. stepped ≡ answer (is_refused state.old (Push worker block))) }
     ensures moved { OnOk result (state.new ≡ after state.old (Push worker block)) }
     ensures memory { OnErr result (state.new ≡ state.old) }
 {
@@ -43,7 +44,9 @@ fn push(state: &mut State, worker: u32, block: u32) -> Result<Stepped, Memory>
 /// A pop, where the victim is the worker, or a steal.
 fn take(state: &mut State, worker: u32, victim: u32) -> Stepped
     ensures answered { result ≡ answer (may_not_take state.old worker victim) }
-    ensures moved { state.new ≡ (if may_not_take state.old worker victim then state.old else taken state.old worker victim) }
+    ensures moved { state.new
+        ≡ (if may_not_take state.old worker victim then state.old else taken state.old worker
+        victim) }
 {
     if state.may_not_take(worker, victim) {
         return Stepped::Refused;
@@ -55,7 +58,8 @@ fn take(state: &mut State, worker: u32, victim: u32) -> Stepped
 
 /// A book.
 fn book(state: &mut State, worker: u32) -> Result<Stepped, Memory>
-    ensures answered { IfOk result (λ stepped. stepped ≡ answer (is_refused state.old (Book worker))) }
+    ensures answered { IfOk result
+        (λ stepped. stepped ≡ answer (is_refused state.old (Book worker))) }
     ensures moved { OnOk result (state.new ≡ after state.old (Book worker)) }
     ensures memory { OnErr result (state.new ≡ state.old) }
 {

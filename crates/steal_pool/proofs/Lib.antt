@@ -1,9 +1,9 @@
-pub mod Fair
+pub mod DequeRule
 pub mod LaneFacts
-pub mod Working
-pub mod Settled
-pub mod Joining
-pub mod Starting
-pub mod Telling
-pub mod Seen
-pub mod Dealt
+pub mod WorkerWalk
+pub mod EmptyDeques
+pub mod JoinedPasses
+pub mod MadeSeats
+pub mod ToldPasses
+pub mod SeenSeats
+pub mod DealtBlocks

@@ -19,7 +19,8 @@ pub fn count_alone<N: Naming>(
     scratch: &mut Scratch,
 ) -> Closed
     requires named { deal_of job.now.table ≡ N.deal }
-    requires unmarked { book.marks ≡ replicate (blocks_of (length (runouts_after N.deal.state))) false }
+    requires unmarked { book.marks
+        ≡ replicate (blocks_of (length (runouts_after N.deal.state))) false }
     requires whole { whole.parts ≡ N.parts }
     ensures total { Counts N.deal (runouts_after N.deal.state) result.total }
     ensures by_workers { result.by_workers ≡ blocks_of (length (runouts_after N.deal.state)) }

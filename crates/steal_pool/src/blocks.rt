@@ -26,7 +26,8 @@ fn tally_on<L: Ledger>(
     requires parts { blank.parts ≡ L.parts }
     requires some { 0 < blank.parts }
     requires block { block < blocks_of (length (runouts_after (state_of job.now.table.known))) }
-    ensures { Counts (deal_of job.now.table) (block_of (runouts_after (state_of job.now.table.known)) block) tally.new }
+    ensures { Counts (deal_of job.now.table)
+        (block_of (runouts_after (state_of job.now.table.known)) block) tally.new }
 {
     let mut steps = Steps::<L>::new(blank);
     fill_block(job, block, scratch, tally, &mut steps);
@@ -35,7 +36,8 @@ fn tally_on<L: Ledger>(
 /// Counts a block into a tally, for a caller that counts no steps.
 pub(crate) fn tally_block(job: &Job, block: u32, scratch: &mut Scratch, tally: &mut Tally)
     requires { block < blocks_of (length (runouts_after (state_of job.now.table.known))) }
-    ensures { Counts (deal_of job.now.table) (block_of (runouts_after (state_of job.now.table.known)) block) tally.new }
+    ensures { Counts (deal_of job.now.table)
+        (block_of (runouts_after (state_of job.now.table.known)) block) tally.new }
 {
     tally_on::<Brand>(job, block, scratch, tally, Blank::new(1))
 }
@@ -49,12 +51,19 @@ pub(crate) fn post_block<N: Naming>(
     scratch: &mut Scratch,
     tally: &mut Tally,
 )
+    // `N` names the deal of the job.
     requires named { deal_of job.now.table ≡ N.deal }
+
+    // The job has such a block, and the book a mark for each.
     requires block { block < blocks_of (length (runouts_after N.deal.state)) }
     requires book { length book.old.marks ≡ blocks_of (length (runouts_after N.deal.state)) }
+
+    // The block is marked then, and no mark is lost.
     ensures count { length book.new.marks ≡ length book.old.marks }
     ensures marked { is_marked book.new block ≡ true }
     ensures kept { (b : ℕ) → is_marked book.old b ≡ true → is_marked book.new b ≡ true }
+
+    // A block that wasn't marked adds one to the part's fresh posts.
     ensures amount { is_marked book.old block ≡ false → part.new.amount ≡ part.old.amount + 1 }
     ensures parts { part.new.parts ≡ part.old.parts }
 {

@@ -35,7 +35,8 @@ impl<N: Naming> Desk<N> {
     )
         requires named { deal_of job.now.table ≡ N.deal }
         requires block { block < blocks_of (length (runouts_after N.deal.state)) }
-        ensures handed { (b : ℕ) → b < BLOCKS_MAX → is_handed self.new.part b ≡ (is_handed self.old.part b || (b == block)) }
+        ensures handed { (b : ℕ) → b < BLOCKS_MAX
+            → is_handed self.new.part b ≡ (is_handed self.old.part b || (b == block)) }
         ensures parts { self.new.part.parts ≡ self.old.part.parts }
     {
         let Desk {

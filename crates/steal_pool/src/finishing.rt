@@ -21,12 +21,21 @@ pub(crate) fn finish_book<N: Naming>(
     mut seats: Vec<Seat<N>>,
     mut spare: Part<N>,
 ) -> Closed
+    // `N` names the deal of the job, of whose blocks the book has the marks.
     requires named { deal_of job.now.table ≡ N.deal }
     requires book { length book.marks ≡ blocks_of (length (runouts_after N.deal.state)) }
+
+    // Nothing was posted with the spare part, and the first seat lends its room.
     requires spare { spare.amount ≡ 0 }
     requires some { 0 < length seats.items }
+
+    // The spare part and the seats' make up the whole ledger.
     requires parts { spare.parts + sum_by (λ seat. seat.desk.part.parts) seats.items ≡ N.parts }
+
+    // The total is that of all runouts, whatever the workers did.
     ensures total { Counts N.deal (runouts_after N.deal.state) result.total }
+
+    // The ledger says how many of the posts were the workers'.
     ensures by_workers { result.by_workers ≡ sum_by (λ seat. seat.desk.part.amount) seats.items }
     ensures most { result.by_workers ≤ blocks_of (length (runouts_after N.deal.state)) }
 {
@@ -49,10 +58,16 @@ fn post_rest<N: Naming>(
     spare: &mut Part<N>,
     desk: &mut Desk<N>,
 ) -> u64
+    // `N` names the deal of the job, of whose blocks the book has the marks.
     requires named { deal_of job.now.table ≡ N.deal }
     requires book { length book.old.marks ≡ blocks_of (length (runouts_after N.deal.state)) }
+
+    // Each block is marked then, so that the book may be closed.
     ensures count { length book.new.marks ≡ length book.old.marks }
-    ensures marked { (b : ℕ) → b < blocks_of (length (runouts_after N.deal.state)) → is_marked book.new b ≡ true }
+    ensures marked { (b : ℕ) → b < blocks_of (length (runouts_after N.deal.state))
+        → is_marked book.new b ≡ true }
+
+    // What is fresh was posted with the spare part, and with no seat's.
     ensures own { spare.new.amount ≡ spare.old.amount + result }
     ensures parts { spare.new.parts ≡ spare.old.parts }
     ensures most { result ≤ blocks_of (length (runouts_after N.deal.state)) }
@@ -73,12 +88,17 @@ fn post_unmarked<N: Naming>(
     spare: &mut Part<N>,
     desk: &mut Desk<N>,
 ) -> u64
+    // `N` names the deal of the job, which has such a block, and the book a mark for each.
     requires named { deal_of job.now.table ≡ N.deal }
     requires block { block < blocks_of (length (runouts_after N.deal.state)) }
     requires book { length book.old.marks ≡ blocks_of (length (runouts_after N.deal.state)) }
+
+    // The block is marked then, and no mark is lost.
     ensures count { length book.new.marks ≡ length book.old.marks }
     ensures marked { is_marked book.new block ≡ true }
     ensures kept { (b : ℕ) → is_marked book.old b ≡ true → is_marked book.new b ≡ true }
+
+    // What is fresh was posted with the spare part, and with no seat's.
     ensures own { spare.new.amount ≡ spare.old.amount + result }
     ensures parts { spare.new.parts ≡ spare.old.parts }
     ensures most { result ≤ 1 }

@@ -14,13 +14,20 @@ use tally_book::Naming;
 
 /// Joins all passes of all deques.
 pub(crate) fn join_all<N: Naming>(seats: &mut [Seat<N>], blocks: u32)
+    // There is a seat for each worker, with a lane to each deque, whose end mark it has.
     requires workers { length seats.old ≡ N.all - 1 }
     requires joinable { (d : ℕ) → d < N.all - 1 → IsJoinable (N.all - 1) blocks d seats.old }
-    requires sized { (w : ℕ) (x : Seat N) → w < N.all - 1 → length (slice_index_or seats.old w x).lanes.items ≡ N.all - 1 }
+    requires sized { (w : ℕ) (x : Seat N) → w < N.all - 1
+        → length (slice_index_or seats.old w x).lanes.items ≡ N.all - 1 }
+
+    // What the seats show stays.
     ensures same { ShowsSame seats.old seats.new }
+
+    // A joined pass stands for all workers, and so says that each block pushed there was taken, once.
     ensures all { (d : ℕ) → d < N.all - 1 → HasAll (N.all - 1) blocks d seats.new }
     ensures told { (d : ℕ) → d < N.all - 1 → HasTold (N.all - 1) blocks d seats.new }
-    ensures sized { (w : ℕ) (x : Seat N) → w < N.all - 1 → length (slice_index_or seats.new w x).lanes.items ≡ N.all - 1 }
+    ensures sized { (w : ℕ) (x : Seat N) → w < N.all - 1
+        → length (slice_index_or seats.new w x).lanes.items ≡ N.all - 1 }
 {
     for deque in 0..seats.len() {
         join_deque(seats, deque, blocks);
@@ -47,12 +54,21 @@ fn join_deque<N: Naming>(seats: &mut [Seat<N>], deque: usize, blocks: u32)
 
 /// Joins the pass of another worker's way, if the seat has it still.
 fn join_seat<N: Naming>(owner: &mut Owner<N>, seat: &mut Seat<N>, deque: usize)
+    // The seat has a lane to the deque: another worker's, or one whose way was taken out.
     requires room { deque < length seat.old.lanes.items }
-    requires way { (x : Lane N) → MayJoin (worker_deque owner.old) (slice_index_or seat.old.lanes.items deque x).reach }
+    requires way { (x : Lane N)
+        → MayJoin (worker_deque owner.old) (slice_index_or seat.old.lanes.items deque x).reach }
+
+    // The owner's pass stands for some worker, so that it knows what was pushed.
     requires part { 0 < (worker_view owner.old).stands_for }
+
+    // The way leaves the seat, and what its pass took is known with the owner's.
     ensures same { worker_deque owner.new ≡ worker_deque owner.old }
-    ensures out { (x : Lane N) → IsOut deque seat.old seat.new (slice_index_or seat.old.lanes.items deque x).reach }
-    ensures view { (x : Lane N) → worker_view owner.new ≡ joined_claim (worker_view owner.old) (slice_index_or seat.old.lanes.items deque x).reach }
+    ensures out { (x : Lane N)
+        → IsOut deque seat.old seat.new (slice_index_or seat.old.lanes.items deque x).reach }
+    ensures view { (x : Lane N)
+        → worker_view owner.new
+        ≡ joined_claim (worker_view owner.old) (slice_index_or seat.old.lanes.items deque x).reach }
 {
     match way_out(seat, deque) {
         Reach::Own(_) => {}

@@ -89,13 +89,22 @@ pub(crate) fn drain<N: Naming, R: Wait, G: Gate>(
     lane: &mut Lane<N>,
     desk: &mut Desk<N>,
 )
+    // `N` names the deal of the job.
     requires named { deal_of job.now.table ≡ N.deal }
+
+    // The lane leads to some deque, from which nothing was taken by it.
     requires lane { IsALane (N.all - 1) (blocks_of (length (runouts_after N.deal.state))) lane.old }
     requires fresh { (lane.old.taken.items ≡ []) × (lane.old.ended ≡ false) }
-    ensures lane { StaysLane (N.all - 1) (blocks_of (length (runouts_after N.deal.state))) lane.old lane.new }
+
+    // It still leads there, and has its end mark, behind which it takes nothing.
+    ensures lane { StaysLane (N.all - 1)
+        (blocks_of (length (runouts_after N.deal.state))) lane.old lane.new }
     ensures ended { lane.new.ended ≡ true }
     ensures same { StaysOf lane.old.reach lane.new.reach }
-    ensures handed { (b : ℕ) → b < BLOCKS_MAX → is_handed desk.new.part b ≡ (is_handed desk.old.part b || is_in b lane.new.taken.items) }
+
+    // Just what it took was handed in with the worker's part, besides what had been.
+    ensures handed { (b : ℕ) → b < BLOCKS_MAX
+        → is_handed desk.new.part b ≡ (is_handed desk.old.part b || is_in b lane.new.taken.items) }
     ensures parts { desk.new.part.parts ≡ desk.old.part.parts }
 {
     let blocks = job.blocks();

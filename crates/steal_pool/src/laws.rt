@@ -14,11 +14,13 @@ pub use crate::seats::Seats;
 /// other.
 pub fn law_each_block_has_one_deque()
     ensures { (workers blocks deque block : ℕ) → block < blocks
-        → times block (pushed_to workers blocks deque) ≡ (if block % workers == deque then 1 else 0) }
+        → times block (pushed_to workers blocks deque)
+        ≡ (if block % workers == deque then 1 else 0) }
 {}
 
 /// So each block is taken once, by one worker from one deque.
 pub fn law_each_block_is_taken_once()
     ensures { (workers blocks block : ℕ) (old new : Sitting) → 0 < workers → block < blocks
-        → IsFreshSitting workers blocks old → IsShared workers blocks old new → times_taken workers block new ≡ 1 }
+        → IsFreshSitting workers blocks old → IsShared workers blocks old new
+        → times_taken workers block new ≡ 1 }
 {}

@@ -26,7 +26,8 @@ pub(crate) fn seats_without_ways<N: Naming>(
 ) -> Result<Vec<Seat<N>>, Memory>
     requires { spare.old.parts ≡ workers + 1 }
     ensures seats { IfOk result (λ seats. IsSeating workers 0 0 seats.items) }
-    ensures spare { IfOk result (λ _. (spare.new.parts ≡ 1) × (spare.new.amount ≡ spare.old.amount)) }
+    ensures spare { IfOk result
+        (λ _. (spare.new.parts ≡ 1) × (spare.new.amount ≡ spare.old.amount)) }
 {
     let mut seats = Vec::with_capacity(alloc, workers as usize)?;
     for _ in 0..workers {
@@ -47,7 +48,8 @@ fn push_seat<N: Naming>(
     requires room { length seats.old.items < vec_capacity seats.old }
     ensures seat { IfOk result (λ _. HasSeatMore workers seats.old.items seats.new.items) }
     ensures room { IfOk result (λ _. vec_capacity seats.new ≡ vec_capacity seats.old) }
-    ensures spare { IfOk result (λ _. (spare.new.parts + 1 ≡ spare.old.parts) × (spare.new.amount ≡ spare.old.amount)) }
+    ensures spare { IfOk result
+        (λ _. (spare.new.parts + 1 ≡ spare.old.parts) × (spare.new.amount ≡ spare.old.amount)) }
 {
     let lanes = Vec::with_capacity(alloc, workers as usize)?;
     seats.push_reserved(Seat {
@@ -111,9 +113,17 @@ fn add_other<N: Naming>(
 ) -> Result<(), Memory>
     requires lanes { length seat.old.lanes.items < vec_capacity seat.old.lanes }
     requires parts { 1 < (worker_view owner.old).stands_for }
-    ensures same { IfOk result (λ _. (worker_deque owner.new ≡ worker_deque owner.old) × (worker_flavor owner.new ≡ worker_flavor owner.old)) }
-    ensures left { IfOk result (λ _. worker_view owner.new ≡ claim ((worker_view owner.old).stands_for - 1) (worker_view owner.old).pushed (worker_view owner.old).taken) }
-    ensures one { IfOk result (λ _. (reach : Reach N) × HasOneMore seat.old seat.new reach room × IsOther (worker_deque owner.old) reach × IsOpen reach × (claim_of reach ≡ claim 1 (worker_view owner.old).pushed [])) }
+    ensures same { IfOk result
+        (λ _. (worker_deque owner.new ≡ worker_deque owner.old)
+        × (worker_flavor owner.new ≡ worker_flavor owner.old)) }
+    ensures left { IfOk result
+        (λ _. worker_view owner.new
+        ≡ claim ((worker_view owner.old).stands_for - 1) (worker_view owner.old).pushed
+        (worker_view owner.old).taken) }
+    ensures one { IfOk result
+        (λ _. (reach : Reach N) × HasOneMore seat.old seat.new reach room
+        × IsOther (worker_deque owner.old) reach × IsOpen reach
+        × (claim_of reach ≡ claim 1 (worker_view owner.old).pushed [])) }
 {
     let thief = owner.stealer()?;
     let reach = Reach::Other(thief, owner.another::<OneOff>());

@@ -35,8 +35,11 @@ fn push_one<N: Naming>(owner: &mut Owner<N>, block: u32)
     requires many { 0 < N.all - 1 }
     requires whole { (worker_view owner.old).stands_for ≡ N.all - 1 }
     requires room { worker_index owner.old < worker_capacity owner.old }
-    ensures same { SameWorker owner.old owner.new × (worker_index owner.new ≡ worker_index owner.old + 1) }
-    ensures pushed { worker_view owner.new ≡ claim (worker_view owner.old).stands_for ((worker_view owner.old).pushed ++ block ∷ []) (worker_view owner.old).taken }
+    ensures same { SameWorker owner.old owner.new
+        × (worker_index owner.new ≡ worker_index owner.old + 1) }
+    ensures pushed { worker_view owner.new
+        ≡ claim (worker_view owner.old).stands_for ((worker_view owner.old).pushed ++ block ∷ [])
+        (worker_view owner.old).taken }
 {
     match owner.push_as::<Pushes>(block) {
         Ok(()) => {}
@@ -46,12 +49,21 @@ fn push_one<N: Naming>(owner: &mut Owner<N>, block: u32)
 
 /// Pushes a block that belongs to the deque.
 fn push_where<N: Naming>(owner: &mut Owner<N>, here: bool, block: u32)
+    // There are workers, and until they start the owner's pass stands for all of them.
     requires many { 0 < N.all - 1 }
     requires whole { (worker_view owner.old).stands_for ≡ N.all - 1 }
+
+    // There is room for the block, if it belongs here.
     requires room { here ≡ true → worker_index owner.old < worker_capacity owner.old }
+
+    // The pass knows it as pushed behind all others.
     ensures same { SameWorker owner.old owner.new }
-    ensures index { worker_index owner.new ≡ worker_index owner.old + length (if here then block ∷ [] else []) }
-    ensures pushed { worker_view owner.new ≡ claim (worker_view owner.old).stands_for ((worker_view owner.old).pushed ++ (if here then block ∷ [] else [])) (worker_view owner.old).taken }
+    ensures index { worker_index owner.new
+        ≡ worker_index owner.old + length (if here then block ∷ [] else []) }
+    ensures pushed { worker_view owner.new
+        ≡ claim (worker_view owner.old).stands_for
+        ((worker_view owner.old).pushed ++ (if here then block ∷ [] else []))
+        (worker_view owner.old).taken }
 {
     if here {
         push_one(owner, block);
@@ -62,8 +74,10 @@ fn push_where<N: Naming>(owner: &mut Owner<N>, here: bool, block: u32)
 pub(crate) fn push_all<N: Naming>(owner: &mut Owner<N>, deque: u32, workers: u32, blocks: u32)
     requires many { (0 < workers) × (workers ≡ N.all - 1) }
     requires fresh { worker_view owner.old ≡ claim (N.all - 1) [] [] }
-    requires room { (worker_index owner.old ≡ 0) × (length (pushed_to workers blocks deque) ≤ worker_capacity owner.old) }
-    ensures same { (worker_deque owner.new ≡ worker_deque owner.old) × (worker_flavor owner.new ≡ worker_flavor owner.old) }
+    requires room { (worker_index owner.old ≡ 0)
+        × (length (pushed_to workers blocks deque) ≤ worker_capacity owner.old) }
+    ensures same { (worker_deque owner.new ≡ worker_deque owner.old)
+        × (worker_flavor owner.new ≡ worker_flavor owner.old) }
     ensures pushed { worker_view owner.new ≡ claim (N.all - 1) (pushed_to workers blocks deque) [] }
 {
     for block in 0..blocks {

@@ -24,12 +24,23 @@ pub(crate) fn work_seats<N: Naming + Send + Sync, R: Threads + Wait + Sync, G: G
     gate: &G,
     book: &Mutex<Book<N>>,
 )
+    // `N` names the deal of the job, and the number of the workers, 1 to 16.
     requires named { deal_of job.now.table ≡ N.deal }
     requires workers { (N.all - 1 ≤ 16) × (0 < N.all - 1) }
-    requires started { IsStarted (N.all - 1) (blocks_of (length (runouts_after N.deal.state))) seats.old.items }
-    ensures shared { HasShared (N.all - 1) (blocks_of (length (runouts_after N.deal.state))) seats.old.items seats.new.items }
-    ensures told { (d : ℕ) → d < N.all - 1 → HasTold (N.all - 1) (blocks_of (length (runouts_after N.deal.state))) d seats.new.items }
-    ensures sized { (w : ℕ) (x : Seat N) → w < N.all - 1 → length (slice_index_or seats.new.items w x).lanes.items ≡ N.all - 1 }
+
+    // Nothing was taken yet, and each deque has its owner.
+    requires started { IsStarted (N.all - 1)
+        (blocks_of (length (runouts_after N.deal.state))) seats.old.items }
+
+    // Each block was taken once and handed in by whoever took it; this goes by the rule over each deque.
+    ensures shared { HasShared (N.all - 1)
+        (blocks_of (length (runouts_after N.deal.state))) seats.old.items seats.new.items }
+    ensures told { (d : ℕ) → d < N.all - 1
+        → HasTold (N.all - 1) (blocks_of (length (runouts_after N.deal.state))) d seats.new.items }
+
+    // Each seat still has a lane to each deque.
+    ensures sized { (w : ℕ) (x : Seat N) → w < N.all - 1
+        → length (slice_index_or seats.new.items w x).lanes.items ≡ N.all - 1 }
 {
     work_all(rt, seats.as_mut_slice(), job, gate, book);
 }
@@ -42,12 +53,23 @@ fn work_all<N: Naming + Send + Sync, R: Threads + Wait + Sync, G: Gate + Sync>(
     gate: &G,
     book: &Mutex<Book<N>>,
 )
+    // `N` names the deal of the job, and the number of the workers, 1 to 16.
     requires named { deal_of job.now.table ≡ N.deal }
     requires workers { (N.all - 1 ≤ 16) × (0 < N.all - 1) }
-    requires started { IsStarted (N.all - 1) (blocks_of (length (runouts_after N.deal.state))) seats.old }
-    ensures shared { HasShared (N.all - 1) (blocks_of (length (runouts_after N.deal.state))) seats.old seats.new }
-    ensures told { (d : ℕ) → d < N.all - 1 → HasTold (N.all - 1) (blocks_of (length (runouts_after N.deal.state))) d seats.new }
-    ensures sized { (w : ℕ) (x : Seat N) → w < N.all - 1 → length (slice_index_or seats.new w x).lanes.items ≡ N.all - 1 }
+
+    // Nothing was taken yet, and each deque has its owner.
+    requires started { IsStarted (N.all - 1)
+        (blocks_of (length (runouts_after N.deal.state))) seats.old }
+
+    // Each block was taken once and handed in by whoever took it; this goes by the rule over each deque.
+    ensures shared { HasShared (N.all - 1)
+        (blocks_of (length (runouts_after N.deal.state))) seats.old seats.new }
+    ensures told { (d : ℕ) → d < N.all - 1
+        → HasTold (N.all - 1) (blocks_of (length (runouts_after N.deal.state))) d seats.new }
+
+    // Each seat still has a lane to each deque.
+    ensures sized { (w : ℕ) (x : Seat N) → w < N.all - 1
+        → length (slice_index_or seats.new w x).lanes.items ≡ N.all - 1 }
 {
     run_seats(rt, seats, job, gate, book);
     join_all(seats, job.blocks());
@@ -64,14 +86,18 @@ fn run_seats<N: Naming + Send + Sync, R: Threads + Wait + Sync, G: Gate + Sync>(
 )
     requires named { deal_of job.now.table ≡ N.deal }
     requires workers { (length seats.old ≡ N.all - 1) × (N.all - 1 ≤ 16) × (0 < N.all - 1) }
-    requires fresh { AllFresh (N.all - 1) (blocks_of (length (runouts_after N.deal.state))) seats.old }
+    requires fresh { AllFresh (N.all - 1)
+        (blocks_of (length (runouts_after N.deal.state))) seats.old }
     ensures count { length seats.new ≡ length seats.old }
-    ensures worked { AllHaveWorked (N.all - 1) (blocks_of (length (runouts_after N.deal.state))) seats.old seats.new }
+    ensures worked { AllHaveWorked (N.all - 1)
+        (blocks_of (length (runouts_after N.deal.state))) seats.old seats.new }
 {
     let threads = seats.len();
     let work = |worker: usize, seat: &mut Seat<N>|
-        requires { (deal_of job.now.table ≡ N.deal) × (worker < N.all - 1) × (N.all - 1 ≤ 16) × IsFresh (N.all - 1) (blocks_of (length (runouts_after N.deal.state))) seat.old }
-        ensures { HasWorked (N.all - 1) (blocks_of (length (runouts_after N.deal.state))) seat.old seat.new }
+        requires { (deal_of job.now.table ≡ N.deal) × (worker < N.all - 1) × (N.all - 1 ≤ 16)
+            × IsFresh (N.all - 1) (blocks_of (length (runouts_after N.deal.state))) seat.old }
+        ensures { HasWorked (N.all - 1)
+            (blocks_of (length (runouts_after N.deal.state))) seat.old seat.new }
     { seat.work(rt, worker, job, gate, book) };
     thread::for_each_mut(rt, seats, threads, &work);
 }

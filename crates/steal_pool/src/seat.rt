@@ -34,8 +34,10 @@ impl<N: Naming> Seat<N> {
         requires named { deal_of job.now.table ≡ N.deal }
         requires worker { worker < N.all - 1 }
         requires few { N.all - 1 ≤ 16 }
-        requires fresh { IsFresh (N.all - 1) (blocks_of (length (runouts_after N.deal.state))) self.old }
-        ensures { HasWorked (N.all - 1) (blocks_of (length (runouts_after N.deal.state))) self.old self.new }
+        requires fresh { IsFresh (N.all - 1)
+            (blocks_of (length (runouts_after N.deal.state))) self.old }
+        ensures { HasWorked (N.all - 1)
+            (blocks_of (length (runouts_after N.deal.state))) self.old self.new }
     {
         let Seat { lanes, desk } = self;
         let number = worker as u32;

@@ -45,7 +45,8 @@ impl<N: Naming> Model for Seats<N> {
 
     ghost view = { λ s. sitting_of s.worked s.seats.items };
 
-    ghost invariant = { λ s. IsSitting (N.all - 1) (blocks_of (length (runouts_after N.deal.state))) N.parts s.worked s.seats.items s.spare };
+    ghost invariant = { λ s. IsSitting (N.all - 1)
+        (blocks_of (length (runouts_after N.deal.state))) N.parts s.worked s.seats.items s.spare };
 }
 
 impl<N: Naming> Seats<N> {
@@ -56,8 +57,10 @@ impl<N: Naming> Seats<N> {
         requires named { deal_of job.now.table ≡ N.deal }
         requires name { blank.name ≡ N.name }
         requires parts { blank.parts ≡ N.parts }
-        requires workers { (1 ≤ workers) × (workers ≤ 16) × (N.parts ≡ workers + 1) × (N.all ≡ N.parts) }
-        ensures { IfOk result (λ s. IsFreshSitting workers (blocks_of (length (runouts_after N.deal.state))) s) }
+        requires workers { (1 ≤ workers) × (workers ≤ 16) × (N.parts ≡ workers + 1)
+            × (N.all ≡ N.parts) }
+        ensures { IfOk result
+            (λ s. IsFreshSitting workers (blocks_of (length (runouts_after N.deal.state))) s) }
     {
         let (book, mut spare) = Book::start(alloc, job, blank)?;
         let mut seats = seats_without_ways(alloc, workers, &mut spare)?;
@@ -78,7 +81,8 @@ impl<N: Naming> Seats<N> {
         N: Send + Sync,
         requires named { deal_of job.now.table ≡ N.deal }
         requires fresh { self.old.worked ≡ false }
-        ensures { IsShared (N.all - 1) (blocks_of (length (runouts_after N.deal.state))) self.old self.new }
+        ensures { IsShared (N.all - 1)
+            (blocks_of (length (runouts_after N.deal.state))) self.old self.new }
     {
         let Seats {
             seats,

@@ -28,8 +28,11 @@ pub fn count_with_workers<R: Threads + Wait + Sync, G: Gate + Sync>(
     gate: &G,
 ) -> Result<Closed, Memory>
     requires workers { (1 ≤ workers) × (workers ≤ 16) }
-    ensures total { IfOk result (λ c. Counts (deal_of job.now.table) (runouts_after (state_of job.now.table.known)) c.total) }
-    ensures by_workers { IfOk result (λ c. c.by_workers ≤ blocks_of (length (runouts_after (state_of job.now.table.known)))) }
+    ensures total { IfOk result
+        (λ c. Counts (deal_of job.now.table)
+        (runouts_after (state_of job.now.table.known)) c.total) }
+    ensures by_workers { IfOk result
+        (λ c. c.by_workers ≤ blocks_of (length (runouts_after (state_of job.now.table.known)))) }
 {
     let blank = Blank::new(workers as u64 + 1);
     count_among::<Brand, R, G>(rt, alloc, job, blank, workers, gate)
@@ -44,12 +47,19 @@ fn count_among<N: Naming + Send + Sync, R: Threads + Wait + Sync, G: Gate + Sync
     workers: u32,
     gate: &G,
 ) -> Result<Closed, Memory>
+    // `N` names the deal of the job, and a ledger of which no part was split off.
     requires named { deal_of job.now.table ≡ N.deal }
     requires name { blank.name ≡ N.name }
     requires parts { blank.parts ≡ N.parts }
-    requires workers { (1 ≤ workers) × (workers ≤ 16) × (N.parts ≡ workers + 1) × (N.all ≡ N.parts) }
+
+    // There is a part for each of 1 to 16 workers, and a spare one for the caller.
+    requires workers { (1 ≤ workers) × (workers ≤ 16) × (N.parts ≡ workers + 1)
+        × (N.all ≡ N.parts) }
+
+    // The total is that of all runouts, and the workers posted no more blocks than there are.
     ensures total { IfOk result (λ c. Counts N.deal (runouts_after N.deal.state) c.total) }
-    ensures by_workers { IfOk result (λ c. c.by_workers ≤ blocks_of (length (runouts_after N.deal.state))) }
+    ensures by_workers { IfOk result
+        (λ c. c.by_workers ≤ blocks_of (length (runouts_after N.deal.state))) }
 {
     let mut seats = Seats::<N>::start(alloc, job, blank, workers)?;
     seats.work(rt, job, gate);

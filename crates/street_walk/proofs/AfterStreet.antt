@@ -9,7 +9,6 @@ use Rattle.card_sets.specs.Rising.{IsRising-cards_where, rising-IsCardSet}
 use Rattle.card_sets.specs.Games.{own_size, board_size}
 use Rattle.card_sets.specs.State.{State}
 use Rattle.card_sets.specs.declared.games.Game.{Game}
-use Rattle.rank_high.proofs.Sets.{length-union}
 use Rattle.runout_ranges.specs.Runouts.{runouts, left_by, HasMember}
 use Rattle.runout_ranges.specs.Slots.{slots, unseen, slot_of, hand_slots, counts_of, same_receiver, dealt}
 use Rattle.runout_ranges.specs.Walks.{length-runout}
@@ -18,16 +17,15 @@ use Rattle.runout_ranges.specs.declared.shapes.Receiver.TheVariants.{Board, Hand
 use Rattle.runout_ranges.specs.declared.shapes.Slot.{Slot}
 use Rattle.runout_ranges.specs.declared.shapes.Shape.{Shape}
 use Rattle.runout_ranges.specs.Shapes.{runouts_of, slots_of}
-use Rattle.runout_ranges.proofs.CardLists.{minus_left}
-use Rattle.runout_ranges.proofs.Membership.{runout_fills}
-use Rattle.showdown_tally.proofs.Dealt.{runout_deals, dealt_cards}
-use Rattle.showdown_tally.proofs.Full.{unseen_free, any-index}
+use Rattle.card_sets.proofs.CallerLemmas.{length-union}
+use Rattle.runout_ranges.proofs.CallerLemmas.{minus_left, runout_fills}
+use Rattle.showdown_tally.proofs.CallerLemmas.{runout_deals, dealt_cards, unseen_free, any-index}
 use Rattle.street_walk.specs.Streets.{gets, next_of, next_slots, choices_of, hands_after, after, IsNextOf}
 use Rattle.street_walk.specs.StreetSums.{IsKnown}
 use Rattle.street_walk.proofs.Picks.{Alike, has_card_joined}
-use Rattle.street_walk.proofs.Listed.{left_by_all}
-use Rattle.street_walk.proofs.Parts.{rest_of}
-use Rattle.street_walk.proofs.Padded.{lacking, lacking_more}
+use Rattle.street_walk.proofs.PickedListing.{left_by_all}
+use Rattle.street_walk.proofs.StreetParts.{rest_of}
+use Rattle.street_walk.proofs.EmptySlots.{lacking, lacking_more}
 use Rattle.street_walk.proofs.Receivers.{dealt_absent, absent_board, absent_below, dealt_next, lack, dealt_length, lack_next, lack_board, lack_hand}
 
 -- ---- unions by their cards

@@ -8,19 +8,17 @@ use Rattle.card_sets.specs.declared.games.Game.{Game}
 use Rattle.runout_ranges.specs.Runouts.{left_by, HasMember}
 use Rattle.runout_ranges.specs.Slots.{slots, unseen, slot_of, counts_of}
 use Rattle.runout_ranges.specs.declared.shapes.Slot.{Slot}
-use Rattle.runout_ranges.proofs.Filled.{left_length}
-use Rattle.runout_ranges.proofs.Membership.{choose_has}
-use Rattle.runout_ranges.proofs.Numbers.{rising_left}
-use Rattle.showdown_tally.proofs.Dealt.{Deals, runout_deals}
+use Rattle.runout_ranges.proofs.CallerLemmas.{left_length, choose_has, rising_left}
+use Rattle.showdown_tally.proofs.CallerLemmas.{Deals, runout_deals}
 use Rattle.equity_job.specs.Jobs.{IsDeckShort}
 use Rattle.equity_job.specs.declared.limits.TheConstants.{RUNOUT_MAX}
 use Rattle.showdown_tally.specs.Tallies.{runouts_after}
 use Rattle.std.proofs.Math.Nat.{le-mul_of_pos_right, mul_comm}
 use Rattle.street_walk.specs.Streets.{gets, next_of, next_slots, choices_of, after, divisions}
 use Rattle.street_walk.specs.StreetSums.{IsKnown, AreTooMany}
-use Rattle.street_walk.proofs.Listed.{left_by_all}
-use Rattle.street_walk.proofs.Parts.{gets_within, rest_of, divided_some}
-use Rattle.street_walk.proofs.Padded.{lacking}
+use Rattle.street_walk.proofs.PickedListing.{left_by_all}
+use Rattle.street_walk.proofs.StreetParts.{gets_within, rest_of, divided_some}
+use Rattle.street_walk.proofs.EmptySlots.{lacking}
 use Rattle.street_walk.proofs.AfterStreet.{unseen_after, slots_after, choice_length}
 
 -- the sets of the slots leave all cards but theirs

@@ -2,7 +2,7 @@
 use Rattle.std.proofs.Common.{◌≡◌, ℕ, zero, suc, ◌+◌, ◌-◌, ◌<◌, ◌≤◌, List, [], ◌∷◌, ◌++◌, length, take, drop, refl, sym, ap, ◌∙◌, subst, inl, inr, arith, Bool, true, false, ◌||◌, ◌&&◌, ◌==◌, not}
 use Rattle.std.specs.Prelude.{slice_index_or, nat_le, All}
 use Rattle.std.specs.List.{list_any, list_all}
-use Rattle.std.proofs.lemmas.Bool.{cases_lt}
+use Rattle.std.proofs.lemmas.Bool.{cases_lt, and_parts}
 use Rattle.std.proofs.lemmas.List.{take-append-drop, length-take-le}
 use Rattle.std.proofs.lemmas.List.Elements.{All-head, All-tail}
 use Rattle.std.proofs.Math.Seq.{take-append_seam, drop-append_seam}
@@ -14,19 +14,19 @@ use Rattle.card_sets.specs.Games.{own_size, board_size, all_fit}
 use Rattle.card_sets.specs.Rising.{IsRising-cards_where}
 use Rattle.card_sets.specs.State.{State}
 use Rattle.card_sets.specs.declared.games.Game.{Game}
-use Rattle.rank_high.proofs.Sets.{Apart-apart, apart-Apart, both, has_card-bound}
 use Rattle.runout_ranges.specs.Runouts.{HasMember}
 use Rattle.runout_ranges.specs.Slots.{slots, unseen, slot_of, hand_slots, counts_of, dealt}
 use Rattle.runout_ranges.specs.Ways.{Within}
 use Rattle.runout_ranges.specs.declared.shapes.Receiver.TheVariants.{Board, Hand}
 use Rattle.runout_ranges.specs.declared.shapes.Slot.{Slot}
-use Rattle.runout_ranges.proofs.Membership.{runout_fills}
-use Rattle.showdown_tally.proofs.Full.{list_all-index}
+use Rattle.card_sets.proofs.CallerLemmas.{Apart-apart, apart-Apart, has_card-bound}
+use Rattle.runout_ranges.proofs.CallerLemmas.{runout_fills}
+use Rattle.showdown_tally.proofs.CallerLemmas.{list_all-index}
 use Rattle.street_walk.specs.Streets.{next_slots, choices_of, hands_after, after}
 use Rattle.street_walk.specs.StreetSums.{IsKnown}
-use Rattle.street_walk.proofs.Parts.{gets_within}
+use Rattle.street_walk.proofs.StreetParts.{gets_within}
 use Rattle.street_walk.proofs.Receivers.{dealt_absent, absent_board, absent_below, dealt_next}
-use Rattle.street_walk.proofs.Ends.{length_after}
+use Rattle.street_walk.proofs.StreetEnds.{length_after}
 use Rattle.street_walk.proofs.AfterStreet.{skip_slot, hands_next, board_grows, hand_grows, choice_length}
 
 abbrev bit : Bool → ℕ
@@ -60,14 +60,14 @@ neither false b h = (refl, h)
 none_hold : (s : List ℕ) (sets : List (List ℕ)) (k : ℕ) → list_all (apart s) sets ≡ true → has_card s k ≡ true → holders k sets ≡ 0
 none_hold s [] k h x = refl
 none_hold s (t ∷ sets) k h x =
-    let hs = both (apart s t) (list_all (apart s) sets) h in
+    let hs = and_parts (apart s t) (list_all (apart s) sets) h in
     let out : bit (has_card t k) ≡ 0 = ap bit (is_false (has_card t k) (λ y. Apart-apart s t hs.0 k x y)) in
     omega (arith, out, none_hold s sets k hs.1 x)
 
 apart-few : (sets : List (List ℕ)) (k : ℕ) → all_apart sets ≡ true → holders k sets ≤ 1
 apart-few [] k h = omega arith
 apart-few (s ∷ sets) k h =
-    let hs = both (list_all (apart s) sets) (all_apart sets) h in
+    let hs = and_parts (list_all (apart s) sets) (all_apart sets) h in
     elim (has_card s k) as (λ b. has_card s k ≡ b → bit b + holders k sets ≤ 1) [
       | true ↦ λ e. omega (arith, none_hold s sets k hs.0 e)
       | false ↦ λ e. omega (arith, apart-few sets k hs.1)
@@ -100,10 +100,10 @@ holders-append k (x ∷ xs) ys = omega (arith, holders-append k xs ys)
 empty_hold : (k : ℕ) (sets : List (List ℕ)) → all_empty sets ≡ true → holders k sets ≡ 0
 empty_hold k [] h = refl
 empty_hold k ([] ∷ sets) h =
-    let hs = both (nat_le 0 0) (all_empty sets) h in
+    let hs = and_parts (nat_le 0 0) (all_empty sets) h in
     omega (arith, empty_hold k sets hs.1)
 empty_hold k ((x ∷ s) ∷ sets) h =
-    let hs = both (nat_le (suc (length s)) 0) (all_empty sets) h in
+    let hs = and_parts (nat_le (suc (length s)) 0) (all_empty sets) h in
     let f : nat_le (suc (length s)) 0 ≡ false = grind arith in
     absurd (true≢false (sym hs.0 ∙ f))
 
@@ -189,8 +189,8 @@ free_card : (s : State) (k : ℕ) → has_card (unseen s) k ≡ true → Free s 
 free_card s k h =
     let inside : k < 52 = has_card-bound 0 (unseen s) k (IsRising-cards_where _) h in
     let free : (not (has_card s.board k) && not (has_card s.dead k) && not (list_any (λ hand. has_card hand k) s.hands)) ≡ true = sym (has-cards_where _ k inside) ∙ h in
-    let two = both (not (has_card s.board k) && not (has_card s.dead k)) (not (list_any (λ hand. has_card hand k) s.hands)) free in
-    let one = both (not (has_card s.board k)) (not (has_card s.dead k)) two.0 in
+    let two = and_parts (not (has_card s.board k) && not (has_card s.dead k)) (not (list_any (λ hand. has_card hand k) s.hands)) free in
+    let one = and_parts (not (has_card s.board k)) (not (has_card s.dead k)) two.0 in
     record { board = ap bit (off (has_card s.board k) one.0); dead = ap bit (off (has_card s.dead k) one.1); hands = none_has k s.hands (off (list_any (λ hand. has_card hand k) s.hands) two.1) }
 
 -- no card is in two places
@@ -217,15 +217,15 @@ at_most a b h = elim (cases_lt b a) [ inl l ↦ let f : nat_le a b ≡ false = g
 
 pub all_front : {X : Type 0} (p : X → Bool) (xs ys : List X) → list_all p (xs ++ ys) ≡ true → list_all p xs ≡ true
 all_front p [] ys h = refl
-all_front p (x ∷ xs) ys h = let hs = both (p x) (list_all p (xs ++ ys)) h in and_true (p x) (list_all p xs) hs.0 (all_front p xs ys hs.1)
+all_front p (x ∷ xs) ys h = let hs = and_parts (p x) (list_all p (xs ++ ys)) h in and_true (p x) (list_all p xs) hs.0 (all_front p xs ys hs.1)
 
 all_back : {X : Type 0} (p : X → Bool) (xs ys : List X) → list_all p (xs ++ ys) ≡ true → list_all p ys ≡ true
 all_back p [] ys h = h
-all_back p (x ∷ xs) ys h = let hs = both (p x) (list_all p (xs ++ ys)) h in all_back p xs ys hs.1
+all_back p (x ∷ xs) ys h = let hs = and_parts (p x) (list_all p (xs ++ ys)) h in all_back p xs ys hs.1
 
 all_joined : {X : Type 0} (p : X → Bool) (xs ys : List X) → list_all p xs ≡ true → list_all p ys ≡ true → list_all p (xs ++ ys) ≡ true
 all_joined p [] ys h k = k
-all_joined p (x ∷ xs) ys h k = let hs = both (p x) (list_all p xs) h in and_true (p x) (list_all p (xs ++ ys)) hs.0 (all_joined p xs ys hs.1 k)
+all_joined p (x ∷ xs) ys h k = let hs = and_parts (p x) (list_all p xs) h in and_true (p x) (list_all p (xs ++ ys)) hs.0 (all_joined p xs ys hs.1 k)
 
 hands_fit : (size : ℕ) (some : List Slot) (sets : List (List ℕ)) (number : ℕ) (hands : List (List ℕ))
     → ((i : ℕ) → i < length hands → length (union (slice_index_or hands i []) (dealt some sets (Hand (number + i)))) ≤ size) → list_all (λ hand. nat_le (length hand) size) (hands_after some sets number hands) ≡ true
@@ -243,7 +243,7 @@ pub known_fit : (s : State) (rest sets : List (List ℕ)) → IsKnown s → all_
 known_fit s rest sets known fits m =
     let size = own_size s.game in
     let p : List ℕ → Bool = λ hand. nat_le (length hand) size in
-    let old = both (nat_le (length s.board) (board_size s.game)) (list_all p (s.hands ++ rest)) fits in
+    let old = and_parts (nat_le (length s.board) (board_size s.game)) (list_all p (s.hands ++ rest)) fits in
     let front = all_front p s.hands rest old.1 in
     let grown = board_grows s sets known m in
     let gets_board = gets_within s.game Board (board_size s.game - length s.board) in

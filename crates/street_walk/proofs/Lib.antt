@@ -1,12 +1,12 @@
 pub mod Picks
-pub mod Listed
-pub mod Parts
-pub mod Padded
+pub mod PickedListing
+pub mod StreetParts
+pub mod EmptySlots
 pub mod Receivers
 pub mod AfterStreet
 pub mod KnownAfter
-pub mod Ends
-pub mod GoesOn
+pub mod StreetEnds
+pub mod CardsAfter
 pub mod StreetLaw
 pub mod SumWalk
 pub mod EnoughAfter

@@ -5,7 +5,7 @@ use Rattle.std.proofs.lemmas.List.Folds.{list_any-append}
 use Rattle.std.proofs.Math.Nat.{mul_assoc}
 use Rattle.card_sets.specs.Cards.{has_card}
 use Rattle.runout_ranges.specs.Ways.{binomial}
-use Rattle.runout_ranges.proofs.Numbers.{binomial_none}
+use Rattle.runout_ranges.proofs.CallerLemmas.{binomial_none}
 
 -- the sum of a number over all ways to pick so many of the cards, by the picked cards and those left
 abbrev pub picks : ℕ → List ℕ → (List ℕ → List ℕ → ℕ) → ℕ

@@ -12,8 +12,8 @@ use Rattle.runout_ranges.specs.declared.shapes.Receiver.TheVariants.{Board, Hand
 use Rattle.runout_ranges.specs.declared.shapes.Slot.{Slot}
 use Rattle.street_walk.specs.Streets.{gets, next_of}
 use Rattle.street_walk.proofs.Picks.{Alike, AllAlike, joined}
-use Rattle.street_walk.proofs.Parts.{gets_none, rest_of}
-use Rattle.street_walk.proofs.Padded.{lacking, padded, padded_one}
+use Rattle.street_walk.proofs.StreetParts.{gets_none, rest_of}
+use Rattle.street_walk.proofs.EmptySlots.{lacking, padded, padded_one}
 
 -- ---- each receiver has one slot at most
 

@@ -14,11 +14,11 @@ use Rattle.showdown_tally.specs.Tallies.{runouts_after}
 use Rattle.street_walk.specs.Streets.{choices_of, after, at_end, divisions}
 use Rattle.street_walk.specs.StreetSums.{IsKnown, deal_after, over_choices, over_runouts, IsStreetLaw}
 use Rattle.street_walk.proofs.Picks.{ByAllCards, joined, later_of, whole_of}
-use Rattle.street_walk.proofs.Listed.{sum_same, left_by_all, streets_listed}
-use Rattle.street_walk.proofs.Parts.{parts_of, now_parts, whole_parts, later_parts, divided_parts, rest_of}
-use Rattle.street_walk.proofs.Padded.{lacking, padded, runouts_padded}
+use Rattle.street_walk.proofs.PickedListing.{sum_same, left_by_all, streets_listed}
+use Rattle.street_walk.proofs.StreetParts.{parts_of, now_parts, whole_parts, later_parts, divided_parts, rest_of}
+use Rattle.street_walk.proofs.EmptySlots.{lacking, padded, runouts_padded}
 use Rattle.street_walk.proofs.AfterStreet.{unseen_after, slots_after, choice_length}
-use Rattle.street_walk.proofs.Ends.{whole_runout, end_same, end_alike, winners_whole, winners_alike}
+use Rattle.street_walk.proofs.StreetEnds.{whole_runout, end_same, end_alike, winners_whole, winners_alike}
 
 -- a number of the final cards, added up street by street
 pub street_total : (s : State) (f : List (List ℕ) → ℕ) (g : List (List ℕ) → List (List ℕ) → ℕ) → IsKnown s → ByAllCards (λ sets left. f sets)

@@ -33,7 +33,8 @@ pub fn law_streets_go_on(known: &Known)
 /// Added up over all choices of the next street's cards, each number of the whole count is that of the deal itself, as often as
 /// one runout divides into the street's cards and the rest.
 pub fn law_streets_add_up(known: &Known)
-    ensures { (pots : List (List ℕ)) → IsStreetLaw record { state = state_of known.now; pots = pots } }
+    ensures { (pots : List (List ℕ))
+        → IsStreetLaw record { state = state_of known.now; pots = pots } }
 {
     known_sets(known);
 }

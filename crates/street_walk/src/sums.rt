@@ -41,11 +41,19 @@ fn count_after<L: Ledger>(
     tally: &mut Tally,
     steps: &mut Steps<L>,
 )
+    // The choice is one of the next street's cards.
     requires next { IsNextOf (state_of table.now.known) step.now }
     requires choice { HasMember (runouts_of step.now) choice.now }
+
+    // The deck has enough cards, and all choices together have no more runouts than may be counted: so has this one.
     requires enough { ¬ IsDeckShort (state_of table.now.known) }
     requires few { ¬ AreTooMany (state_of table.now.known) }
-    ensures counts { Counts (deal_after (deal_of table.now) choice.now) (runouts_after (after (state_of table.now.known) choice.now)) tally.new }
+
+    // The tally is that of the table as it is known after the choice, whatever it was.
+    ensures counts { Counts (deal_after (deal_of table.now) choice.now)
+        (runouts_after (after (state_of table.now.known) choice.now)) tally.new }
+
+    // After each choice there is a way to deal the rest, and each takes a step.
     ensures some { 0 < tally.new.runouts }
     ensures steps { steps.new ≡ steps.old + tally.new.runouts }
 {
@@ -69,9 +77,12 @@ fn sum_choices<L: Ledger>(
     scratch: &mut Scratch,
     steps: &mut Steps<L>,
 ) -> Tally
+    // The shape is the next street's; the deck has enough cards, and all choices have few enough runouts together.
     requires next { IsNextOf (state_of table.now.known) step.now }
     requires enough { ¬ IsDeckShort (state_of table.now.known) }
     requires few { ¬ AreTooMany (state_of table.now.known) }
+
+    // It is the sum as it is defined, choice by choice, and also the table's own count so many times.
     ensures sum { IsStreetSum (deal_of table.now) result }
     ensures divided { IsDivided (deal_of table.now) result }
     ensures steps { steps.new ≡ steps.old + result.runouts }
@@ -115,10 +126,15 @@ pub fn street_sum<L: Ledger>(
     scratch: &mut Scratch,
     steps: &mut Steps<L>,
 ) -> Result<Tally, StreetFault>
+    // It is the sum as it is defined, choice by choice, and also the table's own count so many times.
     ensures sum { IfOk result (λ tally. IsStreetSum (deal_of table.now) tally) }
     ensures divided { IfOk result (λ tally. IsDivided (deal_of table.now) tally) }
     ensures steps { IfOk result (λ tally. steps.new ≡ steps.old + tally.runouts) }
+
+    // A refusal comes before the first step.
     ensures still { IfErr result (λ fault. steps.new ≡ steps.old) }
+
+    // Each refusal comes exactly where its cause holds; a short deck and the last street exclude each other.
     ensures short { IsErrOf result StreetFault.DeckShort ↔ IsDeckShort (state_of table.now.known) }
     ensures last { IsErrOf result StreetFault.LastStreet ↔ IsLastStreet (state_of table.now.known) }
     ensures above { IsErrOf result StreetFault.AboveLimit

@@ -1,3 +1,3 @@
-pub mod Sets
-pub mod Marked
+pub mod PartSets
+pub mod MarkedBlocks
 pub mod PageFacts

@@ -58,12 +58,19 @@ pub struct Closed {
 impl<N: Naming> Book<N> {
     /// The book of a job, with no block marked, and the part that has the whole ledger.
     pub fn start(alloc: Global, job: &Job, blank: Blank) -> Result<(Book<N>, Part<N>), Memory>
+        // `N` names the deal of the job.
         requires named { deal_of job.now.table ≡ N.deal }
+
+        // The blank is one of `N`'s ledger, of which no part was split off.
         requires name { blank.name ≡ N.name }
         requires parts { blank.parts ≡ N.parts }
         requires some { 0 < blank.parts }
-        ensures unmarked { IfOk result (λ r. r.0.marks ≡ replicate (blocks_of (length (runouts_after N.deal.state))) false) }
-        ensures part { IfOk result (λ r. r.1 ≡ record { parts = blank.parts; amount = 0; words = no_blocks }) }
+
+        // No block is marked; the part has the whole ledger, no fresh posts, and no block was handed in with it.
+        ensures unmarked { IfOk result
+            (λ r. r.0.marks ≡ replicate (blocks_of (length (runouts_after N.deal.state))) false) }
+        ensures part { IfOk result
+            (λ r. r.1 ≡ record { parts = blank.parts; amount = 0; words = no_blocks }) }
     {
         let marks = no_marks(alloc, job.blocks() as usize)?;
         let (posts, share) = blank.open::<N>();
@@ -86,12 +93,22 @@ impl<N: Naming> Book<N> {
     /// Hands in a block with its tally. `Fresh` exactly where it wasn't marked. It then is, its tally is added to the total,
     /// and one to the part's amount. `Already` changes nothing but the part's set.
     pub fn post(&mut self, block: u32, tally: &Tally, part: &mut Part<N>) -> Posted
+        // The job has such a block, and the tally is that of this block: by that the total stays right.
         requires block { block < blocks_of (length (runouts_after N.deal.state)) }
         requires tally { Counts N.deal (block_of (runouts_after N.deal.state) block) tally.now }
+
+        // What is fresh goes by the mark alone, and only a fresh tally is added.
         ensures which { (result ≡ Posted.Fresh) ↔ (is_marked self.old block ≡ false) }
-        ensures fresh { result ≡ Posted.Fresh → (self.new.marks ≡ slice_set self.old.marks block true) × IsSum self.old.total tally.now self.new.total × (part.new.amount ≡ part.old.amount + 1) }
-        ensures already { result ≡ Posted.Already → (self.new ≡ self.old) × (part.new.amount ≡ part.old.amount) }
-        ensures handed { (b : ℕ) → b < BLOCKS_MAX → is_handed part.new b ≡ (is_handed part.old b || (b == block)) }
+        ensures fresh { result ≡ Posted.Fresh
+            → (self.new.marks ≡ slice_set self.old.marks block true)
+            × IsSum self.old.total tally.now self.new.total
+            × (part.new.amount ≡ part.old.amount + 1) }
+        ensures already { result ≡ Posted.Already
+            → (self.new ≡ self.old) × (part.new.amount ≡ part.old.amount) }
+
+        // Fresh or not, the block is then in the part's set; of the ledger the part has what it had.
+        ensures handed { (b : ℕ) → b < BLOCKS_MAX
+            → is_handed part.new b ≡ (is_handed part.old b || (b == block)) }
         ensures parts { part.new.parts ≡ part.old.parts }
     {
         let already = self.marks[block as usize];
@@ -133,7 +150,8 @@ impl<N: Naming> Book<N> {
     /// blocks, each once.
     pub fn law_the_total_is_that_of_the_marked_blocks(&self)
         ensures marks { length self.now.marks ≡ blocks_of (length (runouts_after N.deal.state)) }
-        ensures total { Counts N.deal (marked_of (runouts_after N.deal.state) self.now.marks) self.now.total }
+        ensures total { Counts N.deal
+            (marked_of (runouts_after N.deal.state) self.now.marks) self.now.total }
     {
         let _blocks = self.marks.len();
     }

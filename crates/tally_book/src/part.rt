@@ -32,7 +32,8 @@ impl<N: Naming> Part<N> {
     /// Of a share with which no block was handed in.
     pub(crate) fn of(share: Share<N>) -> Part<N>
         requires { 0 < share.parts }
-        ensures { result ≡ record { parts = share.parts; amount = share.amount; words = no_blocks } }
+        ensures { result
+            ≡ record { parts = share.parts; amount = share.amount; words = no_blocks } }
     {
         Part {
             share,
@@ -57,7 +58,8 @@ impl<N: Naming> Part<N> {
     pub fn merge(&mut self, other: Part<N>)
         ensures parts { self.new.parts ≡ self.old.parts + other.parts }
         ensures amount { self.new.amount ≡ self.old.amount + other.amount }
-        ensures handed { (b : ℕ) → b < BLOCKS_MAX → is_handed self.new b ≡ (is_handed self.old b || is_handed other b) }
+        ensures handed { (b : ℕ) → b < BLOCKS_MAX
+            → is_handed self.new b ≡ (is_handed self.old b || is_handed other b) }
     {
         let Part { share, words } = other;
         self.share.merge(share);
@@ -76,7 +78,8 @@ impl<N: Naming> Part<N> {
     pub(crate) fn hand_in(&mut self, block: u32)
         requires { block < BLOCKS_MAX }
         ensures same { (self.new.parts ≡ self.old.parts) × (self.new.amount ≡ self.old.amount) }
-        ensures handed { (b : ℕ) → b < BLOCKS_MAX → is_handed self.new b ≡ (is_handed self.old b || (b == block)) }
+        ensures handed { (b : ℕ) → b < BLOCKS_MAX
+            → is_handed self.new b ≡ (is_handed self.old b || (b == block)) }
     {
         self.words[block as usize / 64] |= 1 << (block % 64);
     }
@@ -91,7 +94,8 @@ fn no_words() -> [u64; WORDS]
 
 /// The bits of both.
 fn join_words(words: &mut [u64; WORDS], others: &[u64; WORDS])
-    ensures { (k : ℕ) → k < WORDS → slice_index words.new k ≡ bit_or (slice_index words.old k) (slice_index others.now k) }
+    ensures { (k : ℕ) → k < WORDS
+        → slice_index words.new k ≡ bit_or (slice_index words.old k) (slice_index others.now k) }
 {
     for k in 0..WORDS {
         words[k] |= others[k];

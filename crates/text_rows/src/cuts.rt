@@ -1,15 +1,24 @@
 //! Streams that come in pieces.
 
-ghost use Rattle.std.specs.Prelude.{◌≡◌};
+ghost use Rattle.std.specs.Prelude.{◌≡◌, false};
 
-use card_sets::Memory;
 use hand_cuts::{CutKind, Cutter};
+
+/// Takes a piece of an open stream. Whether it is short, and there was memory for it.
+fn takes(cutter: &mut Cutter, piece: &[u8]) -> bool
+    requires { cutter.old.closed ≡ false }
+    ensures { cutter.new.closed ≡ false }
+{
+    if cutter.given() > 1000 || piece.len() > 1000 {
+        return false;
+    }
+    cutter.give(piece).is_ok()
+}
 
 /// Whether the next hand or line is this text and begins with this line; for no text, whether none is
 /// left.
 fn hands_out(cutter: &mut Cutter, text: &[u8], line: u32) -> bool
-    ensures given { cutter.new.given ≡ cutter.old.given }
-    ensures closed { cutter.new.closed ≡ cutter.old.closed }
+    ensures { cutter.new.closed ≡ cutter.old.closed }
 {
     match cutter.next_unit() {
         Some(unit) => unit.first_line == line && &cutter.held()[unit.first..unit.end] == text,
@@ -17,54 +26,85 @@ fn hands_out(cutter: &mut Cutter, text: &[u8], line: u32) -> bool
     }
 }
 
-#[test]
-fn a_hand_ends_where_a_later_header_line_has_its_newline(rt: HostRuntime) -> Result<(), Memory> {
-    let mut cutter = Cutter::new(rt.alloc(), CutKind::Hands);
-    cutter.give(
-        b"\xef\xbb\xbfno hand\n\nPokerStars Hand #1\n PokerStars Hand #8\nPokerStars Game #2\r",
-    )?;
-    assert!(rt; hands_out(&mut cutter, b"", 0));
-    cutter.give(b"\n\nPokerStars Hand #3")?;
-    assert!(rt; hands_out(&mut cutter, b"PokerStars Hand #1\n PokerStars Hand #8\n", 3));
-    assert!(rt; hands_out(&mut cutter, b"", 0));
+/// Whether each of these is the next hand or line, with the line that it begins with.
+fn hands_all_out(cutter: &mut Cutter, units: &[(&[u8], u32)]) -> bool
+    ensures { cutter.new.closed ≡ cutter.old.closed }
+{
+    for (text, line) in units {
+        if !hands_out(cutter, text, *line) {
+            return false;
+        }
+    }
+    true
+}
+
+/// Whether these are handed out behind a piece of an open stream.
+fn goes_on(cutter: &mut Cutter, piece: &[u8], units: &[(&[u8], u32)]) -> bool
+    requires { cutter.old.closed ≡ false }
+    ensures { cutter.new.closed ≡ false }
+{
+    if !takes(cutter, piece) {
+        return false;
+    }
+    hands_all_out(cutter, units)
+}
+
+/// Whether these are handed out behind the end.
+fn ends(cutter: &mut Cutter, units: &[(&[u8], u32)]) -> bool {
     cutter.close();
-    assert!(rt; hands_out(&mut cutter, b"PokerStars Game #2\r\n\n", 5));
-    assert!(rt; hands_out(&mut cutter, b"PokerStars Hand #3", 7));
-    assert!(rt; hands_out(&mut cutter, b"", 0));
-    Ok(())
+    hands_all_out(cutter, units)
+}
+
+/// Whether these are the bytes that are held behind what is forgotten.
+fn forgets(cutter: &mut Cutter, rest: &[u8]) -> bool {
+    cutter.forget();
+    cutter.held() == rest
 }
 
 #[test]
-fn a_line_ends_with_its_newline_or_with_the_stream(rt: HostRuntime) -> Result<(), Memory> {
+fn a_hand_ends_where_a_later_header_line_has_its_newline(rt: HostRuntime) {
+    let mut cutter = Cutter::new(rt.alloc(), CutKind::Hands);
+    let first =
+        b"\xef\xbb\xbfno hand\n\nPokerStars Hand #1\n PokerStars Hand #8\nPokerStars Game #2\r";
+    assert!(rt; goes_on(&mut cutter, first, &[(b"", 0)]));
+    let hand = b"PokerStars Hand #1\n PokerStars Hand #8\n".as_slice();
+    assert!(rt;
+        goes_on(
+            &mut cutter,
+            b"\n\nPokerStars Hand #3",
+            &[(hand, 3), (b"", 0)]
+        )
+    );
+    let last = [
+        (b"PokerStars Game #2\r\n\n".as_slice(), 5),
+        (b"PokerStars Hand #3".as_slice(), 7),
+        (b"".as_slice(), 0),
+    ];
+    assert!(rt; ends(&mut cutter, &last));
+}
+
+#[test]
+fn a_line_ends_with_its_newline_or_with_the_stream(rt: HostRuntime) {
     let mut cutter = Cutter::new(rt.alloc(), CutKind::Lines);
     assert!(rt; hands_out(&mut cutter, b"", 0));
-    cutter.give(b"a\n\nb")?;
-    assert!(rt; hands_out(&mut cutter, b"a\n", 1));
-    assert!(rt; hands_out(&mut cutter, b"\n", 2));
-    assert!(rt; hands_out(&mut cutter, b"", 0));
-    cutter.give(b"c")?;
-    cutter.close();
-    assert!(rt; hands_out(&mut cutter, b"bc", 3));
-    assert!(rt; hands_out(&mut cutter, b"", 0));
-    Ok(())
+    assert!(rt; goes_on(&mut cutter, b"a\n\nb", &[(b"a\n", 1), (b"\n", 2), (b"", 0)]));
+    assert!(rt; takes(&mut cutter, b"c"));
+    assert!(rt; ends(&mut cutter, &[(b"bc", 3), (b"", 0)]));
 }
 
 #[test]
-fn what_was_handed_out_is_forgotten_and_the_lines_before_a_hand(
-    rt: HostRuntime,
-) -> Result<(), Memory> {
+fn the_lines_before_a_hand_are_forgotten(rt: HostRuntime) {
     let mut cutter = Cutter::new(rt.alloc(), CutKind::Hands);
-    cutter.give(b"a\nb\nPokerStars Hand #1\nPoker")?;
-    cutter.forget();
-    assert_eq!(rt; cutter.held(), b"PokerStars Hand #1\nPoker".as_slice());
+    assert!(rt; takes(&mut cutter, b"a\nb\nPokerStars Hand #1\nPoker"));
+    assert!(rt; forgets(&mut cutter, b"PokerStars Hand #1\nPoker"));
     assert_eq!(rt; cutter.given(), 28);
-    let mut lines = Cutter::new(rt.alloc(), CutKind::Lines);
-    lines.give(b"a\nPokerStars Hand #1\n")?;
-    assert!(rt; hands_out(&mut lines, b"a\n", 1));
-    lines.forget();
-    assert_eq!(rt; lines.held(), b"PokerStars Hand #1\n".as_slice());
-    assert!(rt; hands_out(&mut lines, b"PokerStars Hand #1\n", 2));
-    lines.forget();
-    assert_eq!(rt; lines.held(), b"".as_slice());
-    Ok(())
+}
+
+#[test]
+fn what_was_handed_out_is_forgotten(rt: HostRuntime) {
+    let mut cutter = Cutter::new(rt.alloc(), CutKind::Lines);
+    assert!(rt; goes_on(&mut cutter, b"a\nPokerStars Hand #1\n", &[(b"a\n", 1)]));
+    assert!(rt; forgets(&mut cutter, b"PokerStars Hand #1\n"));
+    assert!(rt; hands_out(&mut cutter, b"PokerStars Hand #1\n", 2));
+    assert!(rt; forgets(&mut cutter, b""));
 }

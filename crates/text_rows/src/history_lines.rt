@@ -54,10 +54,15 @@ fn all_headers(table: &[(&[u8], Game, Limit, bool, u64)]) -> bool {
     true
 }
 
+/// Whether a line is no header line.
+fn is_no_header(line: &[u8]) -> bool {
+    !is_header(line)
+}
+
 #[test]
 fn headers_are_read(rt: HostRuntime) {
     assert!(rt; all_headers(HEADERS));
-    assert!(rt; !is_header(b"PokerStars Hand #x"));
+    assert!(rt; is_no_header(b"PokerStars Hand #x"));
 }
 
 const HEADERS: &[(&[u8], Game, Limit, bool, u64)] = &[

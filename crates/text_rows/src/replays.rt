@@ -178,7 +178,9 @@ const REST: [&[u8]; 9] = [
 
 /// Whether this is the state of the hand behind its flop.
 fn is_behind_the_flop(replay: &Replay) -> bool {
-    replay.owes() == Some(1) && replay.street() == Some(Street::Turn) && replay.stack(1) == 4700
+    replay.next_to_act() == Some(1)
+        && replay.street() == Some(Street::Turn)
+        && replay.stack(1) == 4700
 }
 
 /// Whether the board has this many cards on its streets.
@@ -195,7 +197,7 @@ fn a_hand_of_two_is_stepped_through(rt: HostRuntime) -> Result<(), Fail> {
     let names = three_names(rt.alloc()).ok().ok_or("memory")?;
     let mut replay = Replay::new(&DOLLARS, 6);
     assert!(rt; all_stand(&mut replay, &names, &TWO_SEATS));
-    assert!(rt; replay.owes().is_none() && replay.button() == 1);
+    assert!(rt; replay.next_to_act().is_none() && replay.button() == 1);
     assert!(rt; all_stand(&mut replay, &names, &FLOP));
     assert!(rt; is_behind_the_flop(&replay));
     assert!(rt; all_stand(&mut replay, &names, &REST));

@@ -1,5 +1,5 @@
 use Rattle.std.proofs.Common.{arith, ◌∙◌}
-use Rattle.share_fractions.proofs.Pieces.{behind_both, digits_more}
+use Rattle.share_fractions.proofs.TextPieces.{behind_both, digits_more}
 use Rattle.share_fractions.proofs.put_places.Goals as goal
 
 pub loop-place-preserved : goal.loop-place-preserved

@@ -66,10 +66,10 @@ fn the_first_point_is_kept(rt: HostRuntime) -> Result<(), Fail> {
     let mut replay = Replay::new(&DOLLARS, 14);
     assert!(rt; all_stand(&mut replay, &names, &BEFORE_CALL));
     assert!(rt; replay.all_in_point().is_none() && replay.all_in_contenders() == 0);
-    assert!(rt; replay.dead().count() == 0);
+    assert!(rt; replay.dead_cards().count() == 0);
     assert!(rt; all_stand(&mut replay, &names, &AFTER_CALL));
     assert!(rt; replay.all_in_point() == Some(Street::First) && replay.all_in_contenders() == 12);
-    assert!(rt; same(Some(replay.dead()), cards(&[*b"As", *b"Ks"])));
+    assert!(rt; same(Some(replay.dead_cards()), cards(&[*b"As", *b"Ks"])));
     assert!(rt; same(replay.cards_at(3, Street::First), cards(&[*b"Qs", *b"Qh"])));
     assert!(rt; replay.cards_at(2, Street::First).is_none());
     Ok(())
@@ -143,7 +143,7 @@ fn cards_face_down_are_those_of_a_later_bracket(rt: HostRuntime) -> Result<(), F
     assert!(rt; same(replay.cards_at(2, Street::Fifth), found));
     let first = cards(&[*b"8c", *b"8d", *b"Kc"]);
     assert!(rt; same(replay.cards_at(2, Street::First), first));
-    assert!(rt; replay.dead().count() == 0);
+    assert!(rt; replay.dead_cards().count() == 0);
     assert!(rt; replay.final_cards(2).is_some() && replay.final_cards(1).is_none());
     Ok(())
 }
@@ -169,7 +169,7 @@ fn is_kept(names: &Names, header: &Header, lines: &[&[u8]], at: Street, drawn: &
         && count(replay.cards_at(1, at)) == drawn.1
         && count(replay.cards_at(2, at)) == drawn.2
         && count(replay.final_cards(2)) == Some(5)
-        && replay.dead().count() == drawn.3
+        && replay.dead_cards().count() == drawn.3
 }
 
 /// Whether this is so of each of these draws.

@@ -2,7 +2,7 @@ use Rattle.std.proofs.Common.{◌≡◌, ℕ, zero, suc, ◌+◌, ◌-◌, ◌<�
 use Rattle.std.proofs.lemmas.List.{drop_all}
 use Rattle.card_sets.specs.Cards.{has_card, with_card, union, IsCardSet}
 use Rattle.betting_replay.specs.Known.{first_outside}
-use Rattle.betting_replay.proofs.CardSets.{union-nil, union-front}
+use Rattle.card_sets.proofs.CallerLemmas.{union-nil, union-front}
 use Rattle.betting_replay.proofs.known.with_two.Goals as goal
 
 -- the cards left to take from a row, of which the first is looked at

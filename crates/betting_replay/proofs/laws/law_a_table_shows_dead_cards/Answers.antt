@@ -6,7 +6,7 @@ use Rattle.betting_replay.specs.Table.{own_at}
 use Rattle.betting_replay.specs.Tables.{table_of, point}
 use Rattle.betting_replay.specs.Places.{owned, thrown}
 use Rattle.betting_replay.specs.AllIn.{had_folded, cards_of_seats, dead_by, dead_at}
-use Rattle.betting_replay.proofs.BySeat.{at_by_seat}
+use Rattle.betting_replay.proofs.lemmas.seats.SeatLists.{at_by_seat}
 use Rattle.betting_replay.proofs.laws.law_a_table_shows_dead_cards.Goals as goal
 
 same_seats : (test : ℕ → Bool) (f g : ℕ → List ℕ) (n : ℕ) → ((p : ℕ) → p < n → f p ≡ g p) → cards_of_seats test f n ≡ cards_of_seats test g n

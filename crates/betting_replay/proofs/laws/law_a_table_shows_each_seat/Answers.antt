@@ -8,7 +8,7 @@ use Rattle.betting_replay.specs.Places.{owned}
 use Rattle.betting_replay.specs.Hands.{shown, dealt, held as held_cards, row}
 use Rattle.betting_replay.specs.Dealing.{deals_of, draws_of, last_draw_of}
 use Rattle.betting_replay.specs.Known.{holding_of, final_by, known_by}
-use Rattle.betting_replay.proofs.BySeat.{at_by_seat}
+use Rattle.betting_replay.proofs.lemmas.seats.SeatLists.{at_by_seat}
 use Rattle.betting_replay.proofs.laws.law_a_table_shows_each_seat.Goals as goal
 use Rattle.std.proofs.Common.{◌<◌}
 

@@ -1,4 +1,4 @@
-use Rattle.betting_replay.proofs.Kept.{chips_stay}
+use Rattle.betting_replay.proofs.lemmas.chips.ChipsStay.{chips_stay}
 use Rattle.betting_replay.proofs.laws.law_chips_stay.Goals as goal
 
 pub returns : goal.returns

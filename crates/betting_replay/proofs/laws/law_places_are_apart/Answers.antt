@@ -1,4 +1,4 @@
-use Rattle.betting_replay.proofs.Belong.{places_apart}
+use Rattle.betting_replay.proofs.lemmas.places.CardsBelong.{places_apart}
 use Rattle.betting_replay.proofs.laws.law_places_are_apart.Goals as goal
 
 pub returns : goal.returns

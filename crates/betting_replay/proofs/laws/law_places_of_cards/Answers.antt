@@ -1,5 +1,5 @@
-use Rattle.betting_replay.proofs.DeadCards.{thrown_nobody}
-use Rattle.betting_replay.proofs.PlaceFacts.{since_is, first_is, stays_thrown}
+use Rattle.betting_replay.proofs.lemmas.places.DeadCards.{thrown_nobody}
+use Rattle.betting_replay.proofs.lemmas.places.PlacesSince.{since_is, first_is, stays_thrown}
 use Rattle.betting_replay.proofs.laws.law_places_of_cards.Goals as goal
 
 pub returns : goal.returns

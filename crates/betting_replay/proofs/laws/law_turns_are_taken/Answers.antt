@@ -1,9 +1,9 @@
 use Rattle.betting_replay.specs.Faults.{out_of_turn, nothing_owed, street_early}
 use Rattle.betting_replay.specs.Tables.{table_of}
 use Rattle.history_text.specs.declared.events.Event.TheVariants.{Act, Street}
-use Rattle.betting_replay.proofs.Afford.{not_not}
-use Rattle.betting_replay.proofs.Passed.{passed, not_failed}
-use Rattle.betting_replay.proofs.Stands.{no_card}
+use Rattle.betting_replay.proofs.lemmas.chips.AffordedChips.{not_not}
+use Rattle.betting_replay.proofs.lemmas.steps.PassedTests.{passed, not_failed}
+use Rattle.betting_replay.proofs.lemmas.steps.NextTable.{no_card}
 use Rattle.betting_replay.proofs.laws.law_turns_are_taken.Goals as goal
 
 pub returns : goal.returns

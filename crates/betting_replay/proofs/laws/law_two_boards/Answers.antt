@@ -1,5 +1,5 @@
-use Rattle.betting_replay.proofs.TwoBoards.{second_runs}
-use Rattle.betting_replay.proofs.PlayedBoards.{run_twice}
+use Rattle.betting_replay.proofs.lemmas.boards.TwoBoards.{second_runs}
+use Rattle.betting_replay.proofs.lemmas.boards.BoardLaws.{run_twice}
 use Rattle.betting_replay.proofs.laws.law_two_boards.Goals as goal
 
 pub returns : goal.returns

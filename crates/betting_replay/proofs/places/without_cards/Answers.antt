@@ -1,4 +1,4 @@
-use Rattle.betting_replay.proofs.CardSets.{minus_next}
+use Rattle.card_sets.proofs.CallerLemmas.{minus_next}
 use Rattle.betting_replay.proofs.places.without_cards.Goals as goal
 
 pub loop-card-preserved : goal.loop-card-preserved

@@ -1,5 +1,5 @@
 use Rattle.std.proofs.Common.{[], ◌∷◌, refl, arith}
-use Rattle.pot_layers.proofs.Listed.{orders_its_seats}
+use Rattle.pot_layers.proofs.CallerLemmas.{orders_its_seats}
 use Rattle.card_rows.proofs.pots.the_high_half_is_rounded_up.Goals as goal
 
 pub split-requires-clause-high : goal.split-requires-clause-high

@@ -1,5 +1,5 @@
 use Rattle.std.proofs.Common.{[], ◌∷◌, refl, arith}
-use Rattle.pot_layers.proofs.Listed.{orders_its_seats}
+use Rattle.pot_layers.proofs.CallerLemmas.{orders_its_seats}
 use Rattle.card_rows.proofs.pots.units_left_over_go_by_the_order.Goals as goal
 
 pub split-requires-clause-high : goal.split-requires-clause-high

@@ -1,7 +1,7 @@
 use Rattle.std.proofs.Common.{◌∙◌, ap, sym}
 use Rattle.hand_audit.specs.AllIns.{all_in_at}
 use Rattle.hand_audit.specs.PotSeats.{eligible_of}
-use Rattle.hand_audit.proofs.Tables.{all_in_point, no_point}
+use Rattle.hand_audit.proofs.lemmas.tables.PointTable.{all_in_point, no_point}
 use Rattle.hand_audit.proofs.all_in.all_in_by.Goals as goal
 
 pub returns-in-Some : goal.returns-in-Some

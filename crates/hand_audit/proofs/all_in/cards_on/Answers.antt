@@ -1,7 +1,7 @@
 use Rattle.std.proofs.Common.{◌≡◌, arith}
 use Rattle.std.specs.Prelude.{None}
 use Rattle.betting_replay.specs.Table.{known_at}
-use Rattle.hand_audit.proofs.Tables.{by_seat_is}
+use Rattle.hand_audit.proofs.lemmas.seats.SeatLists.{by_seat_is}
 use Rattle.hand_audit.proofs.all_in.cards_on.Goals as goal
 
 pub returns : goal.returns

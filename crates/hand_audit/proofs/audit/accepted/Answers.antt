@@ -10,7 +10,7 @@ use Rattle.hand_audit.specs.PotSeats.{eligible_of}
 use Rattle.hand_audit.specs.Settle.{Settled, settled}
 use Rattle.hand_audit.specs.Showings.{paid_in, rake, showing_of}
 use Rattle.hand_audit.specs.Verdict.{settlement_by}
-use Rattle.hand_audit.proofs.Tables.{settled_same, paid_shown}
+use Rattle.hand_audit.proofs.lemmas.tables.SettlementPots.{settled_same, paid_shown}
 use Rattle.hand_audit.proofs.audit.accepted.Goals as goal
 
 same_accepted : (a b : Settlement) (x y : AllIn) (m n : List (ℕ × List ℕ)) (players : ℕ) → a ≡ b → x ≡ y → m ≡ n → Accepted a x m players ≡ Accepted b y n players

@@ -4,7 +4,7 @@ use Rattle.line_text.specs.Lines.{lines}
 use Rattle.hand_audit.specs.Keeping.{Follows}
 use Rattle.hand_audit.specs.Lines.{nothing}
 use Rattle.hand_audit.specs.Verdict.{read_all}
-use Rattle.hand_audit.proofs.Whole.{audit_fault, audit_departs, audit_ends}
+use Rattle.hand_audit.proofs.lemmas.lines.HandVerdict.{audit_fault, audit_departs, audit_ends}
 use Rattle.hand_audit.proofs.audit.audit_hand.Goals as goal
 
 pub returns-in-Err : goal.returns-in-Err

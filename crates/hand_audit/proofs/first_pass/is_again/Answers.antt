@@ -1,5 +1,5 @@
 use Rattle.std.proofs.Common.{◌∙◌, ap, sym, option_map}
-use Rattle.hand_audit.proofs.FirstPass.{again_of}
+use Rattle.hand_audit.proofs.lemmas.first_pass.PassSteps.{again_of}
 use Rattle.hand_audit.proofs.first_pass.is_again.Goals as goal
 
 pub returns-in-Some : goal.returns-in-Some

@@ -1,5 +1,5 @@
 use Rattle.std.proofs.Common.{◌∙◌, ap, sym, option_map}
-use Rattle.hand_audit.proofs.FirstPass.{noted_of}
+use Rattle.hand_audit.proofs.lemmas.first_pass.PassSteps.{noted_of}
 use Rattle.hand_audit.proofs.first_pass.note_seat.Goals as goal
 
 pub returns-in_ok-insert : goal.returns-in_ok-insert

@@ -1,5 +1,5 @@
 use Rattle.std.proofs.Common.{◌∙◌, sym}
-use Rattle.hand_audit.proofs.FirstPass.{noted_some, noted_none}
+use Rattle.hand_audit.proofs.lemmas.first_pass.PassSteps.{noted_some, noted_none}
 use Rattle.hand_audit.proofs.first_pass.with_player_of.Goals as goal
 
 pub returns-in-Some : goal.returns-in-Some

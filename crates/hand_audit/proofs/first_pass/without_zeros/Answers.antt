@@ -1,6 +1,6 @@
 use Rattle.std.proofs.Common.{◌∙◌, arith}
 use Rattle.std.proofs.lemmas.List.{take_all, length-drop}
-use Rattle.hand_audit.proofs.SeatDigits.{zeros_stop}
+use Rattle.hand_audit.proofs.lemmas.first_pass.SeatDigits.{zeros_stop}
 use Rattle.hand_audit.proofs.first_pass.without_zeros.Goals as goal
 
 pub returns-then-digit-ne48 : goal.returns-then-digit-ne48

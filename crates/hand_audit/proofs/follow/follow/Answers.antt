@@ -4,8 +4,8 @@ use Rattle.line_text.specs.Lines.{lines}
 use Rattle.hand_audit.specs.declared.cause.Cause.{Cause}
 use Rattle.hand_audit.specs.Keeping.{Goes, EndsAs, IsRead}
 use Rattle.hand_audit.specs.Lines.{nothing, read_at}
-use Rattle.hand_audit.proofs.ReadOnce.{first_read, others_left, some_of}
-use Rattle.hand_audit.proofs.Going.{going_more, going_departs, going_ends, going_stops}
+use Rattle.hand_audit.proofs.lemmas.lines.ReadOnce.{first_read, others_left, some_of}
+use Rattle.hand_audit.proofs.lemmas.lines.FollowWalk.{going_more, going_departs, going_ends, going_stops}
 use Rattle.hand_audit.proofs.follow.follow.Goals as goal
 
 pub lines-init : goal.lines-init

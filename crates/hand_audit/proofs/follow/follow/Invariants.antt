@@ -1,7 +1,7 @@
 use Rattle.std.specs.Prelude.{◌≡◌, ◌+◌, ◌-◌, ◌≤◌, drop, length}
 use Rattle.line_text.specs.Lines.{lines}
 use Rattle.hand_audit.specs.Keeping.{AreReads, IsSound}
-use Rattle.hand_audit.proofs.Going.{Going}
+use Rattle.hand_audit.proofs.lemmas.lines.FollowWalk.{Going}
 use Rattle.hand_audit.proofs.follow.follow.Given as goal
 
 abbrev pub invariant-lines : goal.invariant-lines

@@ -1,9 +1,9 @@
 use Rattle.std.proofs.Common.{◌≡◌, ◌∙◌, ap, refl, false, length, arith}
 use Rattle.hand_audit.specs.KnownTables.{Bare, holds, table_from}
-use Rattle.hand_audit.proofs.Tens.{is_table, no_table}
+use Rattle.hand_audit.proofs.lemmas.tables.TableFacts.{is_table, no_table}
 use Rattle.card_sets.specs.PlayerSets.{seats_in}
-use Rattle.hand_audit.proofs.Seats.{few_seats}
-use Rattle.hand_audit.proofs.Tables.{same_bare, too_many}
+use Rattle.hand_audit.proofs.lemmas.seats.SeatSets.{few_seats}
+use Rattle.hand_audit.proofs.lemmas.tables.PointTable.{same_bare, too_many}
 use Rattle.hand_audit.proofs.known_tables.known_table.Goals as goal
 
 pub holds-requires : goal.holds-requires

@@ -2,8 +2,9 @@ use Rattle.std.proofs.Common.{◌≡◌, ◌∷◌, [], ◌∙◌, ℕ, suc, Lis
 use Rattle.std.specs.Prelude.{if◌then◌else◌}
 use Rattle.card_sets.specs.PlayerSetLaws.{AreBelow-seats_in}
 use Rattle.card_sets.specs.PlayerSets.{AreBelow, players_in, seats_in, with_player}
-use Rattle.hand_audit.proofs.Seats.{few_seats}
-use Rattle.hand_audit.proofs.Tens.{further, place_more, placed}
+use Rattle.hand_audit.proofs.lemmas.seats.SeatSets.{few_seats}
+use Rattle.hand_audit.proofs.lemmas.seats.TenPlaces.{further}
+use Rattle.hand_audit.proofs.lemmas.tables.EligibleHands.{place_more, placed}
 use Rattle.hand_audit.proofs.known_tables.places_in.Goals as goal
 
 pub loop-seat-init : goal.loop-seat-init

@@ -1,6 +1,6 @@
 use Rattle.std.specs.Prelude.{◌≡◌, ◌+◌, drop, length}
 use Rattle.card_sets.specs.PlayerSets.{AreBelow, players_in, players_where, seats_in}
-use Rattle.hand_audit.proofs.Tens.{has_place}
+use Rattle.hand_audit.proofs.lemmas.tables.EligibleHands.{has_place}
 use Rattle.hand_audit.proofs.known_tables.places_in.Given as goal
 
 abbrev pub invariant-loop-seat : goal.invariant-loop-seat

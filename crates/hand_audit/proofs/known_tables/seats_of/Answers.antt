@@ -1,8 +1,8 @@
 use Rattle.std.proofs.Common.{◌≡◌, ◌∷◌, ◌∙◌, ℕ, suc, List, sym, ap, subst, rules, arith, length}
 use Rattle.card_sets.specs.PlayerSetLaws.{AreBelow-seats_in}
 use Rattle.card_sets.specs.PlayerSets.{AreBelow, players_in, seats_in}
-use Rattle.hand_audit.proofs.Seats.{few_seats}
-use Rattle.hand_audit.proofs.Tens.{further, fill_seat, ten_none}
+use Rattle.hand_audit.proofs.lemmas.seats.SeatSets.{few_seats}
+use Rattle.hand_audit.proofs.lemmas.seats.TenPlaces.{further, fill_seat, ten_none}
 use Rattle.hand_audit.proofs.known_tables.seats_of.Goals as goal
 
 pub loop-seat-init : goal.loop-seat-init

@@ -1,4 +1,4 @@
-use Rattle.hand_audit.proofs.Accepted.{accepted_marks}
+use Rattle.hand_audit.proofs.lemmas.marks.MarkCards.{accepted_marks}
 use Rattle.hand_audit.proofs.laws.law_a_mark_is_a_card_of_its_player.Goals as goal
 
 pub returns : goal.returns

@@ -1,4 +1,4 @@
-use Rattle.hand_audit.proofs.Accepted.{accepted_knows}
+use Rattle.hand_audit.proofs.lemmas.all_ins.KnownCards.{accepted_knows}
 use Rattle.hand_audit.proofs.laws.law_all_in_cards.Goals as goal
 
 pub returns : goal.returns

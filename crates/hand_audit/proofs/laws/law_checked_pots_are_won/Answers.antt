@@ -1,4 +1,4 @@
-use Rattle.hand_audit.proofs.Accepted.{accepted_won}
+use Rattle.hand_audit.proofs.lemmas.won_pots.PotsWon.{accepted_won}
 use Rattle.hand_audit.proofs.laws.law_checked_pots_are_won.Goals as goal
 
 pub returns : goal.returns

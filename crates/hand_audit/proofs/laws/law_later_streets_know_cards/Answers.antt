@@ -1,4 +1,4 @@
-use Rattle.hand_audit.proofs.Accepted.{accepted_later}
+use Rattle.hand_audit.proofs.lemmas.later_streets.LaterCards.{accepted_later}
 use Rattle.hand_audit.proofs.laws.law_later_streets_know_cards.Goals as goal
 
 pub returns : goal.returns

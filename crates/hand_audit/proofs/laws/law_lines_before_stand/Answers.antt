@@ -1,4 +1,4 @@
-use Rattle.hand_audit.proofs.First.{rejected_behind}
+use Rattle.hand_audit.proofs.lemmas.lines.LinesBefore.{rejected_behind}
 use Rattle.hand_audit.proofs.laws.law_lines_before_stand.Goals as goal
 
 pub returns : goal.returns

@@ -1,4 +1,4 @@
-use Rattle.hand_audit.proofs.Accepted.{accepted_adds}
+use Rattle.hand_audit.proofs.lemmas.pot_sums.AddedPots.{accepted_adds}
 use Rattle.hand_audit.proofs.laws.law_pots_add_up.Goals as goal
 
 pub returns : goal.returns

@@ -1,4 +1,4 @@
-use Rattle.hand_audit.proofs.Accepted.{accepted_split}
+use Rattle.hand_audit.proofs.lemmas.splits.RightSplits.{accepted_split}
 use Rattle.hand_audit.proofs.laws.law_pots_are_split_by_the_rules.Goals as goal
 
 pub returns : goal.returns

@@ -1,4 +1,4 @@
-use Rattle.hand_audit.proofs.Accepted.{accepted_unknown}
+use Rattle.hand_audit.proofs.lemmas.all_ins.UnknownCards.{accepted_unknown}
 use Rattle.hand_audit.proofs.laws.law_unknown_all_ins_have_unknown_cards.Goals as goal
 
 pub returns : goal.returns

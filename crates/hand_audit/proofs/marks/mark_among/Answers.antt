@@ -3,8 +3,8 @@ use Rattle.std.specs.Prelude.{filter, map}
 use Rattle.card_sets.specs.Games.{allowed}
 use Rattle.hand_audit.specs.Marks.{highest, top_card}
 use Rattle.hand_audit.specs.MarkNumbers.{number_of_five, top_number}
-use Rattle.hand_audit.proofs.MarkFacts.{mark_is}
-use Rattle.hand_audit.proofs.Ranked.{full_of}
+use Rattle.hand_audit.proofs.lemmas.marks.FiveNumbers.{mark_is}
+use Rattle.hand_audit.proofs.lemmas.splits.HandNumbers.{full_of}
 use Rattle.hand_audit.proofs.marks.mark_among.Goals as goal
 
 pub returns-clause-value : goal.returns-clause-value

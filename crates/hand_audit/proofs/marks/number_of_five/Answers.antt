@@ -1,6 +1,6 @@
 use Rattle.std.proofs.Common.{◌∙◌, ap, sym}
 use Rattle.hand_audit.specs.MarkNumbers.{number_of_five}
-use Rattle.hand_audit.proofs.MarkFacts.{number_high, number_low}
+use Rattle.hand_audit.proofs.lemmas.marks.FiveNumbers.{number_high, number_low}
 use Rattle.hand_audit.proofs.marks.number_of_five.Goals as goal
 
 pub returns-in-High : goal.returns-in-High

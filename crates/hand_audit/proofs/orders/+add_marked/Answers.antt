@@ -2,7 +2,7 @@ use Rattle.std.proofs.Common.{ℕ, ◌-◌, ◌==◌, ◌++◌, ◌∙◌, sym, 
 use Rattle.std.specs.Prelude.{filter, slice_index_or}
 use Rattle.card_sets.specs.PlayerSets.{seats_in}
 use Rattle.hand_audit.specs.Orders.{by_marks_below}
-use Rattle.hand_audit.proofs.Marked.{marks_step, room_first, room_then}
+use Rattle.hand_audit.proofs.lemmas.splits.MarkOrder.{marks_step, room_first, room_then}
 use Rattle.hand_audit.proofs.orders.+add_marked.Goals as goal
 
 pub add_of_mark-requires : goal.add_of_mark-requires

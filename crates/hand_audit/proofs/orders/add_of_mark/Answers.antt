@@ -2,7 +2,7 @@ use Rattle.std.proofs.Common.{◌≡◌, ◌∷◌, ◌++◌, ◌==◌, Bool, tr
 use Rattle.std.specs.Prelude.{filter, if◌then◌else◌, slice_index_or}
 use Rattle.card_sets.specs.PlayerSetLaws.{AreBelow-seats_in}
 use Rattle.card_sets.specs.PlayerSets.{AreBelow, players_in, seats_in}
-use Rattle.hand_audit.proofs.Marked.{room_left}
+use Rattle.hand_audit.proofs.lemmas.splits.MarkOrder.{room_left}
 use Rattle.hand_audit.proofs.orders.add_of_mark.Goals as goal
 
 pub loop-seat-init : goal.loop-seat-init

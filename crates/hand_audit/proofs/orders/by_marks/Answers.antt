@@ -2,7 +2,7 @@ use Rattle.std.proofs.Common.{◌≡◌, ◌++◌, ◌∙◌, ap, arith, length}
 use Rattle.std.specs.Prelude.{slice_index_or}
 use Rattle.card_sets.specs.PlayerSets.{seats_in}
 use Rattle.hand_audit.specs.Orders.{by_marks_below}
-use Rattle.hand_audit.proofs.Marked.{few_marked, by_marks_is}
+use Rattle.hand_audit.proofs.lemmas.splits.MarkOrder.{few_marked, by_marks_is}
 use Rattle.hand_audit.proofs.orders.by_marks.Goals as goal
 
 pub add_marked-requires : goal.add_marked-requires

@@ -3,7 +3,7 @@ use Rattle.hand_audit.specs.declared.settlement.Payment.{Payment}
 use Rattle.hand_audit.specs.Collections.{got_from}
 use Rattle.hand_audit.specs.PotNames.{counts_from}
 use Rattle.hand_audit.specs.Settle.{payment, sides_of_seat}
-use Rattle.hand_audit.proofs.Pays.{beyond_none, beyond_some}
+use Rattle.hand_audit.proofs.lemmas.splits.PaymentWalk.{beyond_none, beyond_some}
 use Rattle.hand_audit.proofs.payments.beyond.Goals as goal
 
 pub returns-then-is_beyond : goal.returns-then-is_beyond

@@ -1,5 +1,5 @@
 use Rattle.std.proofs.Common.{arith}
-use Rattle.hand_audit.proofs.Pays.{due_within}
+use Rattle.hand_audit.proofs.lemmas.splits.PaymentWalk.{due_within}
 use Rattle.hand_audit.proofs.payments.due_of_seat.Goals as goal
 
 pub overflow_cast-result : goal.overflow_cast-result

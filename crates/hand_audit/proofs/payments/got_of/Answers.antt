@@ -1,6 +1,6 @@
 use Rattle.std.proofs.Common.{arith}
 use Rattle.hand_audit.specs.PotNames.{counts_from}
-use Rattle.hand_audit.proofs.Pays.{got_within}
+use Rattle.hand_audit.proofs.lemmas.splits.PaymentWalk.{got_within}
 use Rattle.hand_audit.proofs.payments.got_of.Goals as goal
 
 pub overflow_cast-result : goal.overflow_cast-result

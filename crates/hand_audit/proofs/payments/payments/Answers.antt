@@ -3,7 +3,7 @@ use Rattle.hand_audit.specs.declared.settlement.Payment.{Payment}
 use Rattle.hand_audit.specs.Collections.{got_from}
 use Rattle.hand_audit.specs.PotNames.{counts_from}
 use Rattle.hand_audit.specs.Settle.{payment, is_payment}
-use Rattle.hand_audit.proofs.Pays.{none_more, some_more}
+use Rattle.hand_audit.proofs.lemmas.splits.PaymentWalk.{none_more, some_more}
 use Rattle.hand_audit.proofs.payments.payments.Goals as goal
 
 pub loop-seat-preserved-then-not-is_payment : goal.loop-seat-preserved-then-not-is_payment

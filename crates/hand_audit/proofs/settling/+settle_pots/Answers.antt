@@ -1,4 +1,4 @@
-use Rattle.hand_audit.proofs.MorePots.{decided_first, decided_rest, pots_more}
+use Rattle.hand_audit.proofs.lemmas.splits.PotsBehind.{decided_first, decided_rest, pots_more}
 use Rattle.hand_audit.proofs.settling.+settle_pots.Goals as goal
 
 pub returns-in_ok-later-in-len1-up : goal.returns-in_ok-later-in-len1-up

@@ -1,7 +1,7 @@
 use Rattle.std.proofs.Common.{◌≡◌, ◌∙◌, ap, ◌++◌, true, false, length, arith}
 use Rattle.hand_audit.specs.PotNames.{fits}
 use Rattle.hand_audit.specs.Settle.{pot_lines}
-use Rattle.hand_audit.proofs.Settled.{unfit_hand, fit_hand, each_of_fits}
+use Rattle.hand_audit.proofs.lemmas.splits.SettledPots.{unfit_hand, fit_hand, each_of_fits}
 use Rattle.hand_audit.proofs.settling.settle.Goals as goal
 
 pub returns-then-not-fits : goal.returns-then-not-fits

@@ -4,7 +4,7 @@ use Rattle.hand_audit.specs.Collections.{got_from}
 use Rattle.hand_audit.specs.PotNames.{counts_from}
 use Rattle.hand_audit.specs.Settle.{parts_of, is_checked, shares_if, payment, payments_from, beyond_from, sides_of_seat}
 use Rattle.hand_audit.specs.Winning.{IsDecided}
-use Rattle.hand_audit.proofs.Settled.{one_pot}
+use Rattle.hand_audit.proofs.lemmas.splits.SettledPots.{one_pot}
 use Rattle.hand_audit.proofs.settling.settle_pot.Goals as goal
 
 pub beyond-beyond-requires-clause-given : goal.beyond-beyond-requires-clause-given

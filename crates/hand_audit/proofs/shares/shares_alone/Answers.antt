@@ -1,7 +1,7 @@
 use Rattle.std.proofs.Common.{◌∙◌}
 use Rattle.std.proofs.lemmas.Result.{IfOk-weaker}
-use Rattle.hand_audit.proofs.Seats.{set_of_seats}
-use Rattle.hand_audit.proofs.Won.{some_alone, order_alone, order_nobody, alone_is}
+use Rattle.hand_audit.proofs.lemmas.seats.SeatSets.{set_of_seats}
+use Rattle.hand_audit.proofs.lemmas.splits.PartShares.{some_alone, order_alone, order_nobody, alone_is}
 use Rattle.hand_audit.proofs.shares.shares_alone.Goals as goal
 
 pub split-requires : goal.split-requires

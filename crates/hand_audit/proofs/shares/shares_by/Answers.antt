@@ -2,7 +2,7 @@ use Rattle.std.proofs.Common.{◌∙◌, ap}
 use Rattle.std.proofs.lemmas.Result.{IfOk-weaker}
 use Rattle.pot_layers.specs.Split.{shares}
 use Rattle.hand_audit.specs.Settle.{first_side, second_side}
-use Rattle.hand_audit.proofs.Won.{by_is}
+use Rattle.hand_audit.proofs.lemmas.splits.PartShares.{by_is}
 use Rattle.hand_audit.proofs.shares.shares_by.Goals as goal
 
 pub returns-clause-value : goal.returns-clause-value

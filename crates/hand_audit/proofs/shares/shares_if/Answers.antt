@@ -1,8 +1,8 @@
 use Rattle.std.proofs.Common.{◌≡◌, ◌∙◌, sym, ap, refl, false, inl, arith}
 use Rattle.std.proofs.lemmas.Result.{IfOk-weaker}
 use Rattle.hand_audit.specs.Settle.{parts_of, shares_if}
-use Rattle.hand_audit.proofs.Told.{none_told, some_told, decides}
-use Rattle.hand_audit.proofs.Won.{once_part, unknown_part}
+use Rattle.hand_audit.proofs.lemmas.splits.Winners.{none_told, some_told, decides}
+use Rattle.hand_audit.proofs.lemmas.splits.PartShares.{once_part, unknown_part}
 use Rattle.hand_audit.proofs.shares.shares_if.Goals as goal
 
 pub returns-then-not-checked-clause-value : goal.returns-then-not-checked-clause-value

@@ -1,7 +1,7 @@
 use Rattle.std.proofs.Common.{refl, ap, inl, inr}
 use Rattle.std.specs.Prelude.{slice_index_or}
-use Rattle.hand_audit.proofs.Told.{decides}
-use Rattle.hand_audit.proofs.Won.{two_parts}
+use Rattle.hand_audit.proofs.lemmas.splits.Winners.{decides}
+use Rattle.hand_audit.proofs.lemmas.splits.PartShares.{two_parts}
 use Rattle.hand_audit.proofs.shares.shares_of_halves.Goals as goal
 
 pub returns-clause-value : goal.returns-clause-value

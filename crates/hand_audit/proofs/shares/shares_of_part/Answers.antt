@@ -1,8 +1,9 @@
 use Rattle.std.proofs.Common.{◌∙◌, sym, ap}
 use Rattle.std.proofs.lemmas.Result.{IfOk-weaker}
 use Rattle.hand_audit.specs.Settle.{first_winners, shares_by}
-use Rattle.hand_audit.proofs.Told.{first_told, second_told}
-use Rattle.hand_audit.proofs.Won.{if_alone, if_others, not_won, won_tells}
+use Rattle.hand_audit.proofs.lemmas.splits.Winners.{first_told, second_told}
+use Rattle.hand_audit.proofs.lemmas.splits.PartShares.{if_alone, if_others}
+use Rattle.hand_audit.proofs.lemmas.won_pots.SomebodyWins.{not_won, won_tells}
 use Rattle.hand_audit.proofs.shares.shares_of_part.Goals as goal
 
 pub returns-then-is_alone-clause-value : goal.returns-then-is_alone-clause-value

@@ -1,4 +1,4 @@
-use Rattle.hand_audit.proofs.Told.{tells_hands}
+use Rattle.hand_audit.proofs.lemmas.splits.Winners.{tells_hands}
 use Rattle.hand_audit.proofs.standings.on_board.Goals as goal
 
 pub returns-clause-tells : goal.returns-clause-tells

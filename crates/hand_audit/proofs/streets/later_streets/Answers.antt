@@ -3,7 +3,7 @@ use Rattle.std.specs.Prelude.{slice_range, drop, map}
 use Rattle.line_text.specs.Lines.{lines}
 use Rattle.hand_audit.specs.PotSeats.{eligible_of}
 use Rattle.hand_audit.specs.Streets.{state_on}
-use Rattle.hand_audit.proofs.Walking.{none_departs, states_are}
+use Rattle.hand_audit.proofs.lemmas.later_streets.LaterWalk.{none_departs, states_are}
 use Rattle.hand_audit.proofs.streets.later_streets.Goals as goal
 
 pub walk-requires-clause-none : goal.walk-requires-clause-none

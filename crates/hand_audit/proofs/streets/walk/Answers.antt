@@ -4,7 +4,7 @@ use Rattle.line_text.specs.Lines.{lines}
 use Rattle.hand_audit.specs.declared.cause.Cause.{Cause}
 use Rattle.hand_audit.specs.Keeping.{Goes}
 use Rattle.hand_audit.specs.Lines.{read_at}
-use Rattle.hand_audit.proofs.Walking.{walking_none, walking_more}
+use Rattle.hand_audit.proofs.lemmas.later_streets.LaterWalk.{walking_none, walking_more}
 use Rattle.hand_audit.proofs.streets.walk.Goals as goal
 
 pub lines-init : goal.lines-init

@@ -1,7 +1,7 @@
 use Rattle.std.specs.Prelude.{◌-◌, ◌≤◌, drop, length}
 use Rattle.line_text.specs.Lines.{lines}
 use Rattle.hand_audit.specs.Keeping.{IsSound}
-use Rattle.hand_audit.proofs.Walking.{Walking}
+use Rattle.hand_audit.proofs.lemmas.later_streets.LaterWalk.{Walking}
 use Rattle.hand_audit.proofs.streets.walk.Given as goal
 
 abbrev pub invariant-lines : goal.invariant-lines

@@ -2,7 +2,7 @@ use Rattle.std.proofs.Common.{◌≡◌, ℕ, List, sym, refl, subst, rules}
 use Rattle.std.specs.Prelude.{Option, false}
 use Rattle.hand_audit.specs.Orders.{OfSeats}
 use Rattle.hand_audit.specs.Winning.{wins, winners_by}
-use Rattle.hand_audit.proofs.Seats.{of_seats}
+use Rattle.hand_audit.proofs.lemmas.seats.SeatSets.{of_seats}
 use Rattle.hand_audit.proofs.winners.winners.Goals as goal
 
 none_at_zero : (values : List (Option ℕ)) (seats : ℕ) → wins values seats 0 ≡ false

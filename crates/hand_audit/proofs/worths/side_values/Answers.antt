@@ -1,5 +1,5 @@
 use Rattle.std.proofs.Common.{◌≡◌, arith}
-use Rattle.hand_audit.proofs.Ranked.{ranked}
+use Rattle.hand_audit.proofs.lemmas.splits.HandNumbers.{ranked}
 use Rattle.hand_audit.proofs.worths.side_values.Goals as goal
 
 pub returns : goal.returns

@@ -2,8 +2,8 @@ use Rattle.std.proofs.Common.{◌≡◌, ℕ, ◌+◌, ◌-◌, ◌*◌, List, [
 use Rattle.std.specs.List.{flat_map}
 use Rattle.card_sets.specs.Cards.{union}
 use Rattle.card_sets.specs.Choose.{choose}
-use Rattle.rank_high.proofs.Best.{first_taken}
-use Rattle.hand_choice.proofs.Pushed.{nothing, none_chosen, pairs, pairs-step, length-step, length-pairs}
+use Rattle.card_sets.proofs.CallerLemmas.{first_taken}
+use Rattle.hand_choice.proofs.PushedChoices.{nothing, none_chosen, pairs, pairs-step, length-step, length-pairs}
 use Rattle.hand_choice.proofs.choices.+push_pairs.Goals as goal
 
 pub returns-in_default : goal.returns-in_default

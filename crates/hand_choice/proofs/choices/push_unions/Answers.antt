@@ -1,7 +1,7 @@
 use Rattle.std.proofs.Common.{◌≡◌, ℕ, suc, ◌+◌, ◌++◌, ◌∷◌, [], List, map, take, ap, ◌∙◌, sym, arith, append_assoc}
 use Rattle.std.proofs.lemmas.List.{map-append}
 use Rattle.card_sets.specs.Cards.{union}
-use Rattle.hand_choice.proofs.Pushed.{take-next}
+use Rattle.hand_choice.proofs.PushedChoices.{take-next}
 use Rattle.hand_choice.proofs.choices.push_unions.Goals as goal
 
 -- one union more

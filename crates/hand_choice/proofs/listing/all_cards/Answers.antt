@@ -1,6 +1,6 @@
 use Rattle.std.proofs.Common.{◌≡◌, ◌+◌, length, arith, ap}
 use Rattle.card_sets.specs.Cards.{union}
-use Rattle.rank_high.proofs.Sets.{length-union, Apart-apart}
+use Rattle.card_sets.proofs.CallerLemmas.{length-union, Apart-apart}
 use Rattle.hand_choice.proofs.listing.all_cards.Goals as goal
 
 pub returns-clause-few : goal.returns-clause-few

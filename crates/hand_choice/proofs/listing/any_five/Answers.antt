@@ -1,6 +1,6 @@
 use Rattle.std.proofs.Common.{ap, ◌∙◌, arith, length}
 use Rattle.card_sets.specs.Rising.{IsCardSet-rising}
-use Rattle.hand_choice.proofs.Plain.{few_fives, choices-alone}
+use Rattle.hand_choice.proofs.PlainChoices.{few_fives, choices-alone}
 use Rattle.hand_choice.proofs.listing.any_five.Goals as goal
 
 pub push_choices-requires-clause-above : goal.push_choices-requires-clause-above

@@ -1,8 +1,8 @@
 use Rattle.std.proofs.Common.{◌≡◌, ◌∙◌, ◌*◌, ◌≤◌, arith, refl, length, ap}
 use Rattle.card_sets.specs.Rising.{IsCardSet-rising}
 use Rattle.card_sets.specs.Choose.{choose}
-use Rattle.hand_choice.proofs.Plain.{choices-alone}
-use Rattle.hand_choice.proofs.Pushed.{six, ten, at_most_sixty}
+use Rattle.hand_choice.proofs.PlainChoices.{choices-alone}
+use Rattle.hand_choice.proofs.PushedChoices.{six, ten, at_most_sixty}
 use Rattle.hand_choice.proofs.listing.two_and_three.Goals as goal
 
 pub push_choices-requires-clause-above : goal.push_choices-requires-clause-above

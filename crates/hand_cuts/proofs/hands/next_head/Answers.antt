@@ -1,7 +1,7 @@
 use Rattle.std.proofs.Common.{◌≡◌, refl, drop, true, false, arith}
 use Rattle.history_text.specs.Headers.{is_header}
 use Rattle.line_text.specs.Lines.{text_of, front_line}
-use Rattle.hand_cuts.proofs.Parts.{line_at}
+use Rattle.hand_cuts.proofs.LineParts.{line_at}
 use Rattle.hand_cuts.proofs.ScanSteps.{fewer_passed, pass_other, read_text}
 use Rattle.hand_cuts.proofs.hands.next_head.Goals as goal
 

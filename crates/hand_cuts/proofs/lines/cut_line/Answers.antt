@@ -1,5 +1,5 @@
 use Rattle.std.proofs.Common.{◌≡◌, refl, true, false, arith}
-use Rattle.hand_cuts.proofs.Parts.{line_at}
+use Rattle.hand_cuts.proofs.LineParts.{line_at}
 use Rattle.hand_cuts.proofs.LineScans.{line_out, line_out_last, line_open, line_none}
 use Rattle.hand_cuts.proofs.lines.cut_line.Goals as goal
 use Rattle.hand_cuts.proofs.lines.cut_line.Goals.{then-not-closed-via-then-not-closed, then-not-closed-via-else-not-closed+then-scan-bytes}

@@ -3,7 +3,7 @@ use Rattle.std.specs.List.{list_all}
 use Rattle.card_sets.specs.Disjoint.{apart}
 use Rattle.equity_job.specs.declared.limits.TheConstants.{RUNOUT_MAX}
 use Rattle.hand_ranges.specs.Choices.{is_disjoint, most_choices, walked}
-use Rattle.hand_ranges.specs.Spot.{ranges_in}
+use Rattle.hand_ranges.specs.RangeSpot.{ranges_in}
 use Rattle.hand_ranges.specs.Sound.{IsHand}
 use Rattle.hand_ranges.specs.Taken.{AreValues, chosen}
 use Rattle.hand_ranges.specs.Walks.{Choices, IsWalk, number_in, added_by}

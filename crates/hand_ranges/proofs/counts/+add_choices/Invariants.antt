@@ -1,6 +1,6 @@
 use Rattle.std.proofs.Common.{◌≤◌, ◌+◌, ◌*◌, length}
 use Rattle.hand_ranges.specs.Choices.{most_choices}
-use Rattle.hand_ranges.specs.Spot.{ranges_in}
+use Rattle.hand_ranges.specs.RangeSpot.{ranges_in}
 use Rattle.hand_ranges.specs.Taken.{chosen}
 use Rattle.hand_ranges.specs.Walks.{GrowsBy, IsWithin, added_by}
 use Rattle.hand_ranges.proofs.WalkSums.{first_of}

@@ -4,7 +4,7 @@ use Rattle.equity_job.specs.Jobs.{IsDeckShort}
 use Rattle.equity_job.specs.declared.limits.TheConstants.{RUNOUT_MAX}
 use Rattle.showdown_tally.specs.Tallies.{runouts_after}
 use Rattle.hand_ranges.specs.Choices.{deal_of_choice}
-use Rattle.hand_ranges.specs.Spot.{ranges_in}
+use Rattle.hand_ranges.specs.RangeSpot.{ranges_in}
 use Rattle.hand_ranges.specs.Taken.{chosen}
 use Rattle.hand_ranges.proofs.RangeWalks.{board_small, refused, choice_enough, walk_few}
 use Rattle.hand_ranges.proofs.counts.count_choice.Goals as goal

@@ -1,7 +1,7 @@
 use Rattle.std.proofs.Common.{◌≡◌, ◌∙◌, false, sym, ap, subst, arith, eq-eqb, ne_eqb}
 use Rattle.equity_job.specs.declared.limits.TheConstants.{RUNOUT_MAX}
 use Rattle.hand_ranges.specs.Choices.{are_above, most_choices, walked}
-use Rattle.hand_ranges.specs.Spot.{ranges_in}
+use Rattle.hand_ranges.specs.RangeSpot.{ranges_in}
 use Rattle.hand_ranges.specs.Taken.{chosen}
 use Rattle.hand_ranges.specs.Walks.{Choices, GrowsBy, added_by}
 use Rattle.hand_ranges.proofs.FullBoards.{values_none}

@@ -1,7 +1,7 @@
 use Rattle.std.proofs.Common.{◌≡◌, sym, ap, ◌∙◌, Some, None}
 use Rattle.std.specs.Option.{option_map}
 use Rattle.card_sets.specs.Cards.{rank_of}
-use Rattle.hand_ranges.proofs.Naming.{rank_of_letters}
+use Rattle.hand_ranges.proofs.RankLetters.{rank_of_letters}
 use Rattle.hand_ranges.proofs.items.rank_named.Goals as goal
 
 pub returns-in_err-card-clause-value : goal.returns-in_err-card-clause-value

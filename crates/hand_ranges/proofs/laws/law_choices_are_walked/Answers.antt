@@ -1,4 +1,4 @@
-use Rattle.hand_ranges.proofs.Pruned.{choices_walked}
+use Rattle.hand_ranges.proofs.ApartChoices.{choices_walked}
 use Rattle.hand_ranges.proofs.laws.law_choices_are_walked.Goals as goal
 
 pub returns : goal.returns

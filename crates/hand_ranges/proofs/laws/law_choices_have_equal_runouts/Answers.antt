@@ -1,4 +1,4 @@
-use Rattle.hand_ranges.specs.Spot.{ranges_in}
+use Rattle.hand_ranges.specs.RangeSpot.{ranges_in}
 use Rattle.hand_ranges.proofs.RangeWalks.{equal_runouts}
 use Rattle.hand_ranges.proofs.laws.law_choices_have_equal_runouts.Goals as goal
 

@@ -2,7 +2,7 @@ use Rattle.std.proofs.Common.{◌≡◌, ◌+◌, ◌≤◌, sym, ap, ◌∙◌,
 use Rattle.std.proofs.lemmas.Bool.{leb-true}
 use Rattle.std.proofs.lemmas.List.Sums.{AllPass-from_list_all}
 use Rattle.hand_ranges.specs.Hands.{added, amount, has_room}
-use Rattle.hand_ranges.proofs.Firsts.{map_first, map_first-next, map_first-all, map_first-at}
+use Rattle.hand_ranges.proofs.ChangedFront.{map_first, map_first-next, map_first-all, map_first-at}
 use Rattle.hand_ranges.proofs.pairs.add.Goals as goal
 
 pub loop-pair-preserved : goal.loop-pair-preserved

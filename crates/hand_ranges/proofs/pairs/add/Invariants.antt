@@ -1,6 +1,6 @@
 use Rattle.std.specs.Prelude.{◌≡◌}
 use Rattle.hand_ranges.specs.Hands.{added}
-use Rattle.hand_ranges.proofs.Firsts.{map_first}
+use Rattle.hand_ranges.proofs.ChangedFront.{map_first}
 use Rattle.hand_ranges.proofs.pairs.add.Given as goal
 
 abbrev pub invariant-loop-pair : goal.invariant-loop-pair

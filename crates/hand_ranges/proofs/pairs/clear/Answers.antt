@@ -1,6 +1,6 @@
 use Rattle.std.proofs.Common.{◌≡◌, ap, ◌∙◌, length, arith}
 use Rattle.hand_ranges.specs.Hands.{cleared}
-use Rattle.hand_ranges.proofs.Firsts.{map_first, map_first-next, map_first-all}
+use Rattle.hand_ranges.proofs.ChangedFront.{map_first, map_first-next, map_first-all}
 use Rattle.hand_ranges.proofs.pairs.clear.Goals as goal
 
 pub loop-pair-preserved : goal.loop-pair-preserved

@@ -2,7 +2,7 @@ use Rattle.std.proofs.Common.{◌≡◌, sym, ap, ◌∙◌, false, rules}
 use Rattle.std.specs.List.{list_all}
 use Rattle.hand_ranges.specs.Hands.{has_room}
 use Rattle.hand_ranges.specs.Texts.{texts_left, texts_of}
-use Rattle.hand_ranges.proofs.Weighing.{weighing_none, weighing_kept, weighing_full, weighing_more}
+use Rattle.hand_ranges.proofs.ItemWeights.{weighing_none, weighing_kept, weighing_full, weighing_more}
 use Rattle.hand_ranges.proofs.pairs.weigh.Goals as goal
 
 pub loop-text-init : goal.loop-text-init

@@ -1,5 +1,5 @@
 use Rattle.hand_ranges.specs.Texts.{texts_left}
-use Rattle.hand_ranges.proofs.Weighing.{Weighing}
+use Rattle.hand_ranges.proofs.ItemWeights.{Weighing}
 use Rattle.hand_ranges.proofs.pairs.weigh.Given as goal
 
 abbrev pub invariant-loop-text : goal.invariant-loop-text

@@ -2,9 +2,9 @@ use Rattle.std.proofs.Common.{◌≡◌, sym, ap, ◌∙◌, length, map, true, 
 use Rattle.std.proofs.lemmas.Result.{err_from_is_err_and}
 use Rattle.spot_text.specs.Words.{words_left}
 use Rattle.hand_ranges.specs.Hands.{cleared}
-use Rattle.hand_ranges.specs.Spot.{is_dealt_out}
-use Rattle.hand_ranges.proofs.Weighing.{cleared_all}
-use Rattle.hand_ranges.proofs.Reading.{Passed, Sized, passed_twice, passed_board, passed_count, sized_short, sized_ok}
+use Rattle.hand_ranges.specs.RangeSpot.{is_dealt_out}
+use Rattle.hand_ranges.proofs.ItemWeights.{cleared_all}
+use Rattle.hand_ranges.proofs.LineTests.{Passed, Sized, passed_twice, passed_board, passed_count, sized_short, sized_ok}
 use Rattle.hand_ranges.proofs.read.read_ranges.Goals as goal
 
 pub returns-in_err-pairs : goal.returns-in_err-pairs

@@ -1,4 +1,4 @@
-use Rattle.hand_ranges.proofs.Soundness.{line_sound}
+use Rattle.hand_ranges.proofs.SoundLines.{line_sound}
 use Rattle.hand_ranges.proofs.reading_laws.law_lines_give_sound_ranges.Goals as goal
 
 pub returns : goal.returns

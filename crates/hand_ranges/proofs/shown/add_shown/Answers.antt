@@ -6,7 +6,7 @@ use Rattle.showdown_tally.specs.Showdown.{part_of}
 use Rattle.showdown_tally.specs.Sides.{side_outcome}
 use Rattle.showdown_tally.specs.declared.cells.Cell.{Cell}
 use Rattle.hand_ranges.specs.Choices.{deal_of_choice}
-use Rattle.hand_ranges.specs.Spot.{ranges_in}
+use Rattle.hand_ranges.specs.RangeSpot.{ranges_in}
 use Rattle.hand_ranges.specs.Taken.{chosen}
 use Rattle.hand_ranges.specs.Walks.{Choices, Weight, GrowsBy, count_adds}
 use Rattle.hand_ranges.proofs.FullBoards.{cell_full, units_full}

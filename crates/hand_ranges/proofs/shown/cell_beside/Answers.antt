@@ -1,6 +1,6 @@
 use Rattle.std.proofs.Common.{◌≡◌, length, sym, ap, ◌∙◌}
 use Rattle.card_sets.specs.PlayerSets.{hands_below}
-use Rattle.showdown_tally.proofs.SetFacts.{set_loses, set_wins, set_ties}
+use Rattle.showdown_tally.proofs.CallerLemmas.{set_loses, set_wins, set_ties}
 use Rattle.hand_ranges.proofs.shown.cell_beside.Goals as goal
 
 pub returns-then-not-has : goal.returns-then-not-has

@@ -3,7 +3,7 @@ use Rattle.std.specs.Int.{bit_at}
 use Rattle.card_sets.specs.PlayerSetLaws.{players_where-same}
 use Rattle.card_sets.specs.PlayerSets.{players_where, set_of_players}
 use Rattle.showdown_tally.specs.Settling.{is_top, number_of, tops_below}
-use Rattle.showdown_tally.proofs.SetMasks.{tops_set}
+use Rattle.showdown_tally.proofs.CallerLemmas.{tops_set}
 use Rattle.hand_ranges.proofs.FullBoards.{all_bits}
 use Rattle.hand_ranges.proofs.shown.tops.Goals as goal
 

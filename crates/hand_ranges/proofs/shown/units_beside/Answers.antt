@@ -1,7 +1,6 @@
 use Rattle.std.proofs.Common.{◌≡◌, ◌<◌, ◌/◌, length, sym, ap, subst, ◌∙◌}
 use Rattle.card_sets.specs.PlayerSets.{hands_below}
-use Rattle.showdown_tally.proofs.SetFacts.{among_set, set_gives, set_gives_none}
-use Rattle.showdown_tally.proofs.Tops.{some_among}
+use Rattle.showdown_tally.proofs.CallerLemmas.{among_set, set_gives, set_gives_none, some_among}
 use Rattle.hand_ranges.proofs.shown.units_beside.Goals as goal
 
 pub nonzero_div-result : goal.nonzero_div-result

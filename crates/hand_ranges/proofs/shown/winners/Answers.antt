@@ -1,5 +1,5 @@
 use Rattle.std.proofs.Common.{◌≡◌, ◌∙◌, length, ap, sym, arith}
-use Rattle.hand_ranges.specs.Spot.{ranges_in}
+use Rattle.hand_ranges.specs.RangeSpot.{ranges_in}
 use Rattle.hand_ranges.specs.Taken.{chosen}
 use Rattle.hand_ranges.proofs.FullBoards.{outcome_full}
 use Rattle.hand_ranges.proofs.shown.winners.Goals as goal

@@ -3,7 +3,7 @@ use Rattle.std.specs.List.{list_all}
 use Rattle.spot_text.specs.Parts.{is_dash}
 use Rattle.spot_text.specs.Words.{words_left}
 use Rattle.hand_ranges.specs.Hands.{cleared, is_range}
-use Rattle.hand_ranges.specs.Spot.{range_words}
+use Rattle.hand_ranges.specs.RangeSpot.{range_words}
 use Rattle.hand_ranges.proofs.RangeWords.{ranges_end, ranges_all, ranges_dash, ranges_word}
 use Rattle.hand_ranges.proofs.walks.are_ranges.Goals as goal
 use Rattle.hand_ranges.proofs.walks.are_ranges.Goals.{else-not-is_dash-via-then-not-is_dash+else-not-weigh, else-not-is_dash-via-else-not-is_dash}

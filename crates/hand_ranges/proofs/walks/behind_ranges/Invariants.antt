@@ -2,7 +2,7 @@ use Rattle.std.proofs.Common.{◌≡◌}
 use Rattle.std.specs.List.{list_all}
 use Rattle.spot_text.specs.Words.{words_left}
 use Rattle.spot_text.specs.Parts.{hand_words, board_words, dead_words}
-use Rattle.hand_ranges.specs.Spot.{is_one_word}
+use Rattle.hand_ranges.specs.RangeSpot.{is_one_word}
 use Rattle.hand_ranges.proofs.OneWord.{one_from}
 use Rattle.hand_ranges.proofs.walks.behind_ranges.Given as goal
 

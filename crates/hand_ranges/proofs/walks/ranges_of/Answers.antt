@@ -1,10 +1,10 @@
 use Rattle.std.proofs.Common.{◌≡◌, sym, ap, ◌∙◌, true, false, ◌&&◌, [], ◌∷◌, ◌++◌, map, append_assoc, append-nil, rules}
 use Rattle.std.specs.List.{list_all, filter_map}
-use Rattle.spot_text.proofs.Apart.{and_left, and_right}
+use Rattle.card_sets.proofs.CallerLemmas.{and_first, and_second}
 use Rattle.spot_text.specs.Parts.{is_dash}
 use Rattle.spot_text.specs.Words.{words_left}
 use Rattle.hand_ranges.specs.Hands.{cleared, is_range, hand_of, hands_of}
-use Rattle.hand_ranges.specs.Spot.{range_words}
+use Rattle.hand_ranges.specs.RangeSpot.{range_words}
 use Rattle.hand_ranges.proofs.RangeWords.{ranges_end, ranges_all, ranges_dash, ranges_word}
 use Rattle.hand_ranges.proofs.walks.ranges_of.Goals as goal
 use Rattle.hand_ranges.proofs.walks.ranges_of.Goals.{else-not-is_dash-via-then-not-is_dash+else-weigh, else-not-is_dash-via-else-not-is_dash}
@@ -26,7 +26,7 @@ loop-word-preserved-then-weigh c =
       more = tt;
       ends = tt;
       kept = c.weigh.ensures.kept;
-      all = and_right (is_range word) (list_all is_range rest) (sym (ap (list_all is_range) step) ∙ c.loop-word.invariant.all);
+      all = and_second (is_range word) (list_all is_range rest) (sym (ap (list_all is_range) step) ∙ c.loop-word.invariant.all);
       made = ap (λ l. l ++ map hands rest) c.in_ok-push.ensures.items ∙ append_assoc c.loop-word.ranges.items (c.in_ok-range_of.field-0 ∷ []) (map hands rest)
           ∙ ap (λ h. c.loop-word.ranges.items ++ h ∷ map hands rest) here ∙ sym (ap (λ ws. c.loop-word.ranges.items ++ map hands ws) step) ∙ c.loop-word.invariant.made;
     }
@@ -40,7 +40,7 @@ loop-word-preserved c =
       | else-not-is_dash-via-then-not-is_dash+else-weigh w ↦
           let dash : is_dash word ≡ false = sym c.is_dash.ensures ∙ search rules in
           let step = ranges_word _ _ _ c.in-Some.ensures.steps (sym c.ends_hands.ensures ∙ c.if-ends_hands.false) dash in
-          let good : is_range word ≡ true = and_left (is_range word) (list_all is_range rest) (sym (ap (list_all is_range) step) ∙ c.loop-word.invariant.all) in
+          let good : is_range word ≡ true = and_first (is_range word) (list_all is_range rest) (sym (ap (list_all is_range) step) ∙ c.loop-word.invariant.all) in
           let bad : is_range word ≡ false = sym w.weigh.ensures.value ∙ search rules in
           absurd (cc (sym good ∙ bad))
       | else-not-is_dash-via-else-not-is_dash w ↦

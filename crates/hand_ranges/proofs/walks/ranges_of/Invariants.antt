@@ -2,7 +2,7 @@ use Rattle.std.specs.Prelude.{◌≡◌, ◌++◌, map, true}
 use Rattle.std.specs.List.{list_all}
 use Rattle.spot_text.specs.Words.{words_left}
 use Rattle.hand_ranges.specs.Hands.{all_pairs, cleared, is_range, hands_of}
-use Rattle.hand_ranges.specs.Spot.{range_words}
+use Rattle.hand_ranges.specs.RangeSpot.{range_words}
 use Rattle.hand_ranges.proofs.walks.ranges_of.Given as goal
 
 abbrev pub invariant-loop-word : goal.invariant-loop-word

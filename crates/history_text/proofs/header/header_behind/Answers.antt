@@ -1,5 +1,5 @@
 use Rattle.std.proofs.Common.{◌∙◌}
-use Rattle.history_text.proofs.Headings.{header_found}
+use Rattle.history_text.proofs.HeaderPlaces.{header_found}
 use Rattle.history_text.proofs.header.header_behind.Goals as goal
 
 pub returns-clause-value : goal.returns-clause-value

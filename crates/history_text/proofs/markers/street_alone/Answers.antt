@@ -5,7 +5,7 @@ use Rattle.card_sets.specs.declared.streets.Street.{Street}
 use Rattle.history_text.specs.Reading.{◌otherwise◌}
 use Rattle.history_text.specs.Acts.{first_opening}
 use Rattle.history_text.specs.Markers.{ends, marker_words, street_for}
-use Rattle.history_text.proofs.Openings.{first_opening-append}
+use Rattle.history_text.proofs.OpeningLists.{first_opening-append}
 use Rattle.history_text.proofs.markers.street_alone.Goals as goal
 
 pub returns-in-Some : goal.returns-in-Some

@@ -1,5 +1,5 @@
 use Rattle.std.specs.Prelude.{◌+◌, ◌-◌, ◌≤◌, length}
-use Rattle.history_text.proofs.Places.{Tried}
+use Rattle.history_text.proofs.MarkPlaces.{Tried}
 use Rattle.history_text.proofs.texts.last_place.Given as goal
 
 abbrev pub invariant-places : goal.invariant-places

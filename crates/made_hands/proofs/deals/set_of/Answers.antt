@@ -1,6 +1,6 @@
 use Rattle.std.proofs.Common.{ap, ◌∙◌, arith}
 use Rattle.card_sets.specs.Cards.{with_card}
-use Rattle.made_hands.proofs.Sets.{with_next}
+use Rattle.made_hands.proofs.DifferentCards.{with_next}
 use Rattle.made_hands.proofs.deals.set_of.Goals as goal
 
 pub loop-card-preserved : goal.loop-card-preserved

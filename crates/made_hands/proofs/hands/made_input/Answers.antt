@@ -1,5 +1,5 @@
 use Rattle.std.proofs.Common.{◌∙◌, arith}
-use Rattle.made_hands.proofs.Numbered.{next_hand, all_hands}
+use Rattle.made_hands.proofs.NumberedHands.{next_hand, all_hands}
 use Rattle.made_hands.proofs.hands.made_input.Goals as goal
 
 pub loop-index-preserved : goal.loop-index-preserved

@@ -1,4 +1,4 @@
-use Rattle.made_hands.proofs.Drawn.{nine-deal_of, whole-deal_of}
+use Rattle.made_hands.proofs.DrawnNumbers.{nine-deal_of, whole-deal_of}
 use Rattle.made_hands.proofs.laws.law_deals_are_whole.Goals as goal
 
 pub returns : goal.returns

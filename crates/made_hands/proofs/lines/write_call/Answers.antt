@@ -1,6 +1,6 @@
 use Rattle.std.proofs.Common.{◌≡◌, true, nat_le, arith}
 use Rattle.made_hands.specs.Lines.{call_line}
-use Rattle.made_hands.proofs.Text.{one_more, last_more}
+use Rattle.made_hands.proofs.TextPieces.{one_more, last_more}
 use Rattle.made_hands.proofs.lines.write_call.Goals as goal
 
 pub returns-then-deal : goal.returns-then-deal

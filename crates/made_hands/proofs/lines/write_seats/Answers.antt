@@ -1,5 +1,5 @@
 use Rattle.made_hands.specs.Lines.{seat_lines}
-use Rattle.made_hands.proofs.Text.{one_more, last_more}
+use Rattle.made_hands.proofs.TextPieces.{one_more, last_more}
 use Rattle.made_hands.proofs.lines.write_seats.Goals as goal
 
 pub returns : goal.returns

@@ -1,8 +1,8 @@
 use Rattle.std.proofs.Common.{◌≡◌, ◌+◌, ◌-◌, ◌∙◌, ap, sym, arith, length}
 use Rattle.card_sets.specs.Cards.{with_card, without_card}
-use Rattle.hand_choice.proofs.Pushed.{nothing}
+use Rattle.hand_choice.proofs.CallerLemmas.{nothing}
 use Rattle.omaha_ranks.specs.Worth.{best_own}
-use Rattle.omaha_ranks.proofs.Worths.{AreSets, TakesFirst, takes_first, length-sets, self_part, part_apart, with_apart, best_own-none, best_own-short, best_own-next}
+use Rattle.omaha_ranks.proofs.ValuesBeside.{AreSets, TakesFirst, takes_first, length-sets, self_part, part_apart, with_apart, best_own-none, best_own-short, best_own-next}
 use Rattle.omaha_ranks.proofs.best_choice.+best_own.Goals as goal
 
 pub worth-bound-requires-clause-least : goal.worth-bound-requires-clause-least

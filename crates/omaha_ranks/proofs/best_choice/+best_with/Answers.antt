@@ -1,8 +1,8 @@
 use Rattle.std.proofs.Common.{◌≡◌, ◌+◌, ◌-◌, ◌∙◌, ap, sym, arith, length}
 use Rattle.card_sets.specs.Cards.{union, with_card, without_card}
-use Rattle.hand_choice.proofs.Pushed.{nothing}
+use Rattle.hand_choice.proofs.CallerLemmas.{nothing}
 use Rattle.omaha_ranks.specs.Worth.{worth, best_with}
-use Rattle.omaha_ranks.proofs.Worths.{AreSets, TakesFirst, takes_first, length-sets, bound-most, best_with-all, best_with-none, best_with-next, union_step}
+use Rattle.omaha_ranks.proofs.ValuesBeside.{AreSets, TakesFirst, takes_first, length-sets, bound-most, best_with-all, best_with-none, best_with-next, union_step}
 use Rattle.omaha_ranks.proofs.best_choice.+best_with.Goals as goal
 
 pub returns-then-bound-best : goal.returns-then-bound-best

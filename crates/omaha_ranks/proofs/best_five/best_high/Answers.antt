@@ -1,8 +1,8 @@
 use Rattle.std.proofs.Common.{◌∙◌, ap, sym, arith, length, map}
 use Rattle.std.proofs.lemmas.Iterator.Consumers.{YieldsList-from_first, YieldsList-turn, YieldsList-end}
-use Rattle.rank_high.proofs.Best.{greatest}
-use Rattle.rank_high.proofs.Parts.{number}
-use Rattle.omaha_ranks.proofs.Numbers.{five-at, greatest-push, high_number-greatest, map-same}
+use Rattle.card_sets.proofs.CallerLemmas.{greatest}
+use Rattle.rank_high.proofs.CallerLemmas.{number}
+use Rattle.omaha_ranks.proofs.BestNumbers.{five-at, greatest-push, high_number-greatest, map-same}
 use Rattle.omaha_ranks.proofs.best_five.best_high.Goals as goal
 
 pub high_of_five-requires : goal.high_of_five-requires

@@ -1,6 +1,6 @@
 use Rattle.std.proofs.Common.{◌≡◌, map}
-use Rattle.rank_high.proofs.Best.{greatest}
-use Rattle.rank_high.proofs.Parts.{number}
+use Rattle.card_sets.proofs.CallerLemmas.{greatest}
+use Rattle.rank_high.proofs.CallerLemmas.{number}
 use Rattle.omaha_ranks.proofs.best_five.best_high.Given as goal
 
 abbrev pub invariant-loop-five : goal.invariant-loop-five

@@ -3,7 +3,7 @@ use Rattle.card_sets.specs.declared.games.Side.TheVariants.{High}
 use Rattle.rank_high.specs.High.{value_of}
 use Rattle.omaha_ranks.specs.Omaha.{ArePlaced, omaha_high, omaha_plain}
 use Rattle.omaha_ranks.specs.Worth.{best_own}
-use Rattle.omaha_ranks.proofs.Bests.{plain-five}
+use Rattle.omaha_ranks.proofs.BestFives.{plain-five}
 use Rattle.omaha_ranks.proofs.TwoParts.{own-is}
 use Rattle.omaha_ranks.proofs.omaha.omaha_high.Goals as goal
 

@@ -1,12 +1,12 @@
 use Rattle.std.proofs.Common.{◌≡◌, ℕ, ◌-◌, ◌<◌, ◌∙◌, ap, sym, arith, length, [], List, max, map}
 use Rattle.std.specs.Prelude.{filter}
 use Rattle.card_sets.specs.declared.games.Side.TheVariants.{Low}
-use Rattle.rank_high.proofs.Best.{greatest}
-use Rattle.rank_low.proofs.BestFive.{eight_turned}
+use Rattle.card_sets.proofs.CallerLemmas.{greatest}
+use Rattle.rank_low.proofs.CallerLemmas.{eight_turned}
 use Rattle.omaha_ranks.specs.Omaha.{ArePlaced, is_low, fives, eight_number}
 use Rattle.omaha_ranks.specs.Worth.{best_own}
-use Rattle.omaha_ranks.proofs.Bests.{fewer, fives-are, placed-passing, no-five}
-use Rattle.omaha_ranks.proofs.Numbers.{no-eight, some-eight}
+use Rattle.omaha_ranks.proofs.BestFives.{fewer, fives-are, placed-passing, no-five}
+use Rattle.omaha_ranks.proofs.BestNumbers.{no-eight, some-eight}
 use Rattle.omaha_ranks.proofs.TwoParts.{own-is}
 use Rattle.omaha_ranks.proofs.omaha.omaha_low.Goals as goal
 

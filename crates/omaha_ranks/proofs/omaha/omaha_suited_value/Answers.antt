@@ -1,9 +1,9 @@
 use Rattle.std.proofs.Common.{◌<◌, ◌==◌, ◌∙◌, ap, sym, refl, arith, length, ◌≡◌, ℕ, List}
 use Rattle.card_sets.specs.Cards.{suit_of, union}
 use Rattle.rank_high.specs.Parts.{of_suit}
-use Rattle.rank_high.proofs.Sets.{Apart-apart, length-union}
+use Rattle.card_sets.proofs.CallerLemmas.{Apart-apart, length-union}
 use Rattle.omaha_ranks.specs.Omaha.{ArePlaced, omaha_high}
-use Rattle.omaha_ranks.proofs.Bests.{fewer, few_own, few_board, fives-are, placed-passing, only-five}
+use Rattle.omaha_ranks.proofs.BestFives.{fewer, few_own, few_board, fives-are, placed-passing, only-five}
 use Rattle.omaha_ranks.proofs.omaha.omaha_suited_value.Goals as goal
 
 pub returns-then-count-lt2 : goal.returns-then-count-lt2

@@ -4,8 +4,7 @@ use Rattle.showdown_tally.specs.Deals.{deal_of}
 use Rattle.showdown_tally.specs.Tallies.{Counts, runouts_after}
 use Rattle.equity_job.specs.Blocks.{block_of, blocks_of}
 use Rattle.equity_job.specs.declared.limits.TheConstants.{BLOCK}
-use Rattle.equity_job.proofs.BlockLists.{blocks-all}
-use Rattle.equity_job.proofs.BlockTotals.{enough_blocks}
+use Rattle.equity_job.proofs.CallerLemmas.{blocks-all, enough_blocks}
 use Rattle.pool_rows.proofs.book.posted_twice.Goals as goal
 
 -- a listing of one block is that block

@@ -1,4 +1,4 @@
-use Rattle.pot_layers.proofs.Eligible.{reaches_levels}
+use Rattle.pot_layers.proofs.EligiblePlayers.{reaches_levels}
 use Rattle.pot_layers.proofs.laws.law_eligible_players_reach_the_level.Goals as goal
 
 pub returns : goal.returns

@@ -1,6 +1,6 @@
 use Rattle.rank_high.specs.High.{best_high}
-use Rattle.rank_high.proofs.Order.{value_of-order}
-use Rattle.rank_high.proofs.Best.{best_high-IsHighList}
+use Rattle.rank_high.proofs.ValueOrder.{value_of-order}
+use Rattle.rank_high.proofs.BestByChoice.{best_high-IsHighList}
 use Rattle.rank_high.proofs.laws.law_best_numbers_keep_order.Goals as goal
 
 pub returns : goal.returns

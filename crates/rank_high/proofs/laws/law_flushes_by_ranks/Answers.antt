@@ -1,4 +1,4 @@
-use Rattle.rank_high.proofs.Flush.{best_of_suit}
+use Rattle.rank_high.proofs.OneSuit.{best_of_suit}
 use Rattle.rank_high.proofs.laws.law_flushes_by_ranks.Goals as goal
 
 pub returns : goal.returns

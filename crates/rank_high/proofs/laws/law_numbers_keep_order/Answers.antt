@@ -1,6 +1,6 @@
 use Rattle.std.proofs.Common.{arith}
 use Rattle.rank_high.specs.High.{high}
-use Rattle.rank_high.proofs.Order.{value_of-order, high-IsHighList}
+use Rattle.rank_high.proofs.ValueOrder.{value_of-order, high-IsHighList}
 use Rattle.rank_high.proofs.laws.law_numbers_keep_order.Goals as goal
 
 pub returns : goal.returns

@@ -1,8 +1,7 @@
 use Rattle.std.proofs.Common.{◌≡◌, ◌<◌, ◌^◌, ◌∙◌, ap, sym, arith, cond, true, false}
 use Rattle.rank_high.specs.High.{value_of, is_flush}
 use Rattle.rank_high.specs.Parts.{best_plain, as_flush}
-use Rattle.rank_high.proofs.Flush.{as_flush-low, as_flush-high}
-use Rattle.rank_high.proofs.Parts.{plain-small}
+use Rattle.rank_high.proofs.CallerLemmas.{as_flush-low, as_flush-high, plain-small}
 use Rattle.rank_low.specs.Wheel.{without_wheel}
 use Rattle.rank_low.proofs.DeuceRanks.{deuce-by_ranks, without_wheel-lt}
 use Rattle.rank_low.proofs.best_five.deuce_seven.Goals as goal

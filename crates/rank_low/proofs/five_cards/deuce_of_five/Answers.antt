@@ -1,8 +1,8 @@
 use Rattle.std.proofs.Common.{◌≡◌, ℕ, ◌∷◌, List, ap, ◌∙◌, sym, arith, length, slice_index, subst}
 use Rattle.rank_high.specs.High.{value_of, groups_counted, count_of_rank}
-use Rattle.rank_high.proofs.Counts.{AreBelow, AreBelow-groups_counted, groups_counted-same, ranks_counted-same, length-groups, group_sizes}
+use Rattle.rank_high.proofs.CallerLemmas.{AreBelow, AreBelow-groups_counted, groups_counted-same, ranks_counted-same, length-groups, group_sizes}
 use Rattle.rank_low.specs.Low.{low_27}
-use Rattle.rank_low.proofs.Made.{made-deuce, each_below, low_27-IsHighList, value_of-lt}
+use Rattle.rank_low.proofs.CountsAndGroups.{made-deuce, each_below, low_27-IsHighList, value_of-lt}
 use Rattle.rank_low.proofs.five_cards.deuce_of_five.Goals as goal
 
 pub group_ranks-groups-requires : goal.group_ranks-groups-requires

@@ -1,7 +1,7 @@
 use Rattle.std.proofs.Common.{arith}
-use Rattle.rank_high.proofs.Order.{value_of-order}
+use Rattle.rank_high.proofs.CallerLemmas.{value_of-order}
 use Rattle.rank_low.specs.Low.{low_27}
-use Rattle.rank_low.proofs.Made.{low_27-IsHighList}
+use Rattle.rank_low.proofs.CountsAndGroups.{low_27-IsHighList}
 use Rattle.rank_low.proofs.laws.law_deuce_numbers_keep_order.Goals as goal
 
 pub returns : goal.returns

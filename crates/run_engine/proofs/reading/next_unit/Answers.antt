@@ -1,7 +1,7 @@
 use Rattle.std.proofs.Common.{refl, arith}
 use Rattle.hand_cuts.specs.declared.limits.TheConstants.{INPUT_MAX}
-use Rattle.run_engine.proofs.Pieces.{fewer_left}
-use Rattle.run_engine.proofs.Pulling.{all_handed_out, given_same, hands_over, less_again, stands_again}
+use Rattle.run_engine.proofs.InputPieces.{fewer_left}
+use Rattle.run_engine.proofs.AskedUnits.{all_handed_out, given_same, hands_over, less_again, stands_again}
 use Rattle.run_engine.proofs.reading.next_unit.Goals as goal
 
 pub pieces-init : goal.pieces-init

@@ -4,7 +4,7 @@ use Rattle.hand_cuts.specs.declared.limits.TheConstants.{INPUT_MAX}
 use Rattle.hand_cuts.specs.declared.units.CutKind.{CutKind}
 use Rattle.run_engine.specs.Units.{Reader, Stands, left_over}
 use Rattle.run_engine.specs.declared.reading.Ending.TheVariants.{Open}
-use Rattle.run_engine.proofs.Pieces.{left_to_read}
+use Rattle.run_engine.proofs.InputPieces.{left_to_read}
 use Rattle.run_engine.proofs.reading.next_unit.Given as goal
 
 abbrev pub invariant-pieces : goal.invariant-pieces

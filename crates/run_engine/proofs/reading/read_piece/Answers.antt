@@ -2,7 +2,7 @@ use Rattle.std.proofs.Common.{◌≡◌, ◌+◌, ◌-◌, ◌≤◌, ◌<◌, �
 use Rattle.std.proofs.lemmas.List.{length-replicate}
 use Rattle.hand_cuts.specs.declared.limits.TheConstants.{INPUT_MAX}
 use Rattle.run_engine.specs.declared.reading.Ending.TheVariants.{TooLong, Open}
-use Rattle.run_engine.proofs.Pieces.{begun_cut, begun_more, over_given, stands_cut, stands_failed, stands_more, stands_whole, with_piece}
+use Rattle.run_engine.proofs.InputPieces.{begun_cut, begun_more, over_given, stands_cut, stands_failed, stands_more, stands_whole, with_piece}
 use Rattle.run_engine.proofs.reading.read_piece.Goals as goal
 
 pub returns-in_default-clause-told : goal.returns-in_default-clause-told

@@ -1,6 +1,6 @@
 use Rattle.std.proofs.Common.{refl}
 use Rattle.hand_cuts.specs.declared.limits.TheConstants.{INPUT_MAX}
-use Rattle.run_engine.proofs.Ended.{as_asked}
+use Rattle.run_engine.proofs.RunEnds.{as_asked}
 use Rattle.run_engine.proofs.RunFacts.{run_unstarted}
 use Rattle.run_engine.proofs.runs.run_at.Goals as goal
 

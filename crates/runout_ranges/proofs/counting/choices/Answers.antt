@@ -1,5 +1,5 @@
 use Rattle.std.proofs.Common.{◌*◌, ◌<◌, ◌^◌, rules}
-use Rattle.runout_ranges.proofs.Numbers.{choice_fits, choice_more}
+use Rattle.runout_ranges.proofs.ListingLength.{choice_fits, choice_more}
 use Rattle.runout_ranges.proofs.counting.choices.Goals as goal
 
 pub overflow_mul-choices : goal.overflow_mul-choices

@@ -2,7 +2,7 @@ use Rattle.std.proofs.Common.{◌≡◌, ◌≤◌, ◌+◌, ◌-◌, ◌*◌, d
 use Rattle.runout_ranges.specs.Slots.{counts_of}
 use Rattle.runout_ranges.specs.Shapes.{slots_of, runouts_of}
 use Rattle.runout_ranges.specs.Ways.{ways, binomial}
-use Rattle.runout_ranges.proofs.Numbers.{length_runouts, ways_more, ways_all, ways_above}
+use Rattle.runout_ranges.proofs.ListingLength.{length_runouts, ways_more, ways_all, ways_above}
 use Rattle.runout_ranges.specs.declared.shapes.Receiver.TheVariants.{Board}
 use Rattle.runout_ranges.specs.declared.shapes.Slot.{Slot}
 use Rattle.runout_ranges.proofs.counting.count_runouts.Goals as goal

@@ -2,7 +2,7 @@ use Rattle.std.proofs.Common.{◌-◌, ◌+◌, ap, ◌∙◌, length, arith}
 use Rattle.card_sets.specs.Games.{own_size, board_size}
 use Rattle.runout_ranges.specs.Slots.{slot_of}
 use Rattle.runout_ranges.specs.declared.shapes.Receiver.TheVariants.{Board, Hand}
-use Rattle.runout_ranges.proofs.Lacks.{lacks_more, few_more}
+use Rattle.runout_ranges.proofs.LackingCards.{lacks_more, few_more}
 use Rattle.runout_ranges.proofs.lacking.lacking.Goals as goal
 
 pub loop-number-preserved : goal.loop-number-preserved

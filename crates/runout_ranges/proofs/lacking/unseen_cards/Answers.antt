@@ -1,5 +1,5 @@
 use Rattle.std.proofs.Common.{take}
-use Rattle.runout_ranges.proofs.Lacks.{none_dealt, one_more_dealt}
+use Rattle.runout_ranges.proofs.LackingCards.{none_dealt, one_more_dealt}
 use Rattle.runout_ranges.proofs.lacking.unseen_cards.Goals as goal
 
 pub loop-hand-init : goal.loop-hand-init

@@ -1,6 +1,6 @@
 use Rattle.runout_ranges.specs.Slots.{counts_of}
 use Rattle.runout_ranges.specs.Shapes.{slots_of}
-use Rattle.runout_ranges.proofs.Numbers.{length_runouts}
+use Rattle.runout_ranges.proofs.ListingLength.{length_runouts}
 use Rattle.runout_ranges.proofs.laws.law_runouts_are_counted.Goals as goal
 
 pub returns : goal.returns

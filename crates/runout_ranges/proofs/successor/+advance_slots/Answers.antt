@@ -1,7 +1,7 @@
 use Rattle.std.proofs.Common.{◌-◌, refl, sym, ◌∙◌, length, take, drop, arith, rules}
 use Rattle.runout_ranges.specs.declared.shapes.Receiver.TheVariants.{Board}
 use Rattle.runout_ranges.specs.declared.shapes.Slot.{Slot}
-use Rattle.runout_ranges.proofs.Steps.{AtSlot, first_member, chosen_member, chosen_ends, next_follows, enough_left, enough_next, later_follows, later_ends, choice_follows, only_slot_ends, only_slot_follows, no_slots, same_rest, some_left, is_zero}
+use Rattle.runout_ranges.proofs.SlotSteps.{AtSlot, first_member, chosen_member, chosen_ends, next_follows, enough_left, enough_next, later_follows, later_ends, choice_follows, only_slot_ends, only_slot_follows, no_slots, same_rest, some_left, is_zero}
 use Rattle.runout_ranges.proofs.successor.+advance_slots.Goals as goal
 
 no_slot : Slot

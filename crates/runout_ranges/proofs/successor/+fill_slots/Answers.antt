@@ -1,7 +1,7 @@
 use Rattle.std.proofs.Common.{◌≡◌, ap, ◌∙◌, length, take, set, length-set, arith, rules}
 use Rattle.card_sets.specs.Cards.{minus}
 use Rattle.runout_ranges.specs.declared.shapes.Receiver.TheVariants.{Board}
-use Rattle.runout_ranges.proofs.Steps.{first_left, sum_slots, filled, same_rest}
+use Rattle.runout_ranges.proofs.SlotSteps.{first_left, sum_slots, filled, same_rest}
 use Rattle.runout_ranges.proofs.successor.+fill_slots.Goals as goal
 
 pub fill_slots-requires : goal.fill_slots-requires

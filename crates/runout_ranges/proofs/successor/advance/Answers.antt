@@ -1,7 +1,7 @@
 use Rattle.std.proofs.Common.{◌≡◌, List, ℕ, sym, subst, take, arith}
 use Rattle.runout_ranges.specs.Runouts.{HasMember}
 use Rattle.runout_ranges.specs.Shapes.{runouts_of}
-use Rattle.runout_ranges.proofs.Steps.{same_used, whole_follows}
+use Rattle.runout_ranges.proofs.SlotSteps.{same_used, whole_follows}
 use Rattle.runout_ranges.proofs.successor.advance.Goals as goal
 
 pub advance_slots-requires-clause-member : goal.advance_slots-requires-clause-member

@@ -5,7 +5,7 @@ use Rattle.runout_ranges.specs.declared.shapes.Receiver.TheVariants.{Board}
 use Rattle.runout_ranges.specs.declared.shapes.Slot.{Slot}
 use Rattle.showdown_tally.specs.Tallies.{runouts_after}
 use Rattle.runout_walk.specs.Listing.{going_on}
-use Rattle.runout_walk.proofs.Walks.{first_of, grown_all}
+use Rattle.runout_walk.proofs.WalkSteps.{first_of, grown_all}
 use Rattle.runout_walk.proofs.all.count_runouts_of.Goals as goal
 
 pub overflow_sub-count : goal.overflow_sub-count

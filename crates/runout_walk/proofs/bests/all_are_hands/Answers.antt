@@ -4,7 +4,7 @@ use Rattle.std.proofs.lemmas.List.{length-take}
 use Rattle.showdown_tally.specs.Deals.{deal_of}
 use Rattle.showdown_tally.specs.Showdown.{eligible_in}
 use Rattle.card_sets.specs.PlayerSets.{hands_below}
-use Rattle.showdown_tally.proofs.PotFacts.{eligible_pot}
+use Rattle.showdown_tally.proofs.CallerLemmas.{eligible_pot}
 use Rattle.card_sets.specs.PlayerSets.{AreBelow}
 use Rattle.runout_walk.proofs.BestHands.{below_hands}
 use Rattle.runout_walk.proofs.bests.all_are_hands.Goals as goal

@@ -4,7 +4,7 @@ use Rattle.std.proofs.lemmas.List.{length-take}
 use Rattle.showdown_tally.specs.Deals.{deal_of}
 use Rattle.showdown_tally.specs.Showdown.{eligible_in}
 use Rattle.card_sets.specs.PlayerSets.{hands_below}
-use Rattle.showdown_tally.proofs.PotFacts.{eligible_pot}
+use Rattle.showdown_tally.proofs.CallerLemmas.{eligible_pot}
 use Rattle.runout_walk.specs.Bests.{best_value, best_set}
 use Rattle.runout_walk.proofs.BestHands.{below_hands, value-same, set-same}
 use Rattle.runout_walk.proofs.bests.pot_best.Goals as goal

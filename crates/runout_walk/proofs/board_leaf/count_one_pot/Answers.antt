@@ -1,6 +1,6 @@
 use Rattle.std.proofs.Common.{sym, ap, ◌∙◌, Some}
 use Rattle.std.proofs.lemmas.Option.{slice_get-get_or}
-use Rattle.runout_ranges.proofs.Listed.{member_at}
+use Rattle.runout_ranges.proofs.CallerLemmas.{member_at}
 use Rattle.runout_walk.proofs.board_leaf.count_one_pot.Goals as goal
 
 pub one_place-place-requires-clause-member : goal.one_place-place-requires-clause-member

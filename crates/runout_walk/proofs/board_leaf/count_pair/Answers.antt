@@ -5,7 +5,7 @@ use Rattle.showdown_tally.specs.Showdown.{Showdown}
 use Rattle.runout_walk.specs.Pairs.{cards_of_pair}
 use Rattle.runout_walk.proofs.BoardDealt.{IsScene, pair_inside, scene_of}
 use Rattle.runout_walk.proofs.PairCounts.{row_pair}
-use Rattle.runout_walk.proofs.Waits.{fits_at_once, pair_counted, pair_waits}
+use Rattle.runout_walk.proofs.WaitingRunouts.{fits_at_once, pair_counted, pair_waits}
 use Rattle.runout_walk.proofs.board_leaf.count_pair.Goals as goal
 
 pub add_times-requires-clause-inside : goal.add_times-requires-clause-inside

@@ -1,8 +1,8 @@
 use Rattle.std.proofs.Common.{sym, refl, ap, ◌∙◌, arith, Some}
 use Rattle.std.proofs.lemmas.Option.{slice_get-get_or}
-use Rattle.runout_ranges.proofs.Listed.{member_at}
+use Rattle.runout_ranges.proofs.CallerLemmas.{member_at}
 use Rattle.showdown_tally.specs.Deals.{deal_of}
-use Rattle.runout_walk.proofs.Waits.{all_put, fit_waits, none_yet, wait_next, zeros_at}
+use Rattle.runout_walk.proofs.WaitingRunouts.{all_put, fit_waits, none_yet, wait_next, zeros_at}
 use Rattle.runout_walk.proofs.board_leaf.count_pairs.Goals as goal
 
 pub count_pair-requires-clause-member : goal.count_pair-requires-clause-member

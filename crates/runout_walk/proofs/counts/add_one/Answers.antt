@@ -2,7 +2,7 @@ use Rattle.std.proofs.Common.{◌≡◌, ◌+◌, ◌<◌, ◌^◌, ◌∙◌, �
 use Rattle.card_sets.specs.declared.games.Side.TheVariants.{High, Low}
 use Rattle.showdown_tally.specs.SideCounts.{count_at}
 use Rattle.runout_walk.specs.OneMore.{AddsAt}
-use Rattle.runout_walk.proofs.Adding.{add_zero, both_added}
+use Rattle.runout_walk.proofs.OneRunoutMore.{add_zero, both_added}
 use Rattle.runout_walk.proofs.counts.add_one.Goals as goal
 
 pub add_side-requires-clause-fits : goal.add_side-requires-clause-fits

@@ -2,7 +2,7 @@ use Rattle.std.proofs.Common.{◌≡◌, ◌+◌, ◌*◌, ◌<◌, ◌^◌, ◌
 use Rattle.std.specs.Prelude.{slice_index, slice_index_or}
 use Rattle.showdown_tally.specs.Cells.{side_place}
 use Rattle.runout_walk.specs.OneMore.{AddsAt}
-use Rattle.runout_walk.proofs.Adding.{added}
+use Rattle.runout_walk.proofs.OneRunoutMore.{added}
 use Rattle.runout_walk.proofs.counts.add_side.Goals as goal
 
 pub add_at-requires-clause-fits : goal.add_at-requires-clause-fits

@@ -1,5 +1,5 @@
 use Rattle.std.proofs.Common.{◌∙◌}
-use Rattle.runout_walk.proofs.Adding.{more_cleared}
+use Rattle.runout_walk.proofs.OneRunoutMore.{more_cleared}
 use Rattle.runout_walk.proofs.counts.clear_counts.Goals as goal
 
 pub loop-pot-preserved : goal.loop-pot-preserved

@@ -1,7 +1,7 @@
 use Rattle.std.proofs.Common.{◌≡◌, ◌+◌, ◌*◌, ◌<◌, ℕ, length, set, sym, ◌∙◌, arith, subst}
 use Rattle.showdown_tally.specs.Cells.{side_place}
 use Rattle.runout_walk.specs.OneMore.{ClearsAt}
-use Rattle.runout_walk.proofs.Adding.{cleared}
+use Rattle.runout_walk.proofs.OneRunoutMore.{cleared}
 use Rattle.runout_walk.proofs.counts.clear_side.Goals as goal
 
 pub returns-then-has_side-clause-counts : goal.returns-then-has_side-clause-counts

@@ -7,7 +7,7 @@ use Rattle.card_sets.specs.Cards.{IsCardSet, union}
 use Rattle.card_sets.specs.Games.{own_size}
 use Rattle.runout_ranges.specs.Slots.{dealt, hand_slots}
 use Rattle.runout_ranges.specs.declared.shapes.Receiver.TheVariants.{Hand}
-use Rattle.showdown_tally.proofs.DealtTo.{index_default}
+use Rattle.showdown_tally.proofs.CallerLemmas.{index_default}
 use Rattle.runout_walk.specs.Worth.{full_worth}
 use Rattle.runout_walk.proofs.DrawOrders.{byte_is, byte_small}
 use Rattle.runout_walk.proofs.DrawSlots.{dealing_here, dealing_next}

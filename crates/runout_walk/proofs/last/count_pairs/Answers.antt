@@ -1,5 +1,5 @@
 use Rattle.std.proofs.Common.{sym, ◌∙◌}
-use Rattle.runout_ranges.proofs.Numbers.{length_choose}
+use Rattle.runout_ranges.proofs.CallerLemmas.{length_choose}
 use Rattle.runout_walk.proofs.last.count_pairs.Goals as goal
 
 pub returns : goal.returns

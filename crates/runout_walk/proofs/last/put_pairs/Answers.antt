@@ -5,8 +5,8 @@ use Rattle.std.proofs.lemmas.List.{length-map, length-take}
 use Rattle.card_sets.specs.Choose.{choose}
 use Rattle.runout_walk.specs.Worth.{number_at}
 use Rattle.runout_walk.proofs.PairListing.{two-first-length}
-use Rattle.runout_walk.proofs.Ranges.{range-none}
-use Rattle.runout_walk.proofs.Members.{length-range}
+use Rattle.runout_walk.proofs.ListingRanges.{range-none}
+use Rattle.runout_walk.proofs.ListingMembers.{length-range}
 use Rattle.runout_walk.proofs.DrawLists.{filling_begins, filling_ends, filling_goes_on, filling_room, first_split, no_list, pair_numbers, pairs_split, pairs_with}
 use Rattle.runout_walk.proofs.last.put_pairs.Goals as goal
 

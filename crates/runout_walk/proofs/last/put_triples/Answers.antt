@@ -4,8 +4,8 @@ use Rattle.std.proofs.lemmas.List.{length-map}
 use Rattle.card_sets.specs.Choose.{choose}
 use Rattle.runout_walk.specs.Worth.{number_at, number_of}
 use Rattle.runout_walk.proofs.PairListing.{two-first-length}
-use Rattle.runout_walk.proofs.Ranges.{range-none}
-use Rattle.runout_walk.proofs.Members.{length-range}
+use Rattle.runout_walk.proofs.ListingRanges.{range-none}
+use Rattle.runout_walk.proofs.ListingMembers.{length-range}
 use Rattle.runout_walk.proofs.DrawLists.{choices_length, choices_split, filling_begins, filling_ends, filling_goes_on, filling_room, first_split, no_list, three_numbers}
 use Rattle.runout_walk.proofs.last.put_triples.Goals as goal
 

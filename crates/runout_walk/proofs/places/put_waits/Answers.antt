@@ -1,7 +1,7 @@
 use Rattle.std.proofs.Common.{◌<◌, refl, ◌∙◌, arith}
 use Rattle.std.specs.Prelude.{slice_index}
 use Rattle.showdown_tally.specs.Deals.{deal_of}
-use Rattle.runout_walk.proofs.Waits.{fit_here, none_put, put_next, skip_next}
+use Rattle.runout_walk.proofs.WaitingRunouts.{fit_here, none_put, put_next, skip_next}
 use Rattle.runout_walk.proofs.places.put_waits.Goals as goal
 
 pub loop-ranks-init : goal.loop-ranks-init

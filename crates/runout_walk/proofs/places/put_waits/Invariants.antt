@@ -1,6 +1,6 @@
 use Rattle.std.proofs.Common.{◌≡◌, length}
 use Rattle.showdown_tally.specs.Deals.{deal_of}
-use Rattle.runout_walk.proofs.Waits.{ArePutBelow}
+use Rattle.runout_walk.proofs.WaitingRunouts.{ArePutBelow}
 use Rattle.runout_walk.proofs.places.put_waits.Given as goal
 
 abbrev pub invariant-loop-ranks : goal.invariant-loop-ranks

@@ -1,6 +1,6 @@
 use Rattle.std.proofs.Common.{◌∙◌}
 use Rattle.showdown_tally.specs.Deals.{deal_of}
-use Rattle.runout_walk.proofs.Adding.{one_counted}
+use Rattle.runout_walk.proofs.OneRunoutMore.{one_counted}
 use Rattle.runout_walk.proofs.plain.count_one.Goals as goal
 
 pub loop-pot-preserved : goal.loop-pot-preserved

@@ -1,6 +1,6 @@
 use Rattle.std.proofs.Common.{◌≡◌, length}
 use Rattle.showdown_tally.specs.Deals.{deal_of}
-use Rattle.runout_walk.proofs.Adding.{IsCounted}
+use Rattle.runout_walk.proofs.OneRunoutMore.{IsCounted}
 use Rattle.runout_walk.proofs.plain.count_one.Given as goal
 
 abbrev pub invariant-loop-pot : goal.invariant-loop-pot

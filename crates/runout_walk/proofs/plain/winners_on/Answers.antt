@@ -1,7 +1,7 @@
 use Rattle.std.proofs.Common.{sym, ap, ◌∙◌}
 use Rattle.card_sets.specs.PlayerSets.{set_of_players}
 use Rattle.showdown_tally.specs.Deals.{deal_of}
-use Rattle.showdown_tally.proofs.PotFacts.{no_side}
+use Rattle.showdown_tally.proofs.CallerLemmas.{no_side}
 use Rattle.runout_walk.proofs.plain.winners_on.Goals as goal
 
 pub returns-then-has_side-clause-value : goal.returns-then-has_side-clause-value

@@ -7,14 +7,14 @@ use Rattle.runout_ranges.specs.Slots.{counts_of}
 use Rattle.runout_ranges.specs.Ways.{ways}
 use Rattle.runout_ranges.specs.declared.shapes.Receiver.TheVariants.{Board}
 use Rattle.runout_ranges.specs.declared.shapes.Slot.{Slot}
-use Rattle.runout_ranges.proofs.Listed.{nothing}
+use Rattle.runout_ranges.proofs.CallerLemmas.{nothing}
 use Rattle.showdown_tally.specs.Showdown.{Showdown}
 use Rattle.showdown_tally.specs.SideCounts.{CountsFit, CountsGrow}
 use Rattle.runout_walk.specs.Branches.{IsAt}
 use Rattle.runout_walk.specs.Listing.{going_on}
-use Rattle.runout_walk.proofs.Growing.{room_left, room_less}
-use Rattle.runout_walk.proofs.Members.{length-range}
-use Rattle.runout_walk.proofs.Walks.{enough_cards, few_with, front_again, grown_both, grown_last, grown_next, grown_with, grown_without, last_length, not_last, yes_last, last_slot, longer_rest, next_slot, positive, step_at, take_set}
+use Rattle.runout_walk.proofs.GrowingCounts.{room_left, room_less}
+use Rattle.runout_walk.proofs.ListingMembers.{length-range}
+use Rattle.runout_walk.proofs.WalkSteps.{enough_cards, few_with, front_again, grown_both, grown_last, grown_next, grown_with, grown_without, last_length, not_last, yes_last, last_slot, longer_rest, next_slot, positive, step_at, take_set}
 use Rattle.runout_walk.proofs.range.+count_range.Goals as goal
 
 pub unreachable-requires-in_default-first : goal.unreachable-requires-in_default-first

@@ -1,9 +1,9 @@
 use Rattle.std.proofs.Common.{◌+◌, ◌<◌, ◌++◌, ◌∷◌, ◌==◌, [], length, ap, ◌∙◌, arith}
 use Rattle.card_sets.specs.Choose.{choose}
-use Rattle.runout_ranges.proofs.Steps.{as_many}
+use Rattle.runout_ranges.proofs.CallerLemmas.{as_many}
 use Rattle.showdown_tally.specs.Deals.{deal_of}
 use Rattle.showdown_tally.specs.SideCounts.{count_at, count_place}
-use Rattle.runout_walk.proofs.Members.{count_same}
+use Rattle.runout_walk.proofs.ListingMembers.{count_same}
 use Rattle.runout_walk.proofs.PairCounts.{some_row}
 use Rattle.runout_walk.proofs.RankPairs.{pair_test, two_placed}
 use Rattle.runout_walk.proofs.rank_pairs.count_by_ranks.Goals as goal

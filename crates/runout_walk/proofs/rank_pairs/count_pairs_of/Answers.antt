@@ -1,6 +1,6 @@
 use Rattle.std.proofs.Common.{sym, ap, ◌∙◌}
 use Rattle.runout_ranges.specs.Ways.{binomial}
-use Rattle.runout_ranges.proofs.Numbers.{length_choose}
+use Rattle.runout_ranges.proofs.CallerLemmas.{length_choose}
 use Rattle.runout_walk.proofs.rank_pairs.count_pairs_of.Goals as goal
 
 pub returns : goal.returns

@@ -8,7 +8,7 @@ use Rattle.showdown_tally.specs.Showdown.{eligible_in}
 use Rattle.runout_walk.specs.Bests.{some_set}
 use Rattle.runout_walk.specs.Rivals.{value_with, winner_by}
 use Rattle.runout_walk.proofs.DrawOrders.{other_row, same_row}
-use Rattle.runout_walk.proofs.Members.{count_same}
+use Rattle.runout_walk.proofs.ListingMembers.{count_same}
 use Rattle.runout_walk.proofs.rivals.count_lows.Goals as goal
 
 pub loop-pot-preserved : goal.loop-pot-preserved

@@ -3,7 +3,7 @@ use Rattle.std.specs.Prelude.{slice_index, slice_index_or}
 use Rattle.std.proofs.Math.Nat.{pow-le-pow_right}
 use Rattle.std.proofs.lemmas.List.{length-take}
 use Rattle.card_sets.specs.PlayerSets.{has_player, hands_below, without_player}
-use Rattle.showdown_tally.proofs.PotFacts.{eligible_pot}
+use Rattle.showdown_tally.proofs.CallerLemmas.{eligible_pot}
 use Rattle.showdown_tally.specs.Deals.{deal_of}
 use Rattle.showdown_tally.specs.Showdown.{eligible_in}
 use Rattle.runout_walk.specs.Bests.{best_set, best_value, some_set}

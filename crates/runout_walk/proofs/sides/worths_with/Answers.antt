@@ -5,8 +5,7 @@ use Rattle.std.proofs.lemmas.List.{length-take}
 use Rattle.card_sets.specs.Cards.{union}
 use Rattle.card_sets.specs.Disjoint.{apart}
 use Rattle.card_sets.specs.State.{State, state_of}
-use Rattle.showdown_tally.proofs.DealtTo.{index_default}
-use Rattle.showdown_tally.proofs.Full.{hand_of, known_sound, Sound}
+use Rattle.showdown_tally.proofs.CallerLemmas.{index_default, hand_of, known_sound, Sound}
 use Rattle.runout_walk.specs.BoardWith.{IsBoardWith, AreWorthWith}
 use Rattle.runout_walk.proofs.BoardDealt.{first_board, first_apart}
 use Rattle.runout_walk.proofs.sides.worths_with.Goals as goal

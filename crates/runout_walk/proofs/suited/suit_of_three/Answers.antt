@@ -1,6 +1,6 @@
 use Rattle.std.proofs.Common.{◌<◌, ap, arith, length}
 use Rattle.rank_high.specs.Parts.{of_suit}
-use Rattle.showdown_tally.proofs.OnlySuits.{only-suit}
+use Rattle.showdown_tally.proofs.CallerLemmas.{only-suit}
 use Rattle.runout_walk.proofs.suited.suit_of_three.Goals as goal
 
 pub returns-then-count-gt2 : goal.returns-then-count-gt2

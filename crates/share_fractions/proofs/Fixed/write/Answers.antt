@@ -1,6 +1,6 @@
 use Rattle.std.proofs.Common.{ap, arith, ◌∙◌}
 use Rattle.std.specs.Fmt.{decimal}
-use Rattle.share_fractions.proofs.Pieces.{behind_both, text_from_pieces, text_from_whole}
+use Rattle.share_fractions.proofs.TextPieces.{behind_both, text_from_pieces, text_from_whole}
 use Rattle.share_fractions.proofs.Fixed.write.Goals as goal
 
 pub returns-then-self-gt0-clause-written : goal.returns-then-self-gt0-clause-written

@@ -7,7 +7,7 @@ use Rattle.card_sets.specs.Rising.{IsRising-cards_where}
 use Rattle.runout_ranges.specs.Slots.{slots, unseen, counts_of}
 use Rattle.showdown_tally.specs.Numbers.{side_number}
 use Rattle.showdown_tally.specs.Showdown.{best, own_after, board_after}
-use Rattle.showdown_tally.proofs.Dealt.{Deals, deals-length, runout_deals}
+use Rattle.showdown_tally.proofs.DealtCards.{Deals, deals-length, runout_deals}
 use Rattle.showdown_tally.proofs.after.values_after.Goals as goal
 
 pub dealt_in-requires : goal.dealt_in-requires

@@ -4,7 +4,7 @@ use Rattle.card_sets.specs.declared.games.Side.TheVariants.{High, Low}
 use Rattle.showdown_tally.specs.Cells.{cell_at, cell_plus, no_runout, units_at}
 use Rattle.showdown_tally.specs.CountShares.{given_cells, given_units}
 use Rattle.showdown_tally.specs.Deals.{deal_of}
-use Rattle.showdown_tally.proofs.ByCounts.{IsCounted, low_alone, pots_counted, pots_units_counted}
+use Rattle.showdown_tally.proofs.PotsByCounts.{IsCounted, low_alone, pots_counted, pots_units_counted}
 use Rattle.showdown_tally.proofs.CountSteps.{pots_more, pots_next, pots_units_more, pots_units_next}
 use Rattle.showdown_tally.proofs.PotFacts.{eligible_pot, no_pot}
 use Rattle.showdown_tally.proofs.counts.give_pots.Goals as goal

@@ -3,7 +3,7 @@ use Rattle.std.proofs.Math.Nat.{pow-le-pow_right}
 use Rattle.showdown_tally.specs.Cells.{cell_at}
 use Rattle.showdown_tally.specs.CountShares.{CellWithin}
 use Rattle.showdown_tally.proofs.CountSteps.{places_none, places_units_none, set_grown, set_units_within, set_within, within_wider}
-use Rattle.showdown_tally.proofs.Grown.{Grows-none}
+use Rattle.showdown_tally.proofs.GrownSums.{Grows-none}
 use Rattle.showdown_tally.proofs.counts.give_row.Goals as goal
 
 pub bounds-row-set : goal.bounds-row-set

@@ -3,8 +3,8 @@ use Rattle.showdown_tally.specs.Cells.{cell_at, cell_plus, units_at}
 use Rattle.showdown_tally.specs.CountShares.{units_of_set}
 use Rattle.showdown_tally.specs.SetShares.{cell_times, set_cell}
 use Rattle.showdown_tally.proofs.CountSteps.{hand_grown, hand_passed, never_cells, never_units, times_fit, times_next, times_units_next, units_times}
-use Rattle.showdown_tally.proofs.Grown.{Grows-none}
-use Rattle.showdown_tally.proofs.Tops.{plus_none}
+use Rattle.showdown_tally.proofs.GrownSums.{Grows-none}
+use Rattle.showdown_tally.proofs.MaskWinners.{plus_none}
 use Rattle.showdown_tally.proofs.Winners.{is_set}
 use Rattle.showdown_tally.proofs.counts.give_set.Goals.{then-has, else-has}
 use Rattle.showdown_tally.proofs.counts.give_set.Goals as goal

@@ -2,7 +2,7 @@ use Rattle.std.proofs.Common.{◌≡◌, [], false, true, sym, ap, ◌∙◌, re
 use Rattle.std.specs.Prelude.{slice_index_or}
 use Rattle.card_sets.specs.Games.{has_side}
 use Rattle.showdown_tally.specs.CountShares.{row_of}
-use Rattle.showdown_tally.proofs.Grown.{Grows-none, Grows-same}
+use Rattle.showdown_tally.proofs.GrownSums.{Grows-none, Grows-same}
 use Rattle.showdown_tally.proofs.counts.give_side.Goals as goal
 
 pub returns-then-not-has_side-clause-grown : goal.returns-then-not-has_side-clause-grown

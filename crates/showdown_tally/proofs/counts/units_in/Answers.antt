@@ -3,7 +3,7 @@ use Rattle.showdown_tally.specs.Settling.{whole_of}
 use Rattle.card_sets.specs.PlayerSets.{has_player, hands_below, players_in}
 use Rattle.showdown_tally.proofs.SetFacts.{among_set, set_gives, set_gives_none, length_few}
 use Rattle.showdown_tally.proofs.SetMasks.{count_length}
-use Rattle.showdown_tally.proofs.Tops.{some_among}
+use Rattle.showdown_tally.proofs.MaskWinners.{some_among}
 use Rattle.showdown_tally.proofs.counts.units_in.Goals as goal
 
 pub part-requires-clause-some : goal.part-requires-clause-some

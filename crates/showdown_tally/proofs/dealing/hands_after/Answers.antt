@@ -6,9 +6,9 @@ use Rattle.card_sets.specs.State.{state_of}
 use Rattle.card_sets.specs.Cards.{IsCardSet}
 use Rattle.card_sets.specs.Rising.{IsRising-cards_where}
 use Rattle.runout_ranges.specs.Slots.{slots, unseen, counts_of}
-use Rattle.showdown_tally.proofs.Dealt.{Deals, deals-length, runout_deals}
-use Rattle.showdown_tally.proofs.DealtTo.{index_default}
-use Rattle.showdown_tally.proofs.Full.{hand_of, hand_IsFull}
+use Rattle.showdown_tally.proofs.DealtCards.{Deals, deals-length, runout_deals}
+use Rattle.showdown_tally.proofs.SlotsAndSets.{index_default}
+use Rattle.showdown_tally.proofs.FullHands.{hand_of, hand_IsFull}
 use Rattle.showdown_tally.proofs.dealing.hands_after.Goals as goal
 
 pub dealt_in-requires : goal.dealt_in-requires

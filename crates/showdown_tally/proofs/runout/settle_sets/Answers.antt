@@ -9,10 +9,10 @@ use Rattle.showdown_tally.specs.Cells.{Grows}
 use Rattle.showdown_tally.specs.Deals.{deal_of}
 use Rattle.showdown_tally.specs.Settling.{tops_of}
 use Rattle.showdown_tally.specs.Showdown.{own_after, board_after}
-use Rattle.showdown_tally.proofs.Dealt.{Deals, deals-length, runout_deals}
+use Rattle.showdown_tally.proofs.DealtCards.{Deals, deals-length, runout_deals}
 use Rattle.showdown_tally.proofs.PotSteps.{IsPot, pots_step, pots_units_step}
 use Rattle.showdown_tally.proofs.PotScene.{kept_on, is_pot, pot_cells_fit, pot_units_fit, all_settled}
-use Rattle.showdown_tally.proofs.Grown.{Grows-join}
+use Rattle.showdown_tally.proofs.GrownSums.{Grows-join}
 use Rattle.showdown_tally.specs.Pots.{pots_cells, pots_units}
 use Rattle.showdown_tally.proofs.runout.settle_sets.Goals as goal
 

@@ -5,7 +5,7 @@ use Rattle.std.proofs.Math.ListN.{length-set}
 use Rattle.std.proofs.lemmas.Bool.{cases_lt}
 use Rattle.showdown_tally.specs.Numbers.{side_number}
 use Rattle.showdown_tally.specs.Showdown.{best}
-use Rattle.showdown_tally.proofs.DealtTo.{index_default}
+use Rattle.showdown_tally.proofs.SlotsAndSets.{index_default}
 use Rattle.showdown_tally.proofs.runout.side_values.Goals as goal
 
 pub loop-hand-preserved : goal.loop-hand-preserved

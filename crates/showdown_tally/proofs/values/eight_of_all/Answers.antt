@@ -1,7 +1,7 @@
 use Rattle.std.proofs.Common.{◌≡◌, ◌+◌, ◌∙◌, ap, Some, length, arith}
 use Rattle.std.specs.Option.{option_map}
 use Rattle.card_sets.specs.Cards.{union}
-use Rattle.rank_high.proofs.Sets.{length-union, Apart-apart}
+use Rattle.card_sets.proofs.CallerLemmas.{length-union, Apart-apart}
 use Rattle.rank_low.specs.Low.{best_eight, ace_number}
 use Rattle.showdown_tally.proofs.values.eight_of_all.Goals as goal
 

@@ -2,7 +2,7 @@ use Rattle.std.proofs.Common.{◌≡◌, ◌+◌, ◌∙◌, ap, sym, arith, len
 use Rattle.card_sets.specs.Cards.{union}
 use Rattle.rank_high.specs.High.{value_of, best_high}
 use Rattle.rank_high.specs.Parts.{best_plain, suited}
-use Rattle.rank_high.proofs.Sets.{length-union, Apart-apart}
+use Rattle.card_sets.proofs.CallerLemmas.{length-union, Apart-apart}
 use Rattle.showdown_tally.specs.Flushes.{IsOnlySuit}
 use Rattle.showdown_tally.proofs.OnlySuits.{AreOwnAndBoard, high-plain, high-one_suit}
 use Rattle.showdown_tally.proofs.values.high_beside.Goals as goal

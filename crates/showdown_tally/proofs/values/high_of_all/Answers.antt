@@ -1,7 +1,7 @@
 use Rattle.std.proofs.Common.{◌≡◌, ◌+◌, length, arith, refl}
 use Rattle.card_sets.specs.Cards.{union}
 use Rattle.rank_high.specs.High.{best_high}
-use Rattle.rank_high.proofs.Sets.{length-union, Apart-apart}
+use Rattle.card_sets.proofs.CallerLemmas.{length-union, Apart-apart}
 use Rattle.showdown_tally.proofs.values.high_of_all.Goals as goal
 
 pub high_of_set-requires-clause-least : goal.high_of_set-requires-clause-least

@@ -6,11 +6,10 @@ use Rattle.card_sets.specs.Games.{own_size, board_size}
 use Rattle.card_sets.specs.declared.games.Game.TheVariants.{Razz, Lowball27, Triple27}
 use Rattle.card_sets.specs.declared.games.Side.TheVariants.{Low}
 use Rattle.rank_high.specs.High.{value_of}
-use Rattle.rank_high.proofs.Best.{choose-all}
 use Rattle.rank_low.specs.Low.{best_low, ace_number, low_27, least_of}
 use Rattle.showdown_tally.specs.Showdown.{best}
 use Rattle.showdown_tally.specs.Numbers.{side_number, turned}
-use Rattle.rank_high.proofs.Sets.{length-union, Apart-apart}
+use Rattle.card_sets.proofs.CallerLemmas.{choose-all, length-union, Apart-apart}
 use Rattle.showdown_tally.proofs.values.low_value.Goals as goal
 
 composed : (f g : ℕ → ℕ) (h : List ℕ → ℕ) (o : Option (List ℕ)) → option_map f (option_map h o) ≡ option_map (λ x. f (h x)) o

@@ -1,7 +1,7 @@
 use Rattle.std.proofs.Common.{◌≡◌, ◌+◌, ◌∙◌, ap, sym, false, [], length, arith}
 use Rattle.spot_text.specs.Words.{words_left}
 use Rattle.spot_text.specs.Parts.{board_words}
-use Rattle.spot_text.proofs.Counting.{board_end, board_all, board_begins, board_later, board_left, fits_none, fits_some}
+use Rattle.spot_text.proofs.SizesByWord.{board_end, board_all, board_begins, board_later, board_left, fits_none, fits_some}
 use Rattle.spot_text.proofs.counts.board_fits.Goals as goal
 use Rattle.spot_text.proofs.counts.board_fits.Goals.{in-None, in-Some+then-is_slash}
 

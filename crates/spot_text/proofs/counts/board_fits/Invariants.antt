@@ -2,7 +2,7 @@ use Rattle.std.proofs.Common.{◌≡◌, ◌+◌, ◌≤◌, length}
 use Rattle.card_sets.specs.Games.{board_size}
 use Rattle.spot_text.specs.Words.{words_left}
 use Rattle.spot_text.specs.Parts.{board_words}
-use Rattle.spot_text.proofs.Counting.{board_left}
+use Rattle.spot_text.proofs.SizesByWord.{board_left}
 use Rattle.spot_text.proofs.counts.board_fits.Given as goal
 
 abbrev pub invariant-loop-word : goal.invariant-loop-word

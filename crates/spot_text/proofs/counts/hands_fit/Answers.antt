@@ -1,7 +1,7 @@
 use Rattle.std.proofs.Common.{◌∙◌, ap, sym, arith}
 use Rattle.spot_text.specs.Words.{words_left}
 use Rattle.spot_text.specs.Parts.{hand_words}
-use Rattle.spot_text.proofs.Counting.{fit_from, fit_none, fit_end, fit_all, fit_dash, fit_not_dash, fit_card, fit_not_card}
+use Rattle.spot_text.proofs.SizesByWord.{fit_from, fit_none, fit_end, fit_all, fit_dash, fit_not_dash, fit_card, fit_not_card}
 use Rattle.spot_text.proofs.counts.hands_fit.Goals as goal
 
 pub loop-word-init : goal.loop-word-init

@@ -3,7 +3,7 @@ use Rattle.card_sets.specs.Games.{own_size}
 use Rattle.spot_text.specs.Words.{words_left}
 use Rattle.spot_text.specs.Parts.{hand_words}
 use Rattle.spot_text.specs.Spot.{hands_fit}
-use Rattle.spot_text.proofs.Counting.{fit_from}
+use Rattle.spot_text.proofs.SizesByWord.{fit_from}
 use Rattle.spot_text.proofs.counts.hands_fit.Given as goal
 
 abbrev pub invariant-loop-word : goal.invariant-loop-word

@@ -8,6 +8,6 @@ invariant-loop-word l = record {
   more : (goal.iterator-loop-word).can_next l.word-iterator;
   ends : (goal.iterator-loop-word).is_finite l.word-iterator;
   some : 1 ≤ l.count;
-  few : l.count ≤ 10;
+  few : l.count ≤ l.fn.most;
   counted : l.count + length (hand_words (words_left l.word-iterator)) ≡ 1 + length (hand_words (words_left l.fn.words));
 }

@@ -1,4 +1,4 @@
-use Rattle.spot_text.proofs.Standing.{stands_not, stands_more, stands_all}
+use Rattle.spot_text.proofs.FormByWord.{stands_not, stands_more, stands_all}
 use Rattle.spot_text.proofs.form.in_form.Goals as goal
 
 pub returns-in-None-behind : goal.returns-in-None-behind

@@ -1,8 +1,8 @@
 use Rattle.std.proofs.Common.{◌≡◌, ◌∙◌, ap, sym, true, false}
 use Rattle.spot_text.specs.Words.{words_left}
 use Rattle.spot_text.specs.Parts.{cards_of}
-use Rattle.spot_text.proofs.Counting.{board_end, board_all, board_more, board_begins, board_later, board_left}
-use Rattle.spot_text.proofs.Gathering.{gathered_all, gathered_same, gathered_word}
+use Rattle.spot_text.proofs.SizesByWord.{board_end, board_all, board_more, board_begins, board_later, board_left}
+use Rattle.spot_text.proofs.CardsByWord.{gathered_all, gathered_same, gathered_word}
 use Rattle.spot_text.proofs.gather.board_cards.Goals as goal
 
 pub returns-then-is_slash : goal.returns-then-is_slash

@@ -1,7 +1,7 @@
 use Rattle.spot_text.specs.Words.{words_left}
 use Rattle.spot_text.specs.Parts.{board_words, cards_of}
-use Rattle.spot_text.proofs.Counting.{board_left}
-use Rattle.spot_text.proofs.Gathering.{Gathered}
+use Rattle.spot_text.proofs.SizesByWord.{board_left}
+use Rattle.spot_text.proofs.CardsByWord.{Gathered}
 use Rattle.spot_text.proofs.gather.board_cards.Given as goal
 
 abbrev pub invariant-loop-word : goal.invariant-loop-word

@@ -1,7 +1,7 @@
 use Rattle.std.proofs.Common.{◌≡◌, ◌∙◌, ap, sym, true, false}
 use Rattle.spot_text.specs.Words.{words_left}
 use Rattle.spot_text.specs.Parts.{cards_of}
-use Rattle.spot_text.proofs.Gathering.{gathered_all, gathered_same, gathered_word, dead_left, dead_all, dead_begins, dead_later}
+use Rattle.spot_text.proofs.CardsByWord.{gathered_all, gathered_same, gathered_word, dead_left, dead_all, dead_begins, dead_later}
 use Rattle.spot_text.proofs.gather.dead_cards.Goals as goal
 
 pub loop-word-preserved-then-among_dead : goal.loop-word-preserved-then-among_dead

@@ -1,6 +1,6 @@
 use Rattle.spot_text.specs.Words.{words_left}
 use Rattle.spot_text.specs.Parts.{dead_words, cards_of}
-use Rattle.spot_text.proofs.Gathering.{Gathered, dead_left}
+use Rattle.spot_text.proofs.CardsByWord.{Gathered, dead_left}
 use Rattle.spot_text.proofs.gather.dead_cards.Given as goal
 
 abbrev pub invariant-loop-word : goal.invariant-loop-word

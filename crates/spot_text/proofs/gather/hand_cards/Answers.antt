@@ -1,6 +1,6 @@
 use Rattle.std.proofs.Common.{◌≡◌, ◌-◌, suc, ◌∙◌, sym, arith}
 use Rattle.spot_text.specs.Words.{words_left}
-use Rattle.spot_text.proofs.Gathering.{gathered_all, gathered_same, gathered_word, hand_at, hand_end, hand_all, hand_dash, hand_later, hand_card, hand_other}
+use Rattle.spot_text.proofs.CardsByWord.{gathered_all, gathered_same, gathered_word, hand_at, hand_end, hand_all, hand_dash, hand_later, hand_card, hand_other}
 use Rattle.spot_text.proofs.gather.hand_cards.Goals as goal
 
 pub returns-then-ends_hands : goal.returns-then-ends_hands

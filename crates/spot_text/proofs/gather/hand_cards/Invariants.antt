@@ -1,6 +1,6 @@
 use Rattle.spot_text.specs.Words.{words_left}
 use Rattle.spot_text.specs.Parts.{cards_of}
-use Rattle.spot_text.proofs.Gathering.{Gathered, hand_at}
+use Rattle.spot_text.proofs.CardsByWord.{Gathered, hand_at}
 use Rattle.spot_text.proofs.gather.hand_cards.Given as goal
 
 abbrev pub invariant-loop-word : goal.invariant-loop-word

@@ -1,7 +1,7 @@
 use Rattle.std.proofs.Common.{◌≡◌, length, rules}
 use Rattle.spot_text.specs.Words.{words_left}
 use Rattle.spot_text.specs.Parts.{hand_words}
-use Rattle.spot_text.proofs.Whole.{spread_is, known_apart, known_unused, known_fit, known_state}
+use Rattle.spot_text.proofs.KnownCards.{spread_is, known_apart, known_unused, known_fit, known_state}
 use Rattle.spot_text.proofs.gather.known.Goals as goal
 
 pub invariant_of-result : goal.invariant_of-result

@@ -1,5 +1,5 @@
 use Rattle.std.proofs.Common.{◌∙◌, sym}
-use Rattle.spot_text.proofs.Gathering.{seen_twice, seen_more, cards_more}
+use Rattle.spot_text.proofs.CardsByWord.{seen_twice, seen_more, cards_more}
 use Rattle.spot_text.proofs.gather.repeated_card.Goals as goal
 
 pub returns-then-has : goal.returns-then-has

@@ -1,6 +1,6 @@
 use Rattle.std.proofs.Common.{rules, arith, ap, ◌∙◌}
 use Rattle.steal_core.specs.Machine.{one_if}
-use Rattle.steal_core.proofs.Runs.{run_more, refusals_more}
+use Rattle.steal_core.proofs.RunEvents.{run_more, refusals_more}
 use Rattle.steal_core.proofs.running.run_core.Goals as goal
 
 pub loop-event-preserved : goal.loop-event-preserved

@@ -1,8 +1,8 @@
 use Rattle.std.proofs.Common.{◌-◌, ◌+◌, ◌≡◌, ◌<◌, ◌≤◌, ℕ, rules, subst, sym, ◌∙◌, ⊎_elim, arith}
 use Rattle.std.proofs.lemmas.Bool.{cases_eq, cases_lt}
 use Rattle.steal_pool.specs.Joined.{HasAll, HasTold}
-use Rattle.steal_pool.proofs.Joining.{still_joinable, still_all, shows_on}
-use Rattle.steal_pool.proofs.Telling.{still_told}
+use Rattle.steal_pool.proofs.JoinedPasses.{still_joinable, still_all, shows_on}
+use Rattle.steal_pool.proofs.ToldPasses.{still_told}
 use Rattle.steal_pool.proofs.joins.join_all.Goals as goal
 
 pub loop-deque-preserved : goal.loop-deque-preserved

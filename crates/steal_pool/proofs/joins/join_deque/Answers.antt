@@ -3,9 +3,9 @@ use Rattle.crossbeam_deque.specs.Handles.{worker_view}
 use Rattle.steal_pool.specs.Reaches.{claim_of, IsOwn}
 use Rattle.steal_pool.specs.Joined.{MayJoin}
 use Rattle.std.proofs.lemmas.Bool.{lt-ltb}
-use Rattle.steal_pool.proofs.Fair.{learns}
-use Rattle.steal_pool.proofs.Telling.{same_back, told_joined}
-use Rattle.steal_pool.proofs.Joining.{IsJoining, first, get_or_any, not_own, joining_starts, joining_next, next_way, joined}
+use Rattle.steal_pool.proofs.DequeRule.{learns}
+use Rattle.steal_pool.proofs.ToldPasses.{same_back, told_joined}
+use Rattle.steal_pool.proofs.JoinedPasses.{IsJoining, first, get_or_any, not_own, joining_starts, joining_next, next_way, joined}
 use Rattle.steal_pool.specs.declared.reaches.Reach.TheVariants.{Own}
 use Rattle.steal_pool.proofs.joins.join_deque.Goals as goal
 

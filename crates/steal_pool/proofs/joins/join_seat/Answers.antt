@@ -1,8 +1,8 @@
 use Rattle.std.proofs.Common.{◌≡◌, arith, subst, sym, ◌∙◌}
 use Rattle.crossbeam_deque.specs.Handles.{worker_deque, worker_view}
 use Rattle.steal_pool.specs.Joined.{MayJoin, joined_claim}
-use Rattle.steal_pool.proofs.Fair.{merges}
-use Rattle.steal_pool.proofs.Joining.{first}
+use Rattle.steal_pool.proofs.DequeRule.{merges}
+use Rattle.steal_pool.proofs.JoinedPasses.{first}
 use Rattle.steal_pool.proofs.joins.join_seat.Goals as goal
 
 pub absorb-requires-clause-table : goal.absorb-requires-clause-table

@@ -7,9 +7,9 @@ use Rattle.steal_pool.specs.Lanes.{blocks_to, pushed_to}
 use Rattle.steal_pool.specs.Starting.{IsSeated}
 use Rattle.steal_pool.specs.declared.claims.Claim.{Claim}
 use Rattle.steal_pool.specs.declared.reaches.Reach.TheVariants.{Own}
-use Rattle.steal_pool.proofs.Fair.{begins}
-use Rattle.steal_pool.proofs.Joining.{get_or_any}
-use Rattle.steal_pool.proofs.Starting.{IsDealing, dealt_seat, dealing_more, dealing_ends}
+use Rattle.steal_pool.proofs.DequeRule.{begins}
+use Rattle.steal_pool.proofs.JoinedPasses.{get_or_any}
+use Rattle.steal_pool.proofs.MadeSeats.{IsDealing, dealt_seat, dealing_more, dealing_ends}
 use Rattle.steal_pool.proofs.making.add_deque.Goals as goal
 
 pub fifo_as-requires : goal.fifo_as-requires

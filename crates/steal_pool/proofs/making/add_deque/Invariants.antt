@@ -2,7 +2,7 @@ use Rattle.std.proofs.Common.{◌≡◌, ◌-◌, []}
 use Rattle.crossbeam_deque.specs.Handles.{worker_view, worker_deque, worker_flavor}
 use Rattle.steal_pool.specs.Claims.{claim}
 use Rattle.steal_pool.specs.Lanes.{pushed_to}
-use Rattle.steal_pool.proofs.Starting.{IsDealing}
+use Rattle.steal_pool.proofs.MadeSeats.{IsDealing}
 use Rattle.steal_pool.proofs.making.add_deque.Given as goal
 
 -- with each seat one pass of the owner's is given away

@@ -1,4 +1,4 @@
-use Rattle.steal_pool.proofs.Fair.{forks}
+use Rattle.steal_pool.proofs.DequeRule.{forks}
 use Rattle.steal_pool.proofs.making.add_other.Goals as goal
 
 pub another-requires : goal.another-requires

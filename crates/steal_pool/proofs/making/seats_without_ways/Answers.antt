@@ -1,6 +1,6 @@
 use Rattle.std.proofs.Common.{◌+◌, [], ◌∷◌, arith, sym, ap, subst, ◌∙◌, length, length-append, get_or}
 use Rattle.steal_pool.specs.Starting.{IsSeated}
-use Rattle.steal_pool.proofs.Starting.{seats_more}
+use Rattle.steal_pool.proofs.MadeSeats.{seats_more}
 use Rattle.steal_pool.proofs.making.seats_without_ways.Goals as goal
 
 pub loop-preserved : goal.loop-preserved

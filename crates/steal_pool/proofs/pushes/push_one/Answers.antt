@@ -1,4 +1,4 @@
-use Rattle.steal_pool.proofs.Fair.{pushes}
+use Rattle.steal_pool.proofs.DequeRule.{pushes}
 use Rattle.steal_pool.proofs.pushes.push_one.Goals as goal
 
 pub push_as-requires-clause-pushes : goal.push_as-requires-clause-pushes

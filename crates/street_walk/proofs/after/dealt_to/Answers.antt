@@ -1,7 +1,7 @@
 use Rattle.std.proofs.Common.{◌≡◌, ℕ, ◌<◌, zero, suc, sym, ap, ◌∙◌, arith, List, [], ◌∷◌, length, Some}
 use Rattle.std.specs.Prelude.{slice_get, slice_index_or}
 use Rattle.runout_ranges.specs.Shapes.{slots_of}
-use Rattle.showdown_tally.proofs.DealtTo.{dealt_here, dealt_on}
+use Rattle.showdown_tally.proofs.CallerLemmas.{dealt_here, dealt_on}
 use Rattle.street_walk.proofs.after.dealt_to.Goals as goal
 
 -- an element within a list is there

@@ -1,6 +1,6 @@
 use Rattle.card_sets.specs.State.{state_of}
-use Rattle.showdown_tally.proofs.Full.{known_sound}
-use Rattle.street_walk.proofs.GoesOn.{goes_on}
+use Rattle.showdown_tally.proofs.CallerLemmas.{known_sound}
+use Rattle.street_walk.proofs.CardsAfter.{goes_on}
 use Rattle.street_walk.proofs.laws.law_streets_go_on.Goals as goal
 
 pub returns : goal.returns

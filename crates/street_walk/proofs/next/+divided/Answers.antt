@@ -1,7 +1,7 @@
 use Rattle.std.proofs.Common.{arith, rules}
 use Rattle.runout_ranges.specs.declared.shapes.Receiver.TheVariants.{Board}
 use Rattle.runout_ranges.specs.declared.shapes.Slot.{Slot}
-use Rattle.street_walk.proofs.Parts.{at_front}
+use Rattle.street_walk.proofs.StreetParts.{at_front}
 use Rattle.street_walk.proofs.next.+divided.Goals as goal
 
 abbrev no_slot : Slot

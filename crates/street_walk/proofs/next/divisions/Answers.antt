@@ -1,6 +1,6 @@
 use Rattle.std.proofs.Common.{◌≤◌, sum, take, arith}
 use Rattle.runout_ranges.specs.Slots.{counts_of}
-use Rattle.street_walk.proofs.Parts.{divided_fits}
+use Rattle.street_walk.proofs.StreetParts.{divided_fits}
 use Rattle.street_walk.proofs.next.divisions.Goals as goal
 
 pub divided-requires : goal.divided-requires

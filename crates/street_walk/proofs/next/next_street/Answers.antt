@@ -1,7 +1,7 @@
 use Rattle.std.proofs.Common.{◌≡◌, length, take, drop, sym, ap, ◌∙◌, arith}
 use Rattle.std.proofs.lemmas.List.{length-map, length-take-le}
 use Rattle.street_walk.specs.Streets.{gets}
-use Rattle.street_walk.proofs.Parts.{sum_next, take_front}
+use Rattle.street_walk.proofs.StreetParts.{sum_next, take_front}
 use Rattle.street_walk.proofs.next.next_street.Goals as goal
 
 pub invariant_of-result-clause-enough : goal.invariant_of-result-clause-enough

@@ -2,7 +2,7 @@ use Rattle.std.proofs.Common.{◌∙◌, ap, length}
 use Rattle.card_sets.specs.PlayerSets.{players_in}
 use Rattle.betting_replay.specs.Accounts.{contenders}
 use Rattle.betting_replay.specs.Turns.{is_contender, contender_count}
-use Rattle.betting_replay.proofs.Counted.{counted_players}
+use Rattle.betting_replay.proofs.lemmas.seats.SeatCounts.{counted_players}
 use Rattle.betting_replay.proofs.replay.Replay.contender_count.Goals as goal
 
 pub returns : goal.returns

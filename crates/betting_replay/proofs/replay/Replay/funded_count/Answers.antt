@@ -2,7 +2,7 @@ use Rattle.std.proofs.Common.{◌∙◌, ap, length, rules, ◌&&◌}
 use Rattle.card_sets.specs.PlayerSets.{players_in}
 use Rattle.betting_replay.specs.AllIn.{funded_count}
 use Rattle.betting_replay.specs.Turns.{is_contender, has_chips}
-use Rattle.betting_replay.proofs.Counted.{counted_players}
+use Rattle.betting_replay.proofs.lemmas.seats.SeatCounts.{counted_players}
 use Rattle.betting_replay.proofs.replay.Replay.funded_count.Goals as goal
 
 pub returns : goal.returns

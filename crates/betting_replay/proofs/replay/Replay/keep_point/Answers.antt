@@ -1,5 +1,5 @@
 use Rattle.std.proofs.Common.{sym, ◌∙◌}
-use Rattle.betting_replay.proofs.Pointed.{point_stays}
+use Rattle.betting_replay.proofs.lemmas.points.FirstPoint.{point_stays}
 use Rattle.betting_replay.proofs.replay.Replay.keep_point.Goals as goal
 
 pub returns-else-awaits_point : goal.returns-else-awaits_point

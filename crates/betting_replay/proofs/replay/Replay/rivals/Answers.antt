@@ -1,7 +1,7 @@
 use Rattle.std.proofs.Common.{◌∙◌, ap, length, rules, ◌==◌, ◌&&◌, not}
 use Rattle.card_sets.specs.PlayerSets.{players_in}
 use Rattle.betting_replay.specs.Turns.{is_contender, has_chips, rivals}
-use Rattle.betting_replay.proofs.Counted.{counted_players}
+use Rattle.betting_replay.proofs.lemmas.seats.SeatCounts.{counted_players}
 use Rattle.betting_replay.proofs.replay.Replay.rivals.Goals as goal
 
 pub returns : goal.returns

@@ -1,19 +1,13 @@
-use Rattle.std.proofs.Common.{◌∷◌, ◌≡◌, ap, ◌∙◌, sym, subst, rules, None}
-use Rattle.betting_replay.specs.Events.{seat_of}
-use Rattle.betting_replay.specs.Limits.{InLimits}
-use Rattle.betting_replay.specs.Tables.{Table, StandsFor, chips_at}
+use Rattle.std.proofs.Common.{◌∷◌, ◌≡◌, ap, ◌∙◌, sym, subst, None}
+use Rattle.betting_replay.specs.Tables.{Table, StandsFor}
 use Rattle.betting_replay.specs.Counting.{begun, pointed, after}
 use Rattle.betting_replay.specs.Faults.{fault_at}
-use Rattle.betting_replay.proofs.Afford.{affords}
-use Rattle.betting_replay.proofs.Passed.{no_fault}
-use Rattle.betting_replay.proofs.Stands.{stands_after, seat_below}
+use Rattle.betting_replay.proofs.lemmas.steps.PassedTests.{no_fault}
+use Rattle.betting_replay.proofs.lemmas.steps.NextTable.{stands_after, seat_below}
 use Rattle.betting_replay.proofs.replay.Replay.step.Goals as goal
 
-pub count-requires-clause-affords : goal.count-requires-clause-affords
-count-requires-clause-affords c =
-    let within : InLimits (chips_at c.args.self.now (seat_of c.args.e.now)) = search rules in
-    let legal : fault_at c.args.self.now c.args.e.now ≡ None = no_fault _ _ (sym c.judge.ensures ∙ c.in_ok-judge.was) in
-    affords c.args.self.now c.args.e.now c.requires.amounts within legal
+pub count-requires-clause-legal : goal.count-requires-clause-legal
+count-requires-clause-legal c = no_fault _ _ (sym c.judge.ensures ∙ c.in_ok-judge.was)
 
 pub returns-clause-ok : goal.returns-clause-ok
 returns-clause-ok c g players h s =

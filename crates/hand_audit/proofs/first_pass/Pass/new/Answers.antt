@@ -1,6 +1,6 @@
 use Rattle.std.proofs.Common.{refl, arith}
-use Rattle.hand_audit.proofs.FirstPass.{has_none}
-use Rattle.hand_audit.proofs.ReadOnce.{no_reads}
+use Rattle.hand_audit.proofs.lemmas.first_pass.PassSteps.{has_none}
+use Rattle.hand_audit.proofs.lemmas.lines.ReadOnce.{no_reads}
 use Rattle.hand_audit.proofs.first_pass.Pass.new.Goals as goal
 
 pub returns : goal.returns

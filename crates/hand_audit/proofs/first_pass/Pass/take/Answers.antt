@@ -1,7 +1,7 @@
 use Rattle.std.proofs.Common.{◌∙◌, sym, subst, refl}
 use Rattle.hand_audit.specs.Keeping.{IsRead}
 use Rattle.hand_audit.specs.Lines.{seat_at}
-use Rattle.hand_audit.proofs.FirstPass.{took_again, took_fault, took_event}
+use Rattle.hand_audit.proofs.lemmas.first_pass.PassSteps.{took_again, took_fault, took_event}
 use Rattle.hand_audit.proofs.first_pass.Pass.take.Goals as goal
 
 pub seat_name-requires : goal.seat_name-requires

@@ -1,6 +1,6 @@
 use Rattle.std.proofs.Common.{◌≡◌, true, false, arith}
-use Rattle.hand_audit.proofs.Decided.{decided}
-use Rattle.hand_audit.proofs.Kept.{unfinished, settles, splits}
+use Rattle.hand_audit.proofs.lemmas.won_pots.DecidedPots.{decided}
+use Rattle.hand_audit.proofs.lemmas.lines.LineSteps.{unfinished, settles, splits}
 use Rattle.hand_audit.proofs.hand.Hand.end.Goals as goal
 
 pub returns-then-not-self : goal.returns-then-not-self

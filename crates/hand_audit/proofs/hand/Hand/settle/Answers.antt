@@ -3,7 +3,7 @@ use Rattle.std.proofs.lemmas.Result.{IfOk-weaker}
 use Rattle.hand_audit.specs.Showings.{showing_at}
 use Rattle.pot_layers.specs.declared.paid.Pot.{Pot}
 use Rattle.hand_audit.specs.Winning.{AreDecided}
-use Rattle.hand_audit.proofs.Shown.{collections_shown, pots_shown}
+use Rattle.hand_audit.proofs.lemmas.splits.ShownHand.{collections_shown, pots_shown}
 use Rattle.hand_audit.proofs.hand.Hand.settle.Goals as goal
 
 pub returns : goal.returns

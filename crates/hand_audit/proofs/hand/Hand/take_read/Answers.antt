@@ -1,8 +1,8 @@
 use Rattle.std.proofs.Common.{◌≡◌, ◌∙◌, sym, ◌||◌, arith}
 use Rattle.hand_audit.specs.Departs.{is_total}
-use Rattle.hand_audit.proofs.Kept.{goes_text, goes_bet, goes_total, goes_on}
-use Rattle.hand_audit.proofs.ReadOnce.{ok_of}
-use Rattle.hand_audit.proofs.Sound.{sound_more}
+use Rattle.hand_audit.proofs.lemmas.lines.LineSteps.{goes_text, goes_bet, goes_total, goes_on}
+use Rattle.hand_audit.proofs.lemmas.lines.ReadOnce.{ok_of}
+use Rattle.hand_audit.proofs.lemmas.lines.KeptInvariant.{sound_more}
 use Rattle.hand_audit.proofs.hand.Hand.take_read.Goals as goal
 use Rattle.hand_audit.proofs.hand.Hand.take_read.Goals.{then-is_total, else-is_total}
 

@@ -1,5 +1,5 @@
 use Rattle.std.proofs.Common.{◌∙◌, sym}
-use Rattle.hand_audit.proofs.Told.{checked_alone, checked_told}
+use Rattle.hand_audit.proofs.lemmas.splits.Winners.{checked_alone, checked_told}
 use Rattle.hand_audit.proofs.standings.Standings.is_checked.Goals as goal
 
 pub returns-then-is_alone : goal.returns-then-is_alone

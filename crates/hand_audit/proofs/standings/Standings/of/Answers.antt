@@ -3,7 +3,7 @@ use Rattle.std.specs.Prelude.{Option}
 use Rattle.betting_replay.specs.Seats.{by_seat}
 use Rattle.betting_replay.specs.Tables.{final_at}
 use Rattle.hand_audit.specs.Winning.{TellsHands, TellsSecond}
-use Rattle.hand_audit.proofs.Told.{tells}
+use Rattle.hand_audit.proofs.lemmas.splits.Winners.{tells}
 use Rattle.hand_audit.proofs.standings.Standings.of.Goals as goal
 
 pub returns-clause-tells : goal.returns-clause-tells

@@ -2,8 +2,8 @@ use Rattle.std.proofs.Common.{◌∙◌, ℕ, List, sym, subst}
 use Rattle.std.specs.Prelude.{slice_index_or}
 use Rattle.pot_layers.specs.Split.{IsOrder}
 use Rattle.hand_audit.specs.Settle.{mark_at}
-use Rattle.hand_audit.proofs.Order.{ordered}
-use Rattle.hand_audit.proofs.Marked.{marked_ordered, same_marks, order_marked, order_seated}
+use Rattle.hand_audit.proofs.lemmas.splits.OddOrder.{ordered}
+use Rattle.hand_audit.proofs.lemmas.splits.MarkOrder.{marked_ordered, same_marks, order_marked, order_seated}
 use Rattle.hand_audit.proofs.standings.Standings.order.Goals as goal
 
 pub returns-then-has_marks : goal.returns-then-has_marks

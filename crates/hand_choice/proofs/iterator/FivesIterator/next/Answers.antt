@@ -1,5 +1,5 @@
 use Rattle.std.proofs.Common.{◌≡◌, ℕ, suc, ◌+◌, List, [], ◌∷◌, length, drop, ap, ◌∙◌, sym, arith, rules}
-use Rattle.hand_choice.proofs.Pushed.{drop-next, drop-end}
+use Rattle.hand_choice.proofs.PushedChoices.{drop-next, drop-end}
 use Rattle.hand_choice.proofs.iterator.FivesIterator.next.Goals as goal
 
 pub returns-in_err-five-clause-steps : goal.returns-in_err-five-clause-steps

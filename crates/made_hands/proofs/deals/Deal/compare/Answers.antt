@@ -3,7 +3,7 @@ use Rattle.std.specs.Ordering.{nat_cmp}
 use Rattle.card_sets.specs.Cards.{union}
 use Rattle.rank_high.specs.High.{best_high, value_of}
 use Rattle.made_hands.specs.Lines.{compared}
-use Rattle.made_hands.proofs.Sets.{union-of}
+use Rattle.made_hands.proofs.DifferentCards.{union-of}
 use Rattle.made_hands.proofs.deals.Deal.compare.Goals as goal
 
 pub high_of_set-first-requires-clause-least : goal.high_of_set-first-requires-clause-least

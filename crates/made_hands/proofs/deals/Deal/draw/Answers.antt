@@ -1,8 +1,8 @@
 use Rattle.std.proofs.Common.{length, rules, ap, arith, subst, sym}
 use Rattle.made_hands.specs.declared.deals.Deal.{Deal}
 use Rattle.made_hands.specs.Deals.{deal_of, IsWhole}
-use Rattle.made_hands.proofs.Sets.{length-deck}
-use Rattle.made_hands.proofs.Drawn.{whole-deal_of}
+use Rattle.made_hands.proofs.DifferentCards.{length-deck}
+use Rattle.made_hands.proofs.DrawnNumbers.{whole-deal_of}
 use Rattle.made_hands.proofs.deals.Deal.draw.Goals as goal
 
 pub hole_cards-first-requires : goal.hole_cards-first-requires

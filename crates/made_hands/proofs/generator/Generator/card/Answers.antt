@@ -1,6 +1,6 @@
 use Rattle.std.proofs.Common.{rules, length, ap, arith}
 use Rattle.made_hands.specs.Deals.{card_drawn, left_behind}
-use Rattle.made_hands.proofs.Drawn.{length-left_behind}
+use Rattle.made_hands.proofs.DrawnNumbers.{length-left_behind}
 use Rattle.made_hands.proofs.generator.Generator.card.Goals as goal
 
 pub returns-clause-value : goal.returns-clause-value

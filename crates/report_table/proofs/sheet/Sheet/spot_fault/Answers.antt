@@ -1,10 +1,23 @@
+use Rattle.std.proofs.Common.{◌≡◌, ℕ, [], ◌∷◌, refl, sym, ap, ◌∙◌}
+use Rattle.spot_text.specs.FaultNames.{fault_name}
+use Rattle.spot_text.specs.declared.faults.SpotFault.{SpotFault}
+use Rattle.spot_text.specs.declared.faults.SpotFault.TheVariants.{UnknownWord, BadCard, TwiceCard, HandSize, BoardSize, PlayerCount, DeckShort}
+use Rattle.report_table.specs.Sheets.{with_words}
 use Rattle.report_table.specs.Words.{fault_words}
 use Rattle.report_table.proofs.sheet.Sheet.spot_fault.Goals as goal
 
-pub returns-in-UnknownWord : goal.returns-in-UnknownWord
+-- a fault that carries no card is its name
+name_alone : (fault : SpotFault) → ((card : ℕ) → fault ≡ TwiceCard card → ⊥) → fault_words fault ≡ fault_name fault ∷ []
 unfolding fault_words
-returns-in-UnknownWord c = rw c.in-UnknownWord.is c.text.ensures
+name_alone UnknownWord other = refl
+name_alone BadCard other = refl
+name_alone (TwiceCard card) other = absurd (other card refl)
+name_alone HandSize other = refl
+name_alone BoardSize other = refl
+name_alone PlayerCount other = refl
+name_alone DeckShort other = refl
 
-pub returns-in-PlayerCount : goal.returns-in-PlayerCount
-unfolding fault_words
-returns-in-PlayerCount c = rw c.in-PlayerCount.is c.text-in-PlayerCount.ensures
+pub returns-in_default : goal.returns-in_default
+returns-in_default c =
+    c.in_ok-text.ensures ∙ ap (λ word. with_words c.args.self.now (word ∷ [])) c.name.ensures
+    ∙ ap (λ words. with_words c.args.self.now words) (sym (name_alone c.args.fault.now c.in_default.not-TwiceCard))

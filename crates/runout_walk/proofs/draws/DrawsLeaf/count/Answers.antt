@@ -9,11 +9,10 @@ use Rattle.card_sets.specs.PlayerSetLaws.{AreBelow-hands_below}
 use Rattle.card_sets.specs.State.{State, state_of}
 use Rattle.card_sets.specs.declared.games.Side.{Side}
 use Rattle.card_sets.specs.declared.games.Side.TheVariants.{High, Low}
-use Rattle.rank_high.proofs.Sets.{both}
 use Rattle.runout_ranges.specs.Runouts.{HasMember}
 use Rattle.runout_ranges.specs.Slots.{slots}
-use Rattle.showdown_tally.proofs.Full.{hand_of}
-use Rattle.showdown_tally.proofs.PotFacts.{eligible_pot}
+use Rattle.std.proofs.lemmas.Bool.{and_parts}
+use Rattle.showdown_tally.proofs.CallerLemmas.{hand_of, eligible_pot}
 use Rattle.showdown_tally.specs.Cells.{side_place}
 use Rattle.showdown_tally.specs.Deals.{deal_of}
 use Rattle.showdown_tally.specs.Showdown.{eligible_in, has_two_sides}
@@ -24,7 +23,7 @@ use Rattle.runout_walk.specs.Listing.{last_count}
 use Rattle.runout_walk.specs.Rivals.{count_both, value_with}
 use Rattle.runout_walk.specs.Worth.{number_of, worth}
 use Rattle.runout_walk.proofs.DrawLeaf.{AreOthers, IsLeafDraw, last_inside, leaf_counts, leaf_draw, leaf_highs, leaf_lows, leaf_values, taken_none}
-use Rattle.runout_walk.proofs.Members.{in_range}
+use Rattle.runout_walk.proofs.ListingMembers.{in_range}
 use Rattle.runout_walk.proofs.DrawLists.{few_draws, few_twos}
 use Rattle.runout_walk.proofs.DrawWinners.{only_one}
 use Rattle.runout_walk.proofs.draws.DrawsLeaf.count.Goals as goal
@@ -244,7 +243,7 @@ count_lows-requires-clause-fits g c = λ pot place l m.
     let table = c.args.self.now.table in
     let game = table.known.game in
     let two : has_two_sides game ≡ true = sym c.has_two_sides.ensures ∙ c.if-has_two_sides.true in
-    let sides = both (has_side High game) (has_side Low game) two in
+    let sides = and_parts (has_side High game) (has_side Low game) two in
     let pots = table.few_pots in
     let among : pot < length (deal_of table).pots = omega (arith, l, pots, length-map (take table.pots table.eligible) hands_of, length-take table.pots table.eligible, c.ten_places.ensures.pots) in
     let room = c.requires.fits pot place Low among sides.1 m in
@@ -255,7 +254,7 @@ count_highs-requires-clause-fits g c = λ pot place l m.
     let table = c.args.self.now.table in
     let game = table.known.game in
     let two : has_two_sides game ≡ true = sym c.has_two_sides.ensures ∙ c.if-has_two_sides.true in
-    let sides = both (has_side High game) (has_side Low game) two in
+    let sides = and_parts (has_side High game) (has_side Low game) two in
     let pots = table.few_pots in
     let among : pot < length (deal_of table).pots = omega (arith, l, pots, length-map (take table.pots table.eligible) hands_of, length-take table.pots table.eligible, c.ten_places.ensures.pots) in
     let Room : ℕ → Type 0 = λ row. slice_index (slice_index_or c.args.counts.now row []) place + (c.args.hi - c.args.lo) < 2 ^ 32 in

@@ -2,8 +2,7 @@ use Rattle.std.proofs.Common.{◌≡◌, ◌≤◌, sym, ap, ◌∙◌, arith, l
 use Rattle.runout_walk.specs.Pairs.{cards_of_pair}
 use Rattle.card_sets.specs.Choose.{choose}
 use Rattle.runout_ranges.specs.Ways.{binomial}
-use Rattle.runout_ranges.proofs.Numbers.{length_choose}
-use Rattle.runout_ranges.proofs.Listed.{enough_for}
+use Rattle.runout_ranges.proofs.CallerLemmas.{length_choose, enough_for}
 use Rattle.runout_walk.proofs.PairListing.{stretch_is, stretch_fits}
 use Rattle.runout_walk.proofs.pairs.Pairs.stretch.Goals as goal
 

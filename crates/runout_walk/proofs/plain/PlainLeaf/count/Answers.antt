@@ -3,7 +3,7 @@ use Rattle.runout_ranges.specs.Runouts.{HasMember}
 use Rattle.showdown_tally.specs.Deals.{deal_of}
 use Rattle.showdown_tally.specs.SideCounts.{CountsGrow}
 use Rattle.showdown_tally.specs.Tallies.{runouts_after}
-use Rattle.runout_walk.proofs.Singles.{only_grown, only_member}
+use Rattle.runout_walk.proofs.NoCardLeaf.{only_grown, only_member}
 use Rattle.runout_walk.proofs.plain.PlainLeaf.count.Goals as goal
 
 pub count_one-requires-clause-runout : goal.count_one-requires-clause-runout

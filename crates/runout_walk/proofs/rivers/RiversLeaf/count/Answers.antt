@@ -7,7 +7,7 @@ use Rattle.showdown_tally.specs.Tallies.{runouts_after}
 use Rattle.showdown_tally.specs.declared.table.Table.{Table}
 use Rattle.runout_walk.specs.declared.spot.Spot.{Spot}
 use Rattle.runout_walk.proofs.RiverFacts.{IsRiver, first_is, no_first, river_of}
-use Rattle.runout_walk.proofs.Singles.{only_grown}
+use Rattle.runout_walk.proofs.NoCardLeaf.{only_grown}
 use Rattle.runout_walk.proofs.rivers.RiversLeaf.count.Goals as goal
 
 pub unreachable-requires : goal.unreachable-requires

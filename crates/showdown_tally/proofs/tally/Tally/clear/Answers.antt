@@ -1,7 +1,7 @@
 use Rattle.std.proofs.Common.{arith, ◌+◌, ◌*◌}
 use Rattle.std.proofs.lemmas.List.{get_or-replicate}
 use Rattle.showdown_tally.specs.Cells.{no_runout, side_place}
-use Rattle.showdown_tally.proofs.Places.{place_bound}
+use Rattle.showdown_tally.proofs.CellPlaces.{place_bound}
 use Rattle.showdown_tally.proofs.tally.Tally.clear.Goals as goal
 
 pub returns-clause-cells : goal.returns-clause-cells

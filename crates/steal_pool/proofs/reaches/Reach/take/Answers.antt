@@ -1,5 +1,5 @@
 use Rattle.std.proofs.Common.{rules}
-use Rattle.steal_pool.proofs.Fair.{takes}
+use Rattle.steal_pool.proofs.DequeRule.{takes}
 use Rattle.steal_pool.proofs.reaches.Reach.take.Goals as goal
 
 pub pop_as-requires-clause-fifo : goal.pop_as-requires-clause-fifo

@@ -4,8 +4,8 @@ use Rattle.equity_job.specs.Blocks.{blocks_of}
 use Rattle.tally_book.specs.Parts.{Hand}
 use Rattle.steal_pool.specs.Starting.{IsSeating}
 use Rattle.steal_pool.specs.Sittings.{IsSitting}
-use Rattle.steal_pool.proofs.Starting.{seating_any, seating_done, seating_parts}
-use Rattle.steal_pool.proofs.Seen.{sitting_starts, sitting_fresh}
+use Rattle.steal_pool.proofs.MadeSeats.{seating_any, seating_done, seating_parts}
+use Rattle.steal_pool.proofs.SeenSeats.{sitting_starts, sitting_fresh}
 use Rattle.steal_pool.proofs.seats.Seats.start.Goals as goal
 
 pub loop-deque-init : goal.loop-deque-init

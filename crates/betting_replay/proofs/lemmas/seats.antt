@@ -1,0 +1,4 @@
+-- Lists by seat, sets of seats, and loops over the seats.
+pub mod ChangedFronts
+pub mod SeatCounts
+pub mod SeatLists

@@ -1,0 +1,3 @@
+-- An event that may stand, and the table after it: for `step`.
+pub mod NextTable
+pub mod PassedTests

@@ -1,0 +1,132 @@
+//! Cards from texts, and known cards of which it is tested that they can be known.
+
+ghost use Rattle.std.specs.Prelude.{◌≡◌, ◌≤◌, ◌∷◌, IsTrue, drop, length, nat_le};
+ghost use Rattle.std.specs.List.{list_all};
+ghost use Rattle.card_sets.specs.Disjoint.{all_apart, all_empty, apart};
+ghost use Rattle.card_sets.specs.Games.{all_fit};
+
+use card_sets::{Card, CardSet, Game, Known};
+
+/// The cards that a text of two letters a card names.
+pub(crate) fn cards(text: &[u8]) -> Option<CardSet> {
+    let mut set = CardSet::empty();
+    for letters in text.chunks(2) {
+        let [rank, suit] = letters else {
+            return None;
+        };
+        set = set.with(Card::read([*rank, *suit])?);
+    }
+    Some(set)
+}
+
+/// The cards of at most ten texts, and no cards behind them.
+fn hands_of(texts: &[&[u8]]) -> Option<[CardSet; 10]> {
+    let mut hands = [CardSet::empty(); 10];
+    for (place, text) in texts.iter().enumerate() {
+        if place >= 10 {
+            return None;
+        }
+        hands[place] = cards(*text)?;
+    }
+    Some(hands)
+}
+
+/// Whether a set shares no card with any of some others.
+fn is_apart_from(cards: CardSet, sets: &[CardSet]) -> bool
+    ensures { result ≡ list_all (apart cards) sets.now }
+{
+    match sets {
+        [] => true,
+        [first, others @ ..] => cards.is_apart(*first) && is_apart_from(cards, others),
+    }
+}
+
+/// Whether no two of some sets share a card.
+fn are_apart(sets: &[CardSet]) -> bool
+    ensures { result ≡ all_apart sets.now }
+{
+    match sets {
+        [] => true,
+        [first, others @ ..] => is_apart_from(*first, others) && are_apart(others),
+    }
+}
+
+/// Whether no set is larger than so many cards.
+fn are_small(sets: &[CardSet], most: u32) -> bool
+    ensures { result ≡ list_all (λ set. nat_le (length set) most) sets.now }
+{
+    match sets {
+        [] => true,
+        [first, others @ ..] => first.count() <= most && are_small(others, most),
+    }
+}
+
+/// Whether no card is in two of the places.
+fn are_disjoint(hands: &[CardSet; 10], board: CardSet, dead: CardSet) -> bool
+    ensures { result ≡ all_apart (board ∷ dead ∷ hands.now) }
+{
+    let hands = &hands[..];
+    board.is_apart(dead)
+        && is_apart_from(board, hands)
+        && is_apart_from(dead, hands)
+        && are_apart(hands)
+}
+
+/// Whether no set is larger than its place in the game allows.
+fn fits(game: Game, hands: &[CardSet; 10], board: CardSet) -> bool
+    ensures { result ≡ all_fit game board hands.now }
+{
+    board.count() <= game.board_size() && are_small(&hands[..], game.own_size())
+}
+
+/// Whether the hands behind so many have no cards.
+fn are_unused(hands: &[CardSet; 10], count: u8) -> bool
+    requires { count ≤ 10 }
+    ensures { result ≡ all_empty (drop count hands.now) }
+{
+    let hands = &hands[..];
+    are_small(&hands[usize::from(count)..], 0)
+}
+
+/// So many hands, a board and dead cards; none where they can't be known together.
+fn known_of(
+    game: Game,
+    count: u8,
+    hands: [CardSet; 10],
+    board: CardSet,
+    dead: CardSet,
+) -> Option<Known> {
+    if count > 10 {
+        return None;
+    }
+    if !are_disjoint(&hands, board, dead) {
+        return None;
+    }
+    if !are_unused(&hands, count) {
+        return None;
+    }
+    if !fits(game, &hands, board) {
+        return None;
+    }
+    Some(Known {
+        game,
+        count,
+        hands,
+        board,
+        dead,
+    })
+}
+
+/// The same, each set as a text.
+pub(crate) fn known(game: Game, hands: &[&[u8]], board: &[u8], dead: &[u8]) -> Option<Known> {
+    if hands.len() > 10 {
+        return None;
+    }
+    known_of(
+        game,
+        hands.len() as u8,
+        hands_of(hands)?,
+        cards(board)?,
+        cards(dead)?,
+    )
+}

@@ -1,0 +1,65 @@
+-- The walk over the seats that lists the payments of a pot, and finds the first beyond its tolerance.
+use Rattle.std.proofs.Common.{◌≡◌, ℕ, suc, ◌+◌, ◌-◌, ◌<◌, ◌≤◌, List, [], ◌∷◌, ◌++◌, refl, sym, ap, ◌∙◌, Bool, true, false, ◌==◌, ◌&&◌, arith, append_assoc}
+use Rattle.std.specs.Prelude.{Option, Some, nat_lt, if◌then◌else◌}
+use Rattle.std.proofs.lemmas.List.Sums.{sum_by-cons}
+use Rattle.history_text.specs.declared.events.PotName.{PotName}
+use Rattle.hand_audit.specs.declared.collections.Collection.{Collection}
+use Rattle.hand_audit.specs.declared.settlement.Payment.{Payment}
+use Rattle.hand_audit.specs.Collections.{taken_from, got_from}
+use Rattle.pot_layers.specs.declared.paid.Share.{Share}
+use Rattle.pot_layers.specs.Split.{given_in_all}
+use Rattle.hand_audit.specs.Settle.{due_of_seat, payments_from, beyond_from, is_payment, distance}
+
+-- a seat has no more than was taken from the pot
+pub got_within : (test : PotName → Bool) (seat : ℕ) (all : List Collection) → got_from test seat all ≤ taken_from test all
+got_within test seat [] = omega arith
+got_within test seat (c ∷ all) =
+    let one : (if test c.pot && (c.seat == seat) then c.units else 0) ≤ (if test c.pot then c.units else 0) = by (test c.pot) (c.seat == seat) in
+    omega (arith, one, got_within test seat all, sum_by-cons (λ (c : Collection). if test c.pot && (c.seat == seat) then c.units else 0) c all, sum_by-cons (λ (c : Collection). if test c.pot then c.units else 0) c all)
+  where
+    by : (a b : Bool) → (if a && b then c.units else 0) ≤ (if a then c.units else 0)
+    by true true = omega arith
+    by true false = omega arith
+    by false b = omega arith
+
+-- a seat is given no more than all are
+pub due_within : (seat : ℕ) (all : List Share) → due_of_seat seat all ≤ given_in_all all
+due_within seat [] = omega arith
+due_within seat (share ∷ all) =
+    let one : (if share.seat == seat then share.units else 0) ≤ share.units = by (share.seat == seat) in
+    omega (arith, one, due_within seat all, sum_by-cons (λ (x : Share). if x.seat == seat then x.units else 0) share all, sum_by-cons (λ (x : Share). x.units) share all)
+  where
+    by : (a : Bool) → (if a then share.units else 0) ≤ share.units
+    by true = omega arith
+    by false = omega arith
+
+pays_none : (f : ℕ → Payment) (p : ℕ) → is_payment (f p) ≡ false → p < 11 → payments_from f p (11 - p) ≡ payments_from f (p + 1) (11 - (p + 1))
+pays_none f p none h = let more : 11 - p ≡ suc (11 - (p + 1)) = omega arith in rw (more, none) refl
+
+pays_some : (f : ℕ → Payment) (p : ℕ) → is_payment (f p) ≡ true → p < 11 → payments_from f p (11 - p) ≡ f p ∷ payments_from f (p + 1) (11 - (p + 1))
+pays_some f p some h = let more : 11 - p ≡ suc (11 - (p + 1)) = omega arith in rw (more, some) refl
+
+pub none_more : (f : ℕ → Payment) (p : ℕ) (old all : List Payment) (pay : Payment) → pay ≡ f p → is_payment pay ≡ false → p < 11 → old ++ payments_from f p (11 - p) ≡ all → old ++ payments_from f (p + 1) (11 - (p + 1)) ≡ all
+none_more f p old all pay is none h so_far = ap (λ xs. old ++ xs) (sym (pays_none f p (ap is_payment (sym is) ∙ none) h)) ∙ so_far
+
+pub some_more : (f : ℕ → Payment) (p : ℕ) (old new all : List Payment) (pay : Payment) → pay ≡ f p → is_payment pay ≡ true → p < 11 → new ≡ old ++ pay ∷ [] → old ++ payments_from f p (11 - p) ≡ all → new ++ payments_from f (p + 1) (11 - (p + 1)) ≡ all
+some_more f p old new all pay is some h push so_far =
+    let rest : List Payment = payments_from f (p + 1) (11 - (p + 1)) in
+    ap (λ xs. xs ++ rest) push ∙ append_assoc old (pay ∷ []) rest ∙ ap (λ x. old ++ x ∷ rest) is ∙ ap (λ xs. old ++ xs) (sym (pays_some f p (ap is_payment (sym is) ∙ some) h)) ∙ so_far
+
+-- the first that is beyond its tolerance
+pub beyond_none : (f : ℕ → Payment) (t : ℕ → ℕ) (p : ℕ) (all : Option Payment) (pay : Payment) (n : ℕ) → pay ≡ f p → n ≡ t p → nat_lt n (distance pay.got pay.due) ≡ false → p < 11
+    → beyond_from f t p (11 - p) ≡ all → beyond_from f t (p + 1) (11 - (p + 1)) ≡ all
+beyond_none f t p all pay n is tol none h so_far =
+    let more : 11 - p ≡ suc (11 - (p + 1)) = omega arith in
+    let no : nat_lt (t p) (distance (f p).got (f p).due) ≡ false = rw (← is, ← tol) none in
+    let here : beyond_from f t p (11 - p) ≡ beyond_from f t (p + 1) (11 - (p + 1)) = rw (more, no) refl in
+    sym here ∙ so_far
+
+pub beyond_some : (f : ℕ → Payment) (t : ℕ → ℕ) (p : ℕ) (all : Option Payment) (pay : Payment) (n : ℕ) → pay ≡ f p → n ≡ t p → nat_lt n (distance pay.got pay.due) ≡ true → p < 11
+    → beyond_from f t p (11 - p) ≡ all → Some pay ≡ all
+beyond_some f t p all pay n is tol some h so_far =
+    let more : 11 - p ≡ suc (11 - (p + 1)) = omega arith in
+    let yes : nat_lt (t p) (distance (f p).got (f p).due) ≡ true = rw (← is, ← tol) some in
+    let here : beyond_from f t p (11 - p) ≡ Some (f p) = rw (more, yes) refl in
+    ap Some is ∙ sym here ∙ so_far

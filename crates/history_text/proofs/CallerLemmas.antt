@@ -1,0 +1,4 @@
+-- The lemmas that other crates may cite.
+
+-- What a line says is within its bounds, and its kind stands in the part that the line stands in.
+pub use Rattle.history_text.proofs.Within.{stands, within}

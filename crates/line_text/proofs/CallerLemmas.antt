@@ -1,0 +1,11 @@
+-- The lemmas that other crates may cite.
+
+-- The front line of some bytes: it is a front of them, a search for a newline finds its end, and it is the first of the lines.
+pub use Rattle.line_text.proofs.LineFacts.{cut_lines-front, front_line-found, front_line-take, lines-front}
+-- The lines up to the last newline come first, and behind them comes at most one.
+pub use Rattle.line_text.proofs.LawFacts.{all_close_lines}
+-- The digits at the front of a text are digits alone, and those that are put in front of a text are the digits at its front.
+pub use Rattle.line_text.proofs.Digits.{front_digits}
+pub use Rattle.line_text.proofs.WrittenFacts.{digits_in_front}
+-- What a number or an amount is written as is read as it.
+pub use Rattle.line_text.proofs.WrittenFacts.{decimal_numeral, written_amount_is_read}

@@ -1,0 +1,11 @@
+-- The lemmas on spot lines that crates above may cite.
+
+-- What one word more at the front does to the hands of a line, and what the hands are where there is no word.
+pub use Rattle.spot_text.proofs.PartsByWord.{hand_first, none_first, some_hand}
+pub use Rattle.spot_text.proofs.SizesByWord.{hands_card, hands_dash, hands_end}
+-- The set of no card, and the set of some cards and one more.
+pub use Rattle.spot_text.proofs.CardsByWord.{set_of-nil, set_of_more}
+-- The cards that a whole line names are those of its hands, of its board and of its dead cards.
+pub use Rattle.spot_text.proofs.KnownCards.{cards_split, parts_same}
+-- There is no repeated card exactly where all cards differ.
+pub use Rattle.spot_text.proofs.RepeatedCard.{none_repeated}
