@@ -1,10 +1,8 @@
 //! Histories with the equity of their all-ins. The expected counts are those of a listing of the rivers by
 //! hand: which of them make a better hand for whom.
 
-use crate::histories::{
-    HEADS_UP, SIDE_POTS, SIX_SEATS, as_typed, first_lines, with_line, with_mucked_hand,
-};
-use crate::runs::reports;
+use crate::histories::{CARD_TWICE, CUT_AND_WHOLE, Hand, MUCKED};
+use crate::runs::{AMPLE, Case, Part, each_ends};
 use std::test::Fail;
 
 /// Of 42 rivers `5s` gives carl a full house, and `Js` four of a kind; the other seven spades are dora's.
@@ -41,37 +39,43 @@ expect 2214 a\n\
 expect 36 b\n\
 expect 1250 c\n";
 
-/// A cash hand and a hand with side pots, and behind a hand that is cut off.
-#[test]
-fn a_known_all_in_has_its_equity(rt: HostRuntime) -> Result<(), Fail> {
-    let alloc = rt.alloc();
-    let input = as_typed(alloc, SIX_SEATS)?;
-    reports(&rt, alloc, &["audit"], &input, 0, SIX_SEATS_REPORT)?;
-    let mut input = first_lines(alloc, SIDE_POTS, 12)?;
-    input.extend_from_slice(SIDE_POTS.as_bytes())?;
-    reports(&rt, alloc, &["audit"], &input, 1, SIDE_POTS_REPORT)
-}
-
-const NO_ALL_IN: &str = "hand 2 accepted holdem rake 0.00\n\
+pub(crate) const NO_ALL_IN: &str = "hand 2 accepted holdem rake 0.00\n\
 pot 0 gross 6.00 rake 0.00 checked\n\
 paid 6.00 x\n\
 all-in none\n";
 
-const UNKNOWN_ALL_IN: &str = "hand 88 accepted holdem rake 0\n\
+pub(crate) const UNKNOWN_ALL_IN: &str = "hand 88 accepted holdem rake 0\n\
 pot 0 gross 1500 rake 0 unseen\n\
 paid 1500 a\n\
 pot 1 gross 2000 rake 0 checked\n\
 paid 2000 a\n\
 all-in unknown\n";
 
-/// A hand with no all-in, one with cards that nobody saw, and one that is rejected.
+pub(crate) const REJECTED: &str = "hand 88 rejected line 23 CardTwice As\n";
+
+const CASES: &[Case] = &[
+    // A cash hand and a hand with side pots, and behind a hand that is cut off.
+    (
+        &["audit"],
+        AMPLE,
+        &[Part::All(Hand::SixSeats)],
+        0,
+        &[SIX_SEATS_REPORT],
+    ),
+    (&["audit"], AMPLE, CUT_AND_WHOLE, 1, &[SIDE_POTS_REPORT]),
+    // A hand with no all-in, one with cards that nobody saw, and one that is rejected.
+    (
+        &["audit"],
+        AMPLE,
+        &[Part::All(Hand::HeadsUp)],
+        0,
+        &[NO_ALL_IN],
+    ),
+    (&["audit"], AMPLE, MUCKED, 0, &[UNKNOWN_ALL_IN]),
+    (&["audit"], AMPLE, CARD_TWICE, 1, &[REJECTED]),
+];
+
 #[test]
-fn other_hands_have_none(rt: HostRuntime) -> Result<(), Fail> {
-    let alloc = rt.alloc();
-    reports(&rt, alloc, &["audit"], HEADS_UP.as_bytes(), 0, NO_ALL_IN)?;
-    let input = with_mucked_hand(alloc)?;
-    reports(&rt, alloc, &["audit"], &input, 0, UNKNOWN_ALL_IN)?;
-    let input = with_line(alloc, SIDE_POTS, 21, "*** RIVER *** [7h 8h 2c Qs] [As]\n")?;
-    let rejected = "hand 88 rejected line 23 CardTwice As\n";
-    reports(&rt, alloc, &["audit"], &input, 1, rejected)
+fn a_known_all_in_has_its_equity(rt: HostRuntime) -> Result<(), Fail> {
+    each_ends(&rt, rt.alloc(), CASES)
 }

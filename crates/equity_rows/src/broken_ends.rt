@@ -1,115 +1,44 @@
 //! Reads and writes that fail at any place, in each mode and form: what was closed by then is reported, and nothing else.
 
-use crate::forms::told;
-use crate::histories::TWICE;
-use crate::runs::{AMPLE, Edges, ends, front, run, run_by_workers};
-use crate::streets::{ACES, ACES_REPORT};
-use std::alloc::{AllocError, Global};
+use crate::faults::SPOT;
+use crate::forms::{line_count, told};
+use crate::histories::{Hand, TWICE_REPORT};
+use crate::runs::{AMPLE, Edges, Part, Ran, did, front, input_of, joined, run, run_by_workers};
+use crate::streets::ACES_REPORT;
+use std::alloc::Global;
 use std::process::Abort;
 use std::sync::Wait;
 use std::test::Fail;
 use std::thread::Threads;
 
-/// An input of three hands or lines, which end here and there; and where so many bytes were read, the first is closed,
-/// and the second.
-#[derive(Drop)]
-struct Three {
-    bytes: Vec<u8>,
-    closes_first: usize,
-    closes_second: usize,
+/// A mode and its input of three hands or lines, which end here and there.
+struct Broken {
+    mode: &'static str,
+    input: &'static [Part<'static>],
+    /// The lines that close the first of them and the second. A hand ends where the next header line has its newline.
+    closes: (usize, usize),
+    /// Whether there is one block for all, which is written at the end. Then the texts are the reports of none of them, of the
+    /// first, of the first two and of all; else each has its own.
+    is_sum: bool,
+    texts: &'static [&'static str],
 }
 
-impl Three {
-    /// How many of them are closed where so many bytes were read.
-    fn closed(&self, read: usize) -> usize {
-        if read < self.closes_first {
-            0
-        } else if read < self.closes_second {
-            1
-        } else {
-            2
-        }
-    }
+const CUT_HAND: &str = "PokerStars Hand #1: Hold'em No Limit (5/10)\nSeat 1: x (100 in chips)\n";
 
-    /// The status where the read fails behind so many bytes, of so many each, and how many of them are reported. The
-    /// read behind the last byte finds the end, and a later one isn't made.
-    fn told_behind(&self, read: usize, piece: usize) -> (u8, usize) {
-        if read < self.bytes.len().saturating_add(piece) {
-            (3, self.closed(read))
-        } else {
-            (1, 3)
-        }
-    }
-}
+const CUT_REPORT: &str = "hand 1 rejected line 2 Unfinished\n";
 
-const CUT_HAND: &[u8] = b"PokerStars Hand #1: Hold'em No Limit (5/10)\nSeat 1: x (100 in chips)\n";
+const OPEN_HAND: &str = "PokerStars Hand #3: Hold'em No Limit (5/10)\nSeat 1: z (7 in chips)";
 
-const OPEN_HAND: &[u8] = b"PokerStars Hand #3: Hold'em No Limit (5/10)\nSeat 1: z (7 in chips)";
+const OPEN_REPORT: &str = "hand 3 rejected line 28 Unfinished\n";
 
-/// How many bytes the first line of some has, with its newline.
-fn header_len(bytes: &[u8]) -> usize {
-    let mut count = 0usize;
-    for byte in bytes {
-        count = count.saturating_add(1);
-        if *byte == b'\n' {
-            return count;
-        }
-    }
-    count
-}
+/// A hand that is cut off, one that is run twice, and one that is open.
+const HANDS: &[Part] = &[
+    Part::Whole(CUT_HAND),
+    Part::All(Hand::Twice),
+    Part::Whole(OPEN_HAND),
+];
 
-/// A hand that is cut off, this one, and one that is open. A hand ends where the next header line has its newline.
-fn three_hands(alloc: Global, hand: &[u8]) -> Result<Three, AllocError> {
-    let mut bytes = CUT_HAND.to_vec(alloc)?;
-    let closes_first = bytes.len().saturating_add(header_len(hand));
-    bytes.extend_from_slice(hand)?;
-    let closes_second = bytes.len().saturating_add(header_len(OPEN_HAND));
-    bytes.extend_from_slice(OPEN_HAND)?;
-    Ok(Three {
-        bytes,
-        closes_first,
-        closes_second,
-    })
-}
-
-/// Three lines, of which the last is open.
-fn three_lines(alloc: Global, lines: [&[u8]; 3]) -> Result<Three, AllocError> {
-    let mut bytes = lines[0].to_vec(alloc)?;
-    let closes_first = bytes.len();
-    bytes.extend_from_slice(lines[1])?;
-    let closes_second = bytes.len();
-    bytes.extend_from_slice(lines[2])?;
-    Ok(Three {
-        bytes,
-        closes_first,
-        closes_second,
-    })
-}
-
-/// A mode, and its report by parts. Where the first part is empty each hand or line has its part, and a report of some of
-/// them has all of their parts. Else the first is the report of none, and each other that of all hands up to there.
-type Parts = (&'static str, [&'static str; 4]);
-
-const OF_HANDS: &[Parts] = &[
-    (
-        "check",
-        [
-            "",
-            "hand 1 rejected line 2 Unfinished\n",
-            "hand 2 accepted holdem rake 0 twice
-pot 0 gross 200 rake 0 checked
-paid 100 x
-paid 100 y
-",
-            "hand 3 rejected line 28 Unfinished\n",
-        ],
-    ),
-    (
-        "audit",
-        [
-            "",
-            "hand 1 rejected line 2 Unfinished\n",
-            "hand 2 accepted holdem rake 0 twice
+const TWICE_AUDIT: &str = "hand 2 accepted holdem rake 0 twice
 pot 0 gross 200 rake 0 checked
 paid 100 x
 paid 100 y
@@ -120,16 +49,9 @@ pot 0 high win 2 4.55 tie 0 0.00 lose 42 95.45 y
 pot 0 ev 0.045 y
 expect 191 x
 expect 9 y
-",
-            "hand 3 rejected line 28 Unfinished\n",
-        ],
-    ),
-    (
-        "streets",
-        [
-            "",
-            "hand 1 rejected line 2 Unfinished\n",
-            "hand 2 accepted holdem rake 0 twice
+";
+
+const TWICE_STREETS: &str = "hand 2 accepted holdem rake 0 twice
 pot 0 gross 200 rake 0 checked
 paid 100 x
 paid 100 y
@@ -145,13 +67,22 @@ pot 0 high win 1 100.00 tie 0 0.00 lose 0 0.00 x
 pot 0 ev 1.000 x
 pot 0 high win 0 0.00 tie 0 0.00 lose 1 100.00 y
 pot 0 ev 0.000 y
-",
-            "hand 3 rejected line 28 Unfinished\n",
-        ],
-    ),
-    (
-        "totals",
-        [
+";
+
+const OF_HANDS: &[Broken] = &[
+    Broken {
+        mode: "check",
+        input: HANDS,
+        closes: (3, 27),
+        is_sum: false,
+        texts: &[CUT_REPORT, TWICE_REPORT, OPEN_REPORT],
+    },
+    Broken {
+        mode: "totals",
+        input: HANDS,
+        closes: (3, 27),
+        is_sum: true,
+        texts: &[
             "totals hands 0 accepted 0 rejected 0\n",
             "totals hands 1 accepted 0 rejected 1\n",
             "totals hands 2 accepted 1 rejected 1
@@ -163,86 +94,127 @@ total chips hands 1 allins 1 collected 100 expected 191 x
 total chips hands 1 allins 1 collected 100 expected 9 y
 ",
         ],
-    ),
+    },
 ];
 
-const SPOTS: [&[u8]; 3] = [
-    b"badugi As Ah\n",
-    b"holdem As Ah - Ks Kh -- 2c 7d 9h 4s\n",
-    b"holdem As Ah",
+/// With the all-ins of hands.
+const OF_ALL_INS: &[Broken] = &[
+    Broken {
+        mode: "audit",
+        input: HANDS,
+        closes: (3, 27),
+        is_sum: false,
+        texts: &[CUT_REPORT, TWICE_AUDIT, OPEN_REPORT],
+    },
+    Broken {
+        mode: "streets",
+        input: HANDS,
+        closes: (3, 27),
+        is_sum: false,
+        texts: &[CUT_REPORT, TWICE_STREETS, OPEN_REPORT],
+    },
 ];
 
-const OF_SPOTS: Parts = (
-    "spots",
-    [
-        "",
-        "spot 1 rejected line 1 UnknownWord\n",
-        "spot 2 holdem runouts 44
+const SPOTS: &[Part] = &[Part::Whole(
+    "badugi As Ah
+holdem As Ah - Ks Kh -- 2c 7d 9h 4s
+holdem As Ah",
+)];
+
+const NO_GAME: &str = "spot 1 rejected line 1 UnknownWord\n";
+
+const SPOT_REPORT: &str = "spot 2 holdem runouts 44
 hand 1 high win 42 95.45 tie 0 0.00 lose 2 4.55
 hand 1 ev 0.955
 hand 2 high win 2 4.55 tie 0 0.00 lose 42 95.45
 hand 2 ev 0.045
-",
-        "spot 3 rejected line 3 PlayerCount\n",
-    ],
-);
+";
 
-const RANGES: [&[u8]; 3] = [
-    b"holdem KAs - AsAh\n",
-    b"holdem AsAh - KsKh,QcQd:2 -- 2c 7d 9h 4s\n",
-    b"holdem AsAh",
-];
+const RANGES: &[Part] = &[Part::Whole(
+    "holdem KAs - AsAh
+holdem AsAh - KsKh,QcQd:2 -- 2c 7d 9h 4s
+holdem AsAh",
+)];
 
-const OF_RANGES: Parts = (
-    "ranges",
-    [
-        "",
-        "spot 1 rejected line 1 BadRange\n",
-        "spot 2 holdem choices 2 runouts 44 weight 3
+const NO_RANGE: &str = "spot 1 rejected line 1 BadRange\n";
+
+const RANGE_REPORT: &str = "spot 2 holdem choices 2 runouts 44 weight 3
 hand 1 high win 126 95.45 tie 0 0.00 lose 6 4.55
 hand 1 ev 0.955
 hand 2 high win 6 4.55 tie 0 0.00 lose 126 95.45
 hand 2 ev 0.045
-",
-        "spot 3 rejected line 3 PlayerCount\n",
-    ],
-);
+";
 
-/// Whether a report has one block for all, and is written at the end.
-fn is_sum(parts: &[&str; 4]) -> bool {
-    !parts[0].is_empty()
+const NO_PLAYERS: &str = "spot 3 rejected line 3 PlayerCount\n";
+
+const OF_LINES: &[Broken] = &[
+    Broken {
+        mode: "spots",
+        input: SPOTS,
+        closes: (1, 2),
+        is_sum: false,
+        texts: &[NO_GAME, SPOT_REPORT, NO_PLAYERS],
+    },
+    Broken {
+        mode: "ranges",
+        input: RANGES,
+        closes: (1, 2),
+        is_sum: false,
+        texts: &[NO_RANGE, RANGE_REPORT, NO_PLAYERS],
+    },
+];
+
+/// The blocks of the first hands or lines, so many.
+fn blocks_of(row: &Broken, count: usize) -> &'static [&'static str] {
+    if row.is_sum {
+        let most = row.texts.len();
+        &row.texts[count.min(most)..count.saturating_add(1).min(most)]
+    } else {
+        &row.texts[..count.min(row.texts.len())]
+    }
 }
 
-/// The report of the first hands or lines, so many.
-fn report_of(alloc: Global, parts: &[&str; 4], count: usize) -> Result<Vec<u8>, AllocError> {
-    let mut report = Vec::new(alloc);
-    for (at, part) in parts.iter().enumerate() {
-        if at == count || (at < count && !is_sum(parts)) {
-            report.extend_from_slice(part.as_bytes())?;
-        }
+/// How many hands or lines are closed where so many lines of text were read.
+fn closed_by(row: &Broken, lines: usize) -> usize {
+    if lines >= row.closes.1 {
+        2
+    } else if lines >= row.closes.0 {
+        1
+    } else {
+        0
     }
-    Ok(report)
 }
 
-/// What is left of a report of the first hands or lines where the write of a block fails: the blocks before, and the
-/// status of the write. None where there is no such block.
-fn left_by_write(
-    alloc: Global,
-    parts: &[&str; 4],
-    count: usize,
-    write: usize,
-) -> Result<Option<Vec<u8>>, AllocError> {
-    let blocks = if is_sum(parts) { 1 } else { count };
-    if write >= blocks {
-        return Ok(None);
+/// The status where the read of this number fails, of so many bytes each, and the blocks that are written. The read behind
+/// the last byte finds the end, and a later one isn't made.
+fn told_behind(
+    row: &Broken,
+    input: &[u8],
+    piece: usize,
+    read: usize,
+) -> (u8, &'static [&'static str]) {
+    let place = read.saturating_mul(piece);
+    if place >= input.len().saturating_add(piece) {
+        (1, blocks_of(row, 3))
+    } else {
+        (
+            3,
+            blocks_of(row, closed_by(row, line_count(front(input, place)))),
+        )
     }
-    if is_sum(parts) {
-        return Ok(Some(Vec::new(alloc)));
-    }
-    Ok(Some(report_of(alloc, parts, write)?))
 }
 
-/// The run of a mode between these ends ends with this status and leaves this.
+/// Ends of which a read fails, of so many bytes each, and maybe a write.
+fn failing(piece: usize, read: usize, write_fault: Option<u64>) -> Edges {
+    Edges {
+        piece,
+        read_fault: Some(read as u64),
+        write_fault,
+        ..AMPLE
+    }
+}
+
+/// The run of a mode between these ends ends with this status and leaves these blocks.
 fn leaves(
     rt: &impl Abort,
     alloc: Global,
@@ -251,98 +223,126 @@ fn leaves(
     input: &[u8],
     edges: Edges,
     status: u8,
-    left: &[u8],
+    blocks: &[&str],
 ) -> Result<(), Fail> {
+    let left = joined(alloc, blocks)?;
     let ran = told(rt, alloc, mode, is_csv, input, edges)?;
-    assert_eq!(rt; ran.status, status, "{mode}");
-    assert_eq!(rt; ran.written.as_slice(), left, "{mode}");
+    did(rt, &ran, status, left.as_bytes(), mode);
     Ok(())
 }
 
-/// Where the read of this number fails, of so many bytes each, the run ends with status 3 and the report of what is
-/// closed. Where beside that the write of a block fails, the run ends with status 4 and the blocks before.
-fn read_fails(
+/// Where a read fails and the write of a block too, the run ends with status 4 and the blocks before.
+fn each_block_fails(
     rt: &impl Abort,
     alloc: Global,
-    row: &Parts,
+    mode: &str,
     is_csv: bool,
-    input: &Three,
+    input: &[u8],
     piece: usize,
-    call: usize,
+    read: usize,
+    blocks: &[&str],
 ) -> Result<(), Fail> {
-    let (mode, parts) = row;
-    let bytes = input.bytes.as_slice();
-    let mut edges = Edges {
-        piece,
-        read_fault: Some(call as u64),
-        ..AMPLE
-    };
-    let (status, count) = input.told_behind(call.saturating_mul(piece), piece);
-    let report = report_of(alloc, parts, count)?;
-    leaves(rt, alloc, mode, is_csv, bytes, edges, status, &report)?;
-    for write in 0..4usize {
-        let Some(left) = left_by_write(alloc, parts, count, write)? else {
-            return Ok(());
-        };
-        edges.write_fault = Some(write as u64);
-        leaves(rt, alloc, mode, is_csv, bytes, edges, 4, &left)?;
+    for write in 0..blocks.len() {
+        let edges = failing(piece, read, Some(write as u64));
+        leaves(rt, alloc, mode, is_csv, input, edges, 4, &blocks[..write])?;
     }
     Ok(())
 }
 
+/// Where the read of this number fails, of so many bytes each, the run ends with status 3 and the report of what is
+/// closed.
+fn read_fails(
+    rt: &impl Abort,
+    alloc: Global,
+    row: &Broken,
+    is_csv: bool,
+    input: &[u8],
+    piece: usize,
+    read: usize,
+) -> Result<(), Fail> {
+    let (status, blocks) = told_behind(row, input, piece, read);
+    let edges = failing(piece, read, None);
+    leaves(rt, alloc, row.mode, is_csv, input, edges, status, blocks)?;
+    each_block_fails(rt, alloc, row.mode, is_csv, input, piece, read, blocks)
+}
+
+/// So it is at each read of so many bytes.
+fn each_read_of(
+    rt: &impl Abort,
+    alloc: Global,
+    row: &Broken,
+    is_csv: bool,
+    input: &[u8],
+    piece: usize,
+) -> Result<(), Fail> {
+    let reads = input.len() / piece.max(1);
+    for read in 0..reads.saturating_add(4) {
+        read_fails(rt, alloc, row, is_csv, input, piece, read)?;
+    }
+    Ok(())
+}
+
+/// How many bytes a read gives at the most, and whether the report is of records.
+const PIECES: [(usize, bool); 4] = [(1, false), (7, true), (64, false), (4096, true)];
+
 /// So it is at each read, however many bytes it asks for.
-fn each_read_fails(rt: &impl Abort, alloc: Global, row: &Parts, input: &Three) -> Result<(), Fail> {
-    for (piece, is_csv) in [(1usize, false), (7, true), (64, false), (4096, true)] {
-        let reads = input.bytes.len() / piece.max(1);
-        for call in 0..=reads.saturating_add(3) {
-            read_fails(rt, alloc, row, is_csv, input, piece, call)?;
-        }
+fn each_read_fails(rt: &impl Abort, alloc: Global, row: &Broken) -> Result<(), Fail> {
+    let input = input_of(alloc, row.input)?;
+    for (piece, is_csv) in PIECES {
+        each_read_of(rt, alloc, row, is_csv, &input, piece)?;
     }
     Ok(())
 }
 
 #[test]
 fn any_read_of_hands_may_fail(rt: HostRuntime) -> Result<(), Fail> {
-    let alloc = rt.alloc();
-    let input = three_hands(alloc, TWICE.as_bytes())?;
     for row in OF_HANDS {
-        each_read_fails(&rt, alloc, row, &input)?;
+        each_read_fails(&rt, rt.alloc(), row)?;
     }
     Ok(())
 }
 
-/// A read of a byte fails, at each byte.
 #[test]
-fn the_read_of_any_byte_may_fail(rt: HostRuntime) -> Result<(), Fail> {
-    let alloc = rt.alloc();
-    let input = three_hands(alloc, TWICE.as_bytes())?;
-    for call in 0..=input.bytes.len().saturating_add(2) {
-        read_fails(&rt, alloc, &OF_HANDS[0], false, &input, 1, call)?;
+fn any_read_of_all_ins_may_fail(rt: HostRuntime) -> Result<(), Fail> {
+    for row in OF_ALL_INS {
+        each_read_fails(&rt, rt.alloc(), row)?;
     }
     Ok(())
 }
 
 #[test]
 fn any_read_of_lines_may_fail(rt: HostRuntime) -> Result<(), Fail> {
-    let alloc = rt.alloc();
-    each_read_fails(&rt, alloc, &OF_SPOTS, &three_lines(alloc, SPOTS)?)?;
-    each_read_fails(&rt, alloc, &OF_RANGES, &three_lines(alloc, RANGES)?)
+    for row in OF_LINES {
+        each_read_fails(&rt, rt.alloc(), row)?;
+    }
+    Ok(())
 }
 
-/// With a hand whose all-in several workers share.
-const OF_SHARED: &[Parts] = &[
-    (
-        "audit",
-        [
-            "",
-            "hand 1 rejected line 2 Unfinished\n",
+/// A hand whose all-in several workers share, between those that are cut off and open.
+const SHARED: &[Part] = &[
+    Part::Whole(CUT_HAND),
+    Part::All(Hand::Aces),
+    Part::Whole(OPEN_HAND),
+];
+
+const OF_SHARED: &[Broken] = &[
+    Broken {
+        mode: "audit",
+        input: SHARED,
+        closes: (3, 21),
+        is_sum: false,
+        texts: &[
+            CUT_REPORT,
             ACES_REPORT,
             "hand 3 rejected line 22 Unfinished\n",
         ],
-    ),
-    (
-        "totals",
-        [
+    },
+    Broken {
+        mode: "totals",
+        input: SHARED,
+        closes: (3, 21),
+        is_sum: true,
+        texts: &[
             "totals hands 0 accepted 0 rejected 0\n",
             "totals hands 1 accepted 0 rejected 1\n",
             "totals hands 2 accepted 1 rejected 1
@@ -354,103 +354,161 @@ total chips hands 1 allins 1 collected 0 expected 1653 x
 total chips hands 1 allins 1 collected 2000 expected 347 y
 ",
         ],
-    ),
+    },
 ];
 
-/// Each read of 200 bytes fails, with so many workers.
+/// The run of these words, with workers, between these ends ends with this status and leaves these blocks.
+fn leaves_by_workers<R: Threads + Wait + Sync + Abort>(
+    rt: &R,
+    alloc: Global,
+    words: &[&str],
+    input: &[u8],
+    edges: Edges,
+    status: u8,
+    blocks: &[&str],
+) -> Result<(), Fail> {
+    let left = joined(alloc, blocks)?;
+    let ran = run_by_workers(rt, alloc, words, input, edges)?;
+    did(rt, &ran, status, left.as_bytes(), "workers");
+    Ok(())
+}
+
+/// Each read of 200 bytes fails.
 fn each_read_fails_by_workers<R: Threads + Wait + Sync + Abort>(
     rt: &R,
     alloc: Global,
-    mode: &str,
-    workers: &str,
-    parts: &[&str; 4],
-    input: &Three,
+    words: &[&str],
+    row: &Broken,
+    input: &[u8],
 ) -> Result<(), Fail> {
-    for call in 0..6usize {
-        let edges = Edges {
-            piece: 200,
-            read_fault: Some(call as u64),
-            ..AMPLE
-        };
-        let (status, count) = input.told_behind(call.saturating_mul(200), 200);
-        let report = report_of(alloc, parts, count)?;
-        let ran = run_by_workers(rt, alloc, &[mode, workers], &input.bytes, edges)?;
-        assert_eq!(rt; ran.status, status);
-        assert_eq!(rt; ran.written.as_slice(), report.as_slice());
+    for read in 0..6usize {
+        let (status, blocks) = told_behind(row, input, 200, read);
+        let edges = failing(200, read, None);
+        leaves_by_workers(rt, alloc, words, input, edges, status, blocks)?;
+    }
+    Ok(())
+}
+
+/// So it is by one worker and by two.
+fn workers_share<R: Threads + Wait + Sync + Abort>(
+    rt: &R,
+    alloc: Global,
+    mode: &str,
+    row: &Broken,
+) -> Result<(), Fail> {
+    let input = input_of(alloc, row.input)?;
+    for workers in ["--workers=1", "--workers=2"] {
+        each_read_fails_by_workers(rt, alloc, &[mode, workers], row, &input)?;
     }
     Ok(())
 }
 
 #[test]
 fn any_read_may_fail_with_workers(rt: HostRuntime) -> Result<(), Fail> {
-    let alloc = rt.alloc();
-    let input = three_hands(alloc, ACES.as_bytes())?;
-    for (mode, parts) in OF_SHARED {
-        for workers in ["--workers=1", "--workers=2"] {
-            each_read_fails_by_workers(&rt, alloc, mode, workers, parts, &input)?;
-        }
+    for row in OF_SHARED {
+        workers_share(&rt, rt.alloc(), row.mode, row)?;
     }
     Ok(())
 }
 
-/// Where a write of a byte fails, the run ends with status 4 and with the front of its report that was taken. Each of so
-/// many writes is tried.
-fn each_write_fails(
+/// Words, an input, how many bytes a write takes, and each of how many writes is tried.
+type Writes = (
+    &'static [&'static str],
+    &'static [Part<'static>],
+    usize,
+    usize,
+);
+
+/// The status of a run that wrote this much of all that it writes.
+fn status_of(written: &[u8], whole: &Ran) -> u8 {
+    if written.len() == whole.written.len() {
+        whole.status
+    } else {
+        4
+    }
+}
+
+/// Where the write of this number fails, of so many bytes each, the run ends with status 4 and with the front of its
+/// report that was taken.
+fn write_fails(
     rt: &impl Abort,
     alloc: Global,
     words: &[&str],
     input: &[u8],
-    step: usize,
+    whole: &Ran,
+    taken: usize,
+    write: usize,
 ) -> Result<(), Fail> {
-    let whole = run(alloc, words, input, AMPLE)?;
-    let report = whole.written.as_slice();
-    for number in 0..=report.len() / step.max(1) {
-        let call = number.saturating_mul(step);
-        let edges = Edges {
-            taken: 1,
-            write_fault: Some(call as u64),
-            ..AMPLE
-        };
-        let written = front(report, call);
-        let is_whole = written.len() == report.len();
-        let status = if is_whole { whole.status } else { 4 };
-        ends(rt, alloc, words, input, edges, status, written)?;
+    let edges = Edges {
+        taken,
+        write_fault: Some(write as u64),
+        ..AMPLE
+    };
+    let ran = run(alloc, words, input, edges)?;
+    let written = front(&whole.written, write.saturating_mul(taken));
+    did(rt, &ran, status_of(written, whole), written, "a write");
+    Ok(())
+}
+
+/// So it is with these writes.
+fn all_writes_fail(
+    rt: &impl Abort,
+    alloc: Global,
+    row: &Writes,
+    input: &[u8],
+    whole: &Ran,
+) -> Result<(), Fail> {
+    let writes = whole.written.len() / row.3.max(1);
+    for number in 0..writes.saturating_add(1) {
+        let write = number.saturating_mul(row.3);
+        write_fails(rt, alloc, row.0, input, whole, row.2, write)?;
     }
     Ok(())
 }
 
-/// So it is in both forms.
-fn each_write_of_a_form_fails(
-    rt: &impl Abort,
-    alloc: Global,
-    mode: &str,
-    input: &[u8],
-) -> Result<(), Fail> {
-    for form in ["--format=text", "--format=csv"] {
-        each_write_fails(rt, alloc, &[mode, form, "--hands=3"], input, 7)?;
-    }
-    Ok(())
+/// So it is over the input of a row.
+fn each_write_fails(rt: &impl Abort, alloc: Global, row: &Writes) -> Result<(), Fail> {
+    let input = input_of(alloc, row.1)?;
+    let whole = run(alloc, row.0, &input, AMPLE)?;
+    all_writes_fail(rt, alloc, row, &input, &whole)
 }
+
+const SOME_WRITES: &[Writes] = &[
+    (&["check", "--format=text", "--hands=3"], HANDS, 1, 7),
+    (&["check", "--format=csv", "--hands=3"], HANDS, 1, 7),
+    (&["audit", "--format=text", "--hands=3"], HANDS, 1, 7),
+    (&["audit", "--format=csv", "--hands=3"], HANDS, 1, 7),
+    (&["streets", "--format=text", "--hands=3"], HANDS, 1, 7),
+    (&["streets", "--format=csv", "--hands=3"], HANDS, 1, 7),
+    (&["totals", "--format=text", "--hands=3"], HANDS, 1, 7),
+    (&["totals", "--format=csv", "--hands=3"], HANDS, 1, 7),
+    (&["made", "--format=text", "--hands=3"], HANDS, 1, 7),
+    (&["made", "--format=csv", "--hands=3"], HANDS, 1, 7),
+    (&["spots", "--format=text", "--hands=3"], SPOTS, 1, 7),
+    (&["spots", "--format=csv", "--hands=3"], SPOTS, 1, 7),
+    (&["ranges", "--format=text", "--hands=3"], RANGES, 1, 7),
+    (&["ranges", "--format=csv", "--hands=3"], RANGES, 1, 7),
+];
 
 #[test]
 fn any_write_may_fail(rt: HostRuntime) -> Result<(), Fail> {
-    let alloc = rt.alloc();
-    let hands = three_hands(alloc, TWICE.as_bytes())?;
-    for mode in ["check", "audit", "streets", "totals", "made"] {
-        each_write_of_a_form_fails(&rt, alloc, mode, &hands.bytes)?;
+    for row in SOME_WRITES {
+        each_write_fails(&rt, rt.alloc(), row)?;
     }
-    let spots = three_lines(alloc, SPOTS)?;
-    each_write_of_a_form_fails(&rt, alloc, "spots", &spots.bytes)?;
-    let ranges = three_lines(alloc, RANGES)?;
-    each_write_of_a_form_fails(&rt, alloc, "ranges", &ranges.bytes)
+    Ok(())
 }
+
+const ALL_WRITES: &[Writes] = &[
+    (&["check"], HANDS, 1, 1),
+    (&["check", "--format=csv"], HANDS, 1, 1),
+    (&["--help"], &[], 1, 1),
+    (&["spots"], &[Part::Whole(SPOT)], 5, 1),
+];
 
 #[test]
 fn the_write_of_any_byte_may_fail(rt: HostRuntime) -> Result<(), Fail> {
-    let alloc = rt.alloc();
-    let hands = three_hands(alloc, TWICE.as_bytes())?;
-    each_write_fails(&rt, alloc, &["check"], &hands.bytes, 1)?;
-    let words = ["check", "--format=csv"];
-    each_write_fails(&rt, alloc, &words, &hands.bytes, 1)?;
-    each_write_fails(&rt, alloc, &["--help"], b"", 1)
+    for row in ALL_WRITES {
+        each_write_fails(&rt, rt.alloc(), row)?;
+    }
+    Ok(())
 }

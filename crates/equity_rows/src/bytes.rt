@@ -1,6 +1,6 @@
 //! The bytes of the input: marks, blanks, ends of lines, and lines that are no spots.
 
-use crate::runs::{Row, each_reports, reports};
+use crate::runs::{AMPLE, Row, each_reports, ends};
 use std::test::Fail;
 
 const TWO: &str = "\
@@ -63,5 +63,13 @@ spot 4 rejected line 5 TwiceCard As\n";
 /// A line that is no spot is rejected with its number, and the others are answered.
 #[test]
 fn the_other_spots_are_answered(rt: HostRuntime) -> Result<(), Fail> {
-    reports(&rt, rt.alloc(), &["spots"], OTHERS, 1, OTHERS_REPORT)
+    ends(
+        &rt,
+        rt.alloc(),
+        &["spots"],
+        AMPLE,
+        OTHERS,
+        1,
+        &[OTHERS_REPORT],
+    )
 }

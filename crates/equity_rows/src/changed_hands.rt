@@ -2,9 +2,9 @@
 //! seats, odd names. The verdicts are worked out by hand.
 
 use crate::checks::SIDE_POTS_REPORT;
-use crate::forms::{HAND_MODES, mode_reports};
-use crate::histories::{SIDE_POTS, TWICE, TWICE_REPORT, first_lines, with_lines};
-use crate::runs::{AMPLE, Edges};
+use crate::forms::{ACCEPTED_SUMS, HAND_MODES, NO_SUMS, REJECTED_SUMS, Verdict, mode_tells};
+use crate::histories::{Hand, TWICE_REPORT};
+use crate::runs::{LAST, Part, input_of};
 use std::alloc::{AllocError, Global};
 use std::process::Abort;
 use std::test::Fail;
@@ -135,126 +135,172 @@ const VERDICTS: &[Verdicts] = &[
     ),
 ];
 
-/// The line of this number, from 1; an empty one where there is none.
-fn line_of(text: &str, number: usize) -> &str {
-    for (at, line) in text.lines().enumerate() {
-        if at.saturating_add(1) == number {
-            return line;
-        }
+/// The sums with which `totals` begins, of no hand, of one or of two.
+fn sums_of(report: &str) -> &'static [u8] {
+    if report.is_empty() {
+        NO_SUMS
+    } else if report == TWO_HANDS {
+        b"totals hands 2 accepted 1 rejected 1\n"
+    } else if report.contains(" rejected ") {
+        REJECTED_SUMS
+    } else {
+        ACCEPTED_SUMS
     }
-    ""
 }
 
-/// The sums with which `totals` begins.
-fn sums_of(alloc: Global, report: &str) -> Result<String, AllocError> {
-    let mut accepted = 0u32;
-    let mut rejected = 0u32;
-    for line in report.lines() {
-        if line.contains(" accepted ") {
-            accepted = accepted.saturating_add(1);
-        }
-        if line.contains(" rejected ") {
-            rejected = rejected.saturating_add(1);
-        }
-    }
-    let hands = accepted.saturating_add(rejected);
-    format!(in alloc; "totals hands {hands} accepted {accepted} rejected {rejected}\n")
-}
-
-/// Each mode reports so of this input.
-fn is_judged(rt: &impl Abort, alloc: Global, input: &[u8], report: &str) -> Result<(), Fail> {
-    let pieces = Edges { piece: 7, ..AMPLE };
+/// What is told of an input of which `check` reports so.
+fn verdict_of(report: &str) -> Verdict<'_> {
     let status = if report.contains(" rejected ") { 1 } else { 0 };
-    let sums = sums_of(alloc, report)?;
-    let report = report.as_bytes();
+    Verdict {
+        status,
+        report: report.as_bytes(),
+        sums: sums_of(report),
+    }
+}
+
+/// Each mode tells so of this input.
+fn is_told_so(rt: &impl Abort, alloc: Global, input: &[u8], verdict: &Verdict) -> Result<(), Fail> {
     for mode in HAND_MODES {
-        mode_reports(
-            rt,
-            alloc,
-            mode,
-            input,
-            pieces,
-            status,
-            report,
-            sums.as_bytes(),
-        )?;
+        mode_tells(rt, alloc, mode, input, 7, verdict)?;
     }
     Ok(())
 }
 
-/// The line of this number is dropped, doubled, and exchanged with the next.
+/// Each mode reports so of the input of these parts.
+fn is_judged(rt: &impl Abort, alloc: Global, parts: &[Part], report: &str) -> Result<(), Fail> {
+    let input = input_of(alloc, parts)?;
+    is_told_so(rt, alloc, &input, &verdict_of(report))
+}
+
+/// The line of this number, from 1, is dropped, doubled, and exchanged with the next.
 fn is_judged_without(
     rt: &impl Abort,
     alloc: Global,
-    text: &str,
+    hand: Hand,
     number: usize,
     verdicts: &Verdicts,
 ) -> Result<(), Fail> {
-    let line = line_of(text, number);
-    let next = number.saturating_add(1);
     let (dropped, doubled, exchanged) = verdicts;
-    let input = with_lines(alloc, text, number, number, &[])?;
-    is_judged(rt, alloc, &input, dropped)?;
-    let input = with_lines(alloc, text, number, number, &[line, line])?;
-    is_judged(rt, alloc, &input, doubled)?;
-    let input = with_lines(alloc, text, number, next, &[line_of(text, next), line])?;
-    is_judged(rt, alloc, &input, exchanged)
+    let before = number.saturating_sub(1);
+    let next = number.saturating_add(1);
+    let behind = number.saturating_add(2);
+    let parts = [Part::Lines(hand, 1, before), Part::Lines(hand, next, LAST)];
+    is_judged(rt, alloc, &parts, dropped)?;
+    let parts = [
+        Part::Lines(hand, 1, number),
+        Part::Lines(hand, number, LAST),
+    ];
+    is_judged(rt, alloc, &parts, doubled)?;
+    let parts = [
+        Part::Lines(hand, 1, before),
+        Part::Lines(hand, next, next),
+        Part::Lines(hand, number, number),
+        Part::Lines(hand, behind, LAST),
+    ];
+    is_judged(rt, alloc, &parts, exchanged)
 }
 
 #[test]
 fn any_line_may_be_another(rt: HostRuntime) -> Result<(), Fail> {
     for (at, verdicts) in VERDICTS.iter().enumerate() {
-        is_judged_without(&rt, rt.alloc(), TWICE, at.saturating_add(1), verdicts)?;
+        is_judged_without(&rt, rt.alloc(), Hand::Twice, at.saturating_add(1), verdicts)?;
     }
     Ok(())
+}
+
+/// The hand of which the first player has a name that ends like a seat line.
+const ODD_NAME: &[Part] = &[
+    Part::Lines(Hand::SidePots, 1, 2),
+    Part::Whole("Seat 1: a (9 in chips) (4000 in chips)\n"),
+    Part::Lines(Hand::SidePots, 4, 8),
+    Part::Whole("a (9 in chips): calls 100\n"),
+    Part::Lines(Hand::SidePots, 10, 14),
+    Part::Whole("a (9 in chips): checks\n"),
+    Part::Lines(Hand::SidePots, 16, 18),
+    Part::Whole("a (9 in chips): raises 2500 to 3900 and is all-in\n"),
+    Part::Whole("Uncalled bet (2500) returned to a (9 in chips)\n"),
+    Part::Lines(Hand::SidePots, 21, 22),
+    Part::Whole("a (9 in chips): shows [As Ad] (a pair of Aces)\n"),
+    Part::Lines(Hand::SidePots, 24, 24),
+    Part::Whole("a (9 in chips) collected 2000 from side pot\n"),
+    Part::Lines(Hand::SidePots, 26, 26),
+    Part::Whole("a (9 in chips) collected 1500 from main pot\n"),
+    Part::Lines(Hand::SidePots, 28, 30),
+    Part::Whole(
+        "Seat 1: a (9 in chips) (button) showed [As Ad] and won (3500) with a pair of Aces\n",
+    ),
+    Part::Lines(Hand::SidePots, 32, LAST),
+];
+
+const ODD_NAME_REPORT: &str = "hand 88 accepted holdem rake 0
+pot 0 gross 1500 rake 0 checked
+paid 1500 a (9 in chips)
+pot 1 gross 2000 rake 0 checked
+paid 2000 a (9 in chips)
+";
+
+/// Inputs of parts, with what `check` reports of them.
+const OTHERS: &[(&[Part], &str)] = &[
+    // A blank line before the last one.
+    (
+        &[
+            Part::Lines(Hand::Twice, 1, 23),
+            Part::Whole("\n"),
+            Part::Lines(Hand::Twice, 24, LAST),
+        ],
+        TWICE_REPORT,
+    ),
+    // The flop before the cards are dealt.
+    (
+        &[
+            Part::Lines(Hand::SidePots, 1, 7),
+            Part::Lines(Hand::SidePots, 12, 12),
+            Part::Lines(Hand::SidePots, 9, 11),
+            Part::Lines(Hand::SidePots, 8, 8),
+            Part::Lines(Hand::SidePots, 13, LAST),
+        ],
+        "hand 88 rejected line 8 StreetOrder\n",
+    ),
+    (ODD_NAME, ODD_NAME_REPORT),
+    // A stack of as many chips as may be, of which some are left behind.
+    (
+        &[
+            Part::Lines(Hand::SidePots, 1, 2),
+            Part::Whole("Seat 1: a (999999999999999 in chips)\n"),
+            Part::Lines(Hand::SidePots, 4, 18),
+            Part::Whole("a: raises 2500 to 3900\n"),
+            Part::Lines(Hand::SidePots, 20, LAST),
+        ],
+        SIDE_POTS_REPORT,
+    ),
+];
+
+#[test]
+fn other_hands_are_changed(rt: HostRuntime) -> Result<(), Fail> {
+    for (parts, report) in OTHERS {
+        is_judged(&rt, rt.alloc(), parts, report)?;
+    }
+    Ok(())
+}
+
+/// The seat lines of so many players.
+fn seats(alloc: Global, count: u32) -> Result<String, AllocError> {
+    let mut lines = String::new(alloc);
+    for seat in 1..=count {
+        write!(lines, "Seat {seat}: p{seat} (5 in chips)\n")?;
+    }
+    Ok(lines)
 }
 
 /// Of 200 seats the eleventh is one too many.
 #[test]
 fn hands_may_have_many_seats(rt: HostRuntime) -> Result<(), Fail> {
-    let alloc = rt.alloc();
-    let mut input = first_lines(alloc, TWICE, 1)?;
-    for seat in 1..=200u32 {
-        let line = format!(in alloc; "Seat {seat}: p{seat} (5 in chips)\n")?;
-        input.extend_from_slice(line.as_bytes())?;
-    }
-    is_judged(&rt, alloc, &input, "hand 2 rejected line 12 BadHeader\n")
-}
-
-/// The flop before the cards are dealt.
-const EXCHANGED: [&str; 5] = [
-    "*** FLOP *** [7h 8h 2c]",
-    "a: calls 100",
-    "b: calls 50",
-    "c: checks",
-    "*** HOLE CARDS ***",
-];
-
-#[test]
-fn markers_have_their_places(rt: HostRuntime) -> Result<(), Fail> {
-    let alloc = rt.alloc();
-    let input = with_lines(alloc, SIDE_POTS, 8, 12, &EXCHANGED)?;
-    let report = "hand 88 rejected line 8 StreetOrder\n";
-    is_judged(&rt, alloc, &input, report)
-}
-
-/// A name that ends like a seat line.
-#[test]
-fn a_name_may_be_odd(rt: HostRuntime) -> Result<(), Fail> {
-    let alloc = rt.alloc();
-    let input = SIDE_POTS.replace(alloc, "a: ", "a (9 in chips): ")?;
-    let input = input.replace(alloc, "Seat 1: a", "Seat 1: a (9 in chips)")?;
-    let input = input.replace(alloc, "returned to a", "returned to a (9 in chips)")?;
-    let input = input.replace(alloc, "a collected", "a (9 in chips) collected")?;
-    let report = SIDE_POTS_REPORT.replace(alloc, " a\n", " a (9 in chips)\n")?;
-    is_judged(&rt, alloc, input.as_bytes(), &report)
-}
-
-/// A stack of as many chips as may be, of which some are left behind.
-#[test]
-fn a_stack_may_be_large(rt: HostRuntime) -> Result<(), Fail> {
-    let alloc = rt.alloc();
-    let input = SIDE_POTS.replace(alloc, "(4000 in chips)", "(999999999999999 in chips)")?;
-    let input = input.replace(alloc, "3900 and is all-in", "3900")?;
-    is_judged(&rt, alloc, input.as_bytes(), SIDE_POTS_REPORT)
+    let lines = seats(rt.alloc(), 200)?;
+    let parts = [Part::Lines(Hand::Twice, 1, 1), Part::Whole(&lines)];
+    is_judged(
+        &rt,
+        rt.alloc(),
+        &parts,
+        "hand 2 rejected line 12 BadHeader\n",
+    )
 }

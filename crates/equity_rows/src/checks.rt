@@ -1,10 +1,9 @@
 //! Histories with their verdicts. The expected lines are worked out by hand from the rules.
 
-use crate::histories::{
-    HEADS_UP, ODD_CHIPS, ODD_NAMES, SIDE_POTS, SIX_SEATS, as_typed, first_lines, with_line,
-    with_mucked_hand,
+use crate::histories::{CUT_AND_WHOLE, Hand, MUCKED};
+use crate::runs::{
+    AMPLE, Case, Change, Changed, LAST, ONE_READ, Part, Row, each_change, each_ends, each_reports,
 };
-use crate::runs::{AMPLE, Change, Edges, Row, each_change_reports, each_reports, ends, reports};
 use std::test::Fail;
 
 /// What is reported of the hand with side pots.
@@ -18,17 +17,9 @@ const SIX_SEATS_REPORT: &str = "hand 240000000001 accepted holdem rake 2.50\n\
 pot 0 gross 121.00 rake 2.50 checked\n\
 paid 118.50 carl\n";
 
-/// A byte order mark, carriage returns, chat and a time-out are no matter.
-#[test]
-fn a_cash_hand_of_six_seats(rt: HostRuntime) -> Result<(), Fail> {
-    let alloc = rt.alloc();
-    let input = as_typed(alloc, SIX_SEATS)?;
-    reports(&rt, alloc, &["check"], &input, 0, SIX_SEATS_REPORT)
-}
-
 /// A tied hand of stud: both have a straight to the nine, and the nine of spades is above the nine of
 /// hearts.
-const TIED_STUD: &str = "\
+pub(crate) const TIED_STUD: &str = "\
 PokerStars Hand #7500000006: 7 Card Stud Limit ($2/$4 USD) - 2026/06/06 20:35:12 ET
 Table 'Ceres' 8-max
 Seat 1: ivy ($50 in chips)
@@ -65,34 +56,24 @@ ivy collected $3.62 from pot
 Total pot $7.25 | Rake $0
 ";
 
-const HANDS: &[Row] = &[
-    // Each pot has its line, and its payments behind it.
-    (SIDE_POTS, 0, SIDE_POTS_REPORT),
-    (
-        HEADS_UP,
-        0,
-        "hand 2 accepted holdem rake 0.00\n\
-pot 0 gross 6.00 rake 0.00 checked\n\
-paid 6.00 x\n",
-    ),
-    // A name that reads like an act of another player is a name.
-    (
-        ODD_NAMES,
-        0,
-        "hand 3 accepted holdem rake 0.00\n\
-pot 0 gross 2.00 rake 0.00 checked\n\
-paid 2.00 x\n",
-    ),
-    // In stud the odd chip goes to the highest card of the best fives, whatever the seats.
-    (
-        TIED_STUD,
-        0,
-        "hand 7500000006 accepted stud rake 0.00\n\
-pot 0 gross 7.25 rake 0.00 checked\n\
-paid 3.62 ivy\n\
-paid 3.63 hal\n",
-    ),
-    // Lines before the first header line belong to no hand.
+const HEADS_UP_REPORT: &str = "hand 2 accepted holdem rake 0.00
+pot 0 gross 6.00 rake 0.00 checked
+paid 6.00 x
+";
+
+const ODD_NAMES_REPORT: &str = "hand 3 accepted holdem rake 0.00
+pot 0 gross 2.00 rake 0.00 checked
+paid 2.00 x
+";
+
+const TIED_STUD_REPORT: &str = "hand 7500000006 accepted stud rake 0.00
+pot 0 gross 7.25 rake 0.00 checked
+paid 3.62 ivy
+paid 3.63 hal
+";
+
+/// Lines before the first header line belong to no hand.
+const NO_HANDS: &[Row] = &[
     ("", 0, ""),
     ("\n", 0, ""),
     ("holdem As Ah - Ks Kh\n", 0, ""),
@@ -100,8 +81,8 @@ paid 3.63 hal\n",
 ];
 
 #[test]
-fn hands_have_their_verdicts(rt: HostRuntime) -> Result<(), Fail> {
-    each_reports(&rt, rt.alloc(), &["check"], HANDS)
+fn other_lines_are_no_hands(rt: HostRuntime) -> Result<(), Fail> {
+    each_reports(&rt, rt.alloc(), &["check"], NO_HANDS)
 }
 
 /// Lines of the hand with side pots.
@@ -199,12 +180,15 @@ const HEADS_UP_CHANGES: &[Change] = &[
     ),
 ];
 
+const CHANGED: &[Changed] = &[
+    ("check", Hand::SidePots, SIDE_POTS_CHANGES),
+    ("check", Hand::HeadsUp, HEADS_UP_CHANGES),
+];
+
 /// One line of a hand is another, and so is its verdict.
 #[test]
 fn another_line_has_another_verdict(rt: HostRuntime) -> Result<(), Fail> {
-    let alloc = rt.alloc();
-    each_change_reports(&rt, alloc, "check", SIDE_POTS, SIDE_POTS_CHANGES)?;
-    each_change_reports(&rt, alloc, "check", HEADS_UP, HEADS_UP_CHANGES)
+    each_change(&rt, rt.alloc(), CHANGED)
 }
 
 const MUCKED_REPORT: &str = "hand 88 accepted holdem rake 0\n\
@@ -213,104 +197,69 @@ paid 1500 a\n\
 pot 1 gross 2000 rake 0 checked\n\
 paid 2000 a\n";
 
-/// Where a mucked hand isn't known, the pot for which it played isn't checked, and the others are.
-#[test]
-fn a_mucked_hand_leaves_its_pot_unseen(rt: HostRuntime) -> Result<(), Fail> {
-    let alloc = rt.alloc();
-    let input = with_mucked_hand(alloc)?;
-    reports(&rt, alloc, &["check"], &input, 0, MUCKED_REPORT)
-}
-
 const UNFIT_REPORT: &str = "hand 88 accepted holdem rake 0\n\
 pot 0 gross 1500 unfit\n\
 pot 1 gross 2000 unfit\n\
 paid 3500 a\n";
 
-/// Of two pots the second is the side pot: under another name the collections fit no pots, and only the
-/// sums of the hand are checked.
-#[test]
-fn a_name_of_three_pots_fits_none_of_two(rt: HostRuntime) -> Result<(), Fail> {
-    let alloc = rt.alloc();
-    let input = with_line(alloc, SIDE_POTS, 25, "a collected 2000 from side pot-1\n")?;
-    reports(&rt, alloc, &["check"], &input, 0, UNFIT_REPORT)
-}
-
-/// What the three winners collect, and the verdict.
-const ODD_REPORTS: &[(&str, u8, &str)] = &[
-    (
-        "p1 collected 34 from pot\np2 collected 33 from pot\np3 collected 33 from pot\n",
-        0,
-        "hand 15 accepted holdem rake 0\n\
-pot 0 gross 100 rake 0 checked\n\
-paid 34 p1\n\
-paid 33 p2\n\
-paid 33 p3\n",
-    ),
-    (
-        "p1 collected 33 from pot\np2 collected 34 from pot\np3 collected 33 from pot\n",
-        0,
-        "hand 15 accepted holdem rake 0\n\
-pot 0 gross 100 rake 0 checked\n\
-paid 33 due 34 p1\n\
-paid 34 due 33 p2\n\
-paid 33 p3\n",
-    ),
-    (
-        "p1 collected 36 from pot\np2 collected 32 from pot\np3 collected 32 from pot\n",
-        1,
-        "hand 15 rejected line 31 Split seat 1 due 34 got 36\n",
-    ),
+const UNFIT: &[Part] = &[
+    Part::Lines(Hand::SidePots, 1, 24),
+    Part::Whole("a collected 2000 from side pot-1\n"),
+    Part::Lines(Hand::SidePots, 26, LAST),
 ];
 
-/// The odd chip goes to the first winner behind the button; one unit elsewhere is told, and two are not
-/// accepted.
-#[test]
-fn an_odd_chip_goes_to_the_first_behind_the_button(rt: HostRuntime) -> Result<(), Fail> {
-    let alloc = rt.alloc();
-    for (collected, status, report) in ODD_REPORTS {
-        let input = with_line(alloc, ODD_CHIPS, 23, collected)?;
-        reports(&rt, alloc, &["check"], &input, *status, report)?;
-    }
-    Ok(())
-}
+/// The odd chip goes to the first winner behind the button.
+const FIRST_HAS_IT: &[Part] = &[
+    Part::Lines(Hand::OddChips, 1, 22),
+    Part::Whole("p1 collected 34 from pot\np2 collected 33 from pot\np3 collected 33 from pot\n"),
+    Part::Lines(Hand::OddChips, 24, LAST),
+];
 
-/// Of a hand that is cut off, alone and before the hand with side pots.
+const FIRST_REPORT: &str = "hand 15 accepted holdem rake 0
+pot 0 gross 100 rake 0 checked
+paid 34 p1
+paid 33 p2
+paid 33 p3
+";
+
+/// One unit elsewhere is told.
+const SECOND_HAS_IT: &[Part] = &[
+    Part::Lines(Hand::OddChips, 1, 22),
+    Part::Whole("p1 collected 33 from pot\np2 collected 34 from pot\np3 collected 33 from pot\n"),
+    Part::Lines(Hand::OddChips, 24, LAST),
+];
+
+const SECOND_REPORT: &str = "hand 15 accepted holdem rake 0
+pot 0 gross 100 rake 0 checked
+paid 33 due 34 p1
+paid 34 due 33 p2
+paid 33 p3
+";
+
+/// Two are not accepted.
+const TWO_MORE: &[Part] = &[
+    Part::Lines(Hand::OddChips, 1, 22),
+    Part::Whole("p1 collected 36 from pot\np2 collected 32 from pot\np3 collected 32 from pot\n"),
+    Part::Lines(Hand::OddChips, 24, LAST),
+];
+
+const TWO_MORE_REPORT: &str = "hand 15 rejected line 31 Split seat 1 due 34 got 36\n";
+
+/// Of a hand that is cut off.
 const CUT_REPORT: &str = "hand 88 rejected line 12 Unfinished\n";
 
-const CUT_AND_WHOLE_REPORT: &str = "hand 88 rejected line 12 Unfinished\n\
-hand 88 accepted holdem rake 0\n\
-pot 0 gross 1500 rake 0 checked\n\
-paid 1500 a\n\
-pot 1 gross 2000 rake 0 checked\n\
-paid 2000 a\n";
+/// Lines that belong to no hand, and behind them a hand of which one is refused.
+const BEHIND: &[Part] = &[
+    Part::Whole("Seat 1: a (4000 in chips)\n\nHand #7\n"),
+    Part::Lines(Hand::SidePots, 1, 9),
+    Part::Whole("b: calls 49\n"),
+    Part::Lines(Hand::SidePots, 11, LAST),
+];
 
-/// A hand ends where the next header line stands; after a failed read the last one is open.
-#[test]
-fn a_hand_that_is_cut_off_is_unfinished(rt: HostRuntime) -> Result<(), Fail> {
-    let alloc = rt.alloc();
-    let mut input = first_lines(alloc, SIDE_POTS, 12)?;
-    input.extend_from_slice(SIDE_POTS.as_bytes())?;
-    reports(&rt, alloc, &["check"], &input, 1, CUT_AND_WHOLE_REPORT)?;
-    let failing = Edges {
-        read_fault: Some(1),
-        ..AMPLE
-    };
-    let report = CUT_REPORT.as_bytes();
-    ends(&rt, alloc, &["check"], &input, failing, 3, report)
-}
-
-/// Lines before the first header line count as lines.
-#[test]
-fn lines_before_the_first_hand_are_passed_over(rt: HostRuntime) -> Result<(), Fail> {
-    let alloc = rt.alloc();
-    let mut input = b"Seat 1: a (4000 in chips)\n\nHand #7\n".to_vec(alloc)?;
-    input.extend_from_slice(&with_line(alloc, SIDE_POTS, 10, "b: calls 49\n")?)?;
-    let rejected = "hand 88 rejected line 13 CallAmount 50\n";
-    reports(&rt, alloc, &["check"], &input, 1, rejected)
-}
+const BEHIND_REPORT: &str = "hand 88 rejected line 13 CallAmount 50\n";
 
 /// Header lines, each of a hand that has no other line.
-const HEADERS: &[u8] = b"PokerStars Zoom Hand #0012: Hold'em No Limit ($1/$2 USD)
+const HEADERS: &str = "PokerStars Zoom Hand #0012: Hold'em No Limit ($1/$2 USD)
 PokerStars Home Game #12345678901234567890: Hold'em No Limit (1/2)
 ";
 
@@ -318,47 +267,121 @@ const HEADERS_REPORT: &str = "hand 88 rejected line 1 Unfinished\n\
 hand 0012 rejected line 2 Unfinished\n\
 hand 12345678901234567890 rejected line 3 BadHeader\n";
 
-/// A header line alone is a hand that is unfinished.
+const HEADER: &str = "PokerStars Hand #1: Hold'em No Limit (1/2)\n";
+
+/// A hand of more than a megabyte, and one behind it.
+const LONG: &[Part] = &[
+    Part::Lines(Hand::SidePots, 1, 8),
+    Part::Times("a said, \"hm\"\n", 100_000),
+    Part::Lines(Hand::SidePots, 9, LAST),
+    Part::Whole(HEADER),
+];
+
+const HEADER_REPORT: &str = "hand 1 rejected line 100034 Unfinished\n";
+
+const TOTALS: &str = "totals hands 1000 accepted 0 rejected 1000\n";
+
+const WHOLE: &[Case] = &[
+    // A byte order mark, carriage returns, chat and a time-out are no matter.
+    (
+        &["check"],
+        AMPLE,
+        &[Part::All(Hand::SixSeats)],
+        0,
+        &[SIX_SEATS_REPORT],
+    ),
+    // Each pot has its line, and its payments behind it.
+    (
+        &["check"],
+        AMPLE,
+        &[Part::All(Hand::SidePots)],
+        0,
+        &[SIDE_POTS_REPORT],
+    ),
+    (
+        &["check"],
+        AMPLE,
+        &[Part::All(Hand::HeadsUp)],
+        0,
+        &[HEADS_UP_REPORT],
+    ),
+    // A name that reads like an act of another player is a name.
+    (
+        &["check"],
+        AMPLE,
+        &[Part::All(Hand::OddNames)],
+        0,
+        &[ODD_NAMES_REPORT],
+    ),
+    // In stud the odd chip goes to the highest card of the best fives, whatever the seats.
+    (
+        &["check"],
+        AMPLE,
+        &[Part::All(Hand::TiedStud)],
+        0,
+        &[TIED_STUD_REPORT],
+    ),
+];
+
 #[test]
-fn a_header_line_alone_is_a_hand(rt: HostRuntime) -> Result<(), Fail> {
-    let alloc = rt.alloc();
-    let mut input = first_lines(alloc, SIDE_POTS, 1)?;
-    input.extend_from_slice(HEADERS)?;
-    reports(&rt, alloc, &["check"], &input, 1, HEADERS_REPORT)
+fn hands_have_their_verdicts(rt: HostRuntime) -> Result<(), Fail> {
+    each_ends(&rt, rt.alloc(), WHOLE)
 }
 
-/// Of the hand with side pots, and of a header line far behind.
-const LONG_REPORT: &str = "hand 88 accepted holdem rake 0\n\
-pot 0 gross 1500 rake 0 checked\n\
-paid 1500 a\n\
-pot 1 gross 2000 rake 0 checked\n\
-paid 2000 a\n\
-hand 1 rejected line 100034 Unfinished\n";
+const SETTLED: &[Case] = &[
+    // Where a mucked hand isn't known, the pot for which it played isn't checked, and the others are.
+    (&["check"], AMPLE, MUCKED, 0, &[MUCKED_REPORT]),
+    // Of two pots the second is the side pot: under another name the collections fit no pots, and only the sums of the
+    // hand are checked.
+    (&["check"], AMPLE, UNFIT, 0, &[UNFIT_REPORT]),
+    (&["check"], AMPLE, FIRST_HAS_IT, 0, &[FIRST_REPORT]),
+    (&["check"], AMPLE, SECOND_HAS_IT, 0, &[SECOND_REPORT]),
+    (&["check"], AMPLE, TWO_MORE, 1, &[TWO_MORE_REPORT]),
+];
 
-/// A hand of more than a megabyte is read, and what stands behind it.
 #[test]
-fn long_hands_are_read(rt: HostRuntime) -> Result<(), Fail> {
-    let alloc = rt.alloc();
-    let mut input = first_lines(alloc, SIDE_POTS, 8)?;
-    for _ in 0..100_000 {
-        input.extend_from_slice(b"a said, \"hm\"\n")?;
-    }
-    for line in SIDE_POTS.lines().skip(8) {
-        input.extend_from_slice(line.as_bytes())?;
-        input.extend_from_slice(b"\n")?;
-    }
-    input.extend_from_slice(b"PokerStars Hand #1: Hold'em No Limit (1/2)\n")?;
-    reports(&rt, alloc, &["check"], &input, 1, LONG_REPORT)
+fn pots_are_settled(rt: HostRuntime) -> Result<(), Fail> {
+    each_ends(&rt, rt.alloc(), SETTLED)
 }
 
-/// A thousand header lines are as many hands.
+const BEGUN: &[Case] = &[
+    // A hand ends where the next header line stands; after a failed read the last one is open.
+    (
+        &["check"],
+        AMPLE,
+        CUT_AND_WHOLE,
+        1,
+        &[CUT_REPORT, SIDE_POTS_REPORT],
+    ),
+    (&["check"], ONE_READ, CUT_AND_WHOLE, 3, &[CUT_REPORT]),
+    // Lines before the first header line count as lines.
+    (&["check"], AMPLE, BEHIND, 1, &[BEHIND_REPORT]),
+    // A header line alone is a hand that is unfinished.
+    (
+        &["check"],
+        AMPLE,
+        &[Part::Lines(Hand::SidePots, 1, 1), Part::Whole(HEADERS)],
+        1,
+        &[HEADERS_REPORT],
+    ),
+    (
+        &["check"],
+        AMPLE,
+        LONG,
+        1,
+        &[SIDE_POTS_REPORT, HEADER_REPORT],
+    ),
+    // A thousand header lines are as many hands.
+    (
+        &["totals"],
+        AMPLE,
+        &[Part::Times(HEADER, 1_000)],
+        1,
+        &[TOTALS],
+    ),
+];
+
 #[test]
-fn many_hands_are_read(rt: HostRuntime) -> Result<(), Fail> {
-    let alloc = rt.alloc();
-    let mut input = Vec::new(alloc);
-    for _ in 0..1_000 {
-        input.extend_from_slice(b"PokerStars Hand #1: Hold'em No Limit (1/2)\n")?;
-    }
-    let totals = "totals hands 1000 accepted 0 rejected 1000\n";
-    reports(&rt, alloc, &["totals"], &input, 1, totals)
+fn hands_end_where_the_next_begins(rt: HostRuntime) -> Result<(), Fail> {
+    each_ends(&rt, rt.alloc(), BEGUN)
 }

@@ -2,23 +2,24 @@
 
 ghost use Rattle.std.specs.Prelude.{◌≡◌, ◌<◌};
 
-use crate::listed::SPOTS;
+use crate::listed::{Listed, spots};
 use crate::plain::count_plain;
-use crate::runs::reports;
+use crate::runs::{AMPLE, ends};
 use card_sets::{Known, Side};
 use equity_job::{Job, Scratch, count_job};
 use report_table::table_alone;
 use showdown_tally::{Table, Tally};
 use spot_text::read_spot;
 use std::marker::Brand;
+use std::process::Abort;
 use std::sync::ledger::{Blank, Ledger};
 use std::test::Fail;
 use step_count::Steps;
 
 #[test]
 fn spots_have_the_counts_of_the_listing(rt: HostRuntime) -> Result<(), Fail> {
-    for (line, block) in SPOTS {
-        reports(&rt, rt.alloc(), &["spots"], line, 0, block)?;
+    for (line, block) in spots() {
+        ends(&rt, rt.alloc(), &["spots"], AMPLE, line, 0, &[block])?;
     }
     Ok(())
 }
@@ -93,16 +94,17 @@ fn is_spot_counted_alike(line: &[u8], scratch: &mut Scratch) -> bool {
     is_counted_alike(&table_alone(known), scratch)
 }
 
+/// All spots of some are, in their order and then in the other, whatever the room held before.
+fn are_counted_alike(rt: &impl Abort, all: &[Listed], scratch: &mut Scratch) {
+    for (line, _) in all {
+        assert!(rt; is_spot_counted_alike(line, scratch));
+    }
+    for (line, _) in all.iter().rev() {
+        assert!(rt; is_spot_counted_alike(line, scratch));
+    }
+}
+
 #[test]
 fn blocks_count_what_one_walk_counts(rt: HostRuntime) {
-    let mut scratch = Scratch::new();
-    for (line, _) in SPOTS {
-        assert!(rt; is_spot_counted_alike(line, &mut scratch));
-    }
-    for (line, _) in SPOTS.iter().rev() {
-        assert!(rt;
-            is_spot_counted_alike(line, &mut scratch),
-            "whatever the room held before"
-        );
-    }
+    are_counted_alike(&rt, spots(), &mut Scratch::new());
 }

@@ -1,21 +1,21 @@
 //! Hands, spots and ranges that are cut off at any byte, in each mode and form, at once and in pieces.
 
-use crate::checks::SIDE_POTS_REPORT;
 use crate::faults::SPOT;
-use crate::forms::{goes_on, mode_reports};
-use crate::histories::{SIDE_POTS, TWICE, TWICE_REPORT};
-use crate::runs::{AMPLE, Edges, run};
+use crate::forms::{
+    ACCEPTED_SUMS, NO_SUMS, REJECTED_SUMS, Verdict, goes_so, line_count, mode_tells,
+};
+use crate::histories::{Hand, TWICE_REPORT};
+use crate::runs::{AMPLE, LAST, Part, Ran, front, holds, input_of, run};
 use std::alloc::{AllocError, Global};
 use std::process::Abort;
 use std::test::Fail;
 
 /// A hand whose number has one digit.
-#[derive(Clone, Copy)]
-struct Hand<'a> {
-    text: &'a str,
+struct Cut {
+    parts: &'static [Part<'static>],
     number: u8,
     /// What `check` reports of it.
-    report: &'a [u8],
+    report: &'static str,
     /// The line of its stated pot, from which on it may be accepted.
     total: usize,
     /// How many bytes come at once where it comes in pieces.
@@ -28,38 +28,40 @@ fn departs_in(alloc: Global, hand: u8, line: usize, report: &[u8]) -> Result<boo
     Ok(report.starts_with(rejected.as_bytes()))
 }
 
-/// The sums of one hand with this verdict, and of none.
-const REJECTED_SUMS: &[u8] = b"totals hands 1 accepted 0 rejected 1\n";
+/// What is told of the hand where it is cut off in this line and `check` writes so. Before its header line has the form of
+/// one there is no hand.
+fn told_in<'a>(whole: &Cut, line: usize, departs: bool, written: &'a [u8]) -> Verdict<'a> {
+    let (status, report, sums) = if departs {
+        (1, written, REJECTED_SUMS)
+    } else if line == 1 {
+        (0, b"".as_slice(), NO_SUMS)
+    } else {
+        (0, whole.report.as_bytes(), ACCEPTED_SUMS)
+    };
+    Verdict {
+        status,
+        report,
+        sums,
+    }
+}
 
-const ACCEPTED_SUMS: &[u8] = b"totals hands 1 accepted 1 rejected 0\n";
-
-const NO_SUMS: &[u8] = b"totals hands 0 accepted 0 rejected 0\n";
-
-/// A mode reports of the hand, cut off in this line, that the line departs, or that the hand is unfinished there. Before
-/// its header line has the form of one there is no hand, and before the line of its stated pot it can't be accepted.
-fn is_cut_in(
+/// A mode reports of the hand, cut off behind this byte, that the line departs, or that the hand is unfinished there.
+/// Before the line of its stated pot it can't be accepted.
+fn is_cut_behind(
     rt: &impl Abort,
     alloc: Global,
     mode: &str,
-    hand: &Hand,
-    cut: &[u8],
-    line: usize,
+    whole: &Cut,
+    text: &[u8],
+    place: usize,
 ) -> Result<(), Fail> {
-    let pieces = Edges {
-        piece: hand.piece,
-        ..AMPLE
-    };
+    let line = line_count(front(text, place)).saturating_add(1);
+    let cut = front(text, place.saturating_add(1));
     let checked = run(alloc, &["check"], cut, AMPLE)?;
-    let written = checked.written.as_slice();
-    if departs_in(alloc, hand.number, line, written)? {
-        return mode_reports(rt, alloc, mode, cut, pieces, 1, written, REJECTED_SUMS);
-    }
-    if line == 1 {
-        return mode_reports(rt, alloc, mode, cut, pieces, 0, b"", NO_SUMS);
-    }
-    assert!(rt; line >= hand.total, "{line}");
-    let report = hand.report;
-    mode_reports(rt, alloc, mode, cut, pieces, 0, report, ACCEPTED_SUMS)
+    let departs = departs_in(alloc, whole.number, line, &checked.written)?;
+    holds(rt, departs || line == 1 || line >= whole.total, mode);
+    let verdict = told_in(whole, line, departs, &checked.written);
+    mode_tells(rt, alloc, mode, cut, whole.piece, &verdict)
 }
 
 /// So it is at each byte.
@@ -67,95 +69,119 @@ fn is_cut_at_each_byte(
     rt: &impl Abort,
     alloc: Global,
     mode: &str,
-    hand: &Hand,
+    whole: &Cut,
 ) -> Result<(), Fail> {
-    let mut cut = Vec::new(alloc);
-    for (at, line) in hand.text.lines().enumerate() {
-        let number = at.saturating_add(1);
-        for byte in line.as_bytes() {
-            cut.push(*byte)?;
-            is_cut_in(rt, alloc, mode, hand, &cut, number)?;
-        }
-        cut.push(b'\n')?;
-        is_cut_in(rt, alloc, mode, hand, &cut, number)?;
+    let text = input_of(alloc, whole.parts)?;
+    for place in 0..text.len() {
+        is_cut_behind(rt, alloc, mode, whole, &text, place)?;
     }
     Ok(())
 }
 
+/// The hand with side pots, with a number of one digit.
+const EIGHT: Cut = Cut {
+    parts: &[
+        Part::Whole(
+            "PokerStars Hand #8: Tournament #7, $4.40+$0.60 USD Hold'em No Limit - Level V (50/100) - 2023/01/15 21:00:00 ET\n",
+        ),
+        Part::Lines(Hand::SidePots, 2, LAST),
+    ],
+    number: 8,
+    report: "hand 8 accepted holdem rake 0
+pot 0 gross 1500 rake 0 checked
+paid 1500 a
+pot 1 gross 2000 rake 0 checked
+paid 2000 a
+",
+    total: 29,
+    piece: 7,
+};
+
 #[test]
 fn a_hand_with_side_pots_may_be_cut_at_any_byte(rt: HostRuntime) -> Result<(), Fail> {
-    let alloc = rt.alloc();
-    let text = SIDE_POTS.replace(alloc, "#88", "#8")?;
-    let report = SIDE_POTS_REPORT.replace(alloc, "hand 88", "hand 8")?;
-    let hand = Hand {
-        text: text.as_str(),
-        number: 8,
-        report: report.as_bytes(),
-        total: 29,
-        piece: 7,
-    };
-    is_cut_at_each_byte(&rt, alloc, "check", &hand)
+    is_cut_at_each_byte(&rt, rt.alloc(), "check", &EIGHT)
 }
 
 /// The hand that is run twice.
-fn twice() -> Hand<'static> {
-    Hand {
-        text: TWICE,
-        number: 2,
-        report: TWICE_REPORT.as_bytes(),
-        total: 24,
-        piece: 1,
-    }
-}
+const TWO: Cut = Cut {
+    parts: &[Part::All(Hand::Twice)],
+    number: 2,
+    report: TWICE_REPORT,
+    total: 24,
+    piece: 1,
+};
 
 #[test]
 fn a_hand_may_be_cut_at_any_byte_for_check(rt: HostRuntime) -> Result<(), Fail> {
-    is_cut_at_each_byte(&rt, rt.alloc(), "check", &twice())
+    is_cut_at_each_byte(&rt, rt.alloc(), "check", &TWO)
 }
 
 #[test]
 fn a_hand_may_be_cut_at_any_byte_for_audit(rt: HostRuntime) -> Result<(), Fail> {
-    is_cut_at_each_byte(&rt, rt.alloc(), "audit", &twice())
+    is_cut_at_each_byte(&rt, rt.alloc(), "audit", &TWO)
 }
 
 #[test]
 fn a_hand_may_be_cut_at_any_byte_for_streets(rt: HostRuntime) -> Result<(), Fail> {
-    is_cut_at_each_byte(&rt, rt.alloc(), "streets", &twice())
+    is_cut_at_each_byte(&rt, rt.alloc(), "streets", &TWO)
 }
 
 #[test]
 fn a_hand_may_be_cut_at_any_byte_for_totals(rt: HostRuntime) -> Result<(), Fail> {
-    is_cut_at_each_byte(&rt, rt.alloc(), "totals", &twice())
+    is_cut_at_each_byte(&rt, rt.alloc(), "totals", &TWO)
 }
 
-const REJECTED: &[u8] = b"spot 1 rejected line 1 ";
+/// Whether a run over one spot counted or rejected it.
+fn is_spot(ran: &Ran, counted: &[u8]) -> bool {
+    if ran.status == 0 {
+        ran.written.starts_with(counted)
+    } else {
+        ran.status == 1 && ran.written.starts_with(b"spot 1 rejected line 1 ")
+    }
+}
 
 /// The front of a line is a spot, counted or rejected; in both forms, and byte by byte.
+fn is_spot_so(
+    rt: &impl Abort,
+    alloc: Global,
+    mode: &str,
+    cut: &[u8],
+    counted: &str,
+) -> Result<(), Fail> {
+    let ran = run(alloc, &[mode], cut, AMPLE)?;
+    holds(rt, is_spot(&ran, counted.as_bytes()), mode);
+    goes_so(rt, alloc, mode, cut, 1, &ran)
+}
+
+/// So it is behind each byte.
 fn is_spot_at_each_byte(
     rt: &impl Abort,
     alloc: Global,
     mode: &str,
-    line: &[u8],
-    counted: &[u8],
+    line: &str,
+    counted: &str,
 ) -> Result<(), Fail> {
-    let pieces = Edges { piece: 1, ..AMPLE };
-    let mut cut = Vec::new(alloc);
-    for byte in line {
-        cut.push(*byte)?;
-        let ran = run(alloc, &[mode], &cut, AMPLE)?;
-        let is_counted = ran.written.starts_with(counted);
-        let status = if is_counted { 0 } else { 1 };
-        let front = if is_counted { counted } else { REJECTED };
-        goes_on(rt, alloc, mode, &cut, pieces, status, front)?;
+    for place in 0..line.len() {
+        let cut = front(line.as_bytes(), place.saturating_add(1));
+        is_spot_so(rt, alloc, mode, cut, counted)?;
     }
     Ok(())
 }
 
-const RANGES: &[u8] = b"holdem AsAh - KsKh:2 -- 2c 7d 9h 4s\n";
+/// A mode, a line of it, and how the report of it begins where it is counted.
+const LINES: &[(&str, &str, &str)] = &[
+    ("spots", SPOT, "spot 1 holdem runouts "),
+    (
+        "ranges",
+        "holdem AsAh - KsKh:2 -- 2c 7d 9h 4s\n",
+        "spot 1 holdem choices ",
+    ),
+];
 
 #[test]
 fn a_spot_may_be_cut_at_any_byte(rt: HostRuntime) -> Result<(), Fail> {
-    let alloc = rt.alloc();
-    is_spot_at_each_byte(&rt, alloc, "spots", SPOT, b"spot 1 holdem runouts ")?;
-    is_spot_at_each_byte(&rt, alloc, "ranges", RANGES, b"spot 1 holdem choices ")
+    for (mode, line, counted) in LINES {
+        is_spot_at_each_byte(&rt, rt.alloc(), mode, line, counted)?;
+    }
+    Ok(())
 }

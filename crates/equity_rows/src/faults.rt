@@ -1,10 +1,12 @@
 //! Words in no form, and failed reads and writes.
 
-use crate::runs::{AMPLE, Edges, all_report, ends, front};
+use crate::runs::{AMPLE, Case, Edges, NO_WRITE, Part, each_ends, ends};
+use std::alloc::Global;
+use std::process::Abort;
 use std::test::Fail;
 
 /// A spot line and its report, and the usage line.
-pub(crate) const SPOT: &[u8] = b"holdem As Ah - Ks Kh -- 2c 7d 9h 4s\n";
+pub(crate) const SPOT: &str = "holdem As Ah - Ks Kh -- 2c 7d 9h 4s\n";
 
 pub(crate) const REPORT: &str = "spot 1 holdem runouts 44\n\
 hand 1 high win 42 95.45 tie 0 0.00 lose 2 4.55\n\
@@ -15,98 +17,58 @@ hand 2 ev 0.045\n";
 pub(crate) const USAGE: &str =
     "usage: equity MODE [--workers N] [--format text|csv] [--seed S] [--hands H]\n";
 
-/// Words in no form give the usage line.
-const IN_NO_FORM: &[&[&str]] = &[
-    &[],
-    &["--help"],
-    &["spot"],
-    &["spots", "spots"],
-    &[""],
-    &["SPOTS"],
+/// Ends of which the sink has less room than the report.
+const SMALL: Edges = Edges { room: 20, ..AMPLE };
+
+const CASES: &[Case] = &[
+    // A write fault has precedence.
+    (&["--help"], NO_WRITE, &[Part::Whole(SPOT)], 4, &[]),
+    (
+        &["spots"],
+        SMALL,
+        &[Part::Whole(SPOT)],
+        4,
+        &["spot 1 holdem runout"],
+    ),
 ];
 
 #[test]
-fn words_in_no_form_give_the_usage_line(rt: HostRuntime) -> Result<(), Fail> {
-    all_report(&rt, rt.alloc(), IN_NO_FORM, SPOT, 2, USAGE)
+fn a_failed_write_leaves_a_front(rt: HostRuntime) -> Result<(), Fail> {
+    each_ends(&rt, rt.alloc(), CASES)
 }
 
-/// A write fault has precedence.
-#[test]
-fn a_usage_line_that_is_not_taken(rt: HostRuntime) -> Result<(), Fail> {
-    let failing = Edges {
-        write_fault: Some(0),
-        ..AMPLE
-    };
-    ends(&rt, rt.alloc(), &["--help"], SPOT, failing, 4, b"")
-}
+/// The spot, and a line behind it that isn't closed.
+const OPEN: &str = "holdem As Ah - Ks Kh -- 2c 7d 9h 4s\nholdem As Ah";
 
-/// The report of the spot and of a line behind it that isn't closed.
-const BOTH: &str = "spot 1 holdem runouts 44\n\
-hand 1 high win 42 95.45 tie 0 0.00 lose 2 4.55\n\
-hand 1 ev 0.955\n\
-hand 2 high win 2 4.55 tie 0 0.00 lose 42 95.45\n\
-hand 2 ev 0.045\n\
-spot 2 rejected line 2 PlayerCount\n";
+const OPEN_REPORT: &str = "spot 2 rejected line 2 PlayerCount\n";
 
 /// What a run over both does, read by seven bytes, where a read fails. The eighth finds the end.
-fn after_reads(call: u64) -> (u8, &'static str) {
+fn after_reads(call: u64) -> (u8, &'static [&'static str]) {
     if call < 6 {
-        (3, "")
+        (3, &[])
     } else if call < 8 {
-        (3, REPORT)
+        (3, &[REPORT])
     } else {
-        (1, BOTH)
+        (1, &[REPORT, OPEN_REPORT])
     }
+}
+
+/// The read of this number fails, of seven bytes each.
+fn a_read_fails(rt: &impl Abort, alloc: Global, call: u64) -> Result<(), Fail> {
+    let edges = Edges {
+        piece: 7,
+        read_fault: Some(call),
+        ..AMPLE
+    };
+    let (status, texts) = after_reads(call);
+    ends(rt, alloc, &["spots"], edges, OPEN.as_bytes(), status, texts)
 }
 
 /// A read that fails ends the input there: the spots whose newline was read are answered.
 #[test]
 fn a_failed_read_keeps_the_closed_spots(rt: HostRuntime) -> Result<(), Fail> {
-    let alloc = rt.alloc();
-    let mut input = SPOT.to_vec(alloc)?;
-    input.extend_from_slice(b"holdem As Ah")?;
     for call in 0..24 {
-        let edges = Edges {
-            piece: 7,
-            read_fault: Some(call),
-            ..AMPLE
-        };
-        let (status, report) = after_reads(call);
-        ends(
-            &rt,
-            alloc,
-            &["spots"],
-            &input,
-            edges,
-            status,
-            report.as_bytes(),
-        )?;
+        a_read_fails(&rt, rt.alloc(), call)?;
     }
     Ok(())
-}
-
-/// A write that fails leaves a front of the report.
-#[test]
-fn a_failed_write_leaves_a_front(rt: HostRuntime) -> Result<(), Fail> {
-    let alloc = rt.alloc();
-    for call in 0..40 {
-        let edges = Edges {
-            taken: 5,
-            write_fault: Some(call),
-            ..AMPLE
-        };
-        let written = front(REPORT.as_bytes(), call as usize * 5);
-        let status = if written.len() < REPORT.len() { 4 } else { 0 };
-        ends(&rt, alloc, &["spots"], SPOT, edges, status, written)?;
-    }
-    let full = Edges { room: 20, ..AMPLE };
-    ends(
-        &rt,
-        alloc,
-        &["spots"],
-        SPOT,
-        full,
-        4,
-        front(REPORT.as_bytes(), 20),
-    )
 }

@@ -1,6 +1,6 @@
 //! The modes and the forms beside each other: what one says of an input, the others say too.
 
-use crate::runs::{AMPLE, Edges, Ran, run};
+use crate::runs::{AMPLE, Edges, Ran, did, holds, run};
 use std::alloc::{AllocError, Global};
 use std::process::Abort;
 use std::test::Fail;
@@ -39,7 +39,23 @@ fn has_thirteen_each(records: &[u8]) -> bool {
     commas == 0
 }
 
-/// What the run of a mode over this input, between these ends, did; of records, with what they say as text.
+/// What the run of a mode over this input, between these ends, did in the form of records, with what they say as text.
+fn told_by_records(
+    rt: &impl Abort,
+    alloc: Global,
+    mode: &str,
+    input: &[u8],
+    edges: Edges,
+) -> Result<Ran, Fail> {
+    let ran = run(alloc, &[mode, "--format=csv"], input, edges)?;
+    holds(rt, has_thirteen_each(&ran.written), mode);
+    Ok(Ran {
+        status: ran.status,
+        written: as_text(alloc, &ran.written)?,
+    })
+}
+
+/// What the run did in this form.
 pub(crate) fn told(
     rt: &impl Abort,
     alloc: Global,
@@ -48,44 +64,36 @@ pub(crate) fn told(
     input: &[u8],
     edges: Edges,
 ) -> Result<Ran, Fail> {
-    if !is_csv {
-        return run(alloc, &[mode], input, edges);
+    if is_csv {
+        told_by_records(rt, alloc, mode, input, edges)
+    } else {
+        run(alloc, &[mode], input, edges)
     }
-    let ran = run(alloc, &[mode, "--format=csv"], input, edges)?;
-    assert!(rt; has_thirteen_each(&ran.written));
-    Ok(Ran {
-        status: ran.status,
-        written: as_text(alloc, &ran.written)?,
-    })
 }
 
-/// The run of a mode over this input ends with this status, and writes a text that goes on from this one; and it writes
-/// the same as records, and where the input comes in pieces. Answers the text.
-pub(crate) fn goes_on(
+/// Ends of which a read gives so many bytes at the most.
+pub(crate) fn pieces(piece: usize) -> Edges {
+    Edges { piece, ..AMPLE }
+}
+
+/// The runs of a mode over this input in both forms, where it comes in such pieces, do what this one did.
+pub(crate) fn goes_so(
     rt: &impl Abort,
     alloc: Global,
     mode: &str,
     input: &[u8],
-    pieces: Edges,
-    status: u8,
-    front: &[u8],
-) -> Result<Vec<u8>, Fail> {
-    let Ran {
-        status: ended,
-        written,
-    } = told(rt, alloc, mode, false, input, AMPLE)?;
-    assert_eq!(rt; ended, status, "{mode}");
-    assert!(rt; written.starts_with(front), "{mode}");
+    piece: usize,
+    ran: &Ran,
+) -> Result<(), Fail> {
     for is_csv in [false, true] {
-        let ran = told(rt, alloc, mode, is_csv, input, pieces)?;
-        assert_eq!(rt; ran.status, status, "{mode}");
-        assert_eq!(rt; ran.written.as_slice(), written.as_slice(), "{mode}");
+        let other = told(rt, alloc, mode, is_csv, input, pieces(piece))?;
+        did(rt, &other, ran.status, &ran.written, mode);
     }
-    Ok(written)
+    Ok(())
 }
 
 /// How many lines a text has.
-fn line_count(text: &[u8]) -> usize {
+pub(crate) fn line_count(text: &[u8]) -> usize {
     let mut count = 0usize;
     for byte in text {
         if *byte == b'\n' {
@@ -95,27 +103,52 @@ fn line_count(text: &[u8]) -> usize {
     count
 }
 
-/// A mode reports of this input what `check` does, and ends with this status, in both forms, and where the input comes in
-/// pieces: `audit` and `streets` go on from that report, but of a rejected hand they say no more, and `totals` begins with
-/// these sums.
-pub(crate) fn mode_reports(
+/// What is told of an input of hands: the status, what `check` reports, and the sums with which `totals` begins.
+#[derive(Drop)]
+pub(crate) struct Verdict<'a> {
+    pub(crate) status: u8,
+    pub(crate) report: &'a [u8],
+    pub(crate) sums: &'a [u8],
+}
+
+/// Whether a text goes on from that report. Of a rejected hand it says no more.
+fn goes_on(report: &[u8], written: &[u8]) -> bool {
+    written.starts_with(report) && (line_count(report) != 1 || written.len() == report.len())
+}
+
+/// Whether a run of the mode wrote so: `check` that report, `audit` and `streets` what goes on from it, and `totals` what
+/// begins with these sums.
+fn is_told(mode: &str, verdict: &Verdict, written: &[u8]) -> bool {
+    if mode == "totals" {
+        written.starts_with(verdict.sums)
+    } else if mode == "check" {
+        written == verdict.report
+    } else {
+        goes_on(verdict.report, written)
+    }
+}
+
+/// A mode tells so of this input, in both forms, and where the input comes in pieces.
+pub(crate) fn mode_tells(
     rt: &impl Abort,
     alloc: Global,
     mode: &str,
     input: &[u8],
-    pieces: Edges,
-    status: u8,
-    report: &[u8],
-    sums: &[u8],
+    piece: usize,
+    verdict: &Verdict,
 ) -> Result<(), Fail> {
-    let is_sum = mode == "totals";
-    let front = if is_sum { sums } else { report };
-    let written = goes_on(rt, alloc, mode, input, pieces, status, front)?;
-    if mode == "check" || (!is_sum && line_count(front) == 1) {
-        assert_eq!(rt; written.len(), front.len(), "{mode}");
-    }
-    Ok(())
+    let ran = run(alloc, &[mode], input, AMPLE)?;
+    holds(rt, ran.status == verdict.status, mode);
+    holds(rt, is_told(mode, verdict, &ran.written), mode);
+    goes_so(rt, alloc, mode, input, piece, &ran)
 }
+
+/// The sums of no hand, and of one with this verdict.
+pub(crate) const NO_SUMS: &[u8] = b"totals hands 0 accepted 0 rejected 0\n";
+
+pub(crate) const REJECTED_SUMS: &[u8] = b"totals hands 1 accepted 0 rejected 1\n";
+
+pub(crate) const ACCEPTED_SUMS: &[u8] = b"totals hands 1 accepted 1 rejected 0\n";
 
 /// The modes that read hands.
 pub(crate) const HAND_MODES: [&str; 4] = ["check", "audit", "streets", "totals"];

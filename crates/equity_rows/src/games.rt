@@ -1,9 +1,9 @@
 //! Spots of the games beside Hold'em, with counts made by hand or by a listing outside this repository.
 
-use crate::runs::reports;
+use crate::runs::{Row, each_reports};
 use std::test::Fail;
 
-const SPOTS: &[u8] = b"omaha8 As 2s Kd Kh - Qc Qd Jc Jd -- 3h 4c 8s 9h
+const SPOTS: &str = "omaha8 As 2s Kd Kh - Qc Qd Jc Jd -- 3h 4c 8s 9h
 lowball27 7c 5d 4h 3s 2c - 7d 5h 4s 3c
 razz As 2d 3h 4c 5s 6d - 8c 8d Kc Kd Qc Qd
 stud As Ad Ah - Ks Kd Kh
@@ -39,14 +39,7 @@ hand 2 ev 0.000
 spot 7 rejected line 7 DeckShort
 ";
 
-/// Pots of two sides, lows of both kinds, hands that lack cards, too many runouts, and a deck that is
-/// short.
-#[test]
-fn each_game_has_its_spots(rt: HostRuntime) -> Result<(), Fail> {
-    reports(&rt, rt.alloc(), &["spots"], SPOTS, 1, REPORT)
-}
-
-const MORE_SPOTS: &[u8] = b"omaha As 2s Kd Kh - Qc Qd Jc Jd -- 3h 4c 8s 9h
+const MORE_SPOTS: &str = "omaha As 2s Kd Kh - Qc Qd Jc Jd -- 3h 4c 8s 9h
 stud8 3c 3d 7s 8s 6d Kh - 3h 9d Ks 6h Ts 4c Tc
 draw5 As Ad Ah Ac Ks - Kd Kh Kc Qd
 triple27 7c 5d 4h 3s 2c - 7d 5h 4s 3c
@@ -94,10 +87,16 @@ hand 2 low win 24 55.81 tie 0 0.00 lose 19 44.19
 hand 2 ev 0.558
 ";
 
-/// Omaha for the high alone, stud for both sides, five card draw and triple draw. In the seventh three deuces,
-/// treys and fours each and the last ace make ten hands better than kings full, and fives to eights make sixteen
-/// lows; in the eighth a pair, an ace or a six lose against king high: twelve, four and three cards.
+const ROWS: &[Row] = &[
+    // Pots of two sides, lows of both kinds, hands that lack cards, too many runouts, and a deck that is short.
+    (SPOTS, 1, REPORT),
+    // Omaha for the high alone, stud for both sides, five card draw and triple draw. In the seventh three deuces, treys and
+    // fours each and the last ace make ten hands better than kings full, and fives to eights make sixteen lows; in the
+    // eighth a pair, an ace or a six lose against king high: twelve, four and three cards.
+    (MORE_SPOTS, 1, MORE_REPORT),
+];
+
 #[test]
-fn four_more_games_have_their_spots(rt: HostRuntime) -> Result<(), Fail> {
-    reports(&rt, rt.alloc(), &["spots"], MORE_SPOTS, 1, MORE_REPORT)
+fn each_game_has_its_spots(rt: HostRuntime) -> Result<(), Fail> {
+    each_reports(&rt, rt.alloc(), &["spots"], ROWS)
 }

@@ -1,53 +1,102 @@
 //! Histories of hands.
 
-use std::alloc::{AllocError, Global};
+use crate::checks::TIED_STUD;
+use crate::mixed::HANDS;
+use crate::more_games::{DRAW5, ODD5, STUD8, TRIPLE};
+use crate::other_games::{DRAW, LONG_SEATS, RAZZ};
+use crate::runs::{LAST, Part};
+use crate::streets::ACES;
 
-/// A cash hand of six seats, with chat, a time-out, a call on the turn that is all-in, and a mucked hand.
-pub(crate) const SIX_SEATS: &str = "\
-PokerStars Hand #240000000001: Hold'em No Limit ($0.50/$1.00 USD) - 2023/01/15 20:11:05 ET\n\
-Table 'Halley IV' 6-max Seat #3 is the button\n\
-Seat 1: anna ($100 in chips)\n\
-Seat 2: bo ($84.50 in chips)\n\
-Seat 3: carl ($120.25 in chips)\n\
-Seat 4: dora ($60 in chips)\n\
-Seat 5: emil ($100 in chips)\n\
-Seat 6: hero ($97 in chips)\n\
-dora: posts small blind $0.50\n\
-emil: posts big blind $1\n\
-*** HOLE CARDS ***\n\
-Dealt to hero [Qc 7d]\n\
-hero: folds\n\
-anna has timed out\n\
-anna: folds\n\
-bo: folds\n\
-carl: raises $2 to $3\n\
-dora: calls $2.50\n\
-emil: folds\n\
-emil said, \"gl\"\n\
-*** FLOP *** [2s 9s Jd]\n\
-dora: checks\n\
-carl: bets $4\n\
-dora: calls $4\n\
-*** TURN *** [2s 9s Jd] [5h]\n\
-dora: bets $53 and is all-in\n\
-carl: calls $53\n\
-*** RIVER *** [2s 9s Jd 5h] [3c]\n\
-*** SHOW DOWN ***\n\
-carl: shows [Jh Jc] (three of a kind, Jacks)\n\
-dora: mucks hand\n\
-carl collected $118.50 from pot\n\
-*** SUMMARY ***\n\
-Total pot $121 | Rake $2.50\n\
-Board [2s 9s Jd 5h 3c]\n\
-Seat 1: anna folded before Flop (didn't bet)\n\
-Seat 2: bo folded before Flop (didn't bet)\n\
-Seat 3: carl (button) showed [Jh Jc] and won ($118.50) with three of a kind, Jacks\n\
-Seat 4: dora (small blind) mucked [As Ks]\n\
-Seat 5: emil (big blind) folded before Flop\n\
-Seat 6: hero folded before Flop (didn't bet)\n";
+/// The hands of which inputs are made.
+#[derive(Clone, Copy)]
+pub(crate) enum Hand {
+    SixSeats,
+    SidePots,
+    OddChips,
+    HeadsUp,
+    OddNames,
+    Twice,
+    Aces,
+    TiedStud,
+    Razz,
+    SingleDraw,
+    Triple,
+    Stud8,
+    Draw5,
+    Odd5,
+    LongSeats,
+    Mixed,
+}
+
+/// The text of a hand.
+pub(crate) fn text_of(hand: Hand) -> &'static str {
+    match hand {
+        Hand::SixSeats => SIX_SEATS,
+        Hand::SidePots => SIDE_POTS,
+        Hand::OddChips => ODD_CHIPS,
+        Hand::HeadsUp => HEADS_UP,
+        Hand::OddNames => ODD_NAMES,
+        Hand::Twice => TWICE,
+        Hand::Aces => ACES,
+        Hand::TiedStud => TIED_STUD,
+        Hand::Razz => RAZZ,
+        Hand::SingleDraw => DRAW,
+        Hand::Triple => TRIPLE,
+        Hand::Stud8 => STUD8,
+        Hand::Draw5 => DRAW5,
+        Hand::Odd5 => ODD5,
+        Hand::LongSeats => LONG_SEATS,
+        Hand::Mixed => HANDS,
+    }
+}
+
+/// A cash hand of six seats, with chat, a time-out, a call on the turn that is all-in, and a mucked hand. It has a byte
+/// order mark before it and a carriage return at the end of each line.
+const SIX_SEATS: &str = "\u{feff}\
+PokerStars Hand #240000000001: Hold'em No Limit ($0.50/$1.00 USD) - 2023/01/15 20:11:05 ET\r\n\
+Table 'Halley IV' 6-max Seat #3 is the button\r\n\
+Seat 1: anna ($100 in chips)\r\n\
+Seat 2: bo ($84.50 in chips)\r\n\
+Seat 3: carl ($120.25 in chips)\r\n\
+Seat 4: dora ($60 in chips)\r\n\
+Seat 5: emil ($100 in chips)\r\n\
+Seat 6: hero ($97 in chips)\r\n\
+dora: posts small blind $0.50\r\n\
+emil: posts big blind $1\r\n\
+*** HOLE CARDS ***\r\n\
+Dealt to hero [Qc 7d]\r\n\
+hero: folds\r\n\
+anna has timed out\r\n\
+anna: folds\r\n\
+bo: folds\r\n\
+carl: raises $2 to $3\r\n\
+dora: calls $2.50\r\n\
+emil: folds\r\n\
+emil said, \"gl\"\r\n\
+*** FLOP *** [2s 9s Jd]\r\n\
+dora: checks\r\n\
+carl: bets $4\r\n\
+dora: calls $4\r\n\
+*** TURN *** [2s 9s Jd] [5h]\r\n\
+dora: bets $53 and is all-in\r\n\
+carl: calls $53\r\n\
+*** RIVER *** [2s 9s Jd 5h] [3c]\r\n\
+*** SHOW DOWN ***\r\n\
+carl: shows [Jh Jc] (three of a kind, Jacks)\r\n\
+dora: mucks hand\r\n\
+carl collected $118.50 from pot\r\n\
+*** SUMMARY ***\r\n\
+Total pot $121 | Rake $2.50\r\n\
+Board [2s 9s Jd 5h 3c]\r\n\
+Seat 1: anna folded before Flop (didn't bet)\r\n\
+Seat 2: bo folded before Flop (didn't bet)\r\n\
+Seat 3: carl (button) showed [Jh Jc] and won ($118.50) with three of a kind, Jacks\r\n\
+Seat 4: dora (small blind) mucked [As Ks]\r\n\
+Seat 5: emil (big blind) folded before Flop\r\n\
+Seat 6: hero folded before Flop (didn't bet)\r\n";
 
 /// A hand of a tournament with three stacks all in on the turn, and so a main pot and a side pot.
-pub(crate) const SIDE_POTS: &str = "\
+const SIDE_POTS: &str = "\
 PokerStars Hand #88: Tournament #7, $4.40+$0.60 USD Hold'em No Limit - Level V (50/100) - 2023/01/15 21:00:00 ET\n\
 Table '7 1' 9-max Seat #1 is the button\n\
 Seat 1: a (4000 in chips)\n\
@@ -83,7 +132,7 @@ Seat 2: b (small blind) showed [Kc Kd] and lost with a pair of Kings\n\
 Seat 3: c (big blind) showed [9h Th] and lost with high card Queen\n";
 
 /// A pot of 100 chips for three winners, with the button behind them; their collections are to stand in line 23.
-pub(crate) const ODD_CHIPS: &str = "\
+const ODD_CHIPS: &str = "\
 PokerStars Hand #15: Tournament #7, $1+$0.10 USD Hold'em No Limit - Level I (5/10)\n\
 Table '7 2' 9-max Seat #4 is the button\n\
 Seat 1: p1 (30 in chips)\n\
@@ -115,7 +164,7 @@ Seat 2: p2 (big blind) showed [2d 3d] and won\n\
 Seat 3: p3 showed [2h 3h] and won\n";
 
 /// A hand of two players that is checked down after one bet.
-pub(crate) const HEADS_UP: &str = "\
+const HEADS_UP: &str = "\
 PokerStars Hand #2: Hold'em No Limit ($0.50/$1.00 USD)\n\
 Table 'T' 2-max Seat #1 is the button\n\
 Seat 1: x ($50 in chips)\n\
@@ -142,7 +191,7 @@ x collected $6 from pot\n\
 Total pot $6 | Rake $0\n";
 
 /// A hand in which the name of a seat reads like an act of another.
-pub(crate) const ODD_NAMES: &str = "\
+const ODD_NAMES: &str = "\
 PokerStars Hand #3: Hold'em No Limit ($0.50/$1.00 USD)\n\
 Table 'T' 6-max Seat #1 is the button\n\
 Seat 1: A ($50 in chips)\n\
@@ -164,7 +213,7 @@ x collected $2 from pot\n\
 Total pot $2 | Rake $0\n";
 
 /// A short hand of two players that is run twice, all in on the turn.
-pub(crate) const TWICE: &str = "\
+const TWICE: &str = "\
 PokerStars Hand #2: Hold'em No Limit (5/10)\n\
 Table 'T' 2-max Seat #1 is the button\n\
 Seat 1: x (100 in chips)\n\
@@ -196,84 +245,24 @@ pot 0 gross 200 rake 0 checked\n\
 paid 100 x\n\
 paid 100 y\n";
 
-/// A text with another line, or with none, in place of one. Lines count from 1.
-pub(crate) fn with_line(
-    alloc: Global,
-    text: &str,
-    number: usize,
-    line: &str,
-) -> Result<Vec<u8>, AllocError> {
-    let mut out = Vec::new(alloc);
-    let place = number.saturating_sub(1);
-    for (at, old) in text.lines().enumerate() {
-        if at == place {
-            out.extend_from_slice(line.as_bytes())?;
-        } else {
-            out.extend_from_slice(old.as_bytes())?;
-            out.extend_from_slice(b"\n")?;
-        }
-    }
-    Ok(out)
-}
-
-/// A text with other lines in place of those from one to another. Lines count from 1.
-pub(crate) fn with_lines(
-    alloc: Global,
-    text: &str,
-    first: usize,
-    last: usize,
-    lines: &[&str],
-) -> Result<Vec<u8>, AllocError> {
-    let mut out = Vec::new(alloc);
-    for (at, old) in text.lines().enumerate() {
-        let number = at.saturating_add(1);
-        if number == first {
-            for line in lines {
-                out.extend_from_slice(line.as_bytes())?;
-                out.extend_from_slice(b"\n")?;
-            }
-        }
-        if number < first || last < number {
-            out.extend_from_slice(old.as_bytes())?;
-            out.extend_from_slice(b"\n")?;
-        }
-    }
-    Ok(out)
-}
-
-/// The first lines of a text, so many.
-pub(crate) fn first_lines(alloc: Global, text: &str, count: usize) -> Result<Vec<u8>, AllocError> {
-    let mut out = Vec::new(alloc);
-    for (at, line) in text.lines().enumerate() {
-        if at < count {
-            out.extend_from_slice(line.as_bytes())?;
-            out.extend_from_slice(b"\n")?;
-        }
-    }
-    Ok(out)
-}
-
-/// A text with a byte order mark before it and a carriage return at the end of each line.
-pub(crate) fn as_typed(alloc: Global, text: &str) -> Result<Vec<u8>, AllocError> {
-    let mut out = b"\xef\xbb\xbf".to_vec(alloc)?;
-    for line in text.lines() {
-        out.extend_from_slice(line.as_bytes())?;
-        out.extend_from_slice(b"\r\n")?;
-    }
-    Ok(out)
-}
+/// The hand with side pots, cut off behind the flop, and the whole of it.
+pub(crate) const CUT_AND_WHOLE: &[Part] = &[
+    Part::Lines(Hand::SidePots, 1, 12),
+    Part::All(Hand::SidePots),
+];
 
 /// The hand with side pots, whose shortest stack mucks cards that nobody sees.
-pub(crate) fn with_mucked_hand(alloc: Global) -> Result<Vec<u8>, AllocError> {
-    let mut out = Vec::new(alloc);
-    for (at, line) in SIDE_POTS.lines().enumerate() {
-        let other = match at {
-            25 => "b: mucks hand",
-            31 => "Seat 2: b (small blind) mucked",
-            _ => line,
-        };
-        out.extend_from_slice(other.as_bytes())?;
-        out.extend_from_slice(b"\n")?;
-    }
-    Ok(out)
-}
+pub(crate) const MUCKED: &[Part] = &[
+    Part::Lines(Hand::SidePots, 1, 25),
+    Part::Whole("b: mucks hand\n"),
+    Part::Lines(Hand::SidePots, 27, 31),
+    Part::Whole("Seat 2: b (small blind) mucked\n"),
+    Part::Lines(Hand::SidePots, 33, LAST),
+];
+
+/// The same hand with a card on the river that a player has.
+pub(crate) const CARD_TWICE: &[Part] = &[
+    Part::Lines(Hand::SidePots, 1, 20),
+    Part::Whole("*** RIVER *** [7h 8h 2c Qs] [As]\n"),
+    Part::Lines(Hand::SidePots, 22, LAST),
+];

@@ -51,7 +51,7 @@ fn most_runouts_and_more(rt: HostRuntime) {
             Some(job) => Some((job.runouts(), job.blocks())),
             None => None,
         };
-        assert_eq!(rt; found, *sizes);
+        assert!(rt; found == *sizes);
     }
 }
 
@@ -67,16 +67,20 @@ fn first_block<L: Ledger>(job: &Job, blank: Blank) -> Tally
     count_block(job, 0, &mut scratch, &mut steps)
 }
 
+/// Whether a hand wins so many runouts of a tally, and loses so many.
+fn wins(tally: &Tally, hand: u8, win: u64, lose: u64) -> bool
+    requires { hand < 10 }
+{
+    tally.cell(0, hand, Side::High) == Cell { win, tie: 0, lose }
+}
+
 /// Four aces win each runout of the first block, whatever else comes to them and to the kings.
 #[test]
 fn the_first_of_many_blocks(rt: HostRuntime) -> Result<(), Fail> {
     let job = job_of(FOURTH_STREET).ok_or("no job")?;
     assert!(rt; 0 < job.blocks());
     let tally = first_block::<Brand>(&job, Blank::new(1));
-    assert_eq!(rt; tally.runouts(), 65_536);
-    for (hand, win, lose) in [(0, 65_536, 0), (1, 0, 65_536), (2, 0, 0)] {
-        let cell = Cell { win, tie: 0, lose };
-        assert_eq!(rt; tally.cell(0, hand, Side::High), cell);
-    }
+    let are_won = wins(&tally, 0, 65_536, 0) && wins(&tally, 1, 0, 65_536);
+    assert!(rt; are_won && wins(&tally, 2, 0, 0) && tally.runouts() == 65_536);
     Ok(())
 }

@@ -3,8 +3,15 @@
 //! The counts are those of a listing of all runouts by some lines of Python that compare fives by their groups and ranks, and try
 //! every five of a hand.
 
-/// Spot lines, each with its block.
-pub(crate) const SPOTS: &[(&[u8], &str)] = &[
+/// A spot line with its block.
+pub(crate) type Listed = (&'static [u8], &'static str);
+
+/// All of them.
+pub(crate) fn spots() -> &'static [Listed] {
+    SPOTS
+}
+
+const SPOTS: &[Listed] = &[
     (
         b"holdem Qd Qh - 8s 9s -- 2h 7s Ts",
         "spot 1 holdem runouts 990

@@ -4,8 +4,9 @@ ghost use Rattle.std.specs.Prelude.{◌≤◌, None, length};
 
 use crate::checks::SIDE_POTS_REPORT;
 use crate::faults::{REPORT, SPOT};
-use crate::histories::SIDE_POTS;
-use byte_ends::{Failed, MemorySink, RepeatSource, Source};
+use crate::histories::Hand;
+use crate::runs::{AMPLE, Part, holds, input_of, owned, sink_of};
+use byte_ends::{Failed, RepeatSource, Source};
 use run_engine::{INPUT_MAX, run_alone};
 use std::alloc::Global;
 use std::process::Abort;
@@ -65,13 +66,11 @@ fn ends_over(
     status: u8,
     written: &str,
 ) -> Result<(), Fail> {
-    let mut words = Vec::new(alloc);
-    words.push(String::from_str(alloc, mode)?)?;
-    let sink = MemorySink::new(alloc, 4096, 4096, Vec::new(alloc));
-    let mut sink = sink.map_err(|_| "no memory for the sink")?;
+    let words = owned(alloc, &[mode])?;
+    let mut sink = sink_of(alloc, AMPLE)?;
     let ended = run_alone(alloc, &words, source, &mut sink);
-    assert_eq!(rt; sink.bytes(), written.as_bytes());
-    assert_eq!(rt; ended, status);
+    let is_so = ended == status && sink.bytes() == written.as_bytes();
+    holds(rt, is_so, mode);
     Ok(())
 }
 
@@ -88,7 +87,7 @@ fn an_input_above_the_limit_with_no_hand_gives_nothing(rt: HostRuntime) -> Resul
 #[test]
 fn an_input_of_the_limit_is_read_whole(rt: HostRuntime) -> Result<(), Fail> {
     let mut source = Filled {
-        front: SPOT,
+        front: SPOT.as_bytes(),
         filling: INPUT_MAX.saturating_sub(SPOT.len()),
         byte: b' ',
         back: b"",
@@ -96,40 +95,46 @@ fn an_input_of_the_limit_is_read_whole(rt: HostRuntime) -> Result<(), Fail> {
     ends_over(&rt, rt.alloc(), "spots", &mut source, 0, REPORT)
 }
 
-/// A spot whose newline is the last byte of the limit is answered, and one with a byte more isn't.
-#[test]
-fn a_spot_at_the_limit(rt: HostRuntime) -> Result<(), Fail> {
-    let mut back = SPOT.to_vec(rt.alloc())?;
-    back.extend_from_slice(b"x")?;
-    for (more, report) in [(0usize, REPORT), (1, "")] {
+/// What closes a hand or a line as the last byte of the limit is reported, and with a byte more before it it isn't. One
+/// byte stands behind it.
+fn is_closed_there(
+    rt: &impl Abort,
+    alloc: Global,
+    mode: &str,
+    byte: u8,
+    back: &[u8],
+    report: &str,
+) -> Result<(), Fail> {
+    let filling = INPUT_MAX.saturating_sub(back.len().saturating_sub(1));
+    for (more, report) in [(0usize, report), (1, "")] {
         let mut source = Filled {
             front: b"",
-            filling: INPUT_MAX.saturating_sub(SPOT.len()).saturating_add(more),
-            byte: b' ',
-            back: &back,
+            filling: filling.saturating_add(more),
+            byte,
+            back,
         };
-        ends_over(&rt, rt.alloc(), "spots", &mut source, 5, report)?;
+        ends_over(rt, alloc, mode, &mut source, 5, report)?;
     }
     Ok(())
 }
+
+/// A spot whose newline is the last byte of the limit is answered, and one with a byte more isn't.
+#[test]
+fn a_spot_at_the_limit(rt: HostRuntime) -> Result<(), Fail> {
+    let back = input_of(rt.alloc(), &[Part::Whole(SPOT), Part::Whole("x")])?;
+    is_closed_there(&rt, rt.alloc(), "spots", b' ', &back, REPORT)
+}
+
+const HAND: &[Part] = &[
+    Part::All(Hand::SidePots),
+    Part::Lines(Hand::SidePots, 1, 1),
+    Part::Whole("x"),
+];
 
 /// A hand that the last byte of the limit closes, the newline of the next header line, is reported, and with
 /// a byte more it isn't.
 #[test]
 fn a_hand_closed_at_the_limit(rt: HostRuntime) -> Result<(), Fail> {
-    let header = SIDE_POTS.lines().next().ok_or("no header")?;
-    let mut back = SIDE_POTS.as_bytes().to_vec(rt.alloc())?;
-    back.extend_from_slice(header.as_bytes())?;
-    back.extend_from_slice(b"\nx")?;
-    let closed = back.len().saturating_sub(1);
-    for (more, report) in [(0usize, SIDE_POTS_REPORT), (1, "")] {
-        let mut source = Filled {
-            front: b"",
-            filling: INPUT_MAX.saturating_sub(closed).saturating_add(more),
-            byte: b'x',
-            back: &back,
-        };
-        ends_over(&rt, rt.alloc(), "check", &mut source, 5, report)?;
-    }
-    Ok(())
+    let back = input_of(rt.alloc(), HAND)?;
+    is_closed_there(&rt, rt.alloc(), "check", b'x', &back, SIDE_POTS_REPORT)
 }

@@ -2,11 +2,12 @@
 //! and on the fifth street, and before a draw; and one on the third street, which isn't counted. The verdicts
 //! were worked out by hand, the counts by a listing outside this repository.
 
-use crate::runs::{AMPLE, ends};
+use crate::histories::Hand;
+use crate::runs::{AMPLE, Case, Part, each_ends};
 use std::test::Fail;
 
-const HANDS: &[u8] =
-    b"PokerStars Hand #7500000001: Omaha Hi/Lo Pot Limit ($1/$2 USD) - 2026/06/06 18:10:09 ET
+pub(crate) const HANDS: &str =
+    "PokerStars Hand #7500000001: Omaha Hi/Lo Pot Limit ($1/$2 USD) - 2026/06/06 18:10:09 ET
 Table 'Juno' 6-max Seat #1 is the button
 Seat 1: eva ($120 in chips)
 Seat 2: finn ($64 in chips)
@@ -187,11 +188,8 @@ Seat 1: hal showed [Ad Ac 9h 5s 5d 2c 7s] and won ($6) with two pair, Aces and F
 Seat 3: ivy showed [Jc 8d Qs Qd 8h Jh 4s] and lost with two pair, Queens and Jacks
 ";
 
-/// The block of each hand, and the lines of its later streets. On the sixth street of Razz ivy has six, five, four,
-/// trey and deuce, and no card gives hal a low below seven. A refused all-in has no streets.
-const BLOCKS: &[(&str, &str)] = &[
-    (
-        "hand 7500000001 accepted omaha8 rake 4.00
+/// The block of each hand, and the lines of its later streets.
+const OMAHA8: &str = "hand 7500000001 accepted omaha8 rake 4.00
 pot 0 gross 130.00 rake 4.00 checked
 paid 63.00 eva
 paid 63.00 finn
@@ -204,18 +202,18 @@ pot 0 low win 0 0.00 tie 0 0.00 lose 40 100.00 finn
 pot 0 ev 0.425 finn
 expect 74.75 eva
 expect 55.25 finn
-",
-        "street river runouts 1
+";
+
+const OMAHA8_STREETS: &str = "street river runouts 1
 pot 0 high win 0 0.00 tie 0 0.00 lose 1 100.00 eva
 pot 0 low win 1 100.00 tie 0 0.00 lose 0 0.00 eva
 pot 0 ev 0.500 eva
 pot 0 high win 1 100.00 tie 0 0.00 lose 0 0.00 finn
 pot 0 low win 0 0.00 tie 0 0.00 lose 1 100.00 finn
 pot 0 ev 0.500 finn
-",
-    ),
-    (
-        "hand 7500000002 accepted stud rake 2.00
+";
+
+const STUD: &str = "hand 7500000002 accepted stud rake 2.00
 pot 0 gross 41.25 rake 2.00 checked
 paid 39.25 hal
 all-in 6th runouts 1482
@@ -225,16 +223,16 @@ pot 0 high win 216 14.57 tie 0 0.00 lose 1266 85.43 ivy
 pot 0 ev 0.146 ivy
 expect 35.24 hal
 expect 6.01 ivy
-",
-        "street river runouts 1
+";
+
+const STUD_STREETS: &str = "street river runouts 1
 pot 0 high win 1 100.00 tie 0 0.00 lose 0 0.00 hal
 pot 0 ev 1.000 hal
 pot 0 high win 0 0.00 tie 0 0.00 lose 1 100.00 ivy
 pot 0 ev 0.000 ivy
-",
-    ),
-    (
-        "hand 7500000003 accepted razz rake 1.25
+";
+
+const RAZZ: &str = "hand 7500000003 accepted razz rake 1.25
 pot 0 gross 25.75 rake 1.25 checked
 paid 24.50 ivy
 all-in 5th runouts 607620
@@ -244,8 +242,10 @@ pot 0 low win 381735 62.82 tie 999 0.16 lose 224886 37.01 ivy
 pot 0 ev 0.629 ivy
 expect 9.55 hal
 expect 16.20 ivy
-",
-        "street 6th runouts 1482
+";
+
+/// On the sixth street ivy has six, five, four, trey and deuce, and no card gives hal a low below seven.
+const RAZZ_STREETS: &str = "street 6th runouts 1482
 pot 0 low win 0 0.00 tie 0 0.00 lose 1482 100.00 hal
 pot 0 ev 0.000 hal
 pot 0 low win 1482 100.00 tie 0 0.00 lose 0 0.00 ivy
@@ -255,10 +255,9 @@ pot 0 low win 0 0.00 tie 0 0.00 lose 1 100.00 hal
 pot 0 ev 0.000 hal
 pot 0 low win 1 100.00 tie 0 0.00 lose 0 0.00 ivy
 pot 0 ev 1.000 ivy
-",
-    ),
-    (
-        "hand 7500000004 accepted lowball27 rake 3.00
+";
+
+const DRAW: &str = "hand 7500000004 accepted lowball27 rake 3.00
 pot 0 gross 92.00 rake 3.00 checked
 paid 89.00 kit
 all-in predraw runouts 42
@@ -268,21 +267,46 @@ pot 0 low win 31 73.81 tie 0 0.00 lose 11 26.19 lea
 pot 0 ev 0.738 lea
 expect 24.10 kit
 expect 67.90 lea
-",
-        "street draw runouts 1
+";
+
+const DRAW_STREETS: &str = "street draw runouts 1
 pot 0 low win 1 100.00 tie 0 0.00 lose 0 0.00 kit
 pot 0 ev 1.000 kit
 pot 0 low win 0 0.00 tie 0 0.00 lose 1 100.00 lea
 pot 0 ev 0.000 lea
-",
-    ),
-    (
-        "hand 7500000005 accepted stud rake 0.00
+";
+
+const REFUSED: &str = "hand 7500000005 accepted stud rake 0.00
 pot 0 gross 6.00 rake 0.00 checked
 paid 6.00 hal
 all-in refused above 200000000 runouts
-",
-        "",
+";
+
+const CASES: &[Case] = &[
+    (
+        &["audit"],
+        AMPLE,
+        &[Part::All(Hand::Mixed)],
+        0,
+        &[OMAHA8, STUD, RAZZ, DRAW, REFUSED],
+    ),
+    // A refused all-in has no streets.
+    (
+        &["streets"],
+        AMPLE,
+        &[Part::All(Hand::Mixed)],
+        0,
+        &[
+            OMAHA8,
+            OMAHA8_STREETS,
+            STUD,
+            STUD_STREETS,
+            RAZZ,
+            RAZZ_STREETS,
+            DRAW,
+            DRAW_STREETS,
+            REFUSED,
+        ],
     ),
 ];
 
@@ -290,14 +314,5 @@ all-in refused above 200000000 runouts
 /// what was shown at the end, and streets and sides are those of the game.
 #[test]
 fn each_game_has_its_all_ins_and_streets(rt: HostRuntime) -> Result<(), Fail> {
-    let alloc = rt.alloc();
-    let mut audited = Vec::new(alloc);
-    let mut followed = Vec::new(alloc);
-    for (block, streets) in BLOCKS {
-        audited.extend_from_slice(block.as_bytes())?;
-        followed.extend_from_slice(block.as_bytes())?;
-        followed.extend_from_slice(streets.as_bytes())?;
-    }
-    ends(&rt, alloc, &["audit"], HANDS, AMPLE, 0, &audited)?;
-    ends(&rt, alloc, &["streets"], HANDS, AMPLE, 0, &followed)
+    each_ends(&rt, rt.alloc(), CASES)
 }

@@ -1,8 +1,8 @@
 //! Hands of triple draw, of stud for both sides and of five card draw, with lines of them that are others. Counts and
 //! verdicts are worked out by hand.
 
-use crate::histories::with_line;
-use crate::runs::{Change, Row, each_change_reports, each_reports, reports};
+use crate::histories::Hand;
+use crate::runs::{AMPLE, Case, Change, Changed, LAST, Part, each_change, each_ends};
 use std::test::Fail;
 
 pub(crate) const TRIPLE: &str = "PokerStars Hand #92: Triple Draw 2-7 Lowball Limit (10/20)
@@ -57,17 +57,18 @@ pot 0 gross 120 rake 0 checked\n\
 paid 120 y\n\
 all-in unknown\n";
 
-/// A card that was thrown away comes again, and is then neither dead nor known.
-#[test]
-fn an_all_in_on_the_second_of_three_draws(rt: HostRuntime) -> Result<(), Fail> {
-    let alloc = rt.alloc();
-    reports(&rt, alloc, &["audit"], TRIPLE.as_bytes(), 0, TRIPLE_REPORT)?;
-    // What nobody saw on the third draw leaves the all-in unknown, and so does what nobody saw before it.
-    let input = with_line(alloc, TRIPLE, 25, "x: discards 1 card\n")?;
-    reports(&rt, alloc, &["audit"], &input, 0, UNKNOWN_TRIPLE)?;
-    let input = with_line(alloc, TRIPLE, 13, "x: discards 1 card\n")?;
-    reports(&rt, alloc, &["audit"], &input, 0, UNKNOWN_TRIPLE)
-}
+/// Nobody saw what x draws on the third draw, or on the first.
+const THIRD_UNSEEN: &[Part] = &[
+    Part::Lines(Hand::Triple, 1, 24),
+    Part::Whole("x: discards 1 card\n"),
+    Part::Lines(Hand::Triple, 26, LAST),
+];
+
+const FIRST_UNSEEN: &[Part] = &[
+    Part::Lines(Hand::Triple, 1, 12),
+    Part::Whole("x: discards 1 card\n"),
+    Part::Lines(Hand::Triple, 14, LAST),
+];
 
 /// Lines that triple draw refuses.
 const TRIPLE_CHANGES: &[Change] = &[
@@ -94,12 +95,7 @@ const TRIPLE_CHANGES: &[Change] = &[
     ),
 ];
 
-#[test]
-fn refusals_of_triple_draw(rt: HostRuntime) -> Result<(), Fail> {
-    each_change_reports(&rt, rt.alloc(), "audit", TRIPLE, TRIPLE_CHANGES)
-}
-
-const STUD8: &str = "PokerStars Hand #93: 7 Card Stud Hi/Lo Limit (10/20)
+pub(crate) const STUD8: &str = "PokerStars Hand #93: 7 Card Stud Hi/Lo Limit (10/20)
 Table '9 4' 8-max
 Seat 1: x (31 in chips)
 Seat 2: y (500 in chips)
@@ -137,19 +133,11 @@ Total pot 62 | Rake 0
 
 /// x has the high, and both the same low. Of the odd unit of the low the seven of spades decides, which is the highest
 /// card of a low, and not the ace of hearts.
-const STUD8_HANDS: &[Row] = &[(
-    STUD8,
-    0,
-    "hand 93 accepted stud8 rake 0\n\
-pot 0 gross 62 rake 0 checked\n\
-paid 46 x\n\
-paid 16 y\n",
-)];
-
-#[test]
-fn odd_units_of_a_low_go_by_its_own_marks(rt: HostRuntime) -> Result<(), Fail> {
-    each_reports(&rt, rt.alloc(), &["check"], STUD8_HANDS)
-}
+const STUD8_REPORT: &str = "hand 93 accepted stud8 rake 0
+pot 0 gross 62 rake 0 checked
+paid 46 x
+paid 16 y
+";
 
 pub(crate) const DRAW5: &str = "PokerStars Hand #94: 5 Card Draw Pot Limit (10/20)
 Table '9 5' 6-max Seat #1 is the button
@@ -205,14 +193,7 @@ const DRAW5_CHANGES: &[Change] = &[
     ),
 ];
 
-#[test]
-fn an_all_in_of_five_card_draw(rt: HostRuntime) -> Result<(), Fail> {
-    let alloc = rt.alloc();
-    reports(&rt, alloc, &["audit"], DRAW5.as_bytes(), 0, DRAW5_REPORT)?;
-    each_change_reports(&rt, alloc, "audit", DRAW5, DRAW5_CHANGES)
-}
-
-const ODD5: &str = "PokerStars Hand #95: 5 Card Draw No Limit (10/20)
+pub(crate) const ODD5: &str = "PokerStars Hand #95: 5 Card Draw No Limit (10/20)
 Table '9 6' 6-max Seat #2 is the button
 Seat 1: x (100 in chips)
 Seat 2: y (100 in chips)
@@ -235,16 +216,58 @@ Total pot 205 | Rake 0
 ";
 
 /// The odd unit goes by seat: behind the button comes z, who folded, and then x. By the cards it would be y's.
-const ODD5_HANDS: &[Row] = &[(
-    ODD5,
-    0,
-    "hand 95 accepted draw5 rake 0\n\
-pot 0 gross 205 rake 0 checked\n\
-paid 102 due 103 x\n\
-paid 103 due 102 y\n",
-)];
+const ODD5_REPORT: &str = "hand 95 accepted draw5 rake 0
+pot 0 gross 205 rake 0 checked
+paid 102 due 103 x
+paid 103 due 102 y
+";
+
+const CASES: &[Case] = &[
+    // A card that was thrown away comes again, and is then neither dead nor known. What nobody saw on the third draw leaves
+    // the all-in unknown, and so does what nobody saw before it.
+    (
+        &["audit"],
+        AMPLE,
+        &[Part::All(Hand::Triple)],
+        0,
+        &[TRIPLE_REPORT],
+    ),
+    (&["audit"], AMPLE, THIRD_UNSEEN, 0, &[UNKNOWN_TRIPLE]),
+    (&["audit"], AMPLE, FIRST_UNSEEN, 0, &[UNKNOWN_TRIPLE]),
+    (
+        &["check"],
+        AMPLE,
+        &[Part::All(Hand::Stud8)],
+        0,
+        &[STUD8_REPORT],
+    ),
+    (
+        &["audit"],
+        AMPLE,
+        &[Part::All(Hand::Draw5)],
+        0,
+        &[DRAW5_REPORT],
+    ),
+    (
+        &["check"],
+        AMPLE,
+        &[Part::All(Hand::Odd5)],
+        0,
+        &[ODD5_REPORT],
+    ),
+];
 
 #[test]
-fn odd_units_of_five_card_draw_go_by_seat(rt: HostRuntime) -> Result<(), Fail> {
-    each_reports(&rt, rt.alloc(), &["check"], ODD5_HANDS)
+fn hands_of_three_more_games(rt: HostRuntime) -> Result<(), Fail> {
+    each_ends(&rt, rt.alloc(), CASES)
+}
+
+const CHANGED: &[Changed] = &[
+    ("audit", Hand::Triple, TRIPLE_CHANGES),
+    ("audit", Hand::Draw5, DRAW5_CHANGES),
+];
+
+#[test]
+fn refusals_of_triple_draw_and_five_card_draw(rt: HostRuntime) -> Result<(), Fail> {
+    each_change(&rt, rt.alloc(), CHANGED)
 }

@@ -1,11 +1,11 @@
 //! A hand of Razz and a hand of Single Draw, with lines of them that are others. The verdicts are worked out by
 //! hand: the board of neither hand can change who wins.
 
-use crate::histories::{SIDE_POTS, with_line};
-use crate::runs::{Change, Row, each_change_reports, each_reports, reports};
+use crate::histories::Hand;
+use crate::runs::{AMPLE, Case, Change, Changed, LAST, Part, each_change, each_ends};
 use std::test::Fail;
 
-const RAZZ: &str =
+pub(crate) const RAZZ: &str =
     "PokerStars Hand #90: Tournament #9, Freeroll  Razz Limit - Level I (10/20) - 2023/01/15 22:00:00 ET
 Table '9 1' 8-max
 Seat 1: x (31 in chips)
@@ -55,7 +55,7 @@ pot 0 ev 0.000 y\n\
 expect 62 x\n\
 expect 0 y\n";
 
-const DRAW: &str =
+pub(crate) const DRAW: &str =
     "PokerStars Hand #91: Tournament #9, Freeroll  Single Draw 2-7 Lowball No Limit - Level I (10/20)
 Table '9 2' 7-max Seat #1 is the button
 Seat 1: x (100 in chips)
@@ -88,31 +88,47 @@ pot 0 ev 0.000 y\n\
 expect 200 x\n\
 expect 0 y\n";
 
-const HANDS: &[Row] = &[
-    // An all-in on the fifth street, the face-down cards of one player known from what the summary gives.
-    (RAZZ, 0, RAZZ_REPORT),
-    (DRAW, 0, DRAW_REPORT),
-];
-
-#[test]
-fn all_ins_of_razz_and_single_draw(rt: HostRuntime) -> Result<(), Fail> {
-    each_reports(&rt, rt.alloc(), &["audit"], HANDS)
-}
-
 const UNKNOWN_DRAW: &str = "hand 91 accepted lowball27 rake 0\n\
 pot 0 gross 200 rake 0 checked\n\
 paid 200 x\n\
 all-in unknown\n";
 
-/// The line that begins the draw may stand, and a discard that nobody saw leaves the all-in unknown.
+const MARKED_DRAW: &[Part] = &[
+    Part::Lines(Hand::SingleDraw, 1, 9),
+    Part::Whole("y: calls 80 and is all-in\n*** DRAW ***\n"),
+    Part::Lines(Hand::SingleDraw, 11, LAST),
+];
+
+const UNSEEN_DRAW: &[Part] = &[
+    Part::Lines(Hand::SingleDraw, 1, 11),
+    Part::Whole("y: discards 1 card\n"),
+    Part::Lines(Hand::SingleDraw, 13, LAST),
+];
+
+const CASES: &[Case] = &[
+    // An all-in on the fifth street, the face-down cards of one player known from what the summary gives.
+    (
+        &["audit"],
+        AMPLE,
+        &[Part::All(Hand::Razz)],
+        0,
+        &[RAZZ_REPORT],
+    ),
+    // The line that begins the draw may stand, and a discard that nobody saw leaves the all-in unknown.
+    (
+        &["audit"],
+        AMPLE,
+        &[Part::All(Hand::SingleDraw)],
+        0,
+        &[DRAW_REPORT],
+    ),
+    (&["audit"], AMPLE, MARKED_DRAW, 0, &[DRAW_REPORT]),
+    (&["audit"], AMPLE, UNSEEN_DRAW, 0, &[UNKNOWN_DRAW]),
+];
+
 #[test]
-fn an_all_in_before_the_draw(rt: HostRuntime) -> Result<(), Fail> {
-    let alloc = rt.alloc();
-    let call = "y: calls 80 and is all-in\n*** DRAW ***\n";
-    let input = with_line(alloc, DRAW, 10, call)?;
-    reports(&rt, alloc, &["audit"], &input, 0, DRAW_REPORT)?;
-    let input = with_line(alloc, DRAW, 12, "y: discards 1 card\n")?;
-    reports(&rt, alloc, &["audit"], &input, 0, UNKNOWN_DRAW)
+fn all_ins_of_razz_and_single_draw(rt: HostRuntime) -> Result<(), Fail> {
+    each_ends(&rt, rt.alloc(), CASES)
 }
 
 /// Lines that stud refuses.
@@ -199,17 +215,8 @@ const BOARD_CHANGES: &[Change] = &[
     ),
 ];
 
-/// Lines that these games alone refuse, or that all games but these do.
-#[test]
-fn refusals_of_stud_and_draw(rt: HostRuntime) -> Result<(), Fail> {
-    let alloc = rt.alloc();
-    each_change_reports(&rt, alloc, "audit", RAZZ, RAZZ_CHANGES)?;
-    each_change_reports(&rt, alloc, "audit", DRAW, DRAW_CHANGES)?;
-    each_change_reports(&rt, alloc, "audit", SIDE_POTS, BOARD_CHANGES)
-}
-
 /// A hand with a seat number of twenty digits.
-const LONG_SEATS: &str = "PokerStars Hand #5: Hold'em No Limit ($1/$2 USD)
+pub(crate) const LONG_SEATS: &str = "PokerStars Hand #5: Hold'em No Limit ($1/$2 USD)
 Seat 1: a ($50 in chips)
 a collected $5 from pot
 Seat 18446744073709551616: b ($50 in chips)
@@ -217,7 +224,8 @@ Seat 2: c ($50 in chips)
 a: posts small blind $1
 ";
 
-/// Other numbers in its fifth line.
+/// Other numbers in its fifth line. Seat numbers of any length are told apart: a second line of one number ends the search
+/// for players, and so a is none, whose post stands behind it.
 const SEAT_CHANGES: &[Change] = &[
     (
         5,
@@ -236,9 +244,15 @@ const SEAT_CHANGES: &[Change] = &[
     ),
 ];
 
-/// Seat numbers of any length are told apart: a second line of one number ends the search for players, and
-/// so a is none, whose post stands behind it.
+const CHANGED: &[Changed] = &[
+    ("audit", Hand::Razz, RAZZ_CHANGES),
+    ("audit", Hand::SingleDraw, DRAW_CHANGES),
+    ("audit", Hand::SidePots, BOARD_CHANGES),
+    ("audit", Hand::LongSeats, SEAT_CHANGES),
+];
+
+/// Lines that stud and draw alone refuse, that all games but these do, and seat numbers.
 #[test]
-fn seat_numbers_may_be_long(rt: HostRuntime) -> Result<(), Fail> {
-    each_change_reports(&rt, rt.alloc(), "audit", LONG_SEATS, SEAT_CHANGES)
+fn refusals_of_stud_and_draw(rt: HostRuntime) -> Result<(), Fail> {
+    each_change(&rt, rt.alloc(), CHANGED)
 }

@@ -1,6 +1,6 @@
 //! Lines that are no spots, each with its named refusal, and lines of many words.
 
-use crate::runs::{Row, each_reports, reports};
+use crate::runs::{AMPLE, Case, Part, Row, each_ends, each_reports};
 use std::test::Fail;
 
 const LINES: &[Row] = &[
@@ -99,17 +99,21 @@ hand 2 high win 0 0.00 tie 0 0.00 lose 1 100.00\n\
 hand 2 ev 0.000\n";
 
 /// Sixty thousand cards on a line, and a line of a megabyte, are refused and lose nothing.
+const LONG: &[Case] = &[(
+    &["spots"],
+    AMPLE,
+    &[
+        Part::Whole("holdem"),
+        Part::Times(" As", 60_000),
+        Part::Whole("\n"),
+        Part::Times("0123456789", 100_000),
+        Part::Whole("\nholdem As Ah - Ks Kh -- 2c 7d 9h 4s Jc\n"),
+    ],
+    1,
+    &[LONG_REPORT],
+)];
+
 #[test]
 fn long_lines_are_refused(rt: HostRuntime) -> Result<(), Fail> {
-    let alloc = rt.alloc();
-    let mut input = b"holdem".to_vec(alloc)?;
-    for _ in 0..60_000 {
-        input.extend_from_slice(b" As")?;
-    }
-    input.extend_from_slice(b"\n")?;
-    for _ in 0..100_000 {
-        input.extend_from_slice(b"0123456789")?;
-    }
-    input.extend_from_slice(b"\nholdem As Ah - Ks Kh -- 2c 7d 9h 4s Jc\n")?;
-    reports(&rt, alloc, &["spots"], &input, 1, LONG_REPORT)
+    each_ends(&rt, rt.alloc(), LONG)
 }

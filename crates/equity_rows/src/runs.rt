@@ -3,7 +3,7 @@
 ghost use Rattle.std.specs.Prelude.{◌<◌, IfOk};
 ghost use Rattle.std.specs.List.Sorted.{IsStrictlyIncreasing};
 
-use crate::histories::with_line;
+use crate::histories::{Hand, text_of};
 use byte_ends::{MemorySink, MemorySource};
 use card_sets::Memory;
 use run_engine::{run as run_shared, run_alone};
@@ -41,6 +41,18 @@ pub(crate) const AMPLE: Edges = Edges {
     room: 65_536,
 };
 
+/// Ends of which the second read fails: the input has one piece at the most.
+pub(crate) const ONE_READ: Edges = Edges {
+    read_fault: Some(1),
+    ..AMPLE
+};
+
+/// Ends of which the first write fails.
+pub(crate) const NO_WRITE: Edges = Edges {
+    write_fault: Some(0),
+    ..AMPLE
+};
+
 /// The list of one call, or of none.
 fn listed(alloc: Global, call: Option<u64>) -> Result<Vec<u64>, AllocError>
     ensures { IfOk result (λ calls. IsStrictlyIncreasing calls.items) }
@@ -58,7 +70,7 @@ pub(crate) fn front(bytes: &[u8], most: usize) -> &[u8] {
 }
 
 /// The words of a command.
-fn owned(alloc: Global, words: &[&str]) -> Result<Vec<String>, AllocError> {
+pub(crate) fn owned(alloc: Global, words: &[&str]) -> Result<Vec<String>, AllocError> {
     let mut owned = Vec::new(alloc);
     for word in words {
         owned.push(String::from_str(alloc, word)?)?;
@@ -67,27 +79,58 @@ fn owned(alloc: Global, words: &[&str]) -> Result<Vec<String>, AllocError> {
 }
 
 /// A source of this input.
-fn source_of(alloc: Global, input: &[u8], edges: Edges) -> Result<MemorySource, AllocError> {
+pub(crate) fn source_of(
+    alloc: Global,
+    input: &[u8],
+    edges: Edges,
+) -> Result<MemorySource, AllocError> {
     let calls = listed(alloc, edges.read_fault)?;
     Ok(MemorySource::new(input.to_vec(alloc)?, edges.piece.max(1), calls))
 }
 
 /// A sink.
-fn sink_of(alloc: Global, edges: Edges) -> Result<MemorySink, Memory> {
+pub(crate) fn sink_of(alloc: Global, edges: Edges) -> Result<MemorySink, Memory> {
     let calls = listed(alloc, edges.write_fault)?;
     MemorySink::new(alloc, edges.room, edges.taken.max(1), calls)
+}
+
+/// What a run did that ended with this status.
+fn ran_so(alloc: Global, status: u8, sink: &MemorySink) -> Result<Ran, AllocError> {
+    Ok(Ran {
+        status,
+        written: sink.bytes().to_vec(alloc)?,
+    })
+}
+
+/// Runs these words between these ends.
+fn between(
+    alloc: Global,
+    words: &[String],
+    mut source: MemorySource,
+    mut sink: MemorySink,
+) -> Result<Ran, AllocError> {
+    let status = run_alone(alloc, words, &mut source, &mut sink);
+    ran_so(alloc, status, &sink)
 }
 
 /// Runs these words over this input.
 pub(crate) fn run(alloc: Global, words: &[&str], input: &[u8], edges: Edges) -> Result<Ran, Fail> {
     let owned = owned(alloc, words)?;
-    let mut source = source_of(alloc, input, edges)?;
-    let mut sink = sink_of(alloc, edges)?;
-    let status = run_alone(alloc, &owned, &mut source, &mut sink);
-    Ok(Ran {
-        status,
-        written: sink.bytes().to_vec(alloc)?,
-    })
+    let source = source_of(alloc, input, edges)?;
+    let sink = sink_of(alloc, edges)?;
+    Ok(between(alloc, &owned, source, sink)?)
+}
+
+/// Runs these words between these ends, with several workers.
+fn between_by_workers<R: Threads + Wait + Sync>(
+    rt: &R,
+    alloc: Global,
+    words: &[String],
+    mut source: MemorySource,
+    mut sink: MemorySink,
+) -> Result<Ran, AllocError> {
+    let status = run_shared(rt, alloc, words, &mut source, &mut sink, &OpenGate);
+    ran_so(alloc, status, &sink)
 }
 
 /// The same with several workers, as many as the words say.
@@ -99,43 +142,130 @@ pub(crate) fn run_by_workers<R: Threads + Wait + Sync>(
     edges: Edges,
 ) -> Result<Ran, Fail> {
     let owned = owned(alloc, words)?;
-    let mut source = source_of(alloc, input, edges)?;
-    let mut sink = sink_of(alloc, edges)?;
-    let status = run_shared(rt, alloc, &owned, &mut source, &mut sink, &OpenGate);
-    Ok(Ran {
-        status,
-        written: sink.bytes().to_vec(alloc)?,
-    })
+    let source = source_of(alloc, input, edges)?;
+    let sink = sink_of(alloc, edges)?;
+    Ok(between_by_workers(rt, alloc, &owned, source, sink)?)
 }
 
-/// The run of these words over this input, between these ends, ends with this status and writes this.
+/// It holds; or the run ends, with this name.
+pub(crate) fn holds(rt: &impl Abort, is_so: bool, name: &str) {
+    assert!(rt; is_so, "{name}");
+}
+
+/// Whether the run ended with this status and wrote this.
+fn is_so(ran: &Ran, status: u8, written: &[u8]) -> bool {
+    ran.status == status && ran.written.as_slice() == written
+}
+
+/// The run ended with this status and wrote this.
+pub(crate) fn did(rt: &impl Abort, ran: &Ran, status: u8, written: &[u8], name: &str) {
+    holds(rt, is_so(ran, status, written), name);
+}
+
+/// The run of these words over this input, between these ends, ends with this status and writes these texts.
 pub(crate) fn ends(
     rt: &impl Abort,
     alloc: Global,
     words: &[&str],
-    input: &[u8],
     edges: Edges,
+    input: &[u8],
     status: u8,
-    written: &[u8],
+    texts: &[&str],
 ) -> Result<(), Fail> {
+    let report = joined(alloc, texts)?;
     let ran = run(alloc, words, input, edges)?;
-    assert_eq!(rt; ran.written.as_slice(), written);
-    assert_eq!(rt; ran.status, status);
+    did(rt, &ran, status, report.as_bytes(), &report);
     Ok(())
 }
 
-/// The run of these words over this input ends with this status and writes this report.
-pub(crate) fn reports(
-    rt: &impl Abort,
-    alloc: Global,
-    words: &[&str],
-    input: &[u8],
-    status: u8,
-    report: &str,
-) -> Result<(), Fail> {
-    let ran = run(alloc, words, input, AMPLE)?;
-    assert_eq!(rt; ran.written.as_slice(), report.as_bytes(), "{report}");
-    assert_eq!(rt; ran.status, status, "{report}");
+/// Texts behind each other.
+pub(crate) fn joined(alloc: Global, texts: &[&str]) -> Result<String, AllocError> {
+    let mut whole = String::new(alloc);
+    for text in texts {
+        whole.push_str(text)?;
+    }
+    Ok(whole)
+}
+
+/// A part of an input.
+#[derive(Drop)]
+pub(crate) enum Part<'a> {
+    Whole(&'a str),
+    /// A text so many times.
+    Times(&'a str, usize),
+    All(Hand),
+    /// The lines of a hand from one to another. Lines count from 1.
+    Lines(Hand, usize, usize),
+    /// A hand so many times.
+    Hands(Hand, usize),
+}
+
+/// As the last of some lines: the last of the text.
+pub(crate) const LAST: usize = usize::MAX;
+
+/// Adds the lines of a text from one to another.
+fn add_lines(out: &mut Vec<u8>, text: &str, first: usize, last: usize) -> Result<(), AllocError> {
+    let mut number = 1usize;
+    for byte in text.as_bytes() {
+        if first <= number && number <= last {
+            out.push(*byte)?;
+        }
+        if *byte == b'\n' {
+            number = number.saturating_add(1);
+        }
+    }
+    Ok(())
+}
+
+/// Adds a text so many times.
+fn add_times(out: &mut Vec<u8>, text: &str, times: usize) -> Result<(), AllocError> {
+    for _ in 0..times {
+        out.extend_from_slice(text.as_bytes())?;
+    }
+    Ok(())
+}
+
+/// Adds a part.
+fn add_part(out: &mut Vec<u8>, part: &Part) -> Result<(), AllocError> {
+    match part {
+        Part::Whole(text) => add_times(out, text, 1),
+        Part::Times(text, times) => add_times(out, text, *times),
+        Part::All(hand) => add_times(out, text_of(*hand), 1),
+        Part::Lines(hand, first, last) => add_lines(out, text_of(*hand), *first, *last),
+        Part::Hands(hand, times) => add_times(out, text_of(*hand), *times),
+    }
+}
+
+/// The input of these parts.
+pub(crate) fn input_of(alloc: Global, parts: &[Part]) -> Result<Vec<u8>, AllocError> {
+    let mut out = Vec::new(alloc);
+    for part in parts {
+        add_part(&mut out, part)?;
+    }
+    Ok(out)
+}
+
+/// A run: its words, its ends and its input; the status that it ends with, and the texts that it writes.
+pub(crate) type Case = (
+    &'static [&'static str],
+    Edges,
+    &'static [Part<'static>],
+    u8,
+    &'static [&'static str],
+);
+
+/// A run of a table does what stands there.
+fn ends_so(rt: &impl Abort, alloc: Global, case: &Case) -> Result<(), Fail> {
+    let (words, edges, parts, status, texts) = case;
+    let input = input_of(alloc, parts)?;
+    ends(rt, alloc, words, *edges, &input, *status, texts)
+}
+
+/// So it is with each run of the table.
+pub(crate) fn each_ends(rt: &impl Abort, alloc: Global, cases: &[Case]) -> Result<(), Fail> {
+    for case in cases {
+        ends_so(rt, alloc, case)?;
+    }
     Ok(())
 }
 
@@ -150,22 +280,46 @@ pub(crate) fn each_reports(
     rows: &[Row],
 ) -> Result<(), Fail> {
     for (input, status, report) in rows {
-        reports(rt, alloc, words, input.as_bytes(), *status, report)?;
+        ends(
+            rt,
+            alloc,
+            words,
+            AMPLE,
+            input.as_bytes(),
+            *status,
+            &[report],
+        )?;
     }
     Ok(())
 }
 
+/// Words of commands, an input, the status that a run of any of them over it ends with, and what it writes.
+pub(crate) type Told = (
+    &'static [&'static [&'static str]],
+    &'static str,
+    u8,
+    &'static str,
+);
+
 /// The run of each of these words over this input ends with this status and writes this report.
-pub(crate) fn all_report(
+fn all_report(
     rt: &impl Abort,
     alloc: Global,
     forms: &[&[&str]],
-    input: &[u8],
+    input: &str,
     status: u8,
     report: &str,
 ) -> Result<(), Fail> {
     for words in forms {
-        reports(rt, alloc, words, input, status, report)?;
+        ends(rt, alloc, words, AMPLE, input.as_bytes(), status, &[report])?;
+    }
+    Ok(())
+}
+
+/// So it is with each row of the table.
+pub(crate) fn each_told(rt: &impl Abort, alloc: Global, rows: &[Told]) -> Result<(), Fail> {
+    for (forms, input, status, report) in rows {
+        all_report(rt, alloc, forms, input, *status, report)?;
     }
     Ok(())
 }
@@ -173,17 +327,42 @@ pub(crate) fn all_report(
 /// A line of a hand by its number from 1, another line in its place, and for what the hand is rejected then.
 pub(crate) type Change = (usize, &'static str, &'static str);
 
-/// Each change of a hand of this text makes a run of the mode write its report, and end with status 1.
-pub(crate) fn each_change_reports(
+/// A change of a hand makes a run of the mode write its report, and end with status 1.
+fn change_reports(
     rt: &impl Abort,
     alloc: Global,
     mode: &str,
-    text: &str,
+    hand: Hand,
+    change: &Change,
+) -> Result<(), Fail> {
+    let (number, line, report) = change;
+    let before = Part::Lines(hand, 1, number.saturating_sub(1));
+    let behind = Part::Lines(hand, number.saturating_add(1), LAST);
+    let input = input_of(alloc, &[before, Part::Whole(line), behind])?;
+    ends(rt, alloc, &[mode], AMPLE, &input, 1, &[report])
+}
+
+/// So it is with each change of some.
+fn all_report_so(
+    rt: &impl Abort,
+    alloc: Global,
+    mode: &str,
+    hand: Hand,
     changes: &[Change],
 ) -> Result<(), Fail> {
-    for (number, line, report) in changes {
-        let input = with_line(alloc, text, *number, line)?;
-        reports(rt, alloc, &[mode], &input, 1, report)?;
+    for change in changes {
+        change_reports(rt, alloc, mode, hand, change)?;
+    }
+    Ok(())
+}
+
+/// A mode, a hand, and changes of it.
+pub(crate) type Changed = (&'static str, Hand, &'static [Change]);
+
+/// So it is with each hand of the table.
+pub(crate) fn each_change(rt: &impl Abort, alloc: Global, hands: &[Changed]) -> Result<(), Fail> {
+    for (mode, hand, changes) in hands {
+        all_report_so(rt, alloc, mode, *hand, changes)?;
     }
     Ok(())
 }

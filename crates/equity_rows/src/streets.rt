@@ -1,28 +1,12 @@
 //! Hands street by street: behind the report of an audit, how each pot stands on each later street. Figures are
 //! worked out by hand, but for those before the flop, which are those of a listing.
 
-use crate::audits::SIDE_POTS_REPORT;
-use crate::histories::{HEADS_UP, SIDE_POTS, first_lines, with_line, with_lines, with_mucked_hand};
-use crate::more_games::{DRAW5, DRAW5_REPORT, TRIPLE, TRIPLE_REPORT};
-use crate::runs::{AMPLE, ends, reports};
+use crate::audits::{NO_ALL_IN, REJECTED, SIDE_POTS_REPORT, UNKNOWN_ALL_IN};
+use crate::histories::{CARD_TWICE, CUT_AND_WHOLE, Hand, MUCKED};
+use crate::more_games::{DRAW5_REPORT, TRIPLE_REPORT};
+use crate::runs::{AMPLE, Case, LAST, Part, each_ends};
 use crate::twice::{TWO_RIVERS, TWO_RIVERS_REPORT};
-use std::alloc::Global;
-use std::process::Abort;
 use std::test::Fail;
-
-/// The run of the mode writes this report and behind it these lines.
-fn adds(
-    rt: &impl Abort,
-    alloc: Global,
-    input: &[u8],
-    report: &str,
-    streets: &str,
-    status: u8,
-) -> Result<(), Fail> {
-    let mut written = report.as_bytes().to_vec(alloc)?;
-    written.extend_from_slice(streets.as_bytes())?;
-    ends(rt, alloc, &["streets"], input, AMPLE, status, &written)
-}
 
 pub(crate) const ACES: &str = "PokerStars Hand #96: Hold'em No Limit (10/20)
 Table '9 7' 2-max Seat #1 is the button
@@ -102,22 +86,6 @@ pot,0,high,win,1,100.00,tie,0,0.00,lose,0,0.00,y
 pot,0,ev,1.000,,,,,,,,,y
 ";
 
-/// As text and as records.
-#[test]
-fn an_all_in_before_the_flop_has_three_later_streets(rt: HostRuntime) -> Result<(), Fail> {
-    let alloc = rt.alloc();
-    let input = ACES.as_bytes();
-    adds(&rt, alloc, input, ACES_REPORT, ACES_STREETS, 0)?;
-    reports(
-        &rt,
-        alloc,
-        &["streets", "--format", "csv"],
-        input,
-        0,
-        ACES_RECORDS,
-    )
-}
-
 /// On the river a has the best hand of both pots.
 const RIVER: &str = "street river runouts 1
 pot 0 high win 1 100.00 tie 0 0.00 lose 0 0.00 a
@@ -132,43 +100,6 @@ pot 1 high win 0 0.00 tie 0 0.00 lose 1 100.00 c
 pot 1 ev 0.000 c
 ";
 
-/// Of a hand that is run twice the first board is walked: on the second c would win both.
-#[test]
-fn the_streets_of_the_first_board_count(rt: HostRuntime) -> Result<(), Fail> {
-    let alloc = rt.alloc();
-    let mut input = first_lines(alloc, SIDE_POTS, 12)?;
-    input.extend_from_slice(SIDE_POTS.as_bytes())?;
-    adds(&rt, alloc, &input, SIDE_POTS_REPORT, RIVER, 1)?;
-    let input = with_lines(alloc, SIDE_POTS, 21, 27, &TWO_RIVERS)?;
-    adds(&rt, alloc, &input, TWO_RIVERS_REPORT, RIVER, 0)
-}
-
-const NO_ALL_IN: &str = "hand 2 accepted holdem rake 0.00
-pot 0 gross 6.00 rake 0.00 checked
-paid 6.00 x
-all-in none
-";
-
-const UNKNOWN_ALL_IN: &str = "hand 88 accepted holdem rake 0
-pot 0 gross 1500 rake 0 unseen
-paid 1500 a
-pot 1 gross 2000 rake 0 checked
-paid 2000 a
-all-in unknown
-";
-
-/// A hand with no all-in, one with cards that nobody saw, and one that is rejected.
-#[test]
-fn other_hands_have_no_streets(rt: HostRuntime) -> Result<(), Fail> {
-    let alloc = rt.alloc();
-    reports(&rt, alloc, &["streets"], HEADS_UP.as_bytes(), 0, NO_ALL_IN)?;
-    let input = with_mucked_hand(alloc)?;
-    reports(&rt, alloc, &["streets"], &input, 0, UNKNOWN_ALL_IN)?;
-    let input = with_line(alloc, SIDE_POTS, 21, "*** RIVER *** [7h 8h 2c Qs] [As]\n")?;
-    let rejected = "hand 88 rejected line 23 CardTwice As\n";
-    reports(&rt, alloc, &["streets"], &input, 1, rejected)
-}
-
 /// Eight high beats seven high.
 const DRAW5_STREET: &str = "street draw runouts 1
 pot 0 high win 1 100.00 tie 0 0.00 lose 0 0.00 x
@@ -177,18 +108,28 @@ pot 0 high win 0 0.00 tie 0 0.00 lose 1 100.00 y
 pot 0 ev 0.000 y
 ";
 
-/// In place of the draw: y draws before x stands pat.
-const OTHER_FIRST: [&str; 3] = [
-    "y: discards 1 card [Kh]",
-    "Dealt to y [7c 5d 4h 3s] [2c]",
-    "x: stands pat on [8d 6h 5s 4c 2d]",
+/// The draw where y draws before x stands pat.
+const OTHER_FIRST: &[Part] = &[
+    Part::Lines(Hand::Draw5, 1, 11),
+    Part::Whole(
+        "y: discards 1 card [Kh]
+Dealt to y [7c 5d 4h 3s] [2c]
+x: stands pat on [8d 6h 5s 4c 2d]
+",
+    ),
+    Part::Lines(Hand::Draw5, 15, LAST),
 ];
 
-/// In place of what y draws and shows: nobody sees it.
-const HIDDEN_DRAW: [&str; 3] = [
-    "y: discards 1 card [Kh]",
-    "*** SHOW DOWN ***",
-    "y: mucks hand",
+/// The draw where nobody sees what y draws.
+const HIDDEN_DRAW: &[Part] = &[
+    Part::Lines(Hand::Draw5, 1, 12),
+    Part::Whole(
+        "y: discards 1 card [Kh]
+*** SHOW DOWN ***
+y: mucks hand
+",
+    ),
+    Part::Lines(Hand::Draw5, 17, LAST),
 ];
 
 const HIDDEN_DRAW_REPORT: &str = "hand 94 accepted draw5 rake 0
@@ -203,18 +144,6 @@ expect 14 x
 expect 186 y
 ";
 
-/// The first who stands pat or discards begins the draw. What y keeps is known, but not what he draws.
-#[test]
-fn a_draw_has_a_street(rt: HostRuntime) -> Result<(), Fail> {
-    let alloc = rt.alloc();
-    adds(&rt, alloc, DRAW5.as_bytes(), DRAW5_REPORT, DRAW5_STREET, 0)?;
-    let input = with_lines(alloc, DRAW5, 12, 14, &OTHER_FIRST)?;
-    adds(&rt, alloc, &input, DRAW5_REPORT, DRAW5_STREET, 0)?;
-    let input = with_lines(alloc, DRAW5, 13, 16, &HIDDEN_DRAW)?;
-    let unknown = "street draw unknown\n";
-    adds(&rt, alloc, &input, HIDDEN_DRAW_REPORT, unknown, 0)
-}
-
 /// King high loses to eight high.
 const THIRD_DRAW: &str = "street 3rd-draw runouts 1
 pot 0 low win 0 0.00 tie 0 0.00 lose 1 100.00 x
@@ -223,11 +152,16 @@ pot 0 low win 1 100.00 tie 0 0.00 lose 0 0.00 y
 pot 0 ev 1.000 y
 ";
 
-/// In place of what x draws last and shows: nobody sees it.
-const HIDDEN_THIRD: [&str; 3] = [
-    "*** SHOW DOWN ***",
-    "y: shows [8d 6h 5s 4c 2d]",
-    "x: mucks hand",
+/// The third draw where nobody sees what x draws.
+const HIDDEN_THIRD: &[Part] = &[
+    Part::Lines(Hand::Triple, 1, 25),
+    Part::Whole(
+        "*** SHOW DOWN ***
+y: shows [8d 6h 5s 4c 2d]
+x: mucks hand
+",
+    ),
+    Part::Lines(Hand::Triple, 30, LAST),
 ];
 
 /// The king, the queen and the jack that x threw away are dead, so 40 cards may come, of which three deuces win for
@@ -245,11 +179,103 @@ expect,111,,,,,,,,,,,y
 street,3rd-draw,unknown,,,,,,,,,,
 ";
 
+const ACES_CASES: &[Case] = &[
+    // An all-in before the flop has three later streets, as text and as records.
+    (
+        &["streets"],
+        AMPLE,
+        &[Part::All(Hand::Aces)],
+        0,
+        &[ACES_REPORT, ACES_STREETS],
+    ),
+    (
+        &["streets", "--format", "csv"],
+        AMPLE,
+        &[Part::All(Hand::Aces)],
+        0,
+        &[ACES_RECORDS],
+    ),
+];
+
 #[test]
-fn the_third_draw_is_the_last_street(rt: HostRuntime) -> Result<(), Fail> {
-    let alloc = rt.alloc();
-    adds(&rt, alloc, TRIPLE.as_bytes(), TRIPLE_REPORT, THIRD_DRAW, 0)?;
-    let input = with_lines(alloc, TRIPLE, 26, 29, &HIDDEN_THIRD)?;
-    let words = ["--format=csv", "streets"];
-    reports(&rt, alloc, &words, &input, 0, HIDDEN_THIRD_RECORDS)
+fn an_all_in_before_the_flop_has_three_later_streets(rt: HostRuntime) -> Result<(), Fail> {
+    each_ends(&rt, rt.alloc(), ACES_CASES)
+}
+
+const CASES: &[Case] = &[
+    // Of a hand that is run twice the first board is walked: on the second c would win both.
+    (
+        &["streets"],
+        AMPLE,
+        CUT_AND_WHOLE,
+        1,
+        &[SIDE_POTS_REPORT, RIVER],
+    ),
+    (
+        &["streets"],
+        AMPLE,
+        TWO_RIVERS,
+        0,
+        &[TWO_RIVERS_REPORT, RIVER],
+    ),
+    // A hand with no all-in, one with cards that nobody saw, and one that is rejected have no streets.
+    (
+        &["streets"],
+        AMPLE,
+        &[Part::All(Hand::HeadsUp)],
+        0,
+        &[NO_ALL_IN],
+    ),
+    (&["streets"], AMPLE, MUCKED, 0, &[UNKNOWN_ALL_IN]),
+    (&["streets"], AMPLE, CARD_TWICE, 1, &[REJECTED]),
+];
+
+#[test]
+fn each_later_street_is_told(rt: HostRuntime) -> Result<(), Fail> {
+    each_ends(&rt, rt.alloc(), CASES)
+}
+
+const DRAWS: &[Case] = &[
+    // The first who stands pat or discards begins the draw. What y keeps is known, but not what he draws.
+    (
+        &["streets"],
+        AMPLE,
+        &[Part::All(Hand::Draw5)],
+        0,
+        &[DRAW5_REPORT, DRAW5_STREET],
+    ),
+    (
+        &["streets"],
+        AMPLE,
+        OTHER_FIRST,
+        0,
+        &[DRAW5_REPORT, DRAW5_STREET],
+    ),
+    (
+        &["streets"],
+        AMPLE,
+        HIDDEN_DRAW,
+        0,
+        &[HIDDEN_DRAW_REPORT, "street draw unknown\n"],
+    ),
+    // The third draw is the last street.
+    (
+        &["streets"],
+        AMPLE,
+        &[Part::All(Hand::Triple)],
+        0,
+        &[TRIPLE_REPORT, THIRD_DRAW],
+    ),
+    (
+        &["--format=csv", "streets"],
+        AMPLE,
+        HIDDEN_THIRD,
+        0,
+        &[HIDDEN_THIRD_RECORDS],
+    ),
+];
+
+#[test]
+fn a_draw_has_a_street(rt: HostRuntime) -> Result<(), Fail> {
+    each_ends(&rt, rt.alloc(), DRAWS)
 }

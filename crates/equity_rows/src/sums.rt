@@ -1,8 +1,8 @@
 //! Sums by name over all hands, and over hands that are made. What a player might have expected in each hand was
 //! listed by hand; the units of made hands are those of a program outside this repository that lists runouts.
 
-use crate::histories::{SIDE_POTS, SIX_SEATS, as_typed, first_lines};
-use crate::runs::{AMPLE, Edges, ends, reports};
+use crate::histories::Hand;
+use crate::runs::{AMPLE, Case, Edges, NO_WRITE, ONE_READ, Part, each_ends};
 use std::test::Fail;
 
 /// Over a cash hand and a tournament hand. Those who folded before the all-in have no share of it.
@@ -64,61 +64,90 @@ const THREE: &str = "made hands 3 accepted 3 runouts 2970 first 4309200 second 1
 
 const FORTY: &str = "made hands 40 accepted 40 runouts 39600 first 94431960 second 105152040\n";
 
-/// Each name in each unit has a line, in the order of the first seat lines; a rejected hand counts as one.
+const NO_HANDS: &str = "made hands 0 accepted 0 runouts 0 first 0 second 0\n";
+
+const TWO_UNITS: &[Part] = &[
+    Part::All(Hand::SixSeats),
+    Part::All(Hand::SidePots),
+    Part::Lines(Hand::SidePots, 1, 12),
+];
+
+const CASES: &[Case] = &[
+    // Each name in each unit has a line, in the order of the first seat lines; a rejected hand counts as one.
+    (&["totals", "--format=text"], AMPLE, TWO_UNITS, 1, &[BOTH]),
+    (
+        &["totals", "--format=csv"],
+        AMPLE,
+        &[Part::All(Hand::SidePots)],
+        0,
+        &[RECORDS],
+    ),
+    (
+        &["totals", "--format=text"],
+        AMPLE,
+        &[Part::Whole(QUOTED)],
+        0,
+        &[QUOTED_TOTALS],
+    ),
+    (
+        &["totals", "--format=csv"],
+        AMPLE,
+        &[Part::Whole(QUOTED)],
+        0,
+        &[QUOTED_RECORDS],
+    ),
+    (&["totals", "--format=text"], AMPLE, &[], 0, &[NONE]),
+    // After a failed read the closed hands have their totals, and a failed write leaves nothing.
+    (
+        &["totals"],
+        ONE_READ,
+        &[Part::Hands(Hand::SidePots, 2)],
+        3,
+        &[ALONE],
+    ),
+    (
+        &["totals"],
+        NO_WRITE,
+        &[Part::Hands(Hand::SidePots, 2)],
+        4,
+        &[],
+    ),
+];
+
 #[test]
 fn totals_of_hands_in_two_units(rt: HostRuntime) -> Result<(), Fail> {
-    let alloc = rt.alloc();
-    let mut input = as_typed(alloc, SIX_SEATS)?;
-    input.extend_from_slice(SIDE_POTS.as_bytes())?;
-    input.extend_from_slice(&first_lines(alloc, SIDE_POTS, 12)?)?;
-    for (form, input, status, report) in [
-        ("--format=text", input.as_slice(), 1, BOTH),
-        ("--format=csv", SIDE_POTS.as_bytes(), 0, RECORDS),
-        ("--format=text", QUOTED.as_bytes(), 0, QUOTED_TOTALS),
-        ("--format=csv", QUOTED.as_bytes(), 0, QUOTED_RECORDS),
-        ("--format=text", b"", 0, NONE),
-    ] {
-        reports(&rt, alloc, &["totals", form], input, status, report)?;
-    }
-    Ok(())
+    each_ends(&rt, rt.alloc(), CASES)
 }
 
-/// After a failed read the closed hands have their totals, and a failed write leaves nothing.
-#[test]
-fn totals_of_closed_hands(rt: HostRuntime) -> Result<(), Fail> {
-    let alloc = rt.alloc();
-    let mut input = SIDE_POTS.as_bytes().to_vec(alloc)?;
-    input.extend_from_slice(SIDE_POTS.as_bytes())?;
-    let failing = Edges {
-        read_fault: Some(1),
-        ..AMPLE
-    };
-    let alone = ALONE.as_bytes();
-    ends(&rt, alloc, &["totals"], &input, failing, 3, alone)?;
-    let failing = Edges {
-        write_fault: Some(0),
-        ..AMPLE
-    };
-    ends(&rt, alloc, &["totals"], &input, failing, 4, b"")
-}
+/// Ends of which no read can succeed.
+const NO_READ: Edges = Edges {
+    read_fault: Some(0),
+    ..AMPLE
+};
+
+const SPOT: &[Part] = &[Part::Whole("holdem As Ah\n")];
+
+const MADE: &[Case] = &[
+    (&["made", "--hands=3"], NO_READ, SPOT, 0, &[THREE]),
+    (
+        &["made", "--seed=1", "--hands=3", "--workers=16"],
+        NO_READ,
+        SPOT,
+        0,
+        &[THREE],
+    ),
+    (
+        &["made", "--seed=9", "--hands=40"],
+        NO_READ,
+        SPOT,
+        0,
+        &[FORTY],
+    ),
+    (&["made", "--hands=0"], NO_READ, SPOT, 0, &[NO_HANDS]),
+];
 
 /// Hands that are made are audited, whatever the input is, and with how many workers.
 #[test]
 fn made_hands_come_to_a_line(rt: HostRuntime) -> Result<(), Fail> {
-    let alloc = rt.alloc();
-    let failing = Edges {
-        read_fault: Some(0),
-        ..AMPLE
-    };
-    let nothing = "made hands 0 accepted 0 runouts 0 first 0 second 0\n";
-    for (words, line) in [
-        (["made", "--hands=3"].as_slice(), THREE),
-        (&["made", "--seed=1", "--hands=3", "--workers=16"], THREE),
-        (&["made", "--seed=9", "--hands=40"], FORTY),
-        (&["made", "--hands=0"], nothing),
-    ] {
-        let input = b"holdem As Ah\n";
-        ends(&rt, alloc, words, input, failing, 0, line.as_bytes())?;
-    }
-    Ok(())
+    each_ends(&rt, rt.alloc(), MADE)
 }

@@ -1,23 +1,28 @@
 //! Hands that are run twice. The all-in is the same as where a hand is run once; what is expected of the pots is
 //! halved by hand.
 
-use crate::histories::{SIDE_POTS, with_lines};
-use crate::runs::{all_report, reports};
+use crate::histories::Hand;
+use crate::runs::{AMPLE, Case, LAST, Part, each_ends};
 use std::test::Fail;
 
-/// In place of the river and the showdown of the hand with side pots: a has the best hand on the first board, and
-/// c on the second.
-pub(crate) const TWO_RIVERS: [&str; 10] = [
-    "*** FIRST RIVER *** [7h 8h 2c Qs] [3d]",
-    "*** SECOND RIVER *** [7h 8h 2c Qs] [6s]",
-    "*** FIRST SHOW DOWN ***",
-    "a: shows [As Ad] (a pair of Aces)",
-    "c: shows [9h Th] (high card Queen)",
-    "a collected 1000 from side pot",
-    "b: shows [Kc Kd] (a pair of Kings)",
-    "a collected 750 from main pot",
-    "*** SECOND SHOW DOWN ***",
-    "c collected 1000 from side pot\nc collected 750 from main pot",
+/// The hand with side pots run twice from the river on: a has the best hand on the first board, and c on the second.
+pub(crate) const TWO_RIVERS: &[Part] = &[
+    Part::Lines(Hand::SidePots, 1, 20),
+    Part::Whole(
+        "*** FIRST RIVER *** [7h 8h 2c Qs] [3d]
+*** SECOND RIVER *** [7h 8h 2c Qs] [6s]
+*** FIRST SHOW DOWN ***
+a: shows [As Ad] (a pair of Aces)
+c: shows [9h Th] (high card Queen)
+a collected 1000 from side pot
+b: shows [Kc Kd] (a pair of Kings)
+a collected 750 from main pot
+*** SECOND SHOW DOWN ***
+c collected 1000 from side pot
+c collected 750 from main pot
+",
+    ),
+    Part::Lines(Hand::SidePots, 28, LAST),
 ];
 
 pub(crate) const TWO_RIVERS_REPORT: &str = "hand 88 accepted holdem rake 0 twice\n\
@@ -50,29 +55,20 @@ pot,1,gross,2000,rake,0,checked,,,,,,\n\
 paid,1000,,,,,,,,,,,a\n\
 paid,1000,,,,,,,,,,,c\n";
 
-#[test]
-fn each_board_has_half_of_each_pot(rt: HostRuntime) -> Result<(), Fail> {
-    let alloc = rt.alloc();
-    let input = with_lines(alloc, SIDE_POTS, 21, 27, &TWO_RIVERS)?;
-    reports(&rt, alloc, &["audit"], &input, 0, TWO_RIVERS_REPORT)?;
-    let forms: [&[&str]; 2] = [&["check", "--format", "csv"], &["--format=csv", "check"]];
-    all_report(&rt, alloc, &forms, &input, 0, TWO_RIVERS_RECORDS)
-}
-
 /// The same hand where the house takes a chip of the main pot: 1499 are left, of which the first board has 750.
-/// The last two lines are to say who collects how much of them.
-const ODD_RIVERS: [&str; 10] = [
-    "*** FIRST RIVER *** [7h 8h 2c Qs] [3d]",
-    "*** SECOND RIVER *** [7h 8h 2c Qs] [6s]",
-    "*** SHOW DOWN ***",
-    "a: shows [As Ad] (a pair of Aces)",
-    "c: shows [9h Th] (high card Queen)",
-    "b: shows [Kc Kd] (a pair of Kings)",
-    "a collected 1000 from side pot",
-    "c collected 1000 from side pot",
-    "a collected 750 from main pot\nc collected 749 from main pot",
-    "*** SUMMARY ***\nTotal pot 3500 Main pot 1500. Side pot 2000. | Rake 1",
-];
+const ODD_RIVERS: &str = "*** FIRST RIVER *** [7h 8h 2c Qs] [3d]
+*** SECOND RIVER *** [7h 8h 2c Qs] [6s]
+*** SHOW DOWN ***
+a: shows [As Ad] (a pair of Aces)
+c: shows [9h Th] (high card Queen)
+b: shows [Kc Kd] (a pair of Kings)
+a collected 1000 from side pot
+c collected 1000 from side pot
+";
+
+const ODD_RAKE: &str = "*** SUMMARY ***
+Total pot 3500 Main pot 1500. Side pot 2000. | Rake 1
+";
 
 const ODD_RIVERS_REPORT: &str = "hand 88 accepted holdem rake 1 twice\n\
 pot 0 gross 1500 rake 1 checked\n\
@@ -90,17 +86,56 @@ pot 1 gross 2000 rake 0 checked\n\
 paid 1000 a\n\
 paid 1000 c\n";
 
+const FIRST_HAS_IT: &[Part] = &[
+    Part::Lines(Hand::SidePots, 1, 20),
+    Part::Whole(ODD_RIVERS),
+    Part::Whole("a collected 750 from main pot\nc collected 749 from main pot\n"),
+    Part::Whole(ODD_RAKE),
+    Part::Lines(Hand::SidePots, 30, LAST),
+];
+
+const SECOND_HAS_IT: &[Part] = &[
+    Part::Lines(Hand::SidePots, 1, 20),
+    Part::Whole(ODD_RIVERS),
+    Part::Whole("a collected 749 from main pot\nc collected 750 from main pot\n"),
+    Part::Whole(ODD_RAKE),
+    Part::Lines(Hand::SidePots, 30, LAST),
+];
+
+const SECOND_HAS_THREE: &[Part] = &[
+    Part::Lines(Hand::SidePots, 1, 20),
+    Part::Whole(ODD_RIVERS),
+    Part::Whole("a collected 748 from main pot\nc collected 751 from main pot\n"),
+    Part::Whole(ODD_RAKE),
+    Part::Lines(Hand::SidePots, 30, LAST),
+];
+
+const BEYOND: &str = "hand 88 rejected line 36 Split seat 1 due 750 got 748\n";
+
+const CASES: &[Case] = &[
+    // Each board has half of each pot.
+    (&["audit"], AMPLE, TWO_RIVERS, 0, &[TWO_RIVERS_REPORT]),
+    (
+        &["check", "--format", "csv"],
+        AMPLE,
+        TWO_RIVERS,
+        0,
+        &[TWO_RIVERS_RECORDS],
+    ),
+    (
+        &["--format=csv", "check"],
+        AMPLE,
+        TWO_RIVERS,
+        0,
+        &[TWO_RIVERS_RECORDS],
+    ),
+    // The first board has the odd chip.
+    (&["check"], AMPLE, FIRST_HAS_IT, 0, &[ODD_RIVERS_REPORT]),
+    (&["check"], AMPLE, SECOND_HAS_IT, 0, &[OTHER_WAY_REPORT]),
+    (&["check"], AMPLE, SECOND_HAS_THREE, 1, &[BEYOND]),
+];
+
 #[test]
-fn the_first_board_has_the_odd_chip(rt: HostRuntime) -> Result<(), Fail> {
-    let alloc = rt.alloc();
-    let mut lines = ODD_RIVERS;
-    let input = with_lines(alloc, SIDE_POTS, 21, 29, &lines)?;
-    reports(&rt, alloc, &["check"], &input, 0, ODD_RIVERS_REPORT)?;
-    lines[8] = "a collected 749 from main pot\nc collected 750 from main pot";
-    let input = with_lines(alloc, SIDE_POTS, 21, 29, &lines)?;
-    reports(&rt, alloc, &["check"], &input, 0, OTHER_WAY_REPORT)?;
-    lines[8] = "a collected 748 from main pot\nc collected 751 from main pot";
-    let input = with_lines(alloc, SIDE_POTS, 21, 29, &lines)?;
-    let beyond = "hand 88 rejected line 36 Split seat 1 due 750 got 748\n";
-    reports(&rt, alloc, &["check"], &input, 1, beyond)
+fn each_board_has_half_of_each_pot(rt: HostRuntime) -> Result<(), Fail> {
+    each_ends(&rt, rt.alloc(), CASES)
 }

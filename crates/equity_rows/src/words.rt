@@ -2,7 +2,7 @@
 //! records of CSV.
 
 use crate::faults::{REPORT, SPOT, USAGE};
-use crate::runs::{all_report, reports};
+use crate::runs::{Told, each_told};
 use std::test::Fail;
 
 /// Options stand before the mode or behind it, with their values behind an equals sign or as words of
@@ -21,14 +21,15 @@ const IN_FORM: &[&[&str]] = &[
     ],
 ];
 
-#[test]
-fn options_stand_in_any_place(rt: HostRuntime) -> Result<(), Fail> {
-    all_report(&rt, rt.alloc(), IN_FORM, SPOT, 0, REPORT)
-}
-
-/// An option twice, without a value, with a value beyond its bounds or no number, a word that begins with a
+/// Other words than a mode; an option twice, without a value, with a value beyond its bounds or no number, a word that begins with a
 /// hyphen as a value, an option that there isn't, and a second mode are in no form.
 const IN_NO_FORM: &[&[&str]] = &[
+    &[],
+    &["--help"],
+    &["spot"],
+    &["spots", "spots"],
+    &[""],
+    &["SPOTS"],
     &["spots", "--workers"],
     &["spots", "--workers=0"],
     &["spots", "--workers", "17"],
@@ -48,11 +49,6 @@ const IN_NO_FORM: &[&[&str]] = &[
     &["--workers=2"],
 ];
 
-#[test]
-fn other_options_are_in_no_form(rt: HostRuntime) -> Result<(), Fail> {
-    all_report(&rt, rt.alloc(), IN_NO_FORM, SPOT, 2, USAGE)
-}
-
 const CSV: &[&[&str]] = &[&["spots", "--format", "csv"], &["--format=csv", "spots"]];
 
 const RECORDS: &str = "\
@@ -62,16 +58,19 @@ hand,1,ev,0.955,,,,,,,,,\n\
 hand,2,high,win,2,4.55,tie,0,0.00,lose,42,95.45,\n\
 hand,2,ev,0.045,,,,,,,,,\n";
 
-/// A record of CSV has thirteen fields: the words from the left, and the name in the last.
-#[test]
-fn a_report_as_records(rt: HostRuntime) -> Result<(), Fail> {
-    all_report(&rt, rt.alloc(), CSV, SPOT, 0, RECORDS)
-}
-
 /// A rejected line is a record too.
+const REJECTED: &str = "spot,1,rejected,line,1,UnknownWord,,,,,,,\n";
+
+/// Words in no form give the usage line. A record of CSV has thirteen fields: the words from the left, and the name in
+/// the last.
+const TOLD: &[Told] = &[
+    (IN_FORM, SPOT, 0, REPORT),
+    (IN_NO_FORM, SPOT, 2, USAGE),
+    (CSV, SPOT, 0, RECORDS),
+    (&[&["spots", "--format=csv"]], "badugi As Ah\n", 1, REJECTED),
+];
+
 #[test]
-fn a_rejected_spot_as_a_record(rt: HostRuntime) -> Result<(), Fail> {
-    let rejected = "spot,1,rejected,line,1,UnknownWord,,,,,,,\n";
-    let words = ["spots", "--format=csv"];
-    reports(&rt, rt.alloc(), &words, b"badugi As Ah\n", 1, rejected)
+fn options_stand_in_any_place(rt: HostRuntime) -> Result<(), Fail> {
+    each_told(&rt, rt.alloc(), TOLD)
 }
