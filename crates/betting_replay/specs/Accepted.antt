@@ -9,7 +9,7 @@ use Rattle.card_sets.specs.declared.streets.Street.{Street as StreetName}
 use Rattle.betting_replay.specs.Events.{seat_of, is_seat_line, bought}
 use Rattle.betting_replay.specs.Limits.{Fits}
 use Rattle.betting_replay.specs.Sums.{stack, paid, dead}
-use Rattle.betting_replay.specs.Tables.{Table, table_of, chips_at, acts_at, own_at, final_at, known_at, dead_at, chips_of, acts_of, dead_cards}
+use Rattle.betting_replay.specs.TableAfter.{Table, table_of, chips_at, acts_at, own_at, final_at, known_at, dead_at, chips_of, acts_of, dead_cards}
 use Rattle.betting_replay.specs.Places.{owned}
 use Rattle.betting_replay.specs.Known.{final_cards, cards_at}
 use Rattle.betting_replay.specs.Turns.{may_act, owes_before, next_to_act}

@@ -8,6 +8,7 @@ use Rattle.card_sets.specs.Streets.{is_street, streets_of, board_count}
 use Rattle.history_text.specs.declared.events.Header.{Header}
 use Rattle.history_text.specs.declared.events.Event.{Event}
 use Rattle.history_text.specs.declared.events.Event.TheVariants.{Street}
+pub use Rattle.history_text.specs.MarkerCards.{HasCards, MarkerFits}
 use Rattle.card_sets.specs.declared.streets.Street.{Street as StreetName}
 use Rattle.betting_replay.specs.declared.points.Point.{Point}
 use Rattle.betting_replay.specs.Accepted.{IsAccepted}
@@ -17,7 +18,7 @@ use Rattle.betting_replay.specs.Known.{final_cards, cards_at}
 use Rattle.betting_replay.specs.Places.{owned}
 use Rattle.card_sets.specs.PlayerSets.{has_player}
 use Rattle.betting_replay.specs.Sums.{street, last_begun, runs_twice, second_begun}
-use Rattle.betting_replay.specs.Tables.{table_of, point, dead_cards}
+use Rattle.betting_replay.specs.TableAfter.{table_of, point, dead_cards}
 use Rattle.betting_replay.specs.Turns.{contender_count}
 
 -- two different places share no card
@@ -84,15 +85,7 @@ sum_up_to many street (first ∷ others) = many first + (if is_street street fir
 abbrev pub board_then : Game → StreetName → ℕ
 board_then game street = sum_up_to (board_count game) street (streets_of game)
 
--- a marker has as many cards as come with it
-pub record HasCards (game : Game) (street : StreetName) (cards : List ℕ) : Type 0 where
-  pub many : length cards ≡ board_count game street
-  pub deck : (card : ℕ) → has_card cards card ≡ true → card < 52
-
-abbrev pub MarkerFits : Game → Event → Type 0
-MarkerFits game (Street street number cards) = HasCards game street cards
-MarkerFits game _ = Unit {0}
-
+-- each marker has as many cards as come with it
 abbrev pub MarkersFit : Game → List Event → Type 0
 MarkersFit game [] = Unit {0}
 MarkersFit game (e ∷ h) = MarkerFits game e × MarkersFit game h

@@ -7,7 +7,7 @@ use Rattle.history_text.specs.declared.events.Event.TheVariants.{Deal, Discard, 
 use Rattle.card_sets.specs.declared.streets.Street.{Street as StreetName}
 use Rattle.card_sets.specs.declared.streets.Street.TheVariants.{First, Fourth, Fifth, Sixth}
 use Rattle.betting_replay.specs.declared.seats.Deals.{Deals}
-use Rattle.betting_replay.specs.declared.seats.Draws.{Draws}
+use Rattle.betting_replay.specs.declared.seats.SeatDraws.{SeatDraws}
 use Rattle.betting_replay.specs.declared.seats.LastDraw.{LastDraw}
 use Rattle.betting_replay.specs.Events.{seat_of}
 use Rattle.betting_replay.specs.Streets.{same_street}
@@ -76,7 +76,7 @@ deals_of header h p = record {
   down = marked deals_three h p;
 }
 
-abbrev pub draws_of : List Event → ℕ → Draws
+abbrev pub draws_of : List Event → ℕ → SeatDraws
 draws_of h p = record { hidden = marked hides h p; pat = marked stands_pat h p; five = marked discards_five h p }
 
 -- whether the last street has begun, before an event or with it
@@ -125,7 +125,7 @@ deals_after now e d = record {
   down = deals_three e || d.down;
 }
 
-abbrev pub draws_after : Event → Draws → Draws
+abbrev pub draws_after : Event → SeatDraws → SeatDraws
 draws_after e d = record { hidden = hides e || d.hidden; pat = stands_pat e || d.pat; five = discards_five e || d.five }
 
 -- and of the last draw, where the last street has begun with the event or before it, or hasn't

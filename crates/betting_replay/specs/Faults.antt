@@ -17,7 +17,7 @@ use Rattle.card_sets.specs.Streets.{next_street}
 use Rattle.betting_replay.specs.Streets.{same_street, is_drawing, begun_by_drawing, is_first, is_number}
 use Rattle.betting_replay.specs.Sums.{is_last_of}
 use Rattle.card_sets.specs.PlayerSets.{has_player}
-use Rattle.betting_replay.specs.Tables.{Table, chips_at, acts_at, own_at, table_of}
+use Rattle.betting_replay.specs.TableAfter.{Table, chips_at, acts_at, own_at, table_of}
 use Rattle.betting_replay.specs.Turns.{live_at, greatest, contender_count, has_chips, any_shown, may_act, owes_before, next_to_act, due, call_fits, raise_fits}
 use Rattle.betting_replay.specs.AllIn.{funded_count}
 use Rattle.betting_replay.specs.Returns.{return_fits, uncalled_due}

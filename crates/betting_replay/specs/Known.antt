@@ -11,7 +11,7 @@ use Rattle.history_text.specs.declared.events.Event.{Event}
 use Rattle.card_sets.specs.declared.streets.Street.{Street as StreetName}
 use Rattle.card_sets.specs.declared.streets.Street.TheVariants.{First, Fourth, Fifth, Sixth, FirstDraw, SecondDraw}
 use Rattle.betting_replay.specs.declared.seats.Deals.{Deals}
-use Rattle.betting_replay.specs.declared.seats.Draws.{Draws}
+use Rattle.betting_replay.specs.declared.seats.SeatDraws.{SeatDraws}
 use Rattle.betting_replay.specs.declared.seats.LastDraw.{LastDraw}
 use Rattle.betting_replay.specs.Seats.{or_else}
 use Rattle.betting_replay.specs.Places.{owned, thrown}
@@ -27,7 +27,7 @@ pub record Holding : Type 0 where
   pub shown : Option (List ℕ)
   pub deals : Deals
   pub row : Option (List ℕ)
-  pub draws : Draws
+  pub draws : SeatDraws
   pub last : LastDraw
   pub thrown : List ℕ
 

@@ -8,7 +8,7 @@ use Rattle.history_text.specs.declared.events.Event.TheVariants.{Street}
 use Rattle.betting_replay.specs.Boards.{is_second}
 use Rattle.betting_replay.specs.Streets.{begins, is_later}
 use Rattle.betting_replay.specs.Turns.{any_shown}
-use Rattle.betting_replay.specs.Tables.{Table, table_of}
+use Rattle.betting_replay.specs.TableAfter.{Table, table_of}
 
 -- the event is a marker of a second board
 abbrev pub is_of_second : Event → Bool

@@ -1,3 +1,4 @@
+pub mod FaultNames
 pub mod Seats
 pub mod Events
 pub mod Streets
@@ -13,7 +14,7 @@ pub mod Turns
 pub mod Accounts
 pub mod Returns
 pub mod AllIn
-pub mod Tables
+pub mod TableAfter
 pub mod Faults
 pub mod Later
 pub mod Accepted

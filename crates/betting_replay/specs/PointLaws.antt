@@ -5,7 +5,7 @@ use Rattle.history_text.specs.declared.events.Event.{Event}
 use Rattle.betting_replay.specs.declared.points.Point.{Point}
 use Rattle.card_sets.specs.PlayerSets.{has_player}
 use Rattle.betting_replay.specs.Seats.{count_seats}
-use Rattle.betting_replay.specs.Tables.{table_of, point}
+use Rattle.betting_replay.specs.TableAfter.{table_of, point}
 use Rattle.betting_replay.specs.Turns.{is_contender}
 
 -- a point has two contenders or more, all of them players, and whoever is one later was one there

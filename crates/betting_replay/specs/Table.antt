@@ -8,7 +8,7 @@ use Rattle.betting_replay.specs.declared.points.Showdowns.{Showdowns}
 use Rattle.betting_replay.specs.declared.seats.Chips.{Chips}
 use Rattle.betting_replay.specs.declared.seats.Acts.{Acts}
 use Rattle.betting_replay.specs.declared.seats.Deals.{Deals}
-use Rattle.betting_replay.specs.declared.seats.Draws.{Draws}
+use Rattle.betting_replay.specs.declared.seats.SeatDraws.{SeatDraws}
 use Rattle.betting_replay.specs.declared.seats.LastDraw.{LastDraw}
 use Rattle.card_sets.specs.Cards.{union}
 use Rattle.betting_replay.specs.Boards.{up_to, shared_by, second_by}
@@ -31,7 +31,7 @@ pub record Table : Type 0 where
   -- what was dealt to each seat street by street, the last bracket of seven that it showed, how it drew, and how on the last draw
   pub deals : List Deals
   pub rows : List (Option (List ℕ))
-  pub draws : List Draws
+  pub draws : List SeatDraws
   pub lasts : List LastDraw
   -- all cards that have a place
   pub named : List ℕ
@@ -72,7 +72,7 @@ no_acts = record { folded = false; acted = false; brought_in = false }
 abbrev pub no_deals : Deals
 no_deals = record { first = []; fourth = []; fifth = []; sixth = []; up = []; given = []; down = false }
 
-abbrev pub no_draws : Draws
+abbrev pub no_draws : SeatDraws
 no_draws = record { hidden = false; pat = false; five = false }
 
 abbrev pub no_last_draw : LastDraw
@@ -103,7 +103,7 @@ deals_at t p = slice_index_or t.deals p no_deals
 abbrev pub row_at : Table → ℕ → Option (List ℕ)
 row_at t p = slice_index_or t.rows p None
 
-abbrev pub draws_at : Table → ℕ → Draws
+abbrev pub draws_at : Table → ℕ → SeatDraws
 draws_at t p = slice_index_or t.draws p no_draws
 
 abbrev pub last_draw_at : Table → ℕ → LastDraw

@@ -9,7 +9,7 @@ use Rattle.betting_replay.specs.Accepted.{IsAccepted}
 use Rattle.betting_replay.specs.Faults.{legal}
 use Rattle.betting_replay.specs.Limits.{Fits}
 use Rattle.betting_replay.specs.Sums.{last_actor}
-use Rattle.betting_replay.specs.Tables.{table_of}
+use Rattle.betting_replay.specs.TableAfter.{table_of}
 use Rattle.betting_replay.specs.Turns.{owes}
 
 -- how many seats one goes up from a seat, and around the table, to come to another: all ten where the two are one

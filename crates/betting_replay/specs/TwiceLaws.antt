@@ -12,7 +12,7 @@ use Rattle.betting_replay.specs.CardLaws.{MarkersFit}
 use Rattle.betting_replay.specs.Places.{owned}
 use Rattle.betting_replay.specs.Streets.{is_later}
 use Rattle.betting_replay.specs.Sums.{twice_from, second_street}
-use Rattle.betting_replay.specs.Tables.{point}
+use Rattle.betting_replay.specs.TableAfter.{point}
 
 -- a card is on both boards exactly where it came with a street before the first that has two
 pub record ShareBoards (header : Header) (h : List Event) (from : StreetName) (others : List ℕ) : Type 0 where

@@ -2,7 +2,7 @@
 
 ghost use Rattle.std.specs.Prelude.{◌≡◌};
 ghost use Rattle.betting_replay.specs.Boards.{is_second, named_on, named_second, before, shared_by, second_by};
-ghost use Rattle.betting_replay.specs.Tables.{board_at, is_twice, second_board_at};
+ghost use Rattle.betting_replay.specs.TableAfter.{board_at, is_twice, second_board_at};
 
 use crate::replay::Replay;
 use crate::streets::same_street;

@@ -5,7 +5,7 @@ ghost use Rattle.betting_replay.specs.Dealing.{counts_on, dealt_on, up_by, given
 
 use crate::hands::{cards_dealt, held_after};
 use crate::places::{cards_thrown, with_cards};
-use crate::seats::{Deals, Draws, LastDraw};
+use crate::seats::{Deals, LastDraw, SeatDraws};
 use crate::streets::same_street;
 use card_sets::Card;
 use history_text::{Event, Street};
@@ -99,10 +99,10 @@ fn discards_five(e: &Event) -> bool
 }
 
 /// How a player drew, after an event about his seat.
-pub(crate) fn draws_after(e: &Event, draws: Draws) -> Draws
+pub(crate) fn draws_after(e: &Event, draws: SeatDraws) -> SeatDraws
     ensures { result ≡ draws_after e.now draws }
 {
-    Draws {
+    SeatDraws {
         hidden: hides(e) || draws.hidden,
         pat: stands_pat(e) || draws.pat,
         five: discards_five(e) || draws.five,

@@ -45,3 +45,32 @@ pub enum BetFault {
     /// This seat would have more cards than the game gives.
     TooManyCards(u8),
 }
+
+impl BetFault {
+    ghost use Rattle.std.specs.Prelude.{◌≡◌};
+    ghost use Rattle.betting_replay.specs.FaultNames.{fault_name};
+
+    /// Its name, as the report writes it before what the fault carries.
+    pub fn name(&self) -> &'static str
+        ensures { result.now ≡ fault_name self.now }
+    {
+        match self {
+            BetFault::NotInHand => "NotInHand",
+            BetFault::OutOfTurn(_) => "OutOfTurn",
+            BetFault::NothingOwed => "NothingOwed",
+            BetFault::CheckFacingBet(_) => "CheckFacingBet",
+            BetFault::CallAmount(_) => "CallAmount",
+            BetFault::BetFacingBet => "BetFacingBet",
+            BetFault::RaiseAmount(_) => "RaiseAmount",
+            BetFault::AboveStack(_) => "AboveStack",
+            BetFault::AllInWord => "AllInWord",
+            BetFault::StreetEarly(_) => "StreetEarly",
+            BetFault::StreetOrder => "StreetOrder",
+            BetFault::UncalledAmount(_) => "UncalledAmount",
+            BetFault::CardTwice(_) => "CardTwice",
+            BetFault::PostLate => "PostLate",
+            BetFault::SeatTwice => "SeatTwice",
+            BetFault::TooManyCards(_) => "TooManyCards",
+        }
+    }
+}

@@ -1,7 +1,7 @@
 //! What a replay keeps of the events so far.
 
 use crate::points::{Point, Showdowns};
-use crate::seats::{Acts, Chips, Deals, Draws, LastDraw};
+use crate::seats::{Acts, Chips, Deals, LastDraw, SeatDraws};
 use card_sets::{Card, CardSet, PlayerSet};
 use history_text::{BoardNumber, Header, Street};
 use std::marker::Model;
@@ -22,7 +22,7 @@ pub struct Replay {
     pub(crate) shown: [Option<CardSet>; 11],
     pub(crate) deals: [Deals; 11],
     pub(crate) rows: [Option<[Card; 7]>; 11],
-    pub(crate) draws: [Draws; 11],
+    pub(crate) draws: [SeatDraws; 11],
     pub(crate) lasts: [LastDraw; 11],
     pub(crate) named: CardSet,
     pub(crate) thrown: CardSet,

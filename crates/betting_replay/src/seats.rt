@@ -49,7 +49,7 @@ pub struct Deals {
 
 /// How the player of a seat drew.
 #[derive(Clone, Copy, Debug, PartialEq, Eq)]
-pub struct Draws {
+pub struct SeatDraws {
     /// He discarded cards that weren't shown.
     pub hidden: bool,
     /// He stood pat.

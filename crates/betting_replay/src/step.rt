@@ -6,7 +6,7 @@ ghost use Rattle.history_text.specs.declared.events.Event.{Event};
 ghost use Rattle.history_text.specs.declared.events.Header.{Header};
 ghost use Rattle.betting_replay.specs.Events.{SeatFits, seat_of, button_after, posts_small, is_act};
 ghost use Rattle.betting_replay.specs.Limits.{AmountsFit};
-ghost use Rattle.betting_replay.specs.Tables.{StandsFor};
+ghost use Rattle.betting_replay.specs.TableAfter.{StandsFor};
 ghost use Rattle.betting_replay.specs.Counting.{counted};
 ghost use Rattle.betting_replay.specs.Faults.{verdict, legal, fault_at};
 
@@ -20,7 +20,7 @@ use crate::places::{
 };
 use crate::points::Showdowns;
 use crate::replay::Replay;
-use crate::seats::{Acts, Chips, Deals, Draws, LastDraw};
+use crate::seats::{Acts, Chips, Deals, LastDraw, SeatDraws};
 use crate::streets::{begins_on, marker_after, showdowns_after};
 use card_sets::{CardSet, PlayerSet};
 use history_text::{BoardNumber, Event, Header, PostKind, Street};
@@ -86,7 +86,7 @@ impl Replay {
                 down: false,
             }; 11],
             rows: [None; 11],
-            draws: [Draws {
+            draws: [SeatDraws {
                 hidden: false,
                 pat: false,
                 five: false,

@@ -11,7 +11,7 @@ use Rattle.betting_replay.specs.Boards.{board_up_to, second_board}
 use Rattle.betting_replay.specs.CardLaws.{Among}
 use Rattle.betting_replay.specs.Known.{cards_at}
 use Rattle.betting_replay.specs.Places.{owned}
-use Rattle.betting_replay.specs.Tables.{dead_cards}
+use Rattle.betting_replay.specs.TableAfter.{dead_cards}
 use Rattle.showdown_tally.specs.declared.table.Table.{Table}
 
 -- a hand is what its seat has on the street, by the whole text, and its cards belong to the seat

@@ -13,7 +13,7 @@ use Rattle.betting_replay.specs.Accepted.{IsAccepted}
 use Rattle.betting_replay.specs.CardLaws.{MarkerFits, MarkersFit}
 use Rattle.betting_replay.specs.Limits.{Fits}
 use Rattle.betting_replay.specs.Sums.{button}
-use Rattle.betting_replay.specs.Tables.{StandsFor}
+use Rattle.betting_replay.specs.TableAfter.{StandsFor}
 use Rattle.hand_audit.specs.declared.cause.Cause.{Cause}
 use Rattle.hand_audit.specs.declared.cause.Cause.TheVariants.{Text}
 use Rattle.hand_audit.specs.declared.hand.Hand.{Hand}

@@ -1,3 +1,4 @@
+pub mod CauseNames
 pub mod Lines
 pub mod Collections
 pub mod PotNames

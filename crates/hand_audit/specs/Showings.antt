@@ -9,7 +9,7 @@ use Rattle.pot_layers.specs.declared.paid.Paid.{Paid}
 use Rattle.betting_replay.specs.Accounts.{paid_by}
 use Rattle.betting_replay.specs.Seats.{by_seat}
 use Rattle.betting_replay.specs.Sums.{button}
-use Rattle.betting_replay.specs.Tables.{Table, table_of, own_at, final_at, is_twice, second_board_at}
+use Rattle.betting_replay.specs.TableAfter.{Table, table_of, own_at, final_at, is_twice, second_board_at}
 use Rattle.hand_audit.specs.declared.collections.Collection.{Collection}
 use Rattle.hand_audit.specs.Collections.{collections}
 use Rattle.hand_audit.specs.Settle.{Showing}

@@ -9,7 +9,7 @@ use Rattle.history_text.specs.declared.events.TextFault.{TextFault}
 use Rattle.pot_layers.specs.Pots.{pots}
 use Rattle.betting_replay.specs.Later.{later_streets}
 use Rattle.betting_replay.specs.Table.{Table as Replayed}
-use Rattle.betting_replay.specs.Tables.{table_of}
+use Rattle.betting_replay.specs.TableAfter.{table_of}
 use Rattle.showdown_tally.specs.declared.table.Table.{Table}
 use Rattle.hand_audit.specs.AllIns.{all_in_at, known_there, eligible_in}
 use Rattle.hand_audit.specs.Departs.{departs_from}

@@ -6,7 +6,7 @@ ghost use Rattle.hand_audit.specs.Winning.{AreDecided};
 ghost use Rattle.history_text.specs.declared.events.Event.{Event};
 ghost use Rattle.history_text.specs.declared.events.Header.{Header};
 ghost use Rattle.betting_replay.specs.Events.{button_after};
-ghost use Rattle.betting_replay.specs.Tables.{StandsFor};
+ghost use Rattle.betting_replay.specs.TableAfter.{StandsFor};
 ghost use Rattle.hand_audit.specs.Lines.{SoFar, nothing, part_after, read_at, named_by, with_event};
 ghost use Rattle.hand_audit.specs.Collections.{collected_by, taken};
 ghost use Rattle.hand_audit.specs.SettlementAnswers.{IsOfHand};

@@ -21,7 +21,7 @@ ghost use Rattle.betting_replay.specs.declared.points.Point.{Point};
 ghost use Rattle.hand_audit.specs.MarkLaws.{MarksAreCards};
 ghost use Rattle.hand_audit.specs.PotSums.{PotsAddUp};
 ghost use Rattle.hand_audit.specs.TablePots.{HasPotsOf};
-ghost use Rattle.betting_replay.specs.Tables.{point};
+ghost use Rattle.betting_replay.specs.TableAfter.{point};
 ghost use Rattle.hand_audit.specs.declared.settlement.Settlement.{Settlement};
 ghost use Rattle.card_sets.specs.declared.streets.Street.{Street};
 ghost use Rattle.showdown_tally.specs.declared.table.Table.{Table};

@@ -4,7 +4,7 @@ ghost use Rattle.std.specs.Prelude.{◌≡◌, ℕ, ◌<◌, ◌≤◌, List, is
 ghost use Rattle.card_sets.specs.PlayerSets.{has_player};
 ghost use Rattle.card_sets.specs.declared.games.Side.{Side};
 ghost use Rattle.betting_replay.specs.Seats.{by_seat};
-ghost use Rattle.betting_replay.specs.Tables.{final_at};
+ghost use Rattle.betting_replay.specs.TableAfter.{final_at};
 ghost use Rattle.hand_audit.specs.Showings.{second_at};
 ghost use Rattle.hand_audit.specs.declared.collections.Collection.{Collection};
 ghost use Rattle.hand_audit.specs.Winning.{TellsHands, TellsSecond, HasBothMarks};

@@ -3,7 +3,7 @@
 ghost use Rattle.std.specs.Prelude.{◌≡◌, ℕ, ◌<◌, true, None, IfSome, slice_index_or};
 ghost use Rattle.std.specs.Option.{option_map};
 ghost use Rattle.card_sets.specs.Cards.{IsCardSet};
-ghost use Rattle.betting_replay.specs.Tables.{final_at};
+ghost use Rattle.betting_replay.specs.TableAfter.{final_at};
 ghost use Rattle.hand_audit.specs.Settle.{value_on, first_side, second_side};
 ghost use Rattle.hand_audit.specs.Winning.{Ranks, number_on, is_full, full_with};
 

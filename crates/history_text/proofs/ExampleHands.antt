@@ -20,12 +20,12 @@ use Rattle.history_text.specs.declared.events.TextFault.{TextFault}
 use Rattle.history_text.specs.Texts.{behind, first_place, last_place, cut_first, cut_last}
 use Rattle.history_text.specs.Reading.{money, some_money, follows, all_in_end, seat_front}
 use Rattle.history_text.specs.Names.{front_name}
-use Rattle.history_text.specs.Brackets.{cards_of, counted_cards, closed}
+use Rattle.history_text.specs.Brackets.{cards_of, counted_cards, closed, shown_cards}
 use Rattle.history_text.specs.Acts.{verb_of, post, call, bet, raise, perhaps_cards, fold, show, discard_behind, discard, pat, said, act_event}
-use Rattle.history_text.specs.Markers.{street_event, street_for, marker_on, marker_of, marker_event, marked}
-use Rattle.history_text.specs.Plays.{acted, deal_once, deal_again, deal_cards, deal, dealt, give_back, returned, pot_of, collect, collected, cancelled, play_event}
-use Rattle.history_text.specs.Seats.{seat_opening, seat_event, seated, buttoned, preamble_event}
-use Rattle.history_text.specs.Totals.{total_event, totalled, last_shown, shown_event, shown, summary_event}
+use Rattle.history_text.specs.Markers.{street_event, street_for, marker_on, marker_of, marker_event, marker_line}
+use Rattle.history_text.specs.Plays.{act_line, deal_once, deal_again, deal_cards, deal, deal_line, give_back, return_line, pot_of, collect, collect_line, cancel_line, play_event}
+use Rattle.history_text.specs.Seats.{seat_opening, seat_event, seat_line, button_line, preamble_event}
+use Rattle.history_text.specs.Totals.{total_event, total_line, last_shown, seat_cards, show_line, summary_event}
 use Rattle.history_text.specs.Lines.{line_event}
 use Rattle.history_text.specs.Headers.{title, is_header, hand_number, behind_start, word_before, game_of, stakes_at, with_stakes, header_behind, header_of}
 
@@ -274,5 +274,5 @@ hands_are_read :
     × Say header_of_three_winners hand_of_three_winners
     × Say header_of_razz hand_of_razz
     × Say header_of_two hand_of_two
-unfolding Say names_behind part_behind lines_say header_of_six hand_of_six header_of_side_pots hand_of_side_pots header_of_three_winners hand_of_three_winners header_of_razz hand_of_razz header_of_two hand_of_two behind first_place last_place cut_first cut_last money some_money follows all_in_end seat_front front_name cards_of counted_cards closed verb_of post call bet raise perhaps_cards fold show discard_behind discard pat said act_event street_event street_for marker_on marker_of marker_event marked acted deal_once deal_again deal_cards deal dealt give_back returned pot_of collect collected cancelled play_event seat_opening seat_event seated buttoned preamble_event total_event totalled last_shown shown_event shown summary_event written card_of_letters
+unfolding Say names_behind part_behind lines_say header_of_six hand_of_six header_of_side_pots hand_of_side_pots header_of_three_winners hand_of_three_winners header_of_razz hand_of_razz header_of_two hand_of_two behind first_place last_place cut_first cut_last money some_money follows all_in_end seat_front front_name cards_of counted_cards closed shown_cards verb_of post call bet raise perhaps_cards fold show discard_behind discard pat said act_event street_event street_for marker_on marker_of marker_event marker_line act_line deal_once deal_again deal_cards deal deal_line give_back return_line pot_of collect collect_line cancel_line play_event seat_opening seat_event seat_line button_line preamble_event total_event total_line last_shown seat_cards show_line summary_event written card_of_letters
 hands_are_read = (refl, refl, refl, refl, refl)

@@ -5,6 +5,7 @@ pub mod HeaderPlaces
 pub mod OpeningLists
 pub mod LongestNames
 pub mod Within
+pub mod MarkerCards
 pub mod ExampleHands
 pub mod ExampleLines
 pub mod ExampleHeaders

@@ -28,11 +28,11 @@ use Rattle.history_text.specs.Names.{Fit, fit, longer, longest, front_name, seat
 use Rattle.card_sets.specs.Games.{has_bring_in, has_draw}
 use Rattle.card_sets.specs.Streets.{board_count}
 use Rattle.history_text.specs.Acts.{post, call, bet, raise, fold, show, discard, discard_behind, is_discarded, pat, said, act_event, at_end, perhaps_cards, behind_card}
-use Rattle.history_text.specs.Brackets.{closed, counted_cards, shown_counts}
-use Rattle.history_text.specs.Plays.{acted, dealt, deal, deal_cards, deal_once, deal_again, deal_end, deal_nothing, dealt_counts, drawn_counts, give_back, returned, collect, collected, pot_of, cancelled, play_event}
-use Rattle.history_text.specs.Markers.{street_event, marker_event, marked, marker_of}
-use Rattle.history_text.specs.Seats.{seat_opening, free_name, seat_event, seated, button_event, button_end, buttoned, preamble_event}
-use Rattle.history_text.specs.Totals.{total_event, totalled, seat_among, last_shown, shown_event, shown, summary_event}
+use Rattle.history_text.specs.Brackets.{closed, counted_cards, shown_cards, shown_counts}
+use Rattle.history_text.specs.Plays.{act_line, deal_line, deal, deal_cards, deal_once, deal_again, deal_end, deal_nothing, dealt_counts, drawn_counts, give_back, return_line, collect, collect_line, pot_of, cancel_line, play_event}
+use Rattle.history_text.specs.Markers.{street_event, marker_event, marker_line, marker_of}
+use Rattle.history_text.specs.Seats.{seat_opening, free_name, seat_event, seat_line, button_event, button_end, button_line, preamble_event}
+use Rattle.history_text.specs.Totals.{total_event, total_line, seat_among, last_shown, seat_cards, show_line, summary_event}
 use Rattle.history_text.specs.Lines.{line_event}
 use Rattle.history_text.specs.Within.{IsWithin, IsSeated, stands_in}
 
@@ -129,7 +129,7 @@ fold_good line seat text s = next (Good Play line) (perhaps_cards shown_counts t
 
 show_good : (line : List ℕ) (seat : ℕ) (text : List ℕ) → InSeats seat → Reads (Good Play line) (show seat text)
 unfolding show
-show_good line seat text s = next (Good Play line) (closed text) (λ x'. ◌>>=◌ {B = Event} (counted_cards shown_counts x'.0) (λ x''. Ok (event.Show seat x''))) (λ (cut : List ℕ × List ℕ). next (Good Play line) (counted_cards shown_counts cut.0) (λ x'. Ok (event.Show seat x')) (λ (cards : List ℕ). let g : Good Play line (event.Show seat cards) = ((s.0, s.1), refl) in g))
+show_good line seat text s = next (Good Play line) (shown_cards text) (λ cards. Ok (event.Show seat cards)) (λ (cards : List ℕ). let g : Good Play line (event.Show seat cards) = ((s.0, s.1), refl) in g)
 
 discard_good : (line : List ℕ) (seat : ℕ) (text : List ℕ) → InSeats seat → Reads (Good Play line) (discard seat text)
 unfolding discard discard_behind
@@ -214,9 +214,9 @@ named_has text (who ∷ names) all = by (bytes_eq who.1 text) (head_of who names
     by false here rest = rest
 
 -- lines of play
-acted_good : (line : List ℕ) (names : List (ℕ × List ℕ)) (header : Header) → All IsSeated names → Says (Good Play line) (acted names header line)
-unfolding acted
-acted_good line names header all = says_map FitSeats (Good Play line) _ _ (front_has (codes ": ") line names all) (λ who s. act_good line header who.seat who.rest s)
+act_line_good : (line : List ℕ) (names : List (ℕ × List ℕ)) (header : Header) → All IsSeated names → Says (Good Play line) (act_line names header line)
+unfolding act_line
+act_line_good line names header all = says_map FitSeats (Good Play line) _ _ (front_has (codes ": ") line names all) (λ who s. act_good line header who.seat who.rest s)
 
 end_good : (line : List ℕ) (seat : ℕ) (drawn : Bool) (cards text : List ℕ) → InSeats seat → Good Play line (deal_end seat drawn cards text)
 end_good line seat drawn cards text s = by (is_end text)
@@ -235,20 +235,20 @@ deal_good line game seat inside s = next (Good Play line) (closed inside) (λ x'
 nothing_good : (line : List ℕ) (names : List (ℕ × List ℕ)) (text : List ℕ) → Reads (Good Play line) (deal_nothing names text)
 nothing_good line names text = either (Good Play line) (is_some (seat_named text names)) _ _ (tt, refl) tt
 
-dealt_good : (line : List ℕ) (names : List (ℕ × List ℕ)) (header : Header) → All IsSeated names → Says (Good Play line) (dealt names header line)
-unfolding dealt deal
-dealt_good line names header all = says_any (Good Play line) _ _ (λ text.
+deal_line_good : (line : List ℕ) (names : List (ℕ × List ℕ)) (header : Header) → All IsSeated names → Says (Good Play line) (deal_line names header line)
+unfolding deal_line deal
+deal_line_good line names header all = says_any (Good Play line) _ _ (λ text.
     otherwise_says (Good Play line) _ _ (says_map FitSeats (Good Play line) _ _ (front_has (codes " [") text names all) (λ who s. deal_good line header.game who.seat who.rest s)) (nothing_good line names text))
 
-returned_good : (line : List ℕ) (names : List (ℕ × List ℕ)) (header : Header) → All IsSeated names → Says (Good Play line) (returned names header line)
-unfolding returned give_back
-returned_good line names header all = says_any (Good Play line) _ _ (λ (text : List ℕ).
+return_line_good : (line : List ℕ) (names : List (ℕ × List ℕ)) (header : Header) → All IsSeated names → Says (Good Play line) (return_line names header line)
+unfolding return_line give_back
+return_line_good line names header all = says_any (Good Play line) _ _ (λ (text : List ℕ).
     bind (λ (m : ℕ × List ℕ). m.0 < 10 ^ 15) (Good Play line) _ _ (some_small header.hundredths text) (λ (back : ℕ × List ℕ) h.
     next (Good Play line) _ _ (λ (name : List ℕ). bind InSeats (Good Play line) _ _ (or_reads InSeats _ _ (named_has name names all)) (λ (seat : ℕ) s. let g : Good Play line (event.Uncalled seat back.0) = ((s.0, s.1, h), refl) in g))))
 
-collected_good : (line : List ℕ) (names : List (ℕ × List ℕ)) (header : Header) → All IsSeated names → Says (Good Play line) (collected names header line)
-unfolding collected collect
-collected_good line names header all = says_map FitSeats (Good Play line) _ _ (front_has (codes " collected ") line names all) (λ (who : Fit) s.
+collect_line_good : (line : List ℕ) (names : List (ℕ × List ℕ)) (header : Header) → All IsSeated names → Says (Good Play line) (collect_line names header line)
+unfolding collect_line collect
+collect_line_good line names header all = says_map FitSeats (Good Play line) _ _ (front_has (codes " collected ") line names all) (λ (who : Fit) s.
     bind (λ (m : ℕ × List ℕ). m.0 < 10 ^ 15) (Good Play line) _ _ (some_small header.hundredths who.rest) (λ (won : ℕ × List ℕ) h.
     next (Good Play line) (follows (codes " from ") won.1) (λ x'. ◌>>=◌ {B = Event} (or_fault BadAction (pot_of x')) (λ x''. Ok (event.Collect who.seat won.0 x''))) (λ (rest : List ℕ). next (Good Play line) (or_fault BadAction (pot_of rest)) (λ x'. Ok (event.Collect who.seat won.0 x')) (λ (pot : PotName). let g : Good Play line (event.Collect who.seat won.0 pot) = ((s.0, s.1, h), refl) in g))))
 
@@ -258,14 +258,14 @@ street_good line game number street text =
     either (Good Play line) (board_count game street == 0) _ _ (tt, refl)
     (next (Good Play line) (or_fault BadCards (cut_last (codes "[") text)) (λ x'. ◌>>=◌ {B = Event} (closed x'.1) (λ x''. ◌>>=◌ {B = Event} (counted_cards (board_count game street ∷ []) x''.0) (λ x3. Ok (event.Street street number x3)))) (λ (last : List ℕ × List ℕ). next (Good Play line) (closed last.1) (λ x'. ◌>>=◌ {B = Event} (counted_cards (board_count game street ∷ []) x'.0) (λ x''. Ok (event.Street street number x''))) (λ (cut : List ℕ × List ℕ). next (Good Play line) (counted_cards (board_count game street ∷ []) cut.0) (λ x'. Ok (event.Street street number x')) (λ (cards : List ℕ). let g : Good Play line (event.Street street number cards) = (tt, refl) in g))))
 
-marked_good : (line : List ℕ) (header : Header) → Says (Good Play line) (marked header line)
-unfolding marked marker_event
-marked_good line header = says_any (Good Play line) _ (behind (codes "*** ") line) (λ (text : List ℕ).
+marker_line_good : (line : List ℕ) (header : Header) → Says (Good Play line) (marker_line header line)
+unfolding marker_line marker_event
+marker_line_good line header = says_any (Good Play line) _ (behind (codes "*** ") line) (λ (text : List ℕ).
     next (Good Play line) (or_fault BadMarker (marker_of header.game text)) _ (λ (marker : (BoardNumber × Street) × List ℕ). street_good line header.game marker.0.0 marker.0.1 marker.1))
 
-cancelled_good : (line : List ℕ) → Says (Good Play line) (cancelled line)
-unfolding cancelled
-cancelled_good line = by (bytes_eq line (codes "Hand cancelled") || bytes_eq line (codes "Hand canceled"))
+cancel_line_good : (line : List ℕ) → Says (Good Play line) (cancel_line line)
+unfolding cancel_line
+cancel_line_good line = by (bytes_eq line (codes "Hand cancelled") || bytes_eq line (codes "Hand canceled"))
   where
     by : (b : Bool) → Says (Good Play line) (if b then Some (Err Cancelled) else None)
     by true = tt
@@ -274,12 +274,12 @@ cancelled_good line = by (bytes_eq line (codes "Hand cancelled") || bytes_eq lin
 play_good : (line : List ℕ) (names : List (ℕ × List ℕ)) (header : Header) → All IsSeated names → Reads (Good Play line) (play_event names header line)
 unfolding play_event
 play_good line names header all =
-    otherwise_says (Good Play line) _ _ (acted_good line names header all)
-    (otherwise_says (Good Play line) _ _ (dealt_good line names header all)
-    (otherwise_says (Good Play line) _ _ (returned_good line names header all)
-    (otherwise_says (Good Play line) _ _ (collected_good line names header all)
-    (otherwise_says (Good Play line) _ _ (marked_good line header)
-    (otherwise_says (Good Play line) _ _ (cancelled_good line) (tt, refl))))))
+    otherwise_says (Good Play line) _ _ (act_line_good line names header all)
+    (otherwise_says (Good Play line) _ _ (deal_line_good line names header all)
+    (otherwise_says (Good Play line) _ _ (return_line_good line names header all)
+    (otherwise_says (Good Play line) _ _ (collect_line_good line names header all)
+    (otherwise_says (Good Play line) _ _ (marker_line_good line header)
+    (otherwise_says (Good Play line) _ _ (cancel_line_good line) (tt, refl))))))
 
 -- lines of the summary
 among_has : (names : List (ℕ × List ℕ)) (o : Option ℕ) → Has InSeats o → Has InSeats (seat_among names o)
@@ -364,9 +364,9 @@ seat_good line names header number text before s l m =
     next (Good Preamble line) (follows (codes " in chips") stack.1) (λ x'. Ok (event.Seat seat stack.0 (length {A = ℕ} line - length {A = ℕ} text) (length {A = ℕ} line - length {A = ℕ} text + length {A = ℕ} name))) (λ (rest : List ℕ).
     let g : Good Preamble line (event.Seat seat stack.0 (length line - length text) (length line - length text + length name)) = ((t.0, t.1, h, omega arith, omega (arith, l, m, k)), refl) in g)))))
 
-seated_good : (line : List ℕ) (names : List (ℕ × List ℕ)) (header : Header) → Says (Good Preamble line) (seated names header line)
-unfolding seated
-seated_good line names header = by_opening (seat_opening line) (opening_has line)
+seat_line_good : (line : List ℕ) (names : List (ℕ × List ℕ)) (header : Header) → Says (Good Preamble line) (seat_line names header line)
+unfolding seat_line
+seat_line_good line names header = by_opening (seat_opening line) (opening_has line)
   where
     by_cut : (number : Option ℕ) (text : List ℕ) (o : Option (List ℕ × List ℕ)) → Has InSeats number → length text ≤ length line → Has (λ (cut : List ℕ × List ℕ). length cut.0 ≤ length text) o
         → Says (Good Preamble line) (option_map (λ cut. seat_event names header (length line - length text) number text cut.0) o)
@@ -389,9 +389,9 @@ button_good line text number s = by (bytes_eq number.1 (codes " is the button"))
     by true = by_number number.0 s
     by false = tt
 
-buttoned_good : (line : List ℕ) → Says (Good Preamble line) (buttoned line)
-unfolding buttoned
-buttoned_good line = by_text (behind (codes "Table '") line)
+button_line_good : (line : List ℕ) → Says (Good Preamble line) (button_line line)
+unfolding button_line
+button_line_good line = by_text (behind (codes "Table '") line)
   where
     by_number : (text : List ℕ) (o : Option (Option ℕ × List ℕ)) → Has (Opens text) o → Says (Good Preamble line) (option_and_then (λ number. button_end number) o)
     by_number text None h = tt
@@ -408,36 +408,35 @@ buttoned_good line = by_text (behind (codes "Table '") line)
 preamble_good : (line : List ℕ) (names : List (ℕ × List ℕ)) (header : Header) → All IsSeated names → Reads (Good Preamble line) (preamble_event names header line)
 unfolding preamble_event
 preamble_good line names header all =
-    otherwise_says (Good Preamble line) _ _ (seated_good line names header)
-    (otherwise_says (Good Preamble line) _ _ (buttoned_good line) (play_good line names header all))
+    otherwise_says (Good Preamble line) _ _ (seat_line_good line names header)
+    (otherwise_says (Good Preamble line) _ _ (button_line_good line) (play_good line names header all))
 
-total_good : (line : List ℕ) (header : Header) → Says (Good SummaryPart line) (totalled header line)
-unfolding totalled total_event
+total_good : (line : List ℕ) (header : Header) → Says (Good SummaryPart line) (total_line header line)
+unfolding total_line total_event
 total_good line header = says_any (Good SummaryPart line) _ _ (λ (text : List ℕ).
     bind (λ (m : ℕ × List ℕ). m.0 < 10 ^ 15) (Good SummaryPart line) _ _ (money_small header.hundredths text) (λ (pot : ℕ × List ℕ) h.
     next (Good SummaryPart line) _ _ (λ (cut : List ℕ × List ℕ).
     bind (λ (m : ℕ × List ℕ). m.0 < 10 ^ 15) (Good SummaryPart line) _ _ (money_small header.hundredths cut.1) (λ (rake : ℕ × List ℕ) k.
     let g : Good SummaryPart line (event.Total pot.0 rake.0) = ((h, k), refl) in g))))
 
-cards_good : (line : List ℕ) (seat : ℕ) (inside : List ℕ) → InSeats seat → Reads (Good SummaryPart line) (shown_event seat inside)
-unfolding shown_event
+cards_good : (line : List ℕ) (seat : ℕ) (inside : List ℕ) → InSeats seat → Reads (Good SummaryPart line) (seat_cards seat inside)
+unfolding seat_cards
 cards_good line seat inside s =
-    next (Good SummaryPart line) (closed inside) (λ cut. ◌>>=◌ {B = Event} (counted_cards shown_counts cut.0) (λ cards. Ok (event.SeatCards seat cards))) (λ (c : List ℕ × List ℕ).
-    next (Good SummaryPart line) (counted_cards shown_counts c.0) (λ cards. Ok (event.SeatCards seat cards)) (λ (cards : List ℕ). let g : Good SummaryPart line (event.SeatCards seat cards) = ((s.0, s.1), refl) in g))
+    next (Good SummaryPart line) (shown_cards inside) (λ cards. Ok (event.SeatCards seat cards)) (λ (cards : List ℕ). let g : Good SummaryPart line (event.SeatCards seat cards) = ((s.0, s.1), refl) in g)
 
-shown_good : (line : List ℕ) (names : List (ℕ × List ℕ)) → Says (Good SummaryPart line) (shown names line)
-unfolding shown
-shown_good line names = by_opening (seat_opening line) (opening_has line)
+show_line_good : (line : List ℕ) (names : List (ℕ × List ℕ)) → Says (Good SummaryPart line) (show_line names line)
+unfolding show_line
+show_line_good line names = by_opening (seat_opening line) (opening_has line)
   where
-    by_cut : (seat : ℕ) (o : Option (List ℕ × List ℕ)) → InSeats seat → Says (Good SummaryPart line) (option_map (λ cut. shown_event seat cut.1) o)
-    by_cut seat o s = says_any (Good SummaryPart line) (λ (cut : List ℕ × List ℕ). shown_event seat cut.1) o (λ (cut : List ℕ × List ℕ). cards_good line seat cut.1 s)
+    by_cut : (seat : ℕ) (o : Option (List ℕ × List ℕ)) → InSeats seat → Says (Good SummaryPart line) (option_map (λ cut. seat_cards seat cut.1) o)
+    by_cut seat o s = says_any (Good SummaryPart line) (λ (cut : List ℕ × List ℕ). seat_cards seat cut.1) o (λ (cut : List ℕ × List ℕ). cards_good line seat cut.1 s)
 
-    by_seat : (text : List ℕ) (o : Option ℕ) → Has InSeats o → Says (Good SummaryPart line) (option_and_then (λ seat. option_map (λ cut. shown_event seat cut.1) (last_shown text)) o)
+    by_seat : (text : List ℕ) (o : Option ℕ) → Has InSeats o → Says (Good SummaryPart line) (option_and_then (λ seat. option_map (λ cut. seat_cards seat cut.1) (last_shown text)) o)
     by_seat text None s = tt
     by_seat text (Some seat) s = by_cut seat (last_shown text) s
 
     by_opening : (o : Option (Option ℕ × List ℕ)) → Has (Opens line) o
-        → Says (Good SummaryPart line) (option_and_then (λ opening. option_and_then (λ seat. option_map (λ cut. shown_event seat cut.1) (last_shown opening.1)) (seat_among names opening.0)) o)
+        → Says (Good SummaryPart line) (option_and_then (λ opening. option_and_then (λ seat. option_map (λ cut. seat_cards seat cut.1) (last_shown opening.1)) (seat_among names opening.0)) o)
     by_opening None h = tt
     by_opening (Some opening) h = by_seat opening.1 (seat_among names opening.0) (among_has names opening.0 h.0)
 
@@ -445,7 +444,7 @@ summary_good : (line : List ℕ) (names : List (ℕ × List ℕ)) (header : Head
 unfolding summary_event
 summary_good line names header =
     otherwise_says (Good SummaryPart line) _ _ (total_good line header)
-    (otherwise_says (Good SummaryPart line) _ _ (shown_good line names) (tt, refl))
+    (otherwise_says (Good SummaryPart line) _ _ (show_line_good line names) (tt, refl))
 
 -- of any line
 line_good : (line : List ℕ) (names : List (ℕ × List ℕ)) (header : Header) (part : Part) → All IsSeated names → Reads (Good part line) (line_event names header part line)

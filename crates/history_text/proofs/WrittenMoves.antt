@@ -15,15 +15,15 @@ use Rattle.history_text.specs.Texts.{behind, cut_last}
 use Rattle.history_text.specs.Reading.{follows, digits_front, seat_front, seat_of}
 use Rattle.history_text.specs.Names.{seat_named}
 use Rattle.history_text.specs.Acts.{act_event}
-use Rattle.history_text.specs.Plays.{acted, dealt, returned, give_back, collected, collect, pot_of, play_event}
-use Rattle.history_text.specs.Seats.{seat_opening, seat_digits, seat_event, seated, preamble_event}
+use Rattle.history_text.specs.Plays.{act_line, deal_line, return_line, give_back, collect_line, collect, pot_of, play_event}
+use Rattle.history_text.specs.Seats.{seat_opening, seat_digits, seat_event, seat_line, preamble_event}
 use Rattle.history_text.specs.Lines.{line_event}
 use Rattle.history_text.specs.Written.{IsOneOf, IsNamed, IsLongest, IsNobodysLine, StandsInPlay, IsPaid, ActsAreRead, PostsAreRead, IsPot, pot_text, return_text, won_text, collection_text, ReturnsAreRead, CollectionsAreRead}
 use Rattle.history_text.proofs.WrittenLines.{name_counts, none_counts, paid_is_read, act_read, posted}
 
 -- a line that stands in the play is read as a line of play
-no_seat : (names : List (ℕ × List ℕ)) (header : Header) (line : List ℕ) → seat_digits line ≡ None → seated names header line ≡ None
-unfolding seat_digits seated seat_opening seat_front
+no_seat : (names : List (ℕ × List ℕ)) (header : Header) (line : List ℕ) → seat_digits line ≡ None → seat_line names header line ≡ None
+unfolding seat_digits seat_line seat_opening seat_front
 no_seat names header line h = by_word (behind (codes "Seat ") line) h
   where
     by_cut : (digits text : List ℕ) (cut : Option (List ℕ × List ℕ)) →
@@ -70,7 +70,7 @@ pub read_in_play : (names : List (ℕ × List ℕ)) (header : Header) (part : Pa
     line_event names header part line ≡ play_event names header line
 unfolding preamble_event
 read_in_play names header Preamble line (no_digits, no_button) =
-    let apart : seated names header line ≡ None = no_seat names header line no_digits in
+    let apart : seat_line names header line ≡ None = no_seat names header line no_digits in
     rw (apart, no_button) refl
 read_in_play names header Play line stands = refl
 read_in_play names header Summary line stands = absurd stands
@@ -78,7 +78,7 @@ read_in_play names header Summary line stands = absurd stands
 -- the line of a player
 player_acts : (names : List (ℕ × List ℕ)) (header : Header) (seat : ℕ) (name text : List ℕ) → IsNamed names seat name →
     IsLongest names (codes ": ") name text → play_event names header (name ++ (codes ": " ++ text)) ≡ act_event header seat text
-unfolding play_event acted
+unfolding play_event act_line
 player_acts names header seat name text named longest =
     let counts = name_counts names (codes ": ") seat name text named longest in
     rw counts refl
@@ -96,8 +96,8 @@ posts_are_read names header part seat name text kind units all_in named longest 
     ∙ posted header seat kind units all_in text of_game says
 
 -- nobody's line is no act
-no_act : (names : List (ℕ × List ℕ)) (header : Header) (line : List ℕ) → IsNobodysLine names line → acted names header line ≡ None
-unfolding acted
+no_act : (names : List (ℕ × List ℕ)) (header : Header) (line : List ℕ) → IsNobodysLine names line → act_line names header line ≡ None
+unfolding act_line
 no_act names header line nobody =
     let none = none_counts names (codes ": ") line nobody in
     rw none refl
@@ -131,7 +131,7 @@ returned_read names header seat name amount units named paid =
 
 return_played : (names : List (ℕ × List ℕ)) (header : Header) (name amount : List ℕ) → IsNobodysLine names (return_text amount name) →
     play_event names header (return_text amount name) ≡ give_back names header (amount ++ (codes ") returned to " ++ name))
-unfolding play_event dealt returned behind
+unfolding play_event deal_line return_line behind
 return_played names header name amount nobody =
     let apart = no_act names header (return_text amount name) nobody in
     rw apart refl
@@ -166,7 +166,7 @@ collection_played : (names : List (ℕ × List ℕ)) (header : Header) (seat : �
     IsLongest names (codes " collected ") name (won_text amount pot) → IsNobodysLine names (collection_text name amount pot) →
     behind (codes "Dealt to ") (collection_text name amount pot) ≡ None → behind (codes "Uncalled bet (") (collection_text name amount pot) ≡ None →
     play_event names header (collection_text name amount pot) ≡ collect header seat (won_text amount pot)
-unfolding play_event dealt returned collected
+unfolding play_event deal_line return_line collect_line
 collection_played names header seat name amount pot named longest nobody no_deal no_return =
     let apart = no_act names header (collection_text name amount pot) nobody in
     let counts = name_counts names (codes " collected ") seat name (won_text amount pot) named longest in

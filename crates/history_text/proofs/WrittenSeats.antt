@@ -15,7 +15,7 @@ use Rattle.history_text.specs.declared.events.Event.TheVariants as event
 use Rattle.history_text.specs.Texts.{behind, last_place, one_later, cut_at, cut_last}
 use Rattle.history_text.specs.Names.{is_taken}
 use Rattle.history_text.specs.Reading.{money, money_of, follows, seat_front}
-use Rattle.history_text.specs.Seats.{seat_opening, free_name, seat_event, seated, preamble_event}
+use Rattle.history_text.specs.Seats.{seat_opening, free_name, seat_event, seat_line, preamble_event}
 use Rattle.history_text.specs.Written.{IsOneOf, MayBeSeated, SeatsAreRead}
 
 -- a mark that is last in a text is last behind a front too
@@ -182,7 +182,7 @@ places : (seat : ℕ) (text : List ℕ) → length (codes "Seat " ++ (decimal se
 places seat text = omega (arith, length-append (decimal seat) (codes ": " ++ text))
 
 pub seats_are_read : SeatsAreRead
-unfolding preamble_event seated
+unfolding preamble_event seat_line
 seats_are_read names header seat name amount rest units may fits writes none =
     let text = place_text name amount rest in
     let opening = opening_read seat (place_text name amount rest) may.at_table.0 may.at_table.1 in

@@ -15,7 +15,7 @@ use Rattle.history_text.specs.declared.events.Act.TheVariants.{Fold, Check, Call
 use Rattle.history_text.specs.declared.events.Event.TheVariants as event
 use Rattle.history_text.specs.Texts.{behind, last_place}
 use Rattle.card_sets.specs.Games.{has_bring_in}
-use Rattle.history_text.specs.Seats.{seat_digits, buttoned}
+use Rattle.history_text.specs.Seats.{seat_digits, button_line}
 use Rattle.history_text.specs.Lines.{line_event}
 
 -- a seat with its name is one of these
@@ -41,7 +41,7 @@ IsNobodysLine names line =
 
 -- the line stands in the play, or before the first street, where it is neither a seat line nor that of the button
 abbrev pub StandsInPlay : Part → List ℕ → Type 0
-StandsInPlay Preamble line = (seat_digits line ≡ None) × (buttoned line ≡ None)
+StandsInPlay Preamble line = (seat_digits line ≡ None) × (button_line line ≡ None)
 StandsInPlay Play line = Unit {0}
 StandsInPlay Summary line = ⊥
 

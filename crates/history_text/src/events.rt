@@ -98,8 +98,8 @@ pub enum BoardNumber {
 }
 
 /// What a player's line may say that he does, by its words.
-#[derive(Clone, Copy, Debug, PartialEq, Eq)]
-pub enum Verb {
+#[derive(Clone, Copy)]
+pub(crate) enum Verb {
     /// `posts small blind`.
     PostsSmall,
     /// `posts big blind`.
@@ -287,4 +287,25 @@ pub enum TextFault {
     AmountTooLarge,
     /// The hand was cancelled.
     Cancelled,
+}
+
+impl TextFault {
+    ghost use Rattle.std.specs.Prelude.{◌≡◌};
+    ghost use Rattle.history_text.specs.FaultNames.{fault_name};
+
+    /// Its name, as the report writes it.
+    pub fn name(&self) -> &'static str
+        ensures { result.now ≡ fault_name self.now }
+    {
+        match self {
+            TextFault::UnknownGame => "UnknownGame",
+            TextFault::BadHeader => "BadHeader",
+            TextFault::BadAction => "BadAction",
+            TextFault::BadMarker => "BadMarker",
+            TextFault::BadCards => "BadCards",
+            TextFault::BadAmount => "BadAmount",
+            TextFault::AmountTooLarge => "AmountTooLarge",
+            TextFault::Cancelled => "Cancelled",
+        }
+    }
 }

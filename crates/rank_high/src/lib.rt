@@ -39,4 +39,4 @@ pub use laws::{
     law_suits_dont_matter, law_three_beats_two_pair, law_wheel_is_lowest,
 };
 pub use rank_groups::{Groups, falls_by_one, group_ranks, rank_counts};
-pub use values::{HighValue, value};
+pub use values::{FLUSH, HighValue, ONE_PAIR, STRAIGHT_TO_FLUSH, value};

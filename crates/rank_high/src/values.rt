@@ -6,7 +6,7 @@ ghost use Rattle.rank_high.specs.High.{value_of};
 use std::marker::Model;
 
 /// One pair without its ranks: the category is the first of six digits in base 16.
-pub(crate) const ONE_PAIR: u32 = 0x10_0000;
+pub const ONE_PAIR: u32 = 0x10_0000;
 
 /// Two pair without its ranks.
 pub(crate) const TWO_PAIR: u32 = 0x20_0000;
@@ -15,7 +15,7 @@ pub(crate) const TWO_PAIR: u32 = 0x20_0000;
 pub(crate) const THREE_OF_A_KIND: u32 = 0x30_0000;
 
 /// A flush without its ranks.
-pub(crate) const FLUSH: u32 = 0x50_0000;
+pub const FLUSH: u32 = 0x50_0000;
 
 /// A full house without its ranks.
 pub(crate) const FULL_HOUSE: u32 = 0x60_0000;
@@ -24,7 +24,7 @@ pub(crate) const FULL_HOUSE: u32 = 0x60_0000;
 pub(crate) const FOUR_OF_A_KIND: u32 = 0x70_0000;
 
 /// By how much a straight flush is above a straight of the same ranks: four categories.
-pub(crate) const STRAIGHT_TO_FLUSH: u32 = 0x40_0000;
+pub const STRAIGHT_TO_FLUSH: u32 = 0x40_0000;
 
 /// The straight of five to ace, with its ranks: five, four, three, two and one.
 pub(crate) const FIVE_TO_ACE: u32 = 0x45_4321;

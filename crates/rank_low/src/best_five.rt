@@ -12,7 +12,7 @@ use crate::low_ranks::{low_counts, lowest_five, pair_and_three};
 use crate::values::numbered;
 use crate::{LowValue, ace_of_five};
 use card_sets::CardSet;
-use rank_high::{high_by_ranks, is_flush};
+use rank_high::{FLUSH, ONE_PAIR, STRAIGHT_TO_FLUSH, high_by_ranks, is_flush};
 
 /// The sizes of five groups of one card, as they stand in a number.
 const FIVE_RANKS: u32 = 0x110_0000;
@@ -100,9 +100,9 @@ pub fn deuce_seven(s: CardSet) -> LowValue
     if !is_flush(s) {
         return numbered(plain);
     }
-    if plain < 0x10_0000 {
-        numbered(plain + 0x50_0000)
+    if plain < ONE_PAIR {
+        numbered(plain + FLUSH)
     } else {
-        numbered(plain + 0x40_0000)
+        numbered(plain + STRAIGHT_TO_FLUSH)
     }
 }

@@ -33,7 +33,7 @@ use Rattle.runout_walk.specs.Suits.{AreMost, IsShortWith}
 use Rattle.runout_walk.specs.Values.{one_of}
 use Rattle.runout_walk.specs.declared.row.Row.{Row}
 use Rattle.runout_walk.specs.declared.sides.Worths.{Worths}
-use Rattle.runout_walk.specs.declared.spot.Spot.{Spot}
+use Rattle.runout_walk.specs.declared.spot.BoardSpot.{BoardSpot}
 use Rattle.card_sets.specs.PlayerSets.{AreBelow}
 use Rattle.runout_walk.proofs.BestHands.{Keeps, outcome_best, set-same, first_wins, second_wins}
 use Rattle.runout_walk.proofs.BoardRunouts.{board_alone, board_apart, count-union, front-has, full_after, hand_apart, own_alone, pair_rises, set_of_member}
@@ -234,7 +234,7 @@ pub away_with : (st : State) (set board : List ℕ) (h : ℕ) → IsScene st set
 away_with st set board h s b l = ap (λ own. apart own board) (sym (own_alone st set h s.alone (s.hands h l))) ∙ ap (apart (own_after st (set ∷ []) h)) b ∙ (full_of st set h s l).apart
 
 -- what a table and a runout of it give
-pub scene_of : (spot : Spot) (set : List ℕ) → HasMember (runouts_after (state_of spot.table.known)) (set ∷ []) → IsScene (state_of spot.table.known) set
+pub scene_of : (spot : BoardSpot) (set : List ℕ) → HasMember (runouts_after (state_of spot.table.known)) (set ∷ []) → IsScene (state_of spot.table.known) set
 scene_of spot set member = record {
   sound = known_sound spot.table.known.game spot.table.known.count spot.table.known.hands spot.table.known.board spot.table.known.dead spot.table.known.disjoint spot.table.known.fitting;
   alone = spot.alone;

@@ -17,7 +17,7 @@ use Rattle.runout_ranges.proofs.CallerLemmas.{as_many}
 use Rattle.showdown_tally.proofs.CallerLemmas.{hand_of}
 use Rattle.runout_walk.specs.Boards.{AreFirst, IsBoardAlone, are_boards, board_lacks}
 use Rattle.runout_walk.specs.Listing.{IsEndOf, last_count, left_after}
-use Rattle.runout_walk.specs.declared.spot.Spot.{Spot}
+use Rattle.runout_walk.specs.declared.spot.BoardSpot.{BoardSpot}
 use Rattle.runout_walk.proofs.BoardDealt.{IsScene, first_cards, own_of, scene_of}
 use Rattle.runout_walk.proofs.ListingMembers.{some_member}
 
@@ -27,13 +27,13 @@ front_none st [] alone last = refl
 front_none st (set ∷ front) alone last = absurd (let one : length (slots st) ≡ 1 = ap length alone in omega arith)
 
 -- first cards, which two more make to runouts
-pub record IsLeafOf (spot : Spot) (front : List (List ℕ)) (taken rest : List ℕ) : Type 0 where
+pub record IsLeafOf (spot : BoardSpot) (front : List (List ℕ)) (taken rest : List ℕ) : Type 0 where
   pub none : front ≡ []
   pub members : (more : List ℕ) → HasMember (choose 2 rest) more → HasMember (runouts_after (state_of spot.table.known)) ((taken ++ more) ∷ [])
   pub first : AreFirst (state_of spot.table.known) taken
   pub own : (h : ℕ) → h < length (state_of spot.table.known).hands → length (hand_of (state_of spot.table.known) h) ≡ own_size spot.table.known.game
 
-pub leaf_of : (spot : Spot) (table : Table) (front : List (List ℕ)) (taken rest : List ℕ) (left lo hi : ℕ) → spot.table ≡ table → suc (length front) ≡ length (slots (state_of table.known)) → left ≡ 2
+pub leaf_of : (spot : BoardSpot) (table : Table) (front : List (List ℕ)) (taken rest : List ℕ) (left lo hi : ℕ) → spot.table ≡ table → suc (length front) ≡ length (slots (state_of table.known)) → left ≡ 2
     → ((more : List ℕ) → HasMember (choose left rest) more → HasMember (runouts_after (state_of table.known)) (front ++ (taken ++ more) ∷ [])) → lo < hi → hi ≤ length (choose left rest) → IsLeafOf spot front taken rest
 leaf_of spot table front taken rest left lo hi same last two all h k =
     let S : Table → Type 0 = λ t. suc (length front) ≡ length (slots (state_of t.known)) in

@@ -24,7 +24,7 @@ use Rattle.runout_walk.specs.KeptRows.{IsRowFor, row_place, waiting}
 use Rattle.runout_walk.specs.RankPairs.{AreOfRank, Begins, ranks_place}
 use Rattle.runout_walk.specs.Suits.{AreAllShort}
 use Rattle.runout_walk.specs.declared.row.Row.{Row}
-use Rattle.runout_walk.specs.declared.spot.Spot.{Spot}
+use Rattle.runout_walk.specs.declared.spot.BoardSpot.{BoardSpot}
 use Rattle.runout_walk.proofs.BestHands.{Keeps}
 use Rattle.runout_walk.proofs.BoardDealt.{IsScene, plain_main, row_there, scene_of, unflagged}
 use Rattle.runout_walk.proofs.ListingMembers.{count_map, count_same}
@@ -219,7 +219,7 @@ pairs_step row side number place r count times rest above at pairs parts =
     ∙ ap (λ n. waiting row side place times number + n * count_by (above_test row side r number) above + count_by test (choose 2 above)) parts.2
 
 -- a row counts a choice of two where its runout is counted, if they make nobody a flush
-pub two_placed : (spot : Spot) (pot : ℕ) (taken more : List ℕ) (row : Row) (side : Side) → Keeps → 2 ≡ length more → HasMember (runouts_after (state_of spot.table.known)) ((taken ++ more) ∷ [])
+pub two_placed : (spot : BoardSpot) (pot : ℕ) (taken more : List ℕ) (row : Row) (side : Side) → Keeps → 2 ≡ length more → HasMember (runouts_after (state_of spot.table.known)) ((taken ++ more) ∷ [])
     → AreBelow (length (state_of spot.table.known).hands) (eligible_in (deal_of spot.table) pot) → IsRowFor (deal_of spot.table) pot taken row → AreAllShort spot.most taken
     → row_place row side (ranks_place more) ≡ count_place (deal_of spot.table) pot side ((taken ++ more) ∷ [])
 two_placed spot pot taken [] row side keeps two member below of_row short = absurd (omega arith)

@@ -31,7 +31,7 @@ use Rattle.runout_walk.specs.Rivers.{IsShortFor, IsWonBy, are_rivers}
 use Rattle.runout_walk.specs.Suits.{AreMost}
 use Rattle.runout_walk.specs.Values.{one_of}
 use Rattle.runout_walk.specs.declared.sides.Worths.{Worths}
-use Rattle.runout_walk.specs.declared.spot.Spot.{Spot}
+use Rattle.runout_walk.specs.declared.spot.BoardSpot.{BoardSpot}
 use Rattle.runout_walk.proofs.BestHands.{Keeps, set-same}
 use Rattle.runout_walk.proofs.BoardDealt.{IsScene, away_with, full_of, outcome_of, scene_of}
 use Rattle.runout_walk.proofs.BoardLeaf.{front_none}
@@ -111,7 +111,7 @@ pub each_high : (deal : Showdown) (pot card won : ℕ) → Keeps → IsScene dea
 each_high deal pot card won keeps s below w = w ∙ sym (outcome_of deal pot (card ∷ []) keeps s below)
 
 -- the only runout of a leaf is a last card
-pub record IsRiver (spot : Spot) (front : List (List ℕ)) (taken : List ℕ) : Type 0 where
+pub record IsRiver (spot : BoardSpot) (front : List (List ℕ)) (taken : List ℕ) : Type 0 where
   pub none : front ≡ []
   pub card : ℕ
   pub is : taken ≡ card ∷ []
@@ -122,7 +122,7 @@ one_card [] one = absurd (omega arith)
 one_card (card ∷ []) one = (card, refl)
 one_card (card ∷ next ∷ more) one = absurd (omega arith)
 
-pub river_of : (spot : Spot) (table : Table) (front : List (List ℕ)) (taken rest : List ℕ) (left : ℕ) → spot.table ≡ table → board_lacks (slots (state_of spot.table.known)) ≡ 1 → suc (length front) ≡ length (slots (state_of table.known)) → left ≡ 0
+pub river_of : (spot : BoardSpot) (table : Table) (front : List (List ℕ)) (taken rest : List ℕ) (left : ℕ) → spot.table ≡ table → board_lacks (slots (state_of spot.table.known)) ≡ 1 → suc (length front) ≡ length (slots (state_of table.known)) → left ≡ 0
     → ((more : List ℕ) → HasMember (choose left rest) more → HasMember (runouts_after (state_of table.known)) (front ++ (taken ++ more) ∷ [])) → IsRiver spot front taken
 river_of spot table front taken rest left same one last none_left all =
     let S : Table → Type 0 = λ t. suc (length front) ≡ length (slots (state_of t.known)) in
@@ -150,7 +150,7 @@ lacks_one table shape st rivers same =
     ap board_lacks (sym same) ∙ is
 
 -- there is no card of the rank of none
-pub no_rank : (spot : Spot) (card : ℕ) → rank_of card ≡ 13 → HasMember (runouts_after (state_of spot.table.known)) ((card ∷ []) ∷ []) → ⊥
+pub no_rank : (spot : BoardSpot) (card : ℕ) → rank_of card ≡ 13 → HasMember (runouts_after (state_of spot.table.known)) ((card ∷ []) ∷ []) → ⊥
 no_rank spot card none member = let deck = in_deck (state_of spot.table.known) card (scene_of spot (card ∷ []) member) in omega arith
 
 -- the first card of one

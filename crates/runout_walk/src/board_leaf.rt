@@ -18,7 +18,7 @@ use crate::front::Front;
 use crate::pair::Pair;
 use crate::places::{add_place, add_times, put_waits};
 use crate::row::{PLACES, Row};
-use crate::spot::Spot;
+use crate::spot::BoardSpot;
 use crate::suited::{suited_part, suited_place};
 use card_sets::{CardSet, Side};
 use showdown_tally::law_values_keep_order;
@@ -28,7 +28,7 @@ use step_count::Steps;
 /// Counts a runout with a pair as the last two cards, with which somebody may have a flush, for each pot.
 #[inline]
 fn count_suited(
-    spot: &Spot,
+    spot: &BoardSpot,
     flushes: &mut Flushes,
     taken: CardSet,
     rows: &[Row],
@@ -69,7 +69,7 @@ fn count_suited(
 /// ranks.
 #[inline]
 fn count_pair(
-    spot: &Spot,
+    spot: &BoardSpot,
     flushes: &mut Flushes,
     front: &Front,
     rows: &[Row],
@@ -118,7 +118,7 @@ fn count_pair(
 /// Counts first cards with each of some pairs as the last two, for each pot. It takes a step a pair.
 #[inline(never)]
 fn count_pairs<L: Ledger>(
-    spot: &Spot,
+    spot: &BoardSpot,
     flushes: &mut Flushes,
     front: &Front,
     rows: &[Row],
@@ -162,7 +162,7 @@ fn count_pairs<L: Ledger>(
 
 /// Where a runout is counted for the only pot of a game with one side, with a pair as the last two cards.
 #[inline]
-fn one_place(spot: &Spot, flushes: &mut Flushes, front: &Front, row: &Row, pair: &Pair) -> u16
+fn one_place(spot: &BoardSpot, flushes: &mut Flushes, front: &Front, row: &Row, pair: &Pair) -> u16
     // Where the front's table of suits names none, no two cards of these suits make anybody a flush.
     requires suits { AreFivesWith spot.now.most front.now.taken front.now.suits }
     requires places { length front.now.suits ≡ 16 }
@@ -193,7 +193,7 @@ fn one_place(spot: &Spot, flushes: &mut Flushes, front: &Front, row: &Row, pair:
 /// Counts first cards with each of some pairs as the last two, for the only pot of a game with one side. It takes a step a pair.
 #[inline(never)]
 fn count_one_pot<L: Ledger>(
-    spot: &Spot,
+    spot: &BoardSpot,
     flushes: &mut Flushes,
     front: &Front,
     row: &Row,
@@ -237,7 +237,7 @@ fn count_one_pot<L: Ledger>(
 /// Counts first cards with each of some pairs as the last two. It takes a step a pair.
 #[inline]
 pub(crate) fn count_front<L: Ledger>(
-    spot: &Spot,
+    spot: &BoardSpot,
     flushes: &mut Flushes,
     front: &Front,
     rows: &[Row],

@@ -17,7 +17,7 @@ use crate::leaf::{Leaf, Tail};
 use crate::pairs::Pairs;
 use crate::rank_pairs::{count_by_ranks, is_whole, take_steps};
 use crate::rows::Rows;
-use crate::spot::Spot;
+use crate::spot::BoardSpot;
 use card_sets::CardSet;
 use runout_ranges::{Receiver, Shape};
 use showdown_tally::Table;
@@ -47,7 +47,7 @@ pub fn are_boards(table: &Table, shape: &Shape) -> bool
 pub struct Boards {
     /// The table that it serves.
     pub table: Table,
-    spot: Spot,
+    spot: BoardSpot,
     cards: CardSet,
     pairs: Pairs,
     rows: Rows,
@@ -65,7 +65,7 @@ pub struct Boards {
 impl Boards {
     /// An empty room.
     pub fn new() -> Boards {
-        let spot = Spot::none();
+        let spot = BoardSpot::none();
         Boards {
             table: spot.table,
             spot,
@@ -88,7 +88,7 @@ impl Boards {
         self.rows.clear();
         self.flushes.clear();
         self.cards = shape.unseen;
-        self.spot = Spot::of(table, shape);
+        self.spot = BoardSpot::of(table, shape);
         self.table = *table;
     }
 }

@@ -3,7 +3,7 @@
 ghost use Rattle.std.specs.Prelude.{◌≡◌, length, IsTrue};
 ghost use Rattle.runout_walk.specs.Suits.{AreAllShort, AreFivesWith};
 
-use crate::spot::Spot;
+use crate::spot::BoardSpot;
 use crate::suits::suits_for;
 use card_sets::CardSet;
 
@@ -43,7 +43,7 @@ fn suit_bits(cards: CardSet) -> [u32; 4] {
 impl Front {
     /// First cards of a board.
     #[inline]
-    pub(crate) fn of(spot: &Spot, taken: CardSet) -> Front
+    pub(crate) fn of(spot: &BoardSpot, taken: CardSet) -> Front
         ensures taken { result.taken ≡ taken }
         ensures plain { IsTrue result.plain → AreAllShort spot.now.most result.taken }
         ensures suits { AreFivesWith spot.now.most result.taken result.suits }

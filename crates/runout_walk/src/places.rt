@@ -7,7 +7,7 @@ ghost use Rattle.showdown_tally.specs.SideCounts.{count_at};
 ghost use Rattle.runout_walk.specs.KeptRows.{AllFit, WaitsFit, so_many, waiting, waits_below};
 
 use crate::row::Row;
-use crate::spot::Spot;
+use crate::spot::BoardSpot;
 use card_sets::Side;
 
 /// Where a runout is counted for a pot.
@@ -78,7 +78,7 @@ pub(crate) struct Wait {
 
 /// Counts the runouts that wait, for each pot.
 #[inline]
-pub(crate) fn put_wait(spot: &Spot, rows: &[Row], wait: Wait, counts: &mut [[u32; 2048]])
+pub(crate) fn put_wait(spot: &BoardSpot, rows: &[Row], wait: Wait, counts: &mut [[u32; 2048]])
     // Each pot has a row, and this is one of its places.
     requires pots { length rows.now ≡ spot.now.table.pots }
     requires inside { wait.ranks < 169 }
@@ -106,7 +106,7 @@ pub(crate) fn put_wait(spot: &Spot, rows: &[Row], wait: Wait, counts: &mut [[u32
 }
 
 /// Counts the runouts that wait, so many at each place of the rows, for each pot.
-pub(crate) fn put_waits(spot: &Spot, rows: &[Row], waits: &[u32], counts: &mut [[u32; 2048]])
+pub(crate) fn put_waits(spot: &BoardSpot, rows: &[Row], waits: &[u32], counts: &mut [[u32; 2048]])
     // Each pot has a row, with as many places as there are numbers of those that wait.
     requires pots { length rows.now ≡ spot.now.table.pots }
     requires waits { length waits.now ≡ 169 }

@@ -20,7 +20,7 @@ ghost use Rattle.runout_walk.specs.declared.row.Row.{Row};
 use crate::bests::all_are_hands;
 use crate::places::{Wait, put_wait};
 use crate::row::Row;
-use crate::spot::Spot;
+use crate::spot::BoardSpot;
 use card_sets::{Card, CardSet};
 use runout_ranges::count_choices;
 use showdown_tally::law_values_keep_order;
@@ -113,7 +113,7 @@ fn pairs_of_few(count: u32) -> u32
 
 /// Counts so many cards of a rank with each of some cards of higher ranks, for each pot, where the rows say.
 fn count_above(
-    spot: &Spot,
+    spot: &BoardSpot,
     rows: &[Row],
     rank: u8,
     times: u32,
@@ -157,7 +157,7 @@ fn count_above(
 }
 
 /// Counts each two of some cards, for each pot, where the rows say: those of the same two ranks at once.
-fn count_ranks(spot: &Spot, rows: &[Row], cards: CardSet, counts: &mut [[u32; 2048]])
+fn count_ranks(spot: &BoardSpot, rows: &[Row], cards: CardSet, counts: &mut [[u32; 2048]])
     requires pots { length rows.now ≡ spot.now.table.pots }
     requires counts { 2 * spot.now.table.pots ≤ length counts.old }
     requires fits { CountsFit (deal_of spot.now.table) counts.old (length (choose 2 cards)) }
@@ -185,7 +185,7 @@ fn count_ranks(spot: &Spot, rows: &[Row], cards: CardSet, counts: &mut [[u32; 20
 /// Counts first cards with each two of the cards that may come behind them, where no two make anybody a flush, for each pot.
 #[inline(never)]
 pub(crate) fn count_by_ranks(
-    spot: &Spot,
+    spot: &BoardSpot,
     rows: &[Row],
     taken: CardSet,
     rest: CardSet,

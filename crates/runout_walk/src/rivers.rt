@@ -28,7 +28,7 @@ use crate::high::plain_value;
 use crate::leaf::{Leaf, Tail};
 use crate::plain::winners_on;
 use crate::sides::Worths;
-use crate::spot::Spot;
+use crate::spot::BoardSpot;
 use crate::suited::high_set;
 use crate::suits::one_of;
 use card_sets::{Card, CardSet, Known, Side};
@@ -142,7 +142,7 @@ fn only(card: Card) -> CardSet
 
 /// The board with a last card.
 #[inline]
-fn full_board(spot: &Spot, card: Card) -> CardSet
+fn full_board(spot: &BoardSpot, card: Card) -> CardSet
     requires { card < 52 }
     ensures { result ≡ union spot.now.table.known.board (card ∷ []) }
 {
@@ -151,7 +151,7 @@ fn full_board(spot: &Spot, card: Card) -> CardSet
 
 /// Who wins the high of a pot with a last card, as the number with their bits.
 #[inline]
-fn high_winners(spot: &Spot, won: &Won, card: Card, pot: u8) -> u16
+fn high_winners(spot: &BoardSpot, won: &Won, card: Card, pot: u8) -> u16
     requires member { HasMember (runouts_after (state_of spot.now.table.known)) ((card ∷ []) ∷ []) }
     requires pot { pot < spot.now.table.pots }
     requires won { IsWonBy (deal_of spot.now.table) pot ((card ∷ []) ∷ [])
@@ -171,7 +171,7 @@ fn high_winners(spot: &Spot, won: &Won, card: Card, pot: u8) -> u16
 }
 
 /// Counts the runout of a last card for each pot.
-fn count_river(spot: &Spot, won: &Won, card: Card, counts: &mut [[u32; 2048]])
+fn count_river(spot: &BoardSpot, won: &Won, card: Card, counts: &mut [[u32; 2048]])
     // The card completes a runout, and flushes aside it is known who wins each pot with it.
     requires member { HasMember (runouts_after (state_of spot.now.table.known)) ((card ∷ []) ∷ []) }
     requires won { (pot : ℕ) → pot < length (deal_of spot.now.table).pots
@@ -201,7 +201,7 @@ fn count_river(spot: &Spot, won: &Won, card: Card, counts: &mut [[u32; 2048]])
 pub struct Rivers {
     /// What is shown down for.
     pub table: Table,
-    spot: Spot,
+    spot: BoardSpot,
     /// The rank that it is known for who wins, or 13.
     rank: u8,
     won: Won,
@@ -222,7 +222,7 @@ impl Rivers {
     {
         Rivers {
             table: *table,
-            spot: Spot::of_river(table, shape),
+            spot: BoardSpot::of_river(table, shape),
             rank: NO_RANK,
             won: Won::none(),
         }

@@ -20,7 +20,7 @@ use showdown_tally::Table;
 
 /// A table whose board alone lacks cards, with what is looked up at each pair.
 #[derive(Clone, Copy)]
-pub(crate) struct Spot {
+pub(crate) struct BoardSpot {
     /// The table.
     pub(crate) table: Table,
     /// For each suit the most cards for a flush that a hand has with the known board.
@@ -53,9 +53,9 @@ fn hands_are_sets(known: &Known)
     }
 }
 
-impl Spot {
+impl BoardSpot {
     /// A table whose board alone lacks cards.
-    fn of_alone(table: &Table) -> Spot
+    fn of_alone(table: &Table) -> BoardSpot
         requires dealt { IsTrue (has_board table.now.known.game) }
         requires alone { IsBoardAlone (state_of table.now.known) }
         ensures { result.table ≡ table.now }
@@ -64,34 +64,34 @@ impl Spot {
         table.known.board.rising();
         hands_are_sets(&table.known);
         let most = most_of(&table.known);
-        Spot {
+        BoardSpot {
             table: *table,
             most,
         }
     }
 
     /// A table whose runouts are boards.
-    pub(crate) fn of(table: &Table, shape: &Shape) -> Spot
+    pub(crate) fn of(table: &Table, shape: &Shape) -> BoardSpot
         requires shape { IsShapeOf (state_of table.now.known) shape.now }
         requires boards { IsTrue (are_boards table.now shape.now) }
         ensures { result.table ≡ table.now }
     {
-        Spot::of_alone(table)
+        BoardSpot::of_alone(table)
     }
 
     /// A table whose board lacks one card.
-    pub(crate) fn of_river(table: &Table, shape: &Shape) -> Spot
+    pub(crate) fn of_river(table: &Table, shape: &Shape) -> BoardSpot
         requires shape { IsShapeOf (state_of table.now.known) shape.now }
         requires rivers { IsTrue (are_rivers table.now shape.now) }
         ensures { result.table ≡ table.now }
     {
-        Spot::of_alone(table)
+        BoardSpot::of_alone(table)
     }
 
     /// The table of no hands.
-    pub(crate) fn none() -> Spot
+    pub(crate) fn none() -> BoardSpot
         ensures { unseen (state_of result.table.known) ≡ [] }
     {
-        Spot::of_alone(&no_table())
+        BoardSpot::of_alone(&no_table())
     }
 }

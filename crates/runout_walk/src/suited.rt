@@ -26,7 +26,7 @@ use crate::pair::Pair;
 use crate::places::Place;
 use crate::row::Row;
 use crate::sides::low_mark;
-use crate::spot::Spot;
+use crate::spot::BoardSpot;
 use card_sets::{Card, CardSet, Known, Side};
 use showdown_tally::{Table, flush_suit, law_values_keep_order};
 
@@ -104,7 +104,7 @@ fn bit_in(card: Card, suit: u8) -> u32 {
 
 /// The suit that the board has more than two cards of with a pair as the last two cards, if there is one. One suit is looked at first.
 #[inline]
-fn board_part(spot: &Spot, front: &Front, pair: &Pair, first: u8) -> Option<Suited>
+fn board_part(spot: &BoardSpot, front: &Front, pair: &Pair, first: u8) -> Option<Suited>
     requires first { first < 4 }
     requires member { HasMember (runouts_after (state_of spot.now.table.known))
         ((front.now.taken ++ cards_of_pair pair.now) ∷ []) }
@@ -131,7 +131,7 @@ fn board_part(spot: &Spot, front: &Front, pair: &Pair, first: u8) -> Option<Suit
 
 /// The suit that somebody may have a flush of with a pair as the last two cards, if there is one.
 #[inline]
-pub(crate) fn suited_part(spot: &Spot, front: &Front, pair: &Pair) -> Option<Suited>
+pub(crate) fn suited_part(spot: &BoardSpot, front: &Front, pair: &Pair) -> Option<Suited>
     requires suits { AreFivesWith spot.now.most front.now.taken front.now.suits }
     requires places { length front.now.suits ≡ 16 }
     requires member { HasMember (runouts_after (state_of spot.now.table.known))
@@ -149,7 +149,7 @@ pub(crate) fn suited_part(spot: &Spot, front: &Front, pair: &Pair) -> Option<Sui
 /// Where a runout with a pair as the last two cards, with which somebody may have a flush, is counted for a pot.
 #[inline]
 pub(crate) fn suited_place(
-    spot: &Spot,
+    spot: &BoardSpot,
     flushes: &mut Flushes,
     taken: CardSet,
     row: &Row,

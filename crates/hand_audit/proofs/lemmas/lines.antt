@@ -1,6 +1,5 @@
 -- The walk over the lines of a hand: what is kept stands for the lines so far, and `law_lines_before_stand`. Each law on accepted hands begins with `AcceptedHand` and `AcceptedLines`.
 pub mod EventRanges
-pub mod MarkerCards
 pub mod LineSteps
 pub mod KeptInvariant
 pub mod ReadOnce

@@ -3,7 +3,7 @@ use Rattle.std.specs.Prelude.{Option, Some, None}
 use Rattle.card_sets.specs.Cards.{union}
 use Rattle.betting_replay.specs.declared.points.Point.{Point}
 use Rattle.betting_replay.specs.Table.{own_at}
-use Rattle.betting_replay.specs.Tables.{table_of, point}
+use Rattle.betting_replay.specs.TableAfter.{table_of, point}
 use Rattle.betting_replay.specs.Places.{owned, thrown}
 use Rattle.betting_replay.specs.AllIn.{had_folded, cards_of_seats, dead_by, dead_at}
 use Rattle.betting_replay.proofs.lemmas.seats.SeatLists.{at_by_seat}

@@ -3,7 +3,7 @@ use Rattle.std.specs.Prelude.{None, List}
 use Rattle.history_text.specs.declared.events.Header.{Header}
 use Rattle.history_text.specs.declared.events.Event.{Event}
 use Rattle.betting_replay.specs.Table.{holding_at, final_at, known_at, no_chips, no_acts, no_deals, no_draws, no_last_draw}
-use Rattle.betting_replay.specs.Tables.{table_of, chips_of, acts_of}
+use Rattle.betting_replay.specs.TableAfter.{table_of, chips_of, acts_of}
 use Rattle.betting_replay.specs.Places.{owned}
 use Rattle.betting_replay.specs.Hands.{shown, dealt, held as held_cards, row}
 use Rattle.betting_replay.specs.Dealing.{deals_of, draws_of, last_draw_of}

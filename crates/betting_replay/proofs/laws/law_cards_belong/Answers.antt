@@ -1,4 +1,4 @@
-use Rattle.betting_replay.specs.Tables.{point, dead_cards}
+use Rattle.betting_replay.specs.TableAfter.{point, dead_cards}
 use Rattle.betting_replay.specs.Places.{owned}
 use Rattle.betting_replay.specs.Boards.{board_up_to}
 use Rattle.std.proofs.Common.{refl}

@@ -1,4 +1,4 @@
-use Rattle.betting_replay.specs.Tables.{point}
+use Rattle.betting_replay.specs.TableAfter.{point}
 use Rattle.betting_replay.proofs.lemmas.streets.EndedHands.{played_at, played_twice, marked_end}
 use Rattle.betting_replay.proofs.lemmas.boards.BoardLaws.{whole_board}
 use Rattle.betting_replay.proofs.laws.law_whole_boards.Goals as goal

@@ -14,7 +14,7 @@ use Rattle.betting_replay.specs.Boards.{board_on, named_on, second_on, named_sec
 use Rattle.betting_replay.specs.CardLaws.{Among}
 use Rattle.betting_replay.specs.Events.{seat_of, cards_named, SeatFits}
 use Rattle.betting_replay.specs.Places.{place_of, place, is_at, owned, named, thrown, barred, with_given, is_board, is_free, first_twice}
-use Rattle.betting_replay.specs.Tables.{point}
+use Rattle.betting_replay.specs.TableAfter.{point}
 use Rattle.card_sets.proofs.CallerLemmas.{union-nil, union-front, in_where, where_in, or_either, length-with_card}
 use Rattle.std.proofs.lemmas.Bool.{or_left, or_right}
 use Rattle.betting_replay.proofs.lemmas.steps.NextTable.{cards_free, seat_below}

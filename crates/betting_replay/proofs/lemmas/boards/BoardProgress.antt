@@ -25,7 +25,7 @@ use Rattle.betting_replay.specs.Seats.{or_else}
 use Rattle.card_sets.specs.Streets.{next_street, is_last, cards_of_street}
 use Rattle.betting_replay.specs.Streets.{begins, begins_on, is_end, same_street}
 use Rattle.betting_replay.specs.Sums.{street, is_last_of, last_begun, twice_from, second_street, marker_board}
-use Rattle.betting_replay.specs.Tables.{table_of, table_with, point}
+use Rattle.betting_replay.specs.TableAfter.{table_of, table_with, point}
 use Rattle.betting_replay.specs.Turns.{contender_count}
 use Rattle.card_sets.proofs.CallerLemmas.{union-nil, no_more}
 use Rattle.std.proofs.lemmas.Bool.{and_parts, or_right}

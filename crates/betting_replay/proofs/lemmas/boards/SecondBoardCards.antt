@@ -13,7 +13,7 @@ use Rattle.betting_replay.specs.Boards.{shared, second_own, second_by, second_bo
 use Rattle.betting_replay.specs.CardLaws.{Among}
 use Rattle.betting_replay.specs.Places.{owned}
 use Rattle.betting_replay.specs.Sums.{second_street}
-use Rattle.betting_replay.specs.Tables.{dead_cards}
+use Rattle.betting_replay.specs.TableAfter.{dead_cards}
 use Rattle.card_sets.proofs.CallerLemmas.{in_union, apart-Apart}
 use Rattle.betting_replay.proofs.lemmas.places.CardsBelong.{one_place, shared_among, second_among}
 use Rattle.betting_replay.proofs.lemmas.places.DeadCards.{dead_not_board, dead_not_second}

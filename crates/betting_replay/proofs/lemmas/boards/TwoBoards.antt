@@ -19,7 +19,7 @@ use Rattle.betting_replay.specs.Seats.{or_else}
 use Rattle.card_sets.specs.Streets.{next_street}
 use Rattle.betting_replay.specs.Streets.{same_street, is_first, is_end, is_number, begins, begins_on}
 use Rattle.betting_replay.specs.Sums.{street, is_last_of, last_begun, opened, twice_from, second_street, marker_board}
-use Rattle.betting_replay.specs.Tables.{table_of, table_with, point}
+use Rattle.betting_replay.specs.TableAfter.{table_of, table_with, point}
 use Rattle.betting_replay.specs.Turns.{contender_count, next_to_act}
 use Rattle.std.proofs.lemmas.Bool.{and_parts}
 use Rattle.betting_replay.proofs.lemmas.steps.PassedTests.{passed}

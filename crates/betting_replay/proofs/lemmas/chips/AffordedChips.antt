@@ -9,7 +9,7 @@ use Rattle.history_text.specs.declared.events.PostKind.TheVariants.{Small, Big, 
 use Rattle.betting_replay.specs.declared.faults.BetFault.{BetFault}
 use Rattle.betting_replay.specs.Events.{seat_of, live_part, dead_part, ante_part, act_chips}
 use Rattle.betting_replay.specs.Limits.{InLimits, Affords, AmountsFit}
-use Rattle.betting_replay.specs.Tables.{Table, chips_at}
+use Rattle.betting_replay.specs.TableAfter.{Table, chips_at}
 use Rattle.betting_replay.specs.Returns.{return_fits}
 use Rattle.betting_replay.specs.Faults.{fault_at, fault_if, above_stack, seat_twice, uncalled_amiss}
 use Rattle.betting_replay.proofs.lemmas.steps.PassedTests.{Passed, passed, not_failed}

@@ -9,7 +9,7 @@ use Rattle.betting_replay.specs.Events.{seat_of, bought, returned, ante_in, live
 use Rattle.betting_replay.specs.Limits.{InLimits, Affords, Fits}
 use Rattle.betting_replay.specs.Counting.{chips_after, cleared_chips}
 use Rattle.betting_replay.specs.Sums.{small_posted, is_later_by, stack, paid, dead}
-use Rattle.betting_replay.specs.Tables.{table_of, chips_of, chips_at, no_chips}
+use Rattle.betting_replay.specs.TableAfter.{table_of, chips_of, chips_at, no_chips}
 use Rattle.betting_replay.specs.Faults.{legal, seat_twice}
 use Rattle.betting_replay.specs.Accepted.{IsAccepted, opening}
 use Rattle.betting_replay.proofs.lemmas.steps.PassedTests.{passed, not_failed}

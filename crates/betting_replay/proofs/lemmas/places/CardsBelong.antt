@@ -24,7 +24,7 @@ use Rattle.card_sets.specs.declared.games.Game.{Game}
 use Rattle.betting_replay.proofs.lemmas.places.NextPlaces.{lost_thrown, nothing_lost}
 use Rattle.betting_replay.specs.Streets.{same_street}
 use Rattle.betting_replay.specs.Sums.{street, twice_from}
-use Rattle.betting_replay.specs.Tables.{point}
+use Rattle.betting_replay.specs.TableAfter.{point}
 use Rattle.card_sets.proofs.CallerLemmas.{in_where, in_union, in_rest, union_left, union_right, no_cards, apart-Apart}
 use Rattle.betting_replay.proofs.lemmas.steps.NextTable.{seat_below, cards_free, own_case}
 

@@ -31,7 +31,7 @@ use Rattle.betting_replay.specs.Seats.{or_else}
 use Rattle.card_sets.specs.Streets.{is_street, is_draw_street, next_street}
 use Rattle.betting_replay.specs.Streets.{begun_by_drawing, same_street, is_drawing, is_number, is_end}
 use Rattle.betting_replay.specs.Sums.{street, is_last_of, twice_from}
-use Rattle.betting_replay.specs.Tables.{Table, table_of, point, dead_cards}
+use Rattle.betting_replay.specs.TableAfter.{Table, table_of, point, dead_cards}
 use Rattle.betting_replay.proofs.lemmas.chips.AffordedChips.{not_not}
 use Rattle.betting_replay.proofs.lemmas.streets.GameFamilies.{never_next, none_begun}
 use Rattle.betting_replay.proofs.lemmas.steps.PassedTests.{passed, not_failed}

@@ -6,7 +6,7 @@ use Rattle.history_text.specs.declared.events.Event.{Event}
 use Rattle.betting_replay.specs.declared.points.Point.{Point}
 use Rattle.betting_replay.specs.Accounts.{contenders}
 use Rattle.betting_replay.specs.AllIn.{funded_count, is_point, point_now}
-use Rattle.betting_replay.specs.Tables.{table_with}
+use Rattle.betting_replay.specs.TableAfter.{table_with}
 use Rattle.betting_replay.specs.Turns.{greatest, is_contender, contender_count, rivals, is_pending, owes}
 
 pub same_now : (g : Header) (players : ℕ) (h : List Event) (x : Option Point) → point_now (table_with g players h x) ≡ point_now (table_with g players h None)

@@ -16,7 +16,7 @@ use Rattle.card_sets.specs.PlayerSets.{has_player}
 use Rattle.card_sets.specs.PlayerSetLaws.{players_where-small, has_player-where, has_player-above}
 use Rattle.betting_replay.specs.Seats.{count_seats, or_else}
 use Rattle.betting_replay.specs.Sums.{street, folded}
-use Rattle.betting_replay.specs.Tables.{Table, table_with, point}
+use Rattle.betting_replay.specs.TableAfter.{Table, table_with, point}
 use Rattle.betting_replay.specs.Turns.{is_contender, contender_count}
 use Rattle.betting_replay.proofs.lemmas.streets.EndedHands.{contender_is, still_in}
 use Rattle.betting_replay.proofs.lemmas.seats.SeatCounts.{same_count}

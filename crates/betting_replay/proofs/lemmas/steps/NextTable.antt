@@ -18,10 +18,10 @@ use Rattle.betting_replay.specs.Streets.{begins, begins_on, marker_after, begins
 use Rattle.betting_replay.specs.Sums.{street, button, opened, is_later_by, is_last_of, last_begun, twice_from, second_street, marker_board, showdowns_of, small_posted, seated, live, dead, paid, stack, folded, acted, brought_in, last_actor}
 use Rattle.betting_replay.specs.Places.{place_of, cards_given, place, is_at, owned, named, thrown, thrown_by, barred, with_given, is_board, is_free, first_twice}
 use Rattle.betting_replay.specs.declared.seats.Deals.{Deals}
-use Rattle.betting_replay.specs.declared.seats.Draws.{Draws}
+use Rattle.betting_replay.specs.declared.seats.SeatDraws.{SeatDraws}
 use Rattle.betting_replay.specs.declared.seats.LastDraw.{LastDraw}
 use Rattle.betting_replay.specs.declared.points.Point.{Point}
-use Rattle.betting_replay.specs.Tables.{Table, StandsFor, table_of, table_with, point, chips_of, acts_of, no_chips, no_acts, no_deals, no_draws, no_last_draw, chips_at, acts_at, own_at, dealt_at, held_at, shown_at, deals_at, row_at, draws_at, last_draw_at}
+use Rattle.betting_replay.specs.TableAfter.{Table, StandsFor, table_of, table_with, point, chips_of, acts_of, no_chips, no_acts, no_deals, no_draws, no_last_draw, chips_at, acts_at, own_at, dealt_at, held_at, shown_at, deals_at, row_at, draws_at, last_draw_at}
 use Rattle.betting_replay.specs.Boards.{board_on, named_on, second_on, named_second}
 use Rattle.card_sets.specs.declared.streets.Street.TheVariants.{Flop, Turn, River}
 use Rattle.betting_replay.specs.Hands.{dealt as dealt_cards, held as held_cards, held_after, shown as shown_cards, row as row_cards, dealt_by, shown_after, row_by}
@@ -86,7 +86,7 @@ step_by_seat {A} later clear old s f d new small same =
     clears false = set_by_seat old (f (old s)) s small
 
 -- the table with an event that counts for its seat, and a street that begins with it or doesn't
-abbrev table_now : Header → ℕ → List Event → Event → List Chips → List Acts → List (List ℕ) → List (List ℕ) → List (List ℕ) → List (Option (List ℕ)) → List Deals → List (Option (List ℕ)) → List Draws → List LastDraw → Option Point → List ℕ → Option StreetName → Table
+abbrev table_now : Header → ℕ → List Event → Event → List Chips → List Acts → List (List ℕ) → List (List ℕ) → List (List ℕ) → List (Option (List ℕ)) → List Deals → List (Option (List ℕ)) → List SeatDraws → List LastDraw → Option Point → List ℕ → Option StreetName → Table
 table_now g players h e chips acts own dealt held shown deals rows draws lasts found all o = record {
   header = g;
   players = players;
@@ -121,7 +121,7 @@ table_now g players h e chips acts own dealt held shown deals rows draws lasts f
   point = found;
 }
 
-abbrev counted_so : Header → ℕ → List Event → Event → List Chips → List Acts → List (List ℕ) → List (List ℕ) → List (List ℕ) → List (Option (List ℕ)) → List Deals → List (Option (List ℕ)) → List Draws → List LastDraw → Option Point → List ℕ → Table
+abbrev counted_so : Header → ℕ → List Event → Event → List Chips → List Acts → List (List ℕ) → List (List ℕ) → List (List ℕ) → List (Option (List ℕ)) → List Deals → List (Option (List ℕ)) → List SeatDraws → List LastDraw → Option Point → List ℕ → Table
 counted_so g players h e chips acts own dealt held shown deals rows draws lasts found all = record {
   header = g;
   players = players;
@@ -156,12 +156,12 @@ counted_so g players h e chips acts own dealt held shown deals rows draws lasts 
   point = found;
 }
 
-later_case : (g : Header) (players : ℕ) (h : List Event) (e : Event) (chips : List Chips) (acts : List Acts) (own : List (List ℕ)) (dealt : List (List ℕ)) (held : List (List ℕ)) (shown : List (Option (List ℕ))) (deals : List Deals) (rows : List (Option (List ℕ))) (draws : List Draws) (lasts : List LastDraw) (found : Option Point) (all : List ℕ) (s : StreetName) (b : Bool) → is_later s ≡ b
+later_case : (g : Header) (players : ℕ) (h : List Event) (e : Event) (chips : List Chips) (acts : List Acts) (own : List (List ℕ)) (dealt : List (List ℕ)) (held : List (List ℕ)) (shown : List (Option (List ℕ))) (deals : List Deals) (rows : List (Option (List ℕ))) (draws : List SeatDraws) (lasts : List LastDraw) (found : Option Point) (all : List ℕ) (s : StreetName) (b : Bool) → is_later s ≡ b
     → cleared_if b (on_street (counted_so g players h e chips acts own dealt held shown deals rows draws lasts found all) s) ≡ table_now g players h e chips acts own dealt held shown deals rows draws lasts found all (Some s)
 later_case g players h e chips acts own dealt held shown deals rows draws lasts found all s true is = rw is refl
 later_case g players h e chips acts own dealt held shown deals rows draws lasts found all s false is = rw is refl
 
-begun_case : (g : Header) (players : ℕ) (h : List Event) (e : Event) (chips : List Chips) (acts : List Acts) (own : List (List ℕ)) (dealt : List (List ℕ)) (held : List (List ℕ)) (shown : List (Option (List ℕ))) (deals : List Deals) (rows : List (Option (List ℕ))) (draws : List Draws) (lasts : List LastDraw) (found : Option Point) (all : List ℕ) (o : Option StreetName)
+begun_case : (g : Header) (players : ℕ) (h : List Event) (e : Event) (chips : List Chips) (acts : List Acts) (own : List (List ℕ)) (dealt : List (List ℕ)) (held : List (List ℕ)) (shown : List (Option (List ℕ))) (deals : List Deals) (rows : List (Option (List ℕ))) (draws : List SeatDraws) (lasts : List LastDraw) (found : Option Point) (all : List ℕ) (o : Option StreetName)
     → begun_with o (counted_so g players h e chips acts own dealt held shown deals rows draws lasts found all) ≡ table_now g players h e chips acts own dealt held shown deals rows draws lasts found all o
 begun_case g players h e chips acts own dealt held shown deals rows draws lasts found all None = refl
 begun_case g players h e chips acts own dealt held shown deals rows draws lasts found all (Some s) = later_case g players h e chips acts own dealt held shown deals rows draws lasts found all s (is_later s) refl
@@ -243,7 +243,7 @@ moved g players h e found small legal =
     let rows : by_seat (row_cards (e ∷ h)) ≡ slice_set (by_seat (row_cards h)) s (or_else (row_by e) (row_at t s)) =
     step_by_seat false (λ (x : Option (List ℕ)). x) (row_cards h) s (λ (x : Option (List ℕ)). or_else (row_by e) x) None (row_cards (e ∷ h)) small (λ p low. refl) in
     let draws : by_seat (draws_of (e ∷ h)) ≡ slice_set (by_seat (draws_of h)) s (draws_after e (draws_at t s)) =
-    step_by_seat false (λ (x : Draws). x) (draws_of h) s (draws_after e) no_draws (draws_of (e ∷ h)) small (λ p low. draws_case h e p (seat_of e == p) refl) in
+    step_by_seat false (λ (x : SeatDraws). x) (draws_of h) s (draws_after e) no_draws (draws_of (e ∷ h)) small (λ p low. draws_case h e p (seat_of e == p) refl) in
     begun_case g players h e _ _ _ _ _ _ _ _ _ _ found _ (begins g.game (street g h) e) ∙ sym (rw (chips, acts, own, given, holds, seen, deals, rows, draws, lasts, named_after g.game e h) refl)
 
 -- then the moment may be the point

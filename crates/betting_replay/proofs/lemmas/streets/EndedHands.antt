@@ -21,7 +21,7 @@ use Rattle.card_sets.specs.Streets.{next_street}
 use Rattle.betting_replay.specs.Streets.{same_street, begun_by_drawing, begins_on, is_number}
 use Rattle.betting_replay.specs.Faults.{may_part, next_only, next_first, next_second, next_on, all_begun, may_end}
 use Rattle.betting_replay.specs.Sums.{street, is_last_of, last_begun, twice_from, second_street, folded}
-use Rattle.betting_replay.specs.Tables.{Table, table_with, table_of, point, acts_of, no_acts}
+use Rattle.betting_replay.specs.TableAfter.{Table, table_with, table_of, point, acts_of, no_acts}
 use Rattle.betting_replay.specs.Turns.{is_contender, contender_count}
 use Rattle.betting_replay.proofs.lemmas.seats.SeatLists.{at_by_seat}
 use Rattle.card_sets.proofs.CallerLemmas.{or_either}

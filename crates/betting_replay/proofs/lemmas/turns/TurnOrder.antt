@@ -16,7 +16,7 @@ use Rattle.betting_replay.specs.Faults.{legal, fault_at, first_fault, fault_if, 
 use Rattle.betting_replay.specs.Limits.{Fits}
 use Rattle.betting_replay.specs.Seats.{first_from, first_between, or_else}
 use Rattle.betting_replay.specs.Sums.{last_actor, is_later_by}
-use Rattle.betting_replay.specs.Tables.{Table, table_of}
+use Rattle.betting_replay.specs.TableAfter.{Table, table_of}
 use Rattle.betting_replay.specs.TurnLaws.{way, IsBetween, IsNearest, PassesOver}
 use Rattle.betting_replay.specs.Turns.{owes, owes_before, owes_before_by}
 use Rattle.betting_replay.proofs.lemmas.turns.SeatWalk.{none_from}

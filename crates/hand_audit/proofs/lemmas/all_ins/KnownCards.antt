@@ -20,7 +20,7 @@ use Rattle.betting_replay.specs.Known.{cards_at}
 use Rattle.betting_replay.specs.Places.{owned}
 use Rattle.betting_replay.specs.Seats.{by_seat}
 use Rattle.betting_replay.specs.Table.{Table as Replayed, known_at}
-use Rattle.betting_replay.specs.Tables.{table_of, dead_cards}
+use Rattle.betting_replay.specs.TableAfter.{table_of, dead_cards}
 use Rattle.betting_replay.proofs.CallerLemmas.{at_by_seat}
 use Rattle.card_sets.proofs.CallerLemmas.{from_apart}
 use Rattle.showdown_tally.specs.declared.table.Table.{Table}

@@ -19,7 +19,7 @@ use Rattle.betting_replay.specs.CardLaws.{PlacesAreApart, CardsBelongAfter, Whol
 use Rattle.betting_replay.specs.Known.{cards_at}
 use Rattle.betting_replay.specs.Seats.{by_seat}
 use Rattle.betting_replay.specs.Table.{Table as Replayed, known_at}
-use Rattle.betting_replay.specs.Tables.{table_of, point, dead_cards}
+use Rattle.betting_replay.specs.TableAfter.{table_of, point, dead_cards}
 use Rattle.betting_replay.proofs.CallerLemmas.{at_by_seat}
 use Rattle.showdown_tally.specs.declared.table.Table.{Table}
 use Rattle.hand_audit.specs.AllIns.{cards_or_none, bare_of, all_in_at, known_with, known_there, eligible_in, all_in_on, all_in_by, all_in_of}

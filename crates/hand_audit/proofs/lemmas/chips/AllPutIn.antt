@@ -10,7 +10,7 @@ use Rattle.pot_layers.specs.Pots.{put_in_all}
 use Rattle.betting_replay.specs.Accepted.{opening}
 use Rattle.betting_replay.specs.Accounts.{paid_by}
 use Rattle.betting_replay.specs.Sums.{paid, dead}
-use Rattle.betting_replay.specs.Tables.{Table, table_of}
+use Rattle.betting_replay.specs.TableAfter.{Table, table_of}
 use Rattle.hand_audit.specs.Chips.{sum_from, over_seats, closing, collected_at}
 use Rattle.hand_audit.specs.Departs.{put_in_by}
 use Rattle.hand_audit.specs.Showings.{paid_from, paid_in}

@@ -5,7 +5,7 @@ use Rattle.card_sets.specs.PlayerSets.{has_player}
 use Rattle.pot_layers.specs.declared.paid.Paid.{Paid}
 use Rattle.pot_layers.specs.Pots.{put_in_all}
 use Rattle.betting_replay.specs.Accounts.{paid_by}
-use Rattle.betting_replay.specs.Tables.{Table}
+use Rattle.betting_replay.specs.TableAfter.{Table}
 use Rattle.hand_audit.specs.Showings.{paid_from}
 
 pub next_none : (t : Table) (p : ℕ) → has_player t.players p ≡ false → p < 11 → paid_from t p (11 - p) ≡ paid_from t (p + 1) (11 - (p + 1))

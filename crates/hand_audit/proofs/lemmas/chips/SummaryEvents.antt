@@ -9,7 +9,7 @@ use Rattle.history_text.specs.declared.events.Part.TheVariants.{Summary as Summa
 use Rattle.history_text.specs.Within.{stands_in}
 use Rattle.betting_replay.specs.Accounts.{paid_by}
 use Rattle.betting_replay.specs.Sums.{paid, dead, folded}
-use Rattle.betting_replay.specs.Tables.{table_of, chips_of, acts_of, no_chips, no_acts}
+use Rattle.betting_replay.specs.TableAfter.{table_of, chips_of, acts_of, no_chips, no_acts}
 use Rattle.betting_replay.specs.Turns.{is_contender}
 use Rattle.betting_replay.proofs.CallerLemmas.{at_by_seat}
 use Rattle.hand_audit.specs.Collections.{collections}

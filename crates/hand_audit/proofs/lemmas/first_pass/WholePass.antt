@@ -15,11 +15,11 @@ use Rattle.history_text.specs.declared.events.TextFault.TheVariants.{BadHeader}
 use Rattle.history_text.specs.Lines.{line_event}
 use Rattle.line_text.specs.Amounts.{digit_count, number_of}
 use Rattle.history_text.specs.Reading.{◌>>=◌, or_fault, money, follows, seat_front, seat_of as seat_in_text}
-use Rattle.history_text.specs.Seats.{seat_digits, seat_opening, seated as seated_line, seat_event, free_name, preamble_event}
+use Rattle.history_text.specs.Seats.{seat_digits, seat_opening, seat_line, seat_event, free_name, preamble_event}
 use Rattle.history_text.specs.Texts.{behind, cut_last}
 use Rattle.betting_replay.specs.Events.{seat_of, SeatFits, is_seat_line, ante_in, live_in, dead_in, returned}
 use Rattle.betting_replay.specs.Sums.{seated, paid, dead, live, small_posted}
-use Rattle.betting_replay.specs.Tables.{table_of, chips_at, chips_of, no_chips}
+use Rattle.betting_replay.specs.TableAfter.{table_of, chips_at, chips_of, no_chips}
 use Rattle.betting_replay.specs.Faults.{legal, seat_twice}
 use Rattle.betting_replay.specs.declared.faults.BetFault.TheVariants.{SeatTwice}
 use Rattle.betting_replay.proofs.CallerLemmas.{passed, not_failed, at_by_seat, seat_below}
@@ -66,7 +66,7 @@ abbrev front_number : List ℕ → ℕ
 front_number text = number_of (take (digit_count text) text)
 
 preamble_seat : (names : List (ℕ × List ℕ)) (g : Header) (line : List ℕ) (s : ℕ) (e : Event) → seat_number line ≡ Some s → preamble_event names g line ≡ Ok e → (is_seat_line e ≡ true) × (seat_of e ≡ s)
-unfolding preamble_event seated_line seat_digits seat_number seat_opening seat_front seat_event
+unfolding preamble_event seat_line seat_digits seat_number seat_opening seat_front seat_event
 preamble_seat names g line s e is read = by_word (behind (codes "Seat ") line) refl
   where
     by_seat : (text rest before : List ℕ) (first : ℕ) (o : Option ℕ) → seat_in_text (number_of (take (digit_count text) text)) ≡ o → front_number text ≡ s → seat_event names g first o rest before ≡ Ok e → (is_seat_line e ≡ true) × (seat_of e ≡ s)

@@ -12,7 +12,7 @@ use Rattle.betting_replay.specs.declared.points.Point.{Point}
 use Rattle.betting_replay.specs.Accepted.{IsAccepted, ShowsSeats, ShowsDead}
 use Rattle.betting_replay.specs.AllIn.{point_contenders}
 use Rattle.betting_replay.specs.CardLaws.{PlacesAreApart, CardsBelongAfter, WholeBoards, MarkersFit}
-use Rattle.betting_replay.specs.Tables.{table_of, point}
+use Rattle.betting_replay.specs.TableAfter.{table_of, point}
 use Rattle.betting_replay.specs.Later.{later_streets}
 use Rattle.showdown_tally.specs.declared.table.Table.{Table}
 use Rattle.hand_audit.specs.AllIns.{bare_of, all_in_at, known_with, known_there, eligible_in}

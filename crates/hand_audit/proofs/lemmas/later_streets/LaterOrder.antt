@@ -28,7 +28,7 @@ use Rattle.betting_replay.specs.Seats.{or_else}
 use Rattle.betting_replay.specs.Streets.{same_street, is_later, is_end, begun_by_drawing, begins, begins_on, shows_on}
 use Rattle.betting_replay.specs.Sums.{street, is_last_of, twice_from, marker_board, shown_on, showdowns_of}
 use Rattle.betting_replay.specs.Table.{Table}
-use Rattle.betting_replay.specs.Tables.{table_of, table_with, point}
+use Rattle.betting_replay.specs.TableAfter.{table_of, table_with, point}
 use Rattle.betting_replay.specs.Turns.{any_shown}
 use Rattle.betting_replay.proofs.CallerLemmas.{marker_of, no_draw, none_begun, none_after_end, stands_on, never_none, second_needs, twice_board, point_kept}
 use Rattle.std.proofs.lemmas.Bool.{and_parts}

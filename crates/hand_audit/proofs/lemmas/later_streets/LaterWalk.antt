@@ -10,7 +10,7 @@ use Rattle.pot_layers.specs.declared.paid.Paid.{Paid}
 use Rattle.pot_layers.specs.Pots.{pots}
 use Rattle.betting_replay.specs.Later.{later_begun, later_streets, listed}
 use Rattle.betting_replay.specs.Table.{Table as Replayed}
-use Rattle.betting_replay.specs.Tables.{table_of}
+use Rattle.betting_replay.specs.TableAfter.{table_of}
 use Rattle.hand_audit.specs.declared.cause.Cause.{Cause}
 use Rattle.hand_audit.specs.declared.hand.Hand.{Hand}
 use Rattle.hand_audit.specs.declared.streets.Walked.{Walked}

@@ -10,7 +10,7 @@ use Rattle.history_text.specs.declared.events.Part.{Part}
 use Rattle.history_text.specs.declared.events.Part.TheVariants.{Preamble, Play, Summary as SummaryPart}
 use Rattle.history_text.specs.declared.events.TextFault.{TextFault}
 use Rattle.history_text.specs.Within.{IsSeated, IsWithin, stands_in}
-use Rattle.history_text.proofs.CallerLemmas.{within, stands}
+use Rattle.history_text.proofs.CallerLemmas.{line_fits, within, stands}
 use Rattle.pot_layers.specs.Pots.{put_in_all}
 use Rattle.betting_replay.specs.Seats.{or_else}
 use Rattle.betting_replay.specs.Events.{SeatFits}
@@ -28,7 +28,6 @@ use Rattle.hand_audit.specs.Lines.{SoFar, nothing, read_at, part_of, part_after,
 use Rattle.hand_audit.specs.Collections.{taken, collections, collected_by}
 use Rattle.hand_audit.specs.Verdict.{read_all}
 use Rattle.hand_audit.specs.Chips.{IsBalanced}
-use Rattle.hand_audit.proofs.lemmas.lines.MarkerCards.{line_fits}
 use Rattle.hand_audit.proofs.lemmas.lines.EventRanges.{all_fit}
 use Rattle.hand_audit.proofs.lemmas.chips.Collected.{AreSeats, seats_more as collected_more}
 use Rattle.hand_audit.proofs.lemmas.chips.SummaryEvents.{IsQuiet, quiet, same_paid_in}

@@ -12,7 +12,7 @@ use Rattle.betting_replay.specs.declared.faults.BetFault.{BetFault}
 use Rattle.betting_replay.specs.Events.{SeatFits, button_after}
 use Rattle.betting_replay.specs.CardLaws.{MarkerFits, MarkersFit}
 use Rattle.betting_replay.specs.Limits.{Fits}
-use Rattle.betting_replay.specs.Tables.{StandsFor, table_of}
+use Rattle.betting_replay.specs.TableAfter.{StandsFor, table_of}
 use Rattle.betting_replay.specs.Faults.{legal, verdict}
 use Rattle.betting_replay.proofs.CallerLemmas.{no_fault}
 use Rattle.history_text.specs.declared.events.Part.TheVariants.{Summary as SummaryPart}

@@ -15,7 +15,7 @@ use Rattle.pot_layers.specs.Eligible.{ExcludesFolded}
 use Rattle.pot_layers.specs.declared.paid.Paid.{Paid}
 use Rattle.betting_replay.specs.Accepted.{IsAccepted, ShowsSeats}
 use Rattle.betting_replay.specs.Sums.{button, runs_twice}
-use Rattle.betting_replay.specs.Tables.{table_of}
+use Rattle.betting_replay.specs.TableAfter.{table_of}
 use Rattle.betting_replay.specs.CardLaws.{PlacesAreApart, CardsBelongAfter, WholeBoards}
 use Rattle.hand_audit.specs.declared.pot_names.Source.{Source}
 use Rattle.hand_audit.specs.declared.pot_names.Source.TheVariants.{Numbered}

@@ -2,7 +2,7 @@
 use Rattle.std.proofs.Common.{◌≡◌, ℕ, List, refl}
 use Rattle.card_sets.specs.declared.games.Game.{Game}
 use Rattle.pot_layers.specs.Pots.{pots}
-use Rattle.betting_replay.specs.Tables.{Table}
+use Rattle.betting_replay.specs.TableAfter.{Table}
 use Rattle.hand_audit.specs.declared.collections.Collection.{Collection}
 use Rattle.hand_audit.specs.Showings.{showing_at, paid_in}
 

@@ -17,7 +17,7 @@ use Rattle.hand_audit.specs.declared.worths.OnBoard.{OnBoard}
 use Rattle.hand_audit.specs.declared.worths.OnSide.{OnSide}
 use Rattle.card_sets.specs.declared.games.Game.{Game}
 use Rattle.betting_replay.specs.Seats.{by_seat}
-use Rattle.betting_replay.specs.Tables.{Table, own_at, final_at}
+use Rattle.betting_replay.specs.TableAfter.{Table, own_at, final_at}
 use Rattle.betting_replay.proofs.CallerLemmas.{at_by_seat}
 use Rattle.hand_audit.specs.declared.collections.Collection.{Collection}
 use Rattle.hand_audit.specs.Showings.{showing_at, second_at}

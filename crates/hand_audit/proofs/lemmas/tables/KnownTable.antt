@@ -16,7 +16,7 @@ use Rattle.betting_replay.specs.Boards.{board_up_to}
 use Rattle.betting_replay.specs.CardLaws.{PlacesAreApart, CardsBelong, Among, HasBoard}
 use Rattle.betting_replay.specs.Known.{cards_at}
 use Rattle.betting_replay.specs.Places.{owned}
-use Rattle.betting_replay.specs.Tables.{point, dead_cards}
+use Rattle.betting_replay.specs.TableAfter.{point, dead_cards}
 use Rattle.card_sets.proofs.CallerLemmas.{apart-Apart, from_apart}
 use Rattle.betting_replay.proofs.CallerLemmas.{apart_among}
 use Rattle.hand_audit.specs.KnownTables.{ten, places_in}

@@ -4,7 +4,7 @@ use Rattle.history_text.specs.declared.events.Header.{Header}
 use Rattle.history_text.specs.declared.events.Event.{Event}
 use Rattle.pot_layers.specs.declared.paid.Pot.{Pot}
 use Rattle.pot_layers.specs.Pots.{pots}
-use Rattle.betting_replay.specs.Tables.{table_of}
+use Rattle.betting_replay.specs.TableAfter.{table_of}
 use Rattle.hand_audit.specs.PotNames.{fits}
 use Rattle.hand_audit.specs.Settle.{Showing, settled, settled_of, pot_lines, unfit_line}
 use Rattle.hand_audit.specs.Showings.{paid_in, showing_at, showing_of}

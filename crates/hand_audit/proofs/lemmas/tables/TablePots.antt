@@ -12,7 +12,7 @@ use Rattle.history_text.specs.Headers.{header_of}
 use Rattle.pot_layers.specs.Pots.{pots}
 use Rattle.betting_replay.specs.AllIn.{point_street, point_contenders}
 use Rattle.betting_replay.specs.Table.{Table as Replayed}
-use Rattle.betting_replay.specs.Tables.{table_of}
+use Rattle.betting_replay.specs.TableAfter.{table_of}
 use Rattle.showdown_tally.specs.Deals.{deal_of}
 use Rattle.showdown_tally.specs.declared.table.Table.{Table}
 use Rattle.hand_audit.specs.AllIns.{bare_of, known_there, eligible_in, all_in_by, all_in_of}

@@ -32,7 +32,7 @@ use Rattle.betting_replay.specs.Places.{owned, is_at, place, thrown, thrown_by}
 use Rattle.betting_replay.specs.Seats.{by_seat, count_below, or_else}
 use Rattle.betting_replay.specs.Sums.{last_begun, is_last_of, runs_twice, second_street, second_begun}
 use Rattle.betting_replay.specs.Table.{Table, final_at}
-use Rattle.betting_replay.specs.Tables.{table_of}
+use Rattle.betting_replay.specs.TableAfter.{table_of}
 use Rattle.betting_replay.specs.Turns.{is_contender, contender_count}
 use Rattle.betting_replay.proofs.CallerLemmas.{at_by_seat, apart_among}
 use Rattle.card_sets.proofs.CallerLemmas.{no_more}

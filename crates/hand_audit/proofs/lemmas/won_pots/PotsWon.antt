@@ -19,7 +19,7 @@ use Rattle.betting_replay.specs.CardLaws.{CardsBelong, PlacesAreApart, CardsBelo
 use Rattle.betting_replay.specs.Places.{is_at, place}
 use Rattle.betting_replay.specs.Sums.{runs_twice}
 use Rattle.betting_replay.specs.Seats.{by_seat}
-use Rattle.betting_replay.specs.Tables.{table_of}
+use Rattle.betting_replay.specs.TableAfter.{table_of}
 use Rattle.betting_replay.proofs.CallerLemmas.{at_by_seat}
 use Rattle.showdown_tally.specs.Laws.{IsFull}
 use Rattle.hand_audit.specs.declared.pot_names.Source.TheVariants.{Numbered}

@@ -2,7 +2,7 @@ use Rattle.std.proofs.Common.{◌≡◌, ◌∙◌, ap, rules}
 use Rattle.std.specs.Prelude.{is_some}
 use Rattle.card_sets.specs.PlayerSetLaws.{has_player-where}
 use Rattle.card_sets.specs.PlayerSets.{has_player, players_where}
-use Rattle.betting_replay.specs.Tables.{final_at}
+use Rattle.betting_replay.specs.TableAfter.{final_at}
 use Rattle.hand_audit.proofs.standings.known.Goals as goal
 
 pub returns : goal.returns

@@ -1,5 +1,5 @@
 use Rattle.std.specs.Prelude.{◌≡◌, ◌<◌, ℕ, length, true, None, IfSome, slice_index_or}
-use Rattle.betting_replay.specs.Tables.{final_at}
+use Rattle.betting_replay.specs.TableAfter.{final_at}
 use Rattle.hand_audit.specs.Winning.{is_full, full_with}
 use Rattle.hand_audit.proofs.worths.full_hands.Given as goal
 

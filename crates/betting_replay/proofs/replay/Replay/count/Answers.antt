@@ -2,7 +2,7 @@ use Rattle.std.proofs.Common.{arith, rules, subst, sym, ℕ}
 use Rattle.std.proofs.lemmas.List.Elements.{All-set}
 use Rattle.betting_replay.specs.Events.{seat_of}
 use Rattle.betting_replay.specs.Limits.{InLimits, Affords}
-use Rattle.betting_replay.specs.Tables.{Table, chips_at}
+use Rattle.betting_replay.specs.TableAfter.{Table, chips_at}
 use Rattle.betting_replay.proofs.lemmas.chips.AffordedChips.{affords}
 use Rattle.betting_replay.proofs.replay.Replay.count.Goals as goal
 

@@ -1,7 +1,7 @@
 use Rattle.std.proofs.Common.{refl}
 use Rattle.card_sets.specs.Cards.{cards_where}
 use Rattle.betting_replay.specs.Seats.{by_seat}
-use Rattle.betting_replay.specs.Tables.{point}
+use Rattle.betting_replay.specs.TableAfter.{point}
 use Rattle.betting_replay.proofs.replay.Replay.new.Goals as goal
 
 pub returns : goal.returns

@@ -1,5 +1,5 @@
 use Rattle.std.proofs.Common.{◌∷◌, ◌≡◌, ap, ◌∙◌, sym, subst, None}
-use Rattle.betting_replay.specs.Tables.{Table, StandsFor}
+use Rattle.betting_replay.specs.TableAfter.{Table, StandsFor}
 use Rattle.betting_replay.specs.Counting.{begun, pointed, after}
 use Rattle.betting_replay.specs.Faults.{fault_at}
 use Rattle.betting_replay.proofs.lemmas.steps.PassedTests.{no_fault}

@@ -1,7 +1,7 @@
 use Rattle.std.proofs.Common.{List, ℕ, subst, refl}
 use Rattle.std.specs.Prelude.{Option}
 use Rattle.betting_replay.specs.Seats.{by_seat}
-use Rattle.betting_replay.specs.Tables.{final_at}
+use Rattle.betting_replay.specs.TableAfter.{final_at}
 use Rattle.hand_audit.specs.Winning.{TellsHands, TellsSecond}
 use Rattle.hand_audit.proofs.lemmas.splits.Winners.{tells}
 use Rattle.hand_audit.proofs.standings.Standings.of.Goals as goal

@@ -5,7 +5,7 @@ use Rattle.showdown_tally.specs.Deals.{deal_of}
 use Rattle.showdown_tally.specs.SideCounts.{CountsGrow}
 use Rattle.showdown_tally.specs.Tallies.{runouts_after}
 use Rattle.showdown_tally.specs.declared.table.Table.{Table}
-use Rattle.runout_walk.specs.declared.spot.Spot.{Spot}
+use Rattle.runout_walk.specs.declared.spot.BoardSpot.{BoardSpot}
 use Rattle.runout_walk.proofs.RiverFacts.{IsRiver, first_is, no_first, river_of}
 use Rattle.runout_walk.proofs.NoCardLeaf.{only_grown}
 use Rattle.runout_walk.proofs.rivers.RiversLeaf.count.Goals as goal
@@ -28,7 +28,7 @@ count_river-requires-clause-member g c =
     let river : IsRiver c.args.self.now.spot c.args.front.now c.args.tail.taken =
     river_of c.args.self.now.spot c.args.self.now.table c.args.front.now c.args.tail.taken c.args.tail.rest c.args.tail.left c.args.self.now.same c.args.self.now.one c.requires.last c.requires.deep c.requires.members in
     let P : ℕ → Type 0 = λ card. HasMember (runouts_after (state_of c.args.self.now.spot.table.known)) ((card ∷ []) ∷ []) in
-    let S : Spot → Type 0 = λ spot. HasMember (runouts_after (state_of spot.table.known)) ((c.in-Some.card ∷ []) ∷ []) in
+    let S : BoardSpot → Type 0 = λ spot. HasMember (runouts_after (state_of spot.table.known)) ((c.in-Some.card ∷ []) ∷ []) in
     subst S (sym c.keep.ensures.spot) (subst P (first_is c.args.tail.taken river.card c.in-Some.card c.first.result river.is c.first.ensures.value c.in-Some.is) river.member)
 
 pub count_river-requires-clause-won : goal.count_river-requires-clause-won
@@ -36,7 +36,7 @@ count_river-requires-clause-won g c = λ pot l.
     let river : IsRiver c.args.self.now.spot c.args.front.now c.args.tail.taken =
     river_of c.args.self.now.spot c.args.self.now.table c.args.front.now c.args.tail.taken c.args.tail.rest c.args.tail.left c.args.self.now.same c.args.self.now.one c.requires.last c.requires.deep c.requires.members in
     let P : ℕ → Type 0 = λ card. HasMember (runouts_after (state_of c.args.self.now.spot.table.known)) ((card ∷ []) ∷ []) in
-    let S : Spot → Type 0 = λ spot. HasMember (runouts_after (state_of spot.table.known)) ((c.in-Some.card ∷ []) ∷ []) in
+    let S : BoardSpot → Type 0 = λ spot. HasMember (runouts_after (state_of spot.table.known)) ((c.in-Some.card ∷ []) ∷ []) in
     c.keep.new.self.kept pot c.in-Some.card l (sym c.keep.ensures.rank) (subst S (sym c.keep.ensures.spot) (subst P (first_is c.args.tail.taken river.card c.in-Some.card c.first.result river.is c.first.ensures.value c.in-Some.is) river.member))
 
 pub returns-clause-counts : goal.returns-clause-counts

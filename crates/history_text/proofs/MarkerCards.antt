@@ -1,4 +1,4 @@
--- A line that says a marker gives it as many cards as come with its street: the laws on cards, pots and splits stand on it.
+-- A line that says a marker gives it as many cards as come with its street.
 use Rattle.std.proofs.Common.{◌≡◌, ℕ, ◌+◌, ◌*◌, ◌<◌, List, [], ◌∷◌, refl, sym, Bool, true, false, ◌==◌, ◌||◌, ◌-◌, length, drop, arith}
 use Rattle.std.specs.Prelude.{Option, Some, None, IfSome, Result, Ok, Err, IfOk, is_some, if◌then◌else◌, option_map, option_and_then, position, codes, nat_le, nat_lt}
 use Rattle.std.specs.List.{list_any, position_or_len}
@@ -22,17 +22,17 @@ use Rattle.history_text.specs.declared.events.TextFault.{TextFault}
 use Rattle.history_text.specs.declared.events.TextFault.TheVariants.{BadCards, BadAction, BadMarker, Cancelled, BadHeader, BadAmount}
 use Rattle.history_text.specs.Texts.{behind, cut_last, cut_first}
 use Rattle.history_text.specs.Reading.{◌>>=◌, ◌otherwise◌, or_fault, is_end, some_money, follows, all_in_end, money, seat_front}
-use Rattle.history_text.specs.Brackets.{closed, counted_cards, cards_of, card_words, at_most_ten, shown_counts}
+use Rattle.history_text.specs.Brackets.{closed, counted_cards, cards_of, card_words, at_most_ten, shown_cards, shown_counts}
 use Rattle.history_text.specs.Names.{front_name, seat_named}
 use Rattle.card_sets.specs.Games.{has_bring_in, has_draw}
 use Rattle.history_text.specs.Acts.{at_end, post, call, bet, raise, perhaps_cards, fold, show, discard_behind, discard, behind_card, is_discarded, pat, said, act_event, verb_of}
-use Rattle.history_text.specs.Plays.{acted, deal_end, deal_once, deal_again, deal_cards, deal, dealt, give_back, returned, pot_of, collect, collected, cancelled, play_event, dealt_counts, drawn_counts}
-use Rattle.history_text.specs.Seats.{seat_opening, free_name, seat_event, seated, button_event, button_end, buttoned, preamble_event}
-use Rattle.history_text.specs.Totals.{total_event, totalled, seat_among, last_shown, shown_event, shown, summary_event}
+use Rattle.history_text.specs.Plays.{act_line, deal_end, deal_once, deal_again, deal_cards, deal, deal_line, give_back, return_line, pot_of, collect, collect_line, cancel_line, play_event, dealt_counts, drawn_counts}
+use Rattle.history_text.specs.Seats.{seat_opening, free_name, seat_event, seat_line, button_event, button_end, button_line, preamble_event}
+use Rattle.history_text.specs.Totals.{total_event, total_line, seat_among, last_shown, seat_cards, show_line, summary_event}
 use Rattle.card_sets.specs.Streets.{board_count}
-use Rattle.history_text.specs.Markers.{street_event, marker_of, marker_event, marked}
+use Rattle.history_text.specs.Markers.{street_event, marker_of, marker_event, marker_line}
 use Rattle.history_text.specs.Lines.{line_event}
-use Rattle.betting_replay.specs.CardLaws.{HasCards, MarkerFits}
+use Rattle.history_text.specs.MarkerCards.{HasCards, MarkerFits}
 
 -- what a reader answers has a property
 record Ends (P : Event → Type 0) (r : Result Event TextFault) : Type 0 where
@@ -168,9 +168,9 @@ marker_fits : (g : Header) (text : List ℕ) → Ends (MarkerFits g.game) (marke
 unfolding marker_event
 marker_fits g text = reads (or_fault BadMarker (marker_of g.game text)) (λ marker. street_fits g.game marker.0.0 marker.0.1 marker.1)
 
-marked_fits : (g : Header) (line : List ℕ) → Says (MarkerFits g.game) (marked g line)
-unfolding marked
-marked_fits g line = mapped (behind (codes "*** ") line) (λ text. marker_fits g text)
+marker_line_fits : (g : Header) (line : List ℕ) → Says (MarkerFits g.game) (marker_line g line)
+unfolding marker_line
+marker_line_fits g line = mapped (behind (codes "*** ") line) (λ text. marker_fits g text)
 
 -- the other lines say no marker
 end_fits : (game : Game) (e : Event) (text : List ℕ) → MarkerFits game e → Ends (MarkerFits game) (at_end e text)
@@ -198,7 +198,7 @@ fold_fits game seat text = reads (perhaps_cards shown_counts text) (λ cards. sa
 
 show_fits : (game : Game) (seat : ℕ) (text : List ℕ) → Ends (MarkerFits game) (show seat text)
 unfolding show
-show_fits game seat text = reads (closed text) (λ cut. reads (counted_cards shown_counts cut.0) (λ cards. says tt))
+show_fits game seat text = reads (shown_cards text) (λ cards. says tt)
 
 discard_behind_fits : (game : Game) (seat count : ℕ) (text : List ℕ) → Ends (MarkerFits game) (discard_behind seat count text)
 unfolding discard_behind
@@ -237,9 +237,9 @@ act_fits : (g : Header) (seat : ℕ) (text : List ℕ) → Ends (MarkerFits g.ga
 unfolding act_event
 act_fits g seat text = reads (or_fault BadAction (verb_of text)) (λ verb. said_fits g seat verb.0 verb.1)
 
-acted_fits : (names : List (ℕ × List ℕ)) (g : Header) (line : List ℕ) → Says (MarkerFits g.game) (acted names g line)
-unfolding acted
-acted_fits names g line = mapped (front_name (codes ": ") line names) (λ who. act_fits g who.seat who.rest)
+act_line_fits : (names : List (ℕ × List ℕ)) (g : Header) (line : List ℕ) → Says (MarkerFits g.game) (act_line names g line)
+unfolding act_line
+act_line_fits names g line = mapped (front_name (codes ": ") line names) (λ who. act_fits g who.seat who.rest)
 
 deal_end_fits : (game : Game) (seat : ℕ) (drawn : Bool) (cards text : List ℕ) → MarkerFits game (deal_end seat drawn cards text)
 deal_end_fits game seat drawn cards text = by (is_end text)
@@ -264,29 +264,29 @@ deal_fits : (names : List (ℕ × List ℕ)) (g : Header) (text : List ℕ) → 
 unfolding deal
 deal_fits names g text = kinds (mapped (front_name (codes " [") text names) (λ who. deal_cards_fits g.game who.seat who.rest)) (either (is_some (seat_named text names)) (says tt) fails)
 
-dealt_fits : (names : List (ℕ × List ℕ)) (g : Header) (line : List ℕ) → Says (MarkerFits g.game) (dealt names g line)
-unfolding dealt
-dealt_fits names g line = mapped (behind (codes "Dealt to ") line) (λ text. deal_fits names g text)
+deal_line_fits : (names : List (ℕ × List ℕ)) (g : Header) (line : List ℕ) → Says (MarkerFits g.game) (deal_line names g line)
+unfolding deal_line
+deal_line_fits names g line = mapped (behind (codes "Dealt to ") line) (λ text. deal_fits names g text)
 
 back_fits : (names : List (ℕ × List ℕ)) (g : Header) (text : List ℕ) → Ends (MarkerFits g.game) (give_back names g text)
 unfolding give_back
 back_fits names g text = reads (some_money g.hundredths text) (λ back. reads (follows (codes ") returned to ") back.1) (λ name. reads (or_fault BadAction (seat_named name names)) (λ seat. says tt)))
 
-returned_fits : (names : List (ℕ × List ℕ)) (g : Header) (line : List ℕ) → Says (MarkerFits g.game) (returned names g line)
-unfolding returned
-returned_fits names g line = mapped (behind (codes "Uncalled bet (") line) (λ text. back_fits names g text)
+return_line_fits : (names : List (ℕ × List ℕ)) (g : Header) (line : List ℕ) → Says (MarkerFits g.game) (return_line names g line)
+unfolding return_line
+return_line_fits names g line = mapped (behind (codes "Uncalled bet (") line) (λ text. back_fits names g text)
 
 collect_fits : (g : Header) (seat : ℕ) (text : List ℕ) → Ends (MarkerFits g.game) (collect g seat text)
 unfolding collect
 collect_fits g seat text = reads (some_money g.hundredths text) (λ won. reads (follows (codes " from ") won.1) (λ rest. reads (or_fault BadAction (pot_of rest)) (λ pot. says tt)))
 
-collected_fits : (names : List (ℕ × List ℕ)) (g : Header) (line : List ℕ) → Says (MarkerFits g.game) (collected names g line)
-unfolding collected
-collected_fits names g line = mapped (front_name (codes " collected ") line names) (λ who. collect_fits g who.seat who.rest)
+collect_line_fits : (names : List (ℕ × List ℕ)) (g : Header) (line : List ℕ) → Says (MarkerFits g.game) (collect_line names g line)
+unfolding collect_line
+collect_line_fits names g line = mapped (front_name (codes " collected ") line names) (λ who. collect_fits g who.seat who.rest)
 
-cancelled_fits : (game : Game) (line : List ℕ) → Says (MarkerFits game) (cancelled line)
-unfolding cancelled
-cancelled_fits game line = by (bytes_eq line (codes "Hand cancelled") || bytes_eq line (codes "Hand canceled"))
+cancel_line_fits : (game : Game) (line : List ℕ) → Says (MarkerFits game) (cancel_line line)
+unfolding cancel_line
+cancel_line_fits game line = by (bytes_eq line (codes "Hand cancelled") || bytes_eq line (codes "Hand canceled"))
   where
     by : (b : Bool) → Says (MarkerFits game) (if b then Some (Err Cancelled) else None)
     by true = record { holds = tt }
@@ -295,17 +295,17 @@ cancelled_fits game line = by (bytes_eq line (codes "Hand cancelled") || bytes_e
 play_fits : (names : List (ℕ × List ℕ)) (g : Header) (line : List ℕ) → Ends (MarkerFits g.game) (play_event names g line)
 unfolding play_event
 play_fits names g line =
-    kinds (acted_fits names g line) (kinds (dealt_fits names g line) (kinds (returned_fits names g line)
-    (kinds (collected_fits names g line) (kinds (marked_fits g line) (kinds (cancelled_fits g.game line) (says tt))))))
+    kinds (act_line_fits names g line) (kinds (deal_line_fits names g line) (kinds (return_line_fits names g line)
+    (kinds (collect_line_fits names g line) (kinds (marker_line_fits g line) (kinds (cancel_line_fits g.game line) (says tt))))))
 
 seat_fits : (names : List (ℕ × List ℕ)) (g : Header) (first : ℕ) (number : Option ℕ) (text before : List ℕ) → Ends (MarkerFits g.game) (seat_event names g first number text before)
 unfolding seat_event
 seat_fits names g first number text before =
     reads (or_fault BadHeader number) (λ seat. reads (or_fault BadHeader (cut_last (codes " (") before)) (λ cut. reads (free_name names seat cut.0) (λ name. reads (money g.hundredths (drop (length name + 2) text)) (λ stack. reads (follows (codes " in chips") stack.1) (λ rest. says tt)))))
 
-seated_fits : (names : List (ℕ × List ℕ)) (g : Header) (line : List ℕ) → Says (MarkerFits g.game) (seated names g line)
-unfolding seated
-seated_fits names g line = then_says (seat_opening line) (λ opening. mapped (cut_last (codes " in chips") opening.1) (λ cut. seat_fits names g _ opening.0 opening.1 cut.0))
+seat_line_fits : (names : List (ℕ × List ℕ)) (g : Header) (line : List ℕ) → Says (MarkerFits g.game) (seat_line names g line)
+unfolding seat_line
+seat_line_fits names g line = then_says (seat_opening line) (λ opening. mapped (cut_last (codes " in chips") opening.1) (λ cut. seat_fits names g _ opening.0 opening.1 cut.0))
 
 button_fits : (game : Game) (number : Option ℕ) → MarkerFits game (button_event number)
 button_fits game None = tt
@@ -318,33 +318,33 @@ button_end_fits game number = by (bytes_eq number.1 (codes " is the button"))
     by true = record { holds = button_fits game number.0 }
     by false = record { holds = tt }
 
-buttoned_fits : (game : Game) (line : List ℕ) → Says (MarkerFits game) (buttoned line)
-unfolding buttoned
-buttoned_fits game line = then_says (option_and_then (λ cut. seat_front cut.1) (option_and_then (λ text. cut_last (codes "Seat #") text) (behind (codes "Table '") line))) (λ number. button_end_fits game number)
+button_line_fits : (game : Game) (line : List ℕ) → Says (MarkerFits game) (button_line line)
+unfolding button_line
+button_line_fits game line = then_says (option_and_then (λ cut. seat_front cut.1) (option_and_then (λ text. cut_last (codes "Seat #") text) (behind (codes "Table '") line))) (λ number. button_end_fits game number)
 
 preamble_fits : (names : List (ℕ × List ℕ)) (g : Header) (line : List ℕ) → Ends (MarkerFits g.game) (preamble_event names g line)
 unfolding preamble_event
-preamble_fits names g line = kinds (seated_fits names g line) (kinds (buttoned_fits g.game line) (play_fits names g line))
+preamble_fits names g line = kinds (seat_line_fits names g line) (kinds (button_line_fits g.game line) (play_fits names g line))
 
 total_fits : (g : Header) (text : List ℕ) → Ends (MarkerFits g.game) (total_event g text)
 unfolding total_event
 total_fits g text = reads (money g.hundredths text) (λ pot. reads (or_fault BadAmount (cut_first (codes " | Rake ") pot.1)) (λ cut. reads (money g.hundredths cut.1) (λ rake. says tt)))
 
-totalled_fits : (g : Header) (line : List ℕ) → Says (MarkerFits g.game) (totalled g line)
-unfolding totalled
-totalled_fits g line = mapped (behind (codes "Total pot ") line) (λ text. total_fits g text)
+total_line_fits : (g : Header) (line : List ℕ) → Says (MarkerFits g.game) (total_line g line)
+unfolding total_line
+total_line_fits g line = mapped (behind (codes "Total pot ") line) (λ text. total_fits g text)
 
-shown_event_fits : (game : Game) (seat : ℕ) (inside : List ℕ) → Ends (MarkerFits game) (shown_event seat inside)
-unfolding shown_event
-shown_event_fits game seat inside = reads (closed inside) (λ cut. reads (counted_cards shown_counts cut.0) (λ cards. says tt))
+seat_cards_fits : (game : Game) (seat : ℕ) (inside : List ℕ) → Ends (MarkerFits game) (seat_cards seat inside)
+unfolding seat_cards
+seat_cards_fits game seat inside = reads (shown_cards inside) (λ cards. says tt)
 
-shown_fits : (names : List (ℕ × List ℕ)) (game : Game) (line : List ℕ) → Says (MarkerFits game) (shown names line)
-unfolding shown
-shown_fits names game line = then_says (seat_opening line) (λ opening. then_says (seat_among names opening.0) (λ seat. mapped (last_shown opening.1) (λ cut. shown_event_fits game seat cut.1)))
+show_line_fits : (names : List (ℕ × List ℕ)) (game : Game) (line : List ℕ) → Says (MarkerFits game) (show_line names line)
+unfolding show_line
+show_line_fits names game line = then_says (seat_opening line) (λ opening. then_says (seat_among names opening.0) (λ seat. mapped (last_shown opening.1) (λ cut. seat_cards_fits game seat cut.1)))
 
 summary_fits : (names : List (ℕ × List ℕ)) (g : Header) (line : List ℕ) → Ends (MarkerFits g.game) (summary_event names g line)
 unfolding summary_event
-summary_fits names g line = kinds (totalled_fits g line) (kinds (shown_fits names g.game line) (says tt))
+summary_fits names g line = kinds (total_line_fits g line) (kinds (show_line_fits names g.game line) (says tt))
 
 ends_at : (names : List (ℕ × List ℕ)) (g : Header) (part : Part) (line : List ℕ) → Ends (MarkerFits g.game) (line_event names g part line)
 ends_at names g Preamble line = preamble_fits names g line
