@@ -1,11 +1,14 @@
 //! Cards from texts, and known cards of which it is tested that they can be known.
 
-ghost use Rattle.std.specs.Prelude.{◌≡◌, ◌≤◌, ◌∷◌, IsTrue, drop, length, nat_le};
+ghost use Rattle.std.specs.Prelude.{◌≡◌, ◌≤◌, ◌∷◌, IfSome, drop, length, nat_le};
 ghost use Rattle.std.specs.List.{list_all};
 ghost use Rattle.card_sets.specs.Disjoint.{all_apart, all_empty, apart};
 ghost use Rattle.card_sets.specs.Games.{all_fit};
 
 use card_sets::{Card, CardSet, Game, Known};
+
+/// A game, its hands, the board and the dead cards, each set as a text.
+pub(crate) type Spot = (Game, &'static [&'static [u8]], &'static [u8], &'static [u8]);
 
 /// The cards that a text of two letters a card names.
 pub(crate) fn cards(text: &[u8]) -> Option<CardSet> {
@@ -17,6 +20,27 @@ pub(crate) fn cards(text: &[u8]) -> Option<CardSet> {
         set = set.with(Card::read([*rank, *suit])?);
     }
     Some(set)
+}
+
+/// The five cards of a text; none where it names others.
+pub(crate) fn five(text: &str) -> Option<CardSet>
+    ensures { IfSome result (λ set. length set ≡ 5) }
+{
+    let set = cards(text.as_bytes())?;
+    if set.count() == 5 { Some(set) } else { None }
+}
+
+/// The five to seven cards of a text; none where it names others.
+pub(crate) fn five_or_more(text: &str) -> Option<CardSet>
+    ensures least { IfSome result (λ set. 5 ≤ length set) }
+    ensures most { IfSome result (λ set. length set ≤ 7) }
+{
+    let set = cards(text.as_bytes())?;
+    if set.count() >= 5 && set.count() <= 7 {
+        Some(set)
+    } else {
+        None
+    }
 }
 
 /// The cards of at most ten texts, and no cards behind them.
@@ -117,8 +141,9 @@ fn known_of(
     })
 }
 
-/// The same, each set as a text.
-pub(crate) fn known(game: Game, hands: &[&[u8]], board: &[u8], dead: &[u8]) -> Option<Known> {
+/// The known cards of a spot; none where they can't be known together.
+pub(crate) fn known(spot: &Spot) -> Option<Known> {
+    let (game, hands, board, dead) = *spot;
     if hands.len() > 10 {
         return None;
     }

@@ -1,29 +1,10 @@
 //! Hands of all nine categories and their edges.
 
-use crate::deals::cards;
+use crate::deals::{five, five_or_more};
 use rank_high::{HighValue, high_of_five, high_of_set};
-use std::test::Fail;
-
-/// What the best five of the cards that a text names are worth; none where they are not five to seven.
-fn best(text: &str) -> Option<HighValue> {
-    let set = cards(text.as_bytes())?;
-    if set.count() < 5 || set.count() > 7 {
-        return None;
-    }
-    Some(high_of_set(set))
-}
-
-/// What the five cards that a text names are worth; none where they are not five.
-fn five(text: &str) -> Option<HighValue> {
-    let set = cards(text.as_bytes())?;
-    if set.count() != 5 {
-        return None;
-    }
-    Some(high_of_five(set))
-}
 
 /// Each line is beaten by the next.
-const RISING: [&str; 21] = [
+const RISING: &[&str] = &[
     "7c5d4h3s2c", // the lowest hand
     "AcKdQhJs9c", // the highest with no pair
     "2c2d5h4s3c",
@@ -48,7 +29,7 @@ const RISING: [&str; 21] = [
 ];
 
 /// Fives, and the digits of their category and of the ranks of their groups, T as a to A as e.
-const FIVES: [(&str, u32); 19] = [
+const FIVES: &[(&str, u32)] = &[
     ("AsKsQsJsTs", 0x8edcba),
     ("9h8h7h6h5h", 0x898765),
     ("5d4d3d2dAd", 0x854321),
@@ -71,7 +52,7 @@ const FIVES: [(&str, u32); 19] = [
 ];
 
 /// Six or seven cards, and the same digits of their best five.
-const BEST: [(&str, u32); 17] = [
+const BEST: &[(&str, u32)] = &[
     ("AcAdKhKsQcQd2h", 0x2edc00), // three pairs
     ("AcAdKhKs2c2dQh", 0x2edc00), // three pairs, a single card for the fifth
     ("9c9d9h4s4c4dAh", 0x694000), // two threes of a kind
@@ -91,50 +72,107 @@ const BEST: [(&str, u32); 17] = [
     ("QcQdQhAs2c3d", 0x3ce300), // six cards
 ];
 
-#[test]
-fn fives_have_the_digits_of_their_category_and_ranks(rt: HostRuntime) -> Result<(), Fail> {
-    for (text, number) in FIVES {
-        assert_eq!(rt; five(text).ok_or(text)?.number(), number, "{text}");
-    }
-    Ok(())
+/// Hands that are worth the same, whatever their suits and the cards beyond five.
+const TIES: &[(&str, &str)] = &[
+    ("AcKdQhJs9c", "AsKhQdJc9s"),
+    ("AhQh9h5h3h", "AsQs9s5s3s"),
+    ("AcKdQhJs9c3d2h", "AcKdQhJs9c8d7h"),
+    ("AcAdKhKsQcQd2h", "AcAdKhKsQc4d3h"),
+    ("AhQh9h5h3h2hKs", "AhQh9h5h3hAsKs"),
+];
+
+/// The number of what five cards are worth; none where a text names others.
+fn number_of_five(text: &str) -> Option<u32> {
+    Some(high_of_five(five(text)?).number())
 }
 
-#[test]
-fn the_best_five_of_more_cards_are_found(rt: HostRuntime) -> Result<(), Fail> {
-    for (text, number) in BEST {
-        assert_eq!(rt; best(text).ok_or(text)?.number(), number, "{text}");
-    }
-    Ok(())
+/// What the best five of five to seven cards are worth; none where a text names others.
+fn best(text: &str) -> Option<HighValue> {
+    Some(high_of_set(five_or_more(text)?))
 }
 
-#[test]
-fn each_hand_beats_the_one_before(rt: HostRuntime) -> Result<(), Fail> {
-    let mut below = None;
-    for text in RISING {
-        let value = best(text).ok_or(text)?;
-        if let Some(lower) = below {
-            assert!(rt; lower < value, "{text}");
+/// The number of it.
+fn number_of_best(text: &str) -> Option<u32> {
+    Some(best(text)?.number())
+}
+
+/// The first of these fives that hasn't its digits.
+fn wrong_five(table: &[(&'static str, u32)]) -> Option<&'static str> {
+    for (text, number) in table {
+        if number_of_five(*text) != Some(*number) {
+            return Some(*text);
         }
-        below = Some(value);
     }
-    Ok(())
+    None
+}
+
+/// The first of these hands of which the best five haven't its digits.
+fn wrong_best(table: &[(&'static str, u32)]) -> Option<&'static str> {
+    for (text, number) in table {
+        if number_of_best(*text) != Some(*number) {
+            return Some(*text);
+        }
+    }
+    None
+}
+
+/// Whether a hand is worth more than the one before, where there is one.
+fn is_better(value: HighValue, before: Option<HighValue>) -> bool {
+    match before {
+        Some(lower) => lower < value,
+        None => true,
+    }
+}
+
+/// The first of these hands that doesn't beat the one before, or isn't a hand.
+fn beaten(texts: &[&'static str]) -> Option<&'static str> {
+    let mut before: Option<HighValue> = None;
+    for text in texts {
+        let Some(value) = best(*text) else {
+            return Some(*text);
+        };
+        if !is_better(value, before) {
+            return Some(*text);
+        }
+        before = Some(value);
+    }
+    None
+}
+
+/// Whether two hands are worth the same.
+fn is_tie(text: &str, other: &str) -> bool {
+    match (best(text), best(other)) {
+        (Some(value), Some(same)) => value == same,
+        _ => false,
+    }
+}
+
+/// The first of these hands that isn't worth what the one beside it is.
+fn untied(table: &[(&'static str, &'static str)]) -> Option<&'static str> {
+    for (text, other) in table {
+        if !is_tie(*text, *other) {
+            return Some(*text);
+        }
+    }
+    None
 }
 
 #[test]
-fn suits_and_cards_beyond_five_break_no_tie(rt: HostRuntime) -> Result<(), Fail> {
-    let ties = [
-        ("AcKdQhJs9c", "AsKhQdJc9s"),
-        ("AhQh9h5h3h", "AsQs9s5s3s"),
-        ("AcKdQhJs9c3d2h", "AcKdQhJs9c8d7h"),
-        ("AcAdKhKsQcQd2h", "AcAdKhKsQc4d3h"),
-        ("AhQh9h5h3h2hKs", "AhQh9h5h3hAsKs"),
-    ];
-    for (text, other) in ties {
-        assert_eq!(rt;
-            best(text).ok_or(text)?,
-            best(other).ok_or(other)?,
-            "{text} {other}"
-        );
-    }
-    Ok(())
+fn fives_have_the_digits_of_their_category_and_ranks(rt: HostRuntime) {
+    assert_eq!(rt; wrong_five(FIVES), None);
+}
+
+#[test]
+fn the_best_five_of_more_cards_are_found(rt: HostRuntime) {
+    assert_eq!(rt; wrong_best(BEST), None);
+}
+
+#[test]
+fn each_hand_beats_the_one_before(rt: HostRuntime) {
+    assert_eq!(rt; beaten(RISING), None);
+}
+
+#[test]
+fn suits_and_cards_beyond_five_break_no_tie(rt: HostRuntime) {
+    assert!(rt; untied(TIES).is_none());
 }

@@ -1,56 +1,10 @@
 //! Lows in order, and their edges. The order is by the rules of the games, worked out by hand.
 
-use crate::deals::cards;
+use crate::deals::{five, five_or_more};
 use rank_low::{LowValue, ace_five, ace_of_five, deuce_of_five, deuce_seven, eight_or_better};
-use std::test::Fail;
-
-/// What the best five are worth as an ace-to-five low; none where there are not five to seven cards.
-fn ace(text: &str) -> Option<LowValue> {
-    let set = cards(text.as_bytes())?;
-    if set.count() < 5 || set.count() > 7 {
-        return None;
-    }
-    Some(ace_five(set))
-}
-
-/// What they are worth as a low of eight or better, if they qualify.
-fn eight(text: &str) -> Option<LowValue> {
-    let set = cards(text.as_bytes())?;
-    if set.count() < 5 || set.count() > 7 {
-        return None;
-    }
-    eight_or_better(set)
-}
-
-/// What five cards are worth as a deuce-to-seven low; none where they are not five.
-fn deuce(text: &str) -> Option<LowValue> {
-    let set = cards(text.as_bytes())?;
-    if set.count() != 5 {
-        return None;
-    }
-    Some(deuce_seven(set))
-}
-
-/// What five cards are worth as an ace-to-five low, by their groups; none where they are not five.
-fn ace_by_groups(text: &str) -> Option<LowValue> {
-    let set = cards(text.as_bytes())?;
-    if set.count() != 5 {
-        return None;
-    }
-    Some(ace_of_five(set))
-}
-
-/// What they are worth as a deuce-to-seven low, by their groups.
-fn deuce_by_groups(text: &str) -> Option<LowValue> {
-    let set = cards(text.as_bytes())?;
-    if set.count() != 5 {
-        return None;
-    }
-    Some(deuce_of_five(set))
-}
 
 /// Each line beats the next as an ace-to-five low.
-const ACE_TO_FIVE: [&str; 11] = [
+const ACE_TO_FIVE: &[&str] = &[
     "5c4d3h2sAcKdKh", // five to ace, whatever else there is
     "6c4d3h2sAcAdAh",
     "6c5d4h3s2cKdQh", // a straight doesn't count
@@ -65,7 +19,7 @@ const ACE_TO_FIVE: [&str; 11] = [
 ];
 
 /// Each line beats the next as a deuce-to-seven low.
-const DEUCE_TO_SEVEN: [&str; 10] = [
+const DEUCE_TO_SEVEN: &[&str] = &[
     "7c5d4h3s2c", // the best
     "7c6d4h3s2c",
     "8c5d4h3s2c",
@@ -77,6 +31,36 @@ const DEUCE_TO_SEVEN: [&str; 10] = [
     "7h5h4h3h2h",
     "6h5h4h3h2h",
 ];
+
+/// Hands, and whether they have a low of eight or better.
+const EIGHTS: &[(&str, bool)] = &[
+    ("8c7d6h5s4cKdQh", true),
+    ("9c7d6h5s4cKdQh", false),
+    ("8c7d6h5sAcAdAh", true),
+    ("8c7d6h5s5c5dKh", false),
+    ("2c3c4c5cAc", true),
+    ("2c3c4cKcAc", false),
+];
+
+/// What the best of five to seven cards are worth as an ace-to-five low; none where a text names others.
+fn ace(text: &str) -> Option<LowValue> {
+    Some(ace_five(five_or_more(text)?))
+}
+
+/// What five cards are worth as an ace-to-five low, by their groups; none where a text names others.
+fn ace_by_groups(text: &str) -> Option<LowValue> {
+    Some(ace_of_five(five(text)?))
+}
+
+/// What five cards are worth as a deuce-to-seven low.
+fn deuce(text: &str) -> Option<LowValue> {
+    Some(deuce_seven(five(text)?))
+}
+
+/// The same by their groups.
+fn deuce_by_groups(text: &str) -> Option<LowValue> {
+    Some(deuce_of_five(five(text)?))
+}
 
 /// Whether a low is worse than the one before, where there is one.
 fn is_worse(before: Option<LowValue>, value: LowValue) -> bool {
@@ -94,44 +78,68 @@ fn is_by_groups(plain: Option<LowValue>, value: LowValue) -> bool {
     }
 }
 
-#[test]
-fn ace_to_five_lows_beat_each_other_in_order(rt: HostRuntime) -> Result<(), Fail> {
+/// The first of these hands that isn't a worse ace-to-five low than the one before, or is another by its groups.
+fn wrong_ace(texts: &[&'static str]) -> Option<&'static str> {
     let mut before: Option<LowValue> = None;
-    for text in ACE_TO_FIVE {
-        let value = ace(text).ok_or(text)?;
-        assert!(rt; is_worse(before, value), "{text}");
-        assert!(rt; is_by_groups(ace_by_groups(text), value), "{text}");
+    for text in texts {
+        let Some(value) = ace(*text) else {
+            return Some(*text);
+        };
+        if !is_worse(before, value) || !is_by_groups(ace_by_groups(*text), value) {
+            return Some(*text);
+        }
         before = Some(value);
     }
-    Ok(())
+    None
 }
 
 #[test]
-fn deuce_to_seven_lows_beat_each_other_in_order(rt: HostRuntime) -> Result<(), Fail> {
+fn ace_to_five_lows_beat_each_other_in_order(rt: HostRuntime) {
+    assert_eq!(rt; wrong_ace(ACE_TO_FIVE), None);
+}
+
+/// The first of these hands that isn't a worse deuce-to-seven low than the one before, or is another by its groups.
+fn wrong_deuce(texts: &[&'static str]) -> Option<&'static str> {
     let mut before: Option<LowValue> = None;
-    for text in DEUCE_TO_SEVEN {
-        let value = deuce(text).ok_or(text)?;
-        assert!(rt; is_worse(before, value), "{text}");
-        assert!(rt; deuce_by_groups(text) == Some(value), "{text}");
+    for text in texts {
+        let Some(value) = deuce(*text) else {
+            return Some(*text);
+        };
+        if !is_worse(before, value) || deuce_by_groups(*text) != Some(value) {
+            return Some(*text);
+        }
         before = Some(value);
     }
-    Ok(())
+    None
 }
 
 #[test]
-fn a_low_is_eight_or_better(rt: HostRuntime) -> Result<(), Fail> {
-    let lines: [(&str, bool); 6] = [
-        ("8c7d6h5s4cKdQh", true),
-        ("9c7d6h5s4cKdQh", false),
-        ("8c7d6h5sAcAdAh", true),
-        ("8c7d6h5s5c5dKh", false),
-        ("2c3c4c5cAc", true),
-        ("2c3c4cKcAc", false),
-    ];
-    for (text, qualifies) in lines {
-        let low = eight(text);
-        assert_eq!(rt; low.is_some(), qualifies, "{text}");
-        assert!(rt; !qualifies || low == ace(text), "{text}");
+fn deuce_to_seven_lows_beat_each_other_in_order(rt: HostRuntime) {
+    assert_eq!(rt; wrong_deuce(DEUCE_TO_SEVEN), None);
+}
+
+/// Whether a hand has a low of eight or better, which is its ace-to-five low then, or none, as is wanted.
+fn is_eight(text: &str, qualifies: bool) -> bool {
+    let Some(set) = five_or_more(text) else {
+        return false;
+    };
+    match eight_or_better(set) {
+        Some(low) => qualifies && low == ace_five(set),
+        None => !qualifies,
     }
-    Ok(())
+}
+
+/// The first of these hands of which that isn't so.
+fn wrong_eight(table: &[(&'static str, bool)]) -> Option<&'static str> {
+    for (text, qualifies) in table {
+        if !is_eight(*text, *qualifies) {
+            return Some(*text);
+        }
+    }
+    None
+}
+
+#[test]
+fn a_low_is_eight_or_better(rt: HostRuntime) {
+    assert_eq!(rt; wrong_eight(EIGHTS), None);
 }

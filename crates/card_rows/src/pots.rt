@@ -1,7 +1,11 @@
 //! Pots, returns and splits, worked out by hand.
 
+ghost use Rattle.std.specs.Prelude.{◌<◌, ◌^◌};
+ghost use Rattle.pot_layers.specs.Pots.{put_in_all};
+ghost use Rattle.pot_layers.specs.Split.{IsOrder};
+
 use pot_layers::{OddOrder, Paid, Pot, Share, SideWinners, halves, layers, split, uncalled};
-use std::test::Fail;
+use std::alloc::Global;
 
 /// Three all in, one of them with less than the others.
 const THREE: [Paid; 3] = [
@@ -47,93 +51,115 @@ const FOLDED: [Paid; 3] = [
     },
 ];
 
-#[test]
-fn three_all_in_make_two_pots(rt: HostRuntime) -> Result<(), Fail> {
-    let pots = layers(rt.alloc(), &THREE).ok().ok_or("memory")?;
-    let expected = [
-        Pot {
-            units: 1500,
-            eligible: 14,
-        },
-        Pot {
-            units: 2000,
-            eligible: 10,
-        },
-    ];
-    assert!(rt; pots.items() == expected.as_slice());
-    assert_eq!(rt; uncalled(&THREE), None);
-    Ok(())
+const THREE_POTS: &[Pot] = &[
+    Pot {
+        units: 1500,
+        eligible: 14,
+    },
+    Pot {
+        units: 2000,
+        eligible: 10,
+    },
+];
+
+const FOLDED_POTS: &[Pot] = &[
+    Pot {
+        units: 350,
+        eligible: 10,
+    },
+    Pot {
+        units: 300,
+        eligible: 8,
+    },
+];
+
+/// Five units for two winners, of whom the second comes first.
+const FIVE: &[Share] = &[
+    Share {
+        seat: 1,
+        units: 2,
+        sides: 1,
+    },
+    Share {
+        seat: 2,
+        units: 3,
+        sides: 1,
+    },
+];
+
+/// Seven units for the winner of the high and that of the low.
+const SEVEN: &[Share] = &[
+    Share {
+        seat: 1,
+        units: 4,
+        sides: 1,
+    },
+    Share {
+        seat: 2,
+        units: 3,
+        sides: 1,
+    },
+];
+
+/// Whether the pots of what some players paid are these.
+fn has_pots(alloc: Global, paid: &[Paid], pots: &[Pot]) -> bool
+    requires { put_in_all paid.now < 2 ^ 64 }
+{
+    match layers(alloc, paid) {
+        Ok(all) => all.items() == pots,
+        Err(_) => false,
+    }
 }
 
 #[test]
-fn dead_and_folded_chips_are_in_the_pots(rt: HostRuntime) -> Result<(), Fail> {
-    let pots = layers(rt.alloc(), &FOLDED).ok().ok_or("memory")?;
-    let expected = [
-        Pot {
-            units: 350,
-            eligible: 10,
-        },
-        Pot {
-            units: 300,
-            eligible: 8,
-        },
-    ];
-    assert!(rt; pots.items() == expected.as_slice());
-    assert_eq!(rt; uncalled(&FOLDED), Some((2, 100)));
-    Ok(())
+fn three_all_in_make_two_pots(rt: HostRuntime) {
+    assert!(rt; has_pots(rt.alloc(), &THREE, THREE_POTS));
+    assert!(rt; uncalled(&THREE).is_none());
 }
 
 #[test]
-fn units_left_over_go_by_the_order(rt: HostRuntime) -> Result<(), Fail> {
+fn dead_and_folded_chips_are_in_the_pots(rt: HostRuntime) {
+    assert!(rt; has_pots(rt.alloc(), &FOLDED, FOLDED_POTS));
+    assert!(rt; uncalled(&FOLDED) == Some((2, 100)));
+}
+
+/// Whether so many units are shared so.
+fn has_shares(
+    alloc: Global,
+    units: u64,
+    winners: SideWinners,
+    high: &OddOrder,
+    low: &OddOrder,
+    shares: &[Share],
+) -> bool
+    requires some { 0 < winners.high }
+    requires high { IsOrder winners.high high.now }
+    requires low { IsOrder winners.low low.now }
+{
+    match split(alloc, units, winners, high, low) {
+        Ok(all) => all.items() == shares,
+        Err(_) => false,
+    }
+}
+
+#[test]
+fn units_left_over_go_by_the_order(rt: HostRuntime) {
     let both = SideWinners { high: 6, low: 0 };
     let second_first = OddOrder::of([2, 1, 0, 0, 0, 0, 0, 0, 0, 0], 2);
-    let none = OddOrder::none();
-    let shares = split(rt.alloc(), 5, both, &second_first, &none)
-        .ok()
-        .ok_or("memory")?;
-    let expected = [
-        Share {
-            seat: 1,
-            units: 2,
-            sides: 1,
-        },
-        Share {
-            seat: 2,
-            units: 3,
-            sides: 1,
-        },
-    ];
-    assert!(rt; shares.items() == expected.as_slice());
-    Ok(())
+    assert!(rt; has_shares(rt.alloc(), 5, both, &second_first, &OddOrder::none(), FIVE));
 }
 
 #[test]
-fn the_high_half_is_rounded_up(rt: HostRuntime) -> Result<(), Fail> {
+fn the_high_half_is_rounded_up(rt: HostRuntime) {
     let one_each = SideWinners { high: 2, low: 4 };
     let first = OddOrder::of([1, 0, 0, 0, 0, 0, 0, 0, 0, 0], 1);
     let second = OddOrder::of([2, 0, 0, 0, 0, 0, 0, 0, 0, 0], 1);
-    let shares = split(rt.alloc(), 7, one_each, &first, &second)
-        .ok()
-        .ok_or("memory")?;
-    let expected = [
-        Share {
-            seat: 1,
-            units: 4,
-            sides: 1,
-        },
-        Share {
-            seat: 2,
-            units: 3,
-            sides: 1,
-        },
-    ];
-    assert!(rt; shares.items() == expected.as_slice());
-    Ok(())
+    assert!(rt; has_shares(rt.alloc(), 7, one_each, &first, &second, SEVEN));
 }
 
 #[test]
 fn the_first_of_two_halves_is_rounded_up(rt: HostRuntime) {
-    assert_eq!(rt; halves(101), [51, 50]);
-    assert_eq!(rt; halves(1), [1, 0]);
-    assert_eq!(rt; halves(u64::MAX), [1 << 63, (1 << 63) - 1]);
+    assert!(rt; halves(101) == [51, 50]);
+    assert!(rt; halves(1) == [1, 0]);
+    assert!(rt; halves(u64::MAX) == [1 << 63, (1 << 63) - 1]);
 }

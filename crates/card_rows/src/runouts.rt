@@ -2,58 +2,62 @@
 
 ghost use Rattle.std.specs.Prelude.{◌<◌};
 
-use crate::deals::known;
-use card_sets::{Game, Known};
-use runout_ranges::{
-    Above, Receiver, Runout, Shape, Slot, advance, count_runouts, first_runout, shape,
-};
-use std::test::Fail;
+use crate::deals::{Spot, known};
+use card_sets::Game;
+use runout_ranges::{Receiver, Runout, Shape, Slot, advance, count_runouts, first_runout, shape};
 
 /// As Ah against Ks Kh, with 2c 4s 7d 9h on the board.
-pub(crate) fn turn_spot() -> Option<Known> {
-    known(Game::Holdem, &[b"AsAh", b"KsKh"], b"2c4s7d9h", b"")
-}
+pub(crate) const TURN: Spot = (Game::Holdem, &[b"AsAh", b"KsKh"], b"2c4s7d9h", b"");
 
 /// As Ah against Ks Kh, with 2c 7c 9c on the board.
-pub(crate) fn flop_spot() -> Option<Known> {
-    known(Game::Holdem, &[b"AsAh", b"KsKh"], b"2c7c9c", b"")
-}
+pub(crate) const FLOP: Spot = (Game::Holdem, &[b"AsAh", b"KsKh"], b"2c7c9c", b"");
 
 /// The same with 2d and 2h dead.
-fn flop_spot_with_dead_cards() -> Option<Known> {
-    known(Game::Holdem, &[b"AsAh", b"KsKh"], b"2c7c9c", b"2d2h")
-}
+const FLOP_WITH_DEAD_CARDS: Spot = (Game::Holdem, &[b"AsAh", b"KsKh"], b"2c7c9c", b"2d2h");
 
 /// Single draw, two hands that keep four cards each, the deuces and the treys.
-pub(crate) fn draw_spot() -> Option<Known> {
-    known(Game::Lowball27, &[b"2c2d2h2s", b"3c3d3h3s"], b"", b"")
-}
+pub(crate) const DRAW: Spot = (Game::Lowball27, &[b"2c2d2h2s", b"3c3d3h3s"], b"", b"");
 
 /// Seven card stud, two hands of four cards each, the deuces and the treys.
-pub(crate) fn stud_spot() -> Option<Known> {
-    known(Game::Stud, &[b"2c2d2h2s", b"3c3d3h3s"], b"", b"")
-}
+pub(crate) const STUD: Spot = (Game::Stud, &[b"2c2d2h2s", b"3c3d3h3s"], b"", b"");
 
-/// Ten hands of a game of which nothing is known.
-fn dark(game: Game) -> Option<Known> {
-    let none = b"".as_slice();
-    known(game, &[none; 10], b"", b"")
-}
+/// Ten hands of which nothing is known.
+const DARK: &[&[u8]] = &[b"", b"", b"", b"", b"", b"", b"", b"", b"", b""];
 
-/// Single draw with ten hands of which nothing is known.
-pub(crate) fn dark_draw() -> Option<Known> {
-    dark(Game::Lowball27)
-}
+/// Single draw with ten such hands.
+pub(crate) const DARK_DRAW: Spot = (Game::Lowball27, DARK, b"", b"");
 
-/// Seven card stud with ten hands of which nothing is known.
-pub(crate) fn dark_stud() -> Option<Known> {
-    dark(Game::Stud)
-}
+/// Seven card stud with ten such hands.
+pub(crate) const DARK_STUD: Spot = (Game::Stud, DARK, b"", b"");
 
-/// What is still to come; none where nothing is known, or too few cards are left.
-fn shape_of(known: &Option<Known>) -> Option<Shape> {
-    match known {
-        Some(known) => shape(known),
+/// One card for the board.
+pub(crate) const RIVER: &[Slot] = &[Slot {
+    receiver: Receiver::Board,
+    count: 1,
+}];
+
+/// Two cards for the board.
+pub(crate) const TURN_AND_RIVER: &[Slot] = &[Slot {
+    receiver: Receiver::Board,
+    count: 2,
+}];
+
+/// One card for each of two hands.
+pub(crate) const ONE_EACH: &[Slot] = &[
+    Slot {
+        receiver: Receiver::Hand(0),
+        count: 1,
+    },
+    Slot {
+        receiver: Receiver::Hand(1),
+        count: 1,
+    },
+];
+
+/// What is still to come; none where a spot can't be known, or too few cards are left.
+fn shape_of(spot: &Spot) -> Option<Shape> {
+    match known(spot) {
+        Some(known) => shape(&known),
         None => None,
     }
 }
@@ -103,81 +107,95 @@ fn walked(shape: &Shape, slot: u8) -> Walk
     }
 }
 
-#[test]
-fn the_river_is_each_of_44_cards_once(rt: HostRuntime) -> Result<(), Fail> {
-    let shape = shape_of(&turn_spot()).ok_or("no shape")?;
-    let river = shape.slots[0];
-    assert_eq!(rt; shape.unseen.count(), 44);
-    assert_eq!(rt; shape.used, 1);
-    assert_eq!(rt; river.receiver, Receiver::Board);
-    assert_eq!(rt; river.count, 1);
-    let seen = walked(&shape, 0);
-    assert_eq!(rt; seen.first, (1, 1), "2d first");
-    assert_eq!(rt; seen.last, (49, 49), "Ad last");
-    assert_eq!(rt; seen.count, 44);
-    Ok(())
+/// Whether a shape has these slots, and a walk sees these ends of one of them, and so many runouts.
+fn is_walked(
+    shape: &Shape,
+    slots: &[Slot],
+    slot: u8,
+    first: (u8, u8),
+    last: (u8, u8),
+    count: u32,
+) -> bool {
+    if slot >= shape.used || !has_slots(shape, slots) {
+        return false;
+    }
+    let seen = walked(shape, slot);
+    seen.first == first && seen.last == last && seen.count == count
 }
 
-#[test]
-fn turn_and_river_are_chosen_once_in_either_order(rt: HostRuntime) -> Result<(), Fail> {
-    let shape = shape_of(&flop_spot()).ok_or("no shape")?;
-    assert_eq!(rt; shape.used, 1);
-    let seen = walked(&shape, 0);
-    assert_eq!(rt; seen.first, (1, 2), "2d 2h first");
-    assert_eq!(rt; seen.last, (48, 49), "Ac Ad last");
-    assert_eq!(rt; seen.count, 990);
-    Ok(())
+/// Whether this is so of the shape of a spot.
+fn is_listed(
+    spot: &Spot,
+    slots: &[Slot],
+    slot: u8,
+    first: (u8, u8),
+    last: (u8, u8),
+    count: u32,
+) -> bool {
+    match shape_of(spot) {
+        Some(shape) => is_walked(&shape, slots, slot, first, last, count),
+        None => false,
+    }
 }
 
-#[test]
-fn dead_cards_do_not_come(rt: HostRuntime) -> Result<(), Fail> {
-    let shape = shape_of(&flop_spot_with_dead_cards()).ok_or("no shape")?;
-    assert_eq!(rt; shape.used, 1);
-    let seen = walked(&shape, 0);
-    assert_eq!(rt; seen.first, (3, 4), "2s 3c first");
-    assert_eq!(rt; seen.count, 903);
-    Ok(())
+/// How many cards may come.
+fn unseen(spot: &Spot) -> Option<u32> {
+    let shape = shape_of(spot)?;
+    Some(shape.unseen.count())
 }
 
+/// 2d comes first, and Ad last.
 #[test]
-fn the_second_hand_draws_from_what_the_first_leaves(rt: HostRuntime) -> Result<(), Fail> {
-    let shape = shape_of(&draw_spot()).ok_or("no shape")?;
-    let hand = shape.slots[1];
-    assert_eq!(rt; shape.used, 2);
-    assert_eq!(rt; hand.receiver, Receiver::Hand(1));
-    assert_eq!(rt; hand.count, 1);
-    let hero = walked(&shape, 0);
-    assert_eq!(rt;
-        (hero.first, hero.last),
-        ((8, 8), (51, 51)),
-        "4c first, As last"
+fn the_river_is_each_of_44_cards_once(rt: HostRuntime) {
+    assert_eq!(rt; unseen(&TURN), Some(44));
+    assert!(rt; is_listed(&TURN, RIVER, 0, (1, 1), (49, 49), 44));
+}
+
+/// 2d 2h come first, and Ac Ad last.
+#[test]
+fn turn_and_river_are_chosen_once_in_either_order(rt: HostRuntime) {
+    assert!(rt; is_listed(&FLOP, TURN_AND_RIVER, 0, (1, 2), (48, 49), 990));
+}
+
+/// 2s 3c come first, and Ac Ad last.
+#[test]
+fn dead_cards_do_not_come(rt: HostRuntime) {
+    assert!(rt;
+        is_listed(
+            &FLOP_WITH_DEAD_CARDS,
+            TURN_AND_RIVER,
+            0,
+            (3, 4),
+            (48, 49),
+            903
+        )
     );
-    let villain = walked(&shape, 1);
-    assert_eq!(rt;
-        (villain.first, villain.last),
-        ((9, 9), (50, 50)),
-        "4d first, Ah last"
-    );
-    assert_eq!(rt; villain.count, 44 * 43);
-    Ok(())
+}
+
+/// The first gets 4c first and As last, and the second 4d and Ah.
+#[test]
+fn the_second_hand_draws_from_what_the_first_leaves(rt: HostRuntime) {
+    assert!(rt; is_listed(&DRAW, ONE_EACH, 0, (8, 8), (51, 51), 44 * 43));
+    assert!(rt; is_listed(&DRAW, ONE_EACH, 1, (9, 9), (50, 50), 44 * 43));
+}
+
+/// Whether a spot has so many slots, and so many runouts; none where they are above a limit.
+fn is_counted(spot: &Spot, used: u8, limit: u64, count: Option<u64>) -> bool {
+    match shape_of(spot) {
+        Some(shape) => shape.used == used && count_runouts(&shape, limit).ok() == count,
+        None => false,
+    }
 }
 
 #[test]
-fn runouts_are_counted_up_to_a_limit(rt: HostRuntime) -> Result<(), Fail> {
-    let turn = shape_of(&turn_spot()).ok_or("no shape")?;
-    assert_eq!(rt; count_runouts(&turn, 44), Ok(44));
-    assert_eq!(rt; count_runouts(&turn, 43), Err(Above));
-    let stud = shape_of(&stud_spot()).ok_or("no shape")?;
-    assert_eq!(rt; count_runouts(&stud, u64::MAX), Ok(141_181_040));
-    let draw = shape_of(&dark_draw()).ok_or("no shape")?;
-    assert_eq!(rt; draw.used, 10);
-    assert_eq!(rt; count_runouts(&draw, u64::MAX), Err(Above));
-    Ok(())
+fn runouts_are_counted_up_to_a_limit(rt: HostRuntime) {
+    assert!(rt; is_counted(&TURN, 1, 44, Some(44)));
+    assert!(rt; is_counted(&TURN, 1, 43, None));
+    assert!(rt; is_counted(&STUD, 2, u64::MAX, Some(141_181_040)));
+    assert!(rt; is_counted(&DARK_DRAW, 10, u64::MAX, None));
 }
 
 #[test]
-fn ten_stud_hands_need_more_than_a_deck(rt: HostRuntime) -> Result<(), Fail> {
-    let dark = dark_stud().ok_or("not known")?;
-    assert!(rt; shape(&dark).is_none());
-    Ok(())
+fn ten_stud_hands_need_more_than_a_deck(rt: HostRuntime) {
+    assert!(rt; known(&DARK_STUD).is_some() && shape_of(&DARK_STUD).is_none());
 }

@@ -2,8 +2,8 @@ use Rattle.std.proofs.Common.{[], ◌∷◌, refl, arith}
 use Rattle.pot_layers.proofs.CallerLemmas.{orders_its_seats}
 use Rattle.card_rows.proofs.pots.the_high_half_is_rounded_up.Goals as goal
 
-pub split-requires-clause-high : goal.split-requires-clause-high
-split-requires-clause-high c s = rw s.of-first.ensures (orders_its_seats (1 ∷ []) (refl, tt) (omega arith, omega arith, tt))
+pub has_shares-requires-clause-high : goal.has_shares-requires-clause-high
+has_shares-requires-clause-high c s = rw s.of-first.ensures (orders_its_seats (1 ∷ []) (refl, tt) (omega arith, omega arith, tt))
 
-pub split-requires-clause-low : goal.split-requires-clause-low
-split-requires-clause-low c s = rw s.of-second.ensures (orders_its_seats (2 ∷ []) (refl, tt) (omega arith, omega arith, tt))
+pub has_shares-requires-clause-low : goal.has_shares-requires-clause-low
+has_shares-requires-clause-low c s = rw s.of-second.ensures (orders_its_seats (2 ∷ []) (refl, tt) (omega arith, omega arith, tt))
