@@ -2,13 +2,13 @@
 
 ghost use Rattle.std.specs.Prelude.{◌≡◌, length};
 ghost use Rattle.line_text.specs.Lines.{lines};
+ghost use Rattle.hand_audit.specs.Departs.{begins_hand};
 
 use card_sets::{Card, CardSet, Known};
 use hand_audit::*;
 use history_text::{Street, is_header};
 use line_text::next_line;
 use std::alloc::Global;
-use std::test::Fail;
 
 /// A hand of four whose stacks make three pots, beside one who sits out. The winner of the last pot is shown by
 /// the summary alone.
@@ -83,9 +83,18 @@ fn count_lines(bytes: &[u8]) -> usize
     count
 }
 
+/// Whether a text begins with a header line.
+fn is_hand(bytes: &[u8]) -> bool
+    ensures { result ≡ begins_hand (lines bytes.now) }
+{
+    match next_line(bytes, 0) {
+        Some(head) => is_header(&bytes[head.first..head.end]),
+        None => false,
+    }
+}
+
 fn audit(alloc: Global, bytes: &[u8]) -> Option<HandAudit> {
-    let head = next_line(bytes, 0)?;
-    if !is_header(&bytes[head.first..head.end]) || count_lines(bytes) > 99 {
+    if !is_hand(bytes) || count_lines(bytes) > 99 {
         return None;
     }
     match audit_hand(alloc, bytes, 1) {
@@ -121,19 +130,28 @@ fn is_pot(settlement: &Settlement, number: usize, gross: u64, eligible: u16, win
     }
 }
 
-#[test]
-fn three_pots_are_collected_by_their_names(rt: HostRuntime) -> Result<(), Fail> {
-    let settlement = settlement(rt.alloc(), THREE_POTS).ok_or("rejected")?;
-    assert!(rt; settlement.fits && !settlement.hundredths);
-    assert_eq!(rt; settlement.pots.items().len(), 3);
-    assert!(rt; is_pot(&settlement, 0, 400, 0b11110, 1));
-    assert!(rt; is_pot(&settlement, 1, 600, 0b11100, 2));
-    assert!(rt; is_pot(&settlement, 2, 600, 0b11000, 3));
-    Ok(())
+/// Whether a settlement has these three pots.
+fn has_three_pots(settlement: &Option<Settlement>) -> bool {
+    match settlement {
+        Some(settlement) => {
+            settlement.fits
+                && !settlement.hundredths
+                && settlement.pots.items().len() == 3
+                && is_pot(settlement, 0, 400, 0b11110, 1)
+                && is_pot(settlement, 1, 600, 0b11100, 2)
+                && is_pot(settlement, 2, 600, 0b11000, 3)
+        }
+        None => false,
+    }
 }
 
-/// What is known of a hand's all-in, where it is on this street and of these seats, and its pots.
-fn known_at(audit: &HandAudit, at: Street, of: [u8; 10]) -> Option<(Known, [u16; 10])> {
+#[test]
+fn three_pots_are_collected_by_their_names(rt: HostRuntime) {
+    assert!(rt; has_three_pots(&settlement(rt.alloc(), THREE_POTS)));
+}
+
+/// What is known of a hand's all-in, where it is on this street and of these seats, and one pot is for these.
+fn known_at(audit: &HandAudit, at: Street, of: [u8; 10], eligible: [u16; 10]) -> Option<Known> {
     match audit {
         HandAudit::Accepted {
             all_in: AllIn::Known {
@@ -143,8 +161,8 @@ fn known_at(audit: &HandAudit, at: Street, of: [u8; 10]) -> Option<(Known, [u16;
             },
             ..
         } => {
-            if *street == at && *seats == of && table.pots == 1 {
-                Some((table.known, table.eligible))
+            if *street == at && *seats == of && table.pots == 1 && table.eligible == eligible {
+                Some(table.known)
             } else {
                 None
             }
@@ -163,15 +181,29 @@ fn is_pair(cards: CardSet, first: [u8; 2], second: [u8; 2]) -> bool {
     }
 }
 
-#[test]
-fn who_folds_behind_the_point_wins_no_pot(rt: HostRuntime) -> Result<(), Fail> {
-    let audit = audit(rt.alloc(), FOLDED_BEHIND).ok_or("no hand")?;
+/// Whether these are the hands of bob and cat with three cards on the board, and ann's cards are dead.
+fn is_folded_behind(known: &Known) -> bool {
+    known.count == 2
+        && known.board.count() == 3
+        && is_pair(known.hands[0], *b"Ks", *b"Qs")
+        && is_pair(known.hands[1], *b"7c", *b"7d")
+        && is_pair(known.dead, *b"2c", *b"2d")
+}
+
+/// Whether this is so on the flop of a hand, where bob alone has a part in the pot.
+fn is_won_alone(audit: &Option<HandAudit>) -> bool {
     let seats = [2, 3, 0, 0, 0, 0, 0, 0, 0, 0];
-    let (known, pots) = known_at(&audit, Street::Flop, seats).ok_or("another")?;
-    assert_eq!(rt; pots, [0b1, 0, 0, 0, 0, 0, 0, 0, 0, 0]);
-    assert!(rt; known.count == 2 && known.board.count() == 3);
-    assert!(rt; is_pair(known.hands[0], *b"Ks", *b"Qs"));
-    assert!(rt; is_pair(known.hands[1], *b"7c", *b"7d"));
-    assert!(rt; is_pair(known.dead, *b"2c", *b"2d"));
-    Ok(())
+    let eligible = [0b1, 0, 0, 0, 0, 0, 0, 0, 0, 0];
+    let Some(audit) = audit else {
+        return false;
+    };
+    match known_at(audit, Street::Flop, seats, eligible) {
+        Some(known) => is_folded_behind(&known),
+        None => false,
+    }
+}
+
+#[test]
+fn who_folds_behind_the_point_wins_no_pot(rt: HostRuntime) {
+    assert!(rt; is_won_alone(&audit(rt.alloc(), FOLDED_BEHIND)));
 }

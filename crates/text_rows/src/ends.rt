@@ -8,7 +8,6 @@ use byte_ends::{
 use std::alloc::Global;
 use std::io;
 use std::io::{ErrorKind, Read, Write};
-use std::test::Fail;
 
 /// A reader and a writer of which every call fails.
 #[derive(Drop)]
@@ -44,6 +43,77 @@ impl Write for Closed {
     }
 }
 
+/// A read: into how many bytes, what it gives, and what the piece ends with then.
+type Turn = (usize, Result<usize, Failed>, &'static [u8]);
+
+/// Bytes that are written, and how many of them are.
+type Taken = (&'static [u8], Result<usize, Failed>);
+
+/// Bytes that are to be written to the end, and whether they are.
+type Whole = (&'static [u8], Result<(), Failed>);
+
+/// Pieces of eight bytes, of at most three each.
+const PIECES: &[Turn] = &[
+    (4, Ok(3), b"abc-"),
+    (2, Ok(2), b"dec-"),
+    (0, Ok(0), b"dec-"),
+    (4, Ok(3), b"fgh-"),
+    (4, Ok(0), b"fgh-"),
+];
+
+/// Reads of which two fail.
+const FAILING: &[Turn] = &[
+    (2, Ok(2), b"ab"),
+    (2, Err(Failed), b"ab"),
+    (2, Err(Failed), b"ab"),
+    (2, Ok(2), b"cd"),
+];
+
+/// Reads of 130 bytes, of at most 66 each.
+const REPEATED: &[Turn] = &[
+    (70, Ok(66), b"x\nxx----"),
+    (62, Ok(62), b"x\nx\nxx----"),
+    (0, Ok(0), b""),
+    (70, Ok(2), b""),
+    (70, Ok(0), b""),
+];
+
+/// Reads of three bytes.
+const STANDARD: &[Turn] = &[(2, Ok(2), b"ab"), (2, Ok(1), b"cb"), (2, Ok(0), b"cb")];
+
+/// A read that fails.
+const BROKEN: &[Turn] = &[(2, Err(Failed), b"cb")];
+
+/// Writes into a room of five bytes, of at most three each.
+const FILLING: &[Taken] = &[
+    (b"abcd", Ok(3)),
+    (b"", Ok(0)),
+    (b"defg", Ok(2)),
+    (b"f", Err(Failed)),
+    (b"", Ok(0)),
+];
+
+/// A write that fails.
+const REFUSED: &[Taken] = &[(b"a", Err(Failed))];
+
+/// A write of which nothing is taken, and one of nothing.
+const NOT_TAKEN: &[Taken] = &[(b"a", Err(Failed)), (b"", Ok(0))];
+
+/// Writes into a room of seven bytes.
+const FITTING: &[Whole] = &[(b"abcdefg", Ok(()))];
+
+/// Writes into a full room.
+const TOO_MANY: &[Whole] = &[(b"", Ok(())), (b"h", Err(Failed))];
+
+/// A write that fails on the way.
+const CUT: &[Whole] = &[(b"abcdefg", Err(Failed))];
+
+/// A write behind it.
+const BEHIND: &[Whole] = &[(b"xyz", Ok(()))];
+
+/// Writes of five bytes.
+const FIVE: &[Whole] = &[(b"abc", Ok(())), (b"de", Ok(()))];
+
 /// Reads into the first bytes of a piece, so many. Whether that gives so many or fails, and the piece ends with these
 /// bytes then.
 fn reads<S: Source>(
@@ -60,11 +130,7 @@ fn reads<S: Source>(
 }
 
 /// Whether each of these reads is so.
-fn all_read<S: Source>(
-    source: &mut S,
-    piece: &mut [u8],
-    turns: &[(usize, Result<usize, Failed>, &[u8])],
-) -> bool {
+fn all_read<S: Source>(source: &mut S, piece: &mut [u8], turns: &[Turn]) -> bool {
     for (size, wanted, end) in turns {
         if !reads(source, piece, *size, *wanted, end) {
             return false;
@@ -74,7 +140,7 @@ fn all_read<S: Source>(
 }
 
 /// Whether of each of these bytes so many are written, or the write fails.
-fn all_take<K: Sink>(sink: &mut K, turns: &[(&[u8], Result<usize, Failed>)]) -> bool {
+fn all_take<K: Sink>(sink: &mut K, turns: &[Taken]) -> bool {
     for (bytes, wanted) in turns {
         if sink.write(bytes) != *wanted {
             return false;
@@ -84,7 +150,7 @@ fn all_take<K: Sink>(sink: &mut K, turns: &[(&[u8], Result<usize, Failed>)]) -> 
 }
 
 /// Whether each of these is written to the end, or a write fails.
-fn all_write<K: Sink>(sink: &mut K, turns: &[(&[u8], Result<(), Failed>)]) -> bool {
+fn all_write<K: Sink>(sink: &mut K, turns: &[Whole]) -> bool {
     for (bytes, wanted) in turns {
         if write_all(sink, bytes) != *wanted {
             return false;
@@ -130,33 +196,24 @@ fn failing_sink(alloc: Global, room: usize, piece: usize) -> Option<MemorySink>
     MemorySink::new(alloc, room, piece, fails).ok()
 }
 
-#[test]
-fn a_memory_source_gives_its_bytes_in_pieces_and_then_the_end(rt: HostRuntime) -> Result<(), Fail> {
-    let mut source = source_of(rt.alloc(), b"abcdefgh", 3).ok_or("memory")?;
-    let turns = [
-        (4, Ok(3), b"abc-".as_slice()),
-        (2, Ok(2), b"dec-".as_slice()),
-        (0, Ok(0), b"dec-".as_slice()),
-        (4, Ok(3), b"fgh-".as_slice()),
-        (4, Ok(0), b"fgh-".as_slice()),
-    ];
-    let mut piece = [b'-'; 4];
-    assert!(rt; all_read(&mut source, &mut piece, &turns));
-    Ok(())
+/// Whether a source that there is gives this.
+fn gives(source: Option<MemorySource>, piece: &mut [u8], turns: &[Turn]) -> bool {
+    match source {
+        Some(mut source) => all_read(&mut source, piece, turns),
+        None => false,
+    }
 }
 
 #[test]
-fn the_listed_reads_fail_and_lose_no_byte(rt: HostRuntime) -> Result<(), Fail> {
-    let mut source = failing_source(rt.alloc(), b"abcd", 2).ok_or("memory")?;
-    let turns = [
-        (2, Ok(2), b"ab".as_slice()),
-        (2, Err(Failed), b"ab".as_slice()),
-        (2, Err(Failed), b"ab".as_slice()),
-        (2, Ok(2), b"cd".as_slice()),
-    ];
-    let mut piece = [b'-'; 2];
-    assert!(rt; all_read(&mut source, &mut piece, &turns));
-    Ok(())
+fn a_memory_source_gives_its_bytes_in_pieces_and_then_the_end(rt: HostRuntime) {
+    let source = source_of(rt.alloc(), b"abcdefgh", 3);
+    assert!(rt; gives(source, &mut [b'-'; 4], PIECES));
+}
+
+#[test]
+fn the_listed_reads_fail_and_lose_no_byte(rt: HostRuntime) {
+    let source = failing_source(rt.alloc(), b"abcd", 2);
+    assert!(rt; gives(source, &mut [b'-'; 2], FAILING));
 }
 
 /// A source of a line of x again and again, up to so many bytes.
@@ -171,83 +228,69 @@ fn repeated(left: u64, piece: usize) -> RepeatSource
 #[test]
 fn a_repeat_source_gives_its_line_again_and_again_and_then_the_end(rt: HostRuntime) {
     let mut source = repeated(130, 66);
-    let turns = [
-        (70, Ok(66), b"x\nxx----".as_slice()),
-        (62, Ok(62), b"x\nx\nxx----".as_slice()),
-        (0, Ok(0), b"".as_slice()),
-        (70, Ok(2), b"".as_slice()),
-        (70, Ok(0), b"".as_slice()),
-    ];
-    let mut piece = [b'-'; 70];
-    assert!(rt; all_read(&mut source, &mut piece, &turns));
+    assert!(rt; all_read(&mut source, &mut [b'-'; 70], REPEATED));
+}
+
+/// Whether a sink that there is takes so much of these, and these bytes in all.
+fn takes(sink: Option<MemorySink>, turns: &[Taken], bytes: &[u8]) -> bool {
+    match sink {
+        Some(mut sink) => all_take(&mut sink, turns) && has_taken(&sink, bytes),
+        None => false,
+    }
 }
 
 #[test]
-fn a_memory_sink_takes_pieces_until_its_room_is_full(rt: HostRuntime) -> Result<(), Fail> {
-    let mut sink = sink_of(rt.alloc(), 5, 3).ok_or("memory")?;
-    let turns = [
-        (b"abcd".as_slice(), Ok(3)),
-        (b"".as_slice(), Ok(0)),
-        (b"defg".as_slice(), Ok(2)),
-        (b"f".as_slice(), Err(Failed)),
-        (b"".as_slice(), Ok(0)),
-    ];
-    assert!(rt; all_take(&mut sink, &turns));
-    assert!(rt; has_taken(&sink, b"abcde"));
-    Ok(())
+fn a_memory_sink_takes_pieces_until_its_room_is_full(rt: HostRuntime) {
+    assert!(rt; takes(sink_of(rt.alloc(), 5, 3), FILLING, b"abcde"));
+}
+
+/// Whether a sink that there is has taken these bytes behind the first writes, and these behind the others.
+fn writes(
+    sink: Option<MemorySink>,
+    first: &[Whole],
+    taken: &[u8],
+    others: &[Whole],
+    all: &[u8],
+) -> bool {
+    match sink {
+        Some(mut sink) => {
+            all_write(&mut sink, first)
+                && has_taken(&sink, taken)
+                && all_write(&mut sink, others)
+                && has_taken(&sink, all)
+        }
+        None => false,
+    }
 }
 
 #[test]
-fn all_is_written_where_no_write_fails(rt: HostRuntime) -> Result<(), Fail> {
-    let mut whole = sink_of(rt.alloc(), 7, 2).ok_or("memory")?;
-    assert!(rt; all_write(&mut whole, &[(b"abcdefg", Ok(()))]));
-    assert!(rt; has_taken(&whole, b"abcdefg"));
-    assert!(rt; all_write(&mut whole, &[(b"", Ok(())), (b"h", Err(Failed))]));
-    Ok(())
+fn all_is_written_where_no_write_fails(rt: HostRuntime) {
+    let sink = sink_of(rt.alloc(), 7, 2);
+    assert!(rt; writes(sink, FITTING, b"abcdefg", TOO_MANY, b"abcdefg"));
 }
 
 #[test]
-fn a_front_is_written_where_a_write_fails(rt: HostRuntime) -> Result<(), Fail> {
-    let mut cut = failing_sink(rt.alloc(), 7, 2).ok_or("memory")?;
-    assert!(rt; all_write(&mut cut, &[(b"abcdefg", Err(Failed))]));
-    assert!(rt; has_taken(&cut, b"abcd"));
-    assert!(rt; all_write(&mut cut, &[(b"xyz", Ok(()))]));
-    assert!(rt; has_taken(&cut, b"abcdxyz"));
-    Ok(())
+fn a_front_is_written_where_a_write_fails(rt: HostRuntime) {
+    let sink = failing_sink(rt.alloc(), 7, 2);
+    assert!(rt; writes(sink, CUT, b"abcd", BEHIND, b"abcdxyz"));
 }
 
 #[test]
 fn a_standard_source_reads_its_reader_and_fails_where_that_fails(rt: HostRuntime) {
-    let mut source = StdSource::new(b"abc".as_slice());
-    let turns = [
-        (2, Ok(2), b"ab".as_slice()),
-        (2, Ok(1), b"cb".as_slice()),
-        (2, Ok(0), b"cb".as_slice()),
-    ];
     let mut piece = [b'-'; 2];
-    assert!(rt; all_read(&mut source, &mut piece, &turns));
-    assert!(rt;
-        reads(
-            &mut StdSource::new(Broken),
-            &mut piece,
-            2,
-            Err(Failed),
-            b"cb"
-        )
-    );
+    assert!(rt; all_read(&mut StdSource::new(b"abc".as_slice()), &mut piece, STANDARD));
+    assert!(rt; all_read(&mut StdSource::new(Broken), &mut piece, BROKEN));
 }
 
 #[test]
-fn a_standard_sink_writes_its_writer_and_fails_where_that_fails_or_takes_nothing(rt: HostRuntime) {
+fn a_standard_sink_writes_its_writer(rt: HostRuntime) {
     let mut taken = Vec::new(rt.alloc());
-    let mut sink = StdSink::new(&mut taken);
-    assert!(rt; all_write(&mut sink, &[(b"abc", Ok(())), (b"de", Ok(()))]));
-    assert_eq!(rt; taken.as_slice(), b"abcde".as_slice());
-    assert!(rt; all_take(&mut StdSink::new(Broken), &[(b"a", Err(Failed))]));
-    assert!(rt;
-        all_take(
-            &mut StdSink::new(Closed),
-            &[(b"a", Err(Failed)), (b"", Ok(0))]
-        )
-    );
+    assert!(rt; all_write(&mut StdSink::new(&mut taken), FIVE));
+    assert!(rt; taken.as_slice() == b"abcde".as_slice());
+}
+
+#[test]
+fn a_standard_sink_fails_where_its_writer_fails_or_takes_nothing(rt: HostRuntime) {
+    assert!(rt; all_take(&mut StdSink::new(Broken), REFUSED));
+    assert!(rt; all_take(&mut StdSink::new(Closed), NOT_TAKEN));
 }

@@ -1,8 +1,8 @@
 //! Lines as a site writes them.
 
+use crate::names::names_of;
 use card_sets::Game;
 use history_text::*;
-use std::test::Fail;
 
 const CASH: Header = Header {
     game: Game::Holdem,
@@ -14,14 +14,8 @@ const CASH: Header = Header {
 const CASH_TITLE: &[u8] =
     b"PokerStars Hand #240000000001: Hold'em No Limit ($0.50/$1.00 USD) - 2023/01/15 20:11:05 ET";
 
-/// The names of two seats; none for want of memory.
-fn seated(alloc: std::alloc::Global) -> Option<Names> {
-    let mut names = Names::new(alloc);
-    if names.add(3, b"carl").is_err() || names.add(4, b"dora").is_err() {
-        return None;
-    }
-    Some(names)
-}
+/// The names of two seats.
+const SEATED: &[(u8, &[u8])] = &[(3, b"carl"), (4, b"dora")];
 
 /// Whether a line is a header line and says this header.
 fn says_header(line: &[u8], wanted: &Header) -> bool {
@@ -146,18 +140,14 @@ const HEADERS: &[(&[u8], Game, Limit, bool, u64)] = &[
     ),
 ];
 
-/// Where the number of a hand stands in its header line.
-fn number_in(line: &[u8]) -> (usize, usize) {
-    if is_header(line) {
-        hand_number(line)
-    } else {
-        (0, 0)
-    }
+/// Whether a line is a header line in which the number of the hand stands there.
+fn is_numbered(line: &[u8], place: (usize, usize)) -> bool {
+    is_header(line) && hand_number(line) == place
 }
 
 #[test]
 fn the_number_of_a_hand_is_found(rt: HostRuntime) {
-    assert_eq!(rt; number_in(CASH_TITLE), (17, 29));
+    assert!(rt; is_numbered(CASH_TITLE, (17, 29)));
 }
 
 /// Whether a header line has a fault.
@@ -235,7 +225,10 @@ fn has_fault(names: &Names, part: Part, line: &[u8], fault: TextFault) -> bool {
 }
 
 /// Whether each of these lines has its fault, in a hand with these names.
-fn all_faulty(names: &Names, table: &[(Part, &[u8], TextFault)]) -> bool {
+fn all_faulty(names: &Option<Names>, table: &[(Part, &[u8], TextFault)]) -> bool {
+    let Some(names) = names else {
+        return false;
+    };
     for (part, line, fault) in table {
         if !has_fault(names, *part, line, *fault) {
             return false;
@@ -245,10 +238,9 @@ fn all_faulty(names: &Names, table: &[(Part, &[u8], TextFault)]) -> bool {
 }
 
 #[test]
-fn lines_have_their_first_fault(rt: HostRuntime) -> Result<(), Fail> {
-    let names = seated(rt.alloc()).ok_or("memory")?;
+fn lines_have_their_first_fault(rt: HostRuntime) {
+    let names = names_of(rt.alloc(), SEATED);
     assert!(rt; all_faulty(&names, LINE_FAULTS));
-    Ok(())
 }
 
 const LINE_FAULTS: &[(Part, &[u8], TextFault)] = &[
@@ -356,7 +348,13 @@ fn is_dealt(
 }
 
 /// Whether each of these lines says this of a seat's cards.
-fn all_dealt(names: &Names, table: &[(Game, &[u8], Result<(u8, usize), TextFault>)]) -> bool {
+fn all_dealt(
+    names: &Option<Names>,
+    table: &[(Game, &[u8], Result<(u8, usize), TextFault>)],
+) -> bool {
+    let Some(names) = names else {
+        return false;
+    };
     for (game, line, wanted) in table {
         if !is_dealt(names, *game, line, wanted) {
             return false;
@@ -366,10 +364,9 @@ fn all_dealt(names: &Names, table: &[(Game, &[u8], Result<(u8, usize), TextFault
 }
 
 #[test]
-fn each_game_has_its_deals_and_draws(rt: HostRuntime) -> Result<(), Fail> {
-    let names = seated(rt.alloc()).ok_or("memory")?;
+fn each_game_has_its_deals_and_draws(rt: HostRuntime) {
+    let names = names_of(rt.alloc(), SEATED);
     assert!(rt; all_dealt(&names, DEALS));
-    Ok(())
 }
 
 const DEALS: &[(Game, &[u8], Result<(u8, usize), TextFault>)] = &[
@@ -458,7 +455,10 @@ fn is_marked(names: &Names, game: Game, line: &[u8], wanted: Option<Street>) -> 
 }
 
 /// Whether each of these markers begins its street.
-fn all_marked(names: &Names, table: &[(Game, &[u8], Option<Street>)]) -> bool {
+fn all_marked(names: &Option<Names>, table: &[(Game, &[u8], Option<Street>)]) -> bool {
+    let Some(names) = names else {
+        return false;
+    };
     for (game, line, wanted) in table {
         if !is_marked(names, *game, line, *wanted) {
             return false;
@@ -468,10 +468,9 @@ fn all_marked(names: &Names, table: &[(Game, &[u8], Option<Street>)]) -> bool {
 }
 
 #[test]
-fn each_game_has_its_markers(rt: HostRuntime) -> Result<(), Fail> {
-    let names = seated(rt.alloc()).ok_or("memory")?;
+fn each_game_has_its_markers(rt: HostRuntime) {
+    let names = names_of(rt.alloc(), SEATED);
     assert!(rt; all_marked(&names, MARKERS));
-    Ok(())
 }
 
 const MARKERS: &[(Game, &[u8], Option<Street>)] = &[
@@ -572,25 +571,69 @@ fn is_total(names: &Names, line: &[u8], pot: u64, taken: u64) -> bool {
     }
 }
 
-#[test]
-fn lines_are_read(rt: HostRuntime) -> Result<(), Fail> {
-    let names = seated(rt.alloc()).ok_or("memory")?;
-    let raise = Act::Raise { by: 200, to: 300 };
-    assert!(rt; is_act(&names, b"carl: raises $2 to $3", 3, raise, false));
-    assert!(rt;
-        is_act(
-            &names,
-            b"dora: bets $53 and is all-in",
-            4,
-            Act::Bet(5300),
-            true
-        )
-    );
-    let flop = b"*** FLOP *** [2s 9s Jd]";
-    assert!(rt; is_marker(&names, flop, Street::Flop, BoardNumber::Only, 3));
-    let turn = b"*** SECOND TURN *** [2s 9s Jd] [5h]";
-    assert!(rt; is_marker(&names, turn, Street::Turn, BoardNumber::Second, 1));
-    assert!(rt; is_seat(&names, b"Seat 5: emil ($100 in chips)", 5, 10000, (8, 12)));
-    assert!(rt; is_total(&names, b"Total pot $121 | Rake $2.50", 12100, 250));
-    Ok(())
+/// Whether each of these lines is this act of a seat.
+fn all_acts(names: &Names, table: &[(&[u8], u8, Act, bool)]) -> bool {
+    for (line, seat, act, last) in table {
+        if !is_act(names, line, *seat, *act, *last) {
+            return false;
+        }
+    }
+    true
 }
+
+/// Whether each of these lines is this marker.
+fn all_markers(names: &Names, table: &[(&[u8], Street, BoardNumber, usize)]) -> bool {
+    for (line, street, board, new) in table {
+        if !is_marker(names, line, *street, *board, *new) {
+            return false;
+        }
+    }
+    true
+}
+
+/// Whether acts, markers, a seat and a total are read.
+fn all_read(names: &Option<Names>) -> bool {
+    match names {
+        Some(names) => {
+            all_acts(names, ACTS)
+                && all_markers(names, BOARDS)
+                && is_seat(names, SEAT, 5, 10000, (8, 12))
+                && is_total(names, TOTAL, 12100, 250)
+        }
+        None => false,
+    }
+}
+
+#[test]
+fn lines_are_read(rt: HostRuntime) {
+    assert!(rt; all_read(&names_of(rt.alloc(), SEATED)));
+}
+
+const ACTS: &[(&[u8], u8, Act, bool)] = &[
+    (
+        b"carl: raises $2 to $3",
+        3,
+        Act::Raise { by: 200, to: 300 },
+        false,
+    ),
+    (b"dora: bets $53 and is all-in", 4, Act::Bet(5300), true),
+];
+
+const BOARDS: &[(&[u8], Street, BoardNumber, usize)] = &[
+    (
+        b"*** FLOP *** [2s 9s Jd]",
+        Street::Flop,
+        BoardNumber::Only,
+        3,
+    ),
+    (
+        b"*** SECOND TURN *** [2s 9s Jd] [5h]",
+        Street::Turn,
+        BoardNumber::Second,
+        1,
+    ),
+];
+
+const SEAT: &[u8] = b"Seat 5: emil ($100 in chips)";
+
+const TOTAL: &[u8] = b"Total pot $121 | Rake $2.50";

@@ -14,6 +14,8 @@ mod lines;
 #[cfg(test)]
 mod made;
 #[cfg(test)]
+mod names;
+#[cfg(test)]
 mod replays;
 #[cfg(test)]
 mod spot_lines;

@@ -67,13 +67,28 @@ const TEXTS: &[(&[u8], &[&[u8]])] = &[
     (b" \xef\xbb\xbfa", &[b" \xef\xbb\xbfa"]),
 ];
 
+/// Whether the line at each of these places of a text has the places beside it.
+fn all_placed(bytes: &[u8], table: &[(usize, Option<(usize, usize, usize)>)]) -> bool {
+    for (at, wanted) in table {
+        if cut_at(bytes, *at) != *wanted {
+            return false;
+        }
+    }
+    true
+}
+
 #[test]
 fn a_line_tells_where_its_text_and_the_next_line_begin(rt: HostRuntime) {
-    let bytes = b"\xef\xbb\xbfab \r\ncd";
-    assert_eq!(rt; cut_at(bytes, 0), Some((3, 5, 8)));
-    assert_eq!(rt; cut_at(bytes, 8), Some((8, 10, 10)));
-    assert_eq!(rt; cut_at(bytes, 10), None);
+    assert!(rt; all_placed(TWO_LINES, PLACES));
 }
+
+const TWO_LINES: &[u8] = b"\xef\xbb\xbfab \r\ncd";
+
+const PLACES: &[(usize, Option<(usize, usize, usize)>)] = &[
+    (0, Some((3, 5, 8))),
+    (8, Some((8, 10, 10))),
+    (10, None),
+];
 
 /// Whether an amount stands at a place of a text, of so many units and up to that place, or this fault.
 fn is_read(

@@ -1,7 +1,7 @@
 //! Made hands against those that another program made by the same rules.
 
 use made_hands::made_input;
-use std::test::Fail;
+use std::alloc::Global;
 
 /// The first two hands of seed 1. In the first A has more chips than B, and in the second fewer.
 const TWO_OF_SEED_1: &str = "PokerStars Hand #1: Hold'em No Limit ($0.50/$1.00 USD)\n\
@@ -91,24 +91,46 @@ B collected $27 from pot\n\
 *** SUMMARY ***\n\
 Total pot $54 | Rake $0\n";
 
-#[test]
-fn hands_are_those_of_another_program(rt: HostRuntime) -> Result<(), Fail> {
-    let cases = [
-        (1, 2, TWO_OF_SEED_1),
-        (9, 1, ONE_OF_SEED_9),
-        (13, 1, ONE_OF_SEED_13),
-        (1, 0, ""),
-    ];
-    for (seed, hands, text) in cases {
-        let made = made_input(rt.alloc(), seed, hands).or(Err("memory"))?;
-        assert_eq!(rt; made.as_slice(), text.as_bytes());
+/// A seed, how many hands, and their text.
+const MADE: &[(u64, u32, &str)] = &[
+    (1, 2, TWO_OF_SEED_1),
+    (9, 1, ONE_OF_SEED_9),
+    (13, 1, ONE_OF_SEED_13),
+    (1, 0, ""),
+];
+
+/// Whether the hands of a seed have this text.
+fn is_made(alloc: Global, seed: u64, hands: u32, text: &str) -> bool {
+    match made_input(alloc, seed, hands) {
+        Ok(made) => made.as_slice() == text.as_bytes(),
+        Err(_) => false,
     }
-    Ok(())
+}
+
+/// Whether this is so of each of these.
+fn all_made(alloc: Global, table: &[(u64, u32, &str)]) -> bool {
+    for (seed, hands, text) in table {
+        if !is_made(alloc, *seed, *hands, *text) {
+            return false;
+        }
+    }
+    true
 }
 
 #[test]
-fn ample_memory_suffices(rt: HostRuntime) -> Result<(), Fail> {
-    let made = made_input(rt.alloc(), u64::MAX, 200).or(Err("memory"))?;
-    assert!(rt; made.len() > 200 * 400 && made.len() <= 200 * 1000);
-    Ok(())
+fn hands_are_those_of_another_program(rt: HostRuntime) {
+    assert!(rt; all_made(rt.alloc(), MADE));
+}
+
+/// Whether the text of 200 hands has as many bytes as they may have.
+fn is_long(alloc: Global, seed: u64) -> bool {
+    match made_input(alloc, seed, 200) {
+        Ok(made) => made.len() > 200 * 400 && made.len() <= 200 * 1000,
+        Err(_) => false,
+    }
+}
+
+#[test]
+fn ample_memory_suffices(rt: HostRuntime) {
+    assert!(rt; is_long(rt.alloc(), u64::MAX));
 }

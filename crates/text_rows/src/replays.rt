@@ -4,11 +4,10 @@ ghost use Rattle.std.specs.Prelude.{◌<◌, ◌≤◌, ◌^◌, IsTrue};
 ghost use Rattle.betting_replay.specs.Events.{SeatFits};
 ghost use Rattle.betting_replay.specs.Limits.{ActFits, AmountsFit};
 
+use crate::names::names_of;
 use betting_replay::{BetFault, Replay};
-use card_sets::{Card, Game, Memory};
+use card_sets::{Card, Game};
 use history_text::{Act, Event, Header, Limit, Names, Part, Street, read_line};
-use std::alloc::Global;
-use std::test::Fail;
 
 mod all_in;
 mod boards;
@@ -23,13 +22,7 @@ const DOLLARS: Header = Header {
 };
 
 /// The names of three seats.
-fn three_names(alloc: Global) -> Result<Names, Memory> {
-    let mut names = Names::new(alloc);
-    names.add(1, b"ann")?;
-    names.add(2, b"bob")?;
-    names.add(3, b"cat")?;
-    Ok(names)
-}
+const THREE_NAMES: &[(u8, &[u8])] = &[(1, b"ann"), (2, b"bob"), (3, b"cat")];
 
 /// Whether an amount is within the limit.
 fn is_amount(units: u64) -> bool
@@ -176,6 +169,11 @@ const REST: [&[u8]; 9] = [
     b"*** SUMMARY ***",
 ];
 
+/// Whether this is the state of the hand before its flop.
+fn is_before_the_flop(replay: &Replay) -> bool {
+    replay.next_to_act().is_none() && replay.button() == 1
+}
+
 /// Whether this is the state of the hand behind its flop.
 fn is_behind_the_flop(replay: &Replay) -> bool {
     replay.next_to_act() == Some(1)
@@ -192,20 +190,35 @@ fn has_boards(replay: &Replay) -> bool {
         && replay.board_at(Street::River).has(card(36))
 }
 
-#[test]
-fn a_hand_of_two_is_stepped_through(rt: HostRuntime) -> Result<(), Fail> {
-    let names = three_names(rt.alloc()).ok().ok_or("memory")?;
+/// Whether two have shown, and the first of them aces.
+fn has_shown(replay: &Replay) -> bool {
+    let Some(shown) = replay.final_cards(1) else {
+        return false;
+    };
+    replay.contenders() == 6
+        && replay.paid(2).live == 300
+        && shown.count() == 2
+        && shown.has(card(50))
+}
+
+/// Whether the hand goes on so, and ends so.
+fn is_stepped_through(names: &Option<Names>) -> bool {
+    let Some(names) = names else {
+        return false;
+    };
     let mut replay = Replay::new(&DOLLARS, 6);
-    assert!(rt; all_stand(&mut replay, &names, &TWO_SEATS));
-    assert!(rt; replay.next_to_act().is_none() && replay.button() == 1);
-    assert!(rt; all_stand(&mut replay, &names, &FLOP));
-    assert!(rt; is_behind_the_flop(&replay));
-    assert!(rt; all_stand(&mut replay, &names, &REST));
-    assert!(rt; replay.contenders() == 6 && replay.paid(2).live == 300);
-    assert!(rt; has_boards(&replay));
-    let shown = replay.final_cards(1).ok_or("unknown")?;
-    assert!(rt; shown.count() == 2 && shown.has(card(50)));
-    Ok(())
+    all_stand(&mut replay, names, &TWO_SEATS)
+        && is_before_the_flop(&replay)
+        && all_stand(&mut replay, names, &FLOP)
+        && is_behind_the_flop(&replay)
+        && all_stand(&mut replay, names, &REST)
+        && has_shown(&replay)
+        && has_boards(&replay)
+}
+
+#[test]
+fn a_hand_of_two_is_stepped_through(rt: HostRuntime) {
+    assert!(rt; is_stepped_through(&names_of(rt.alloc(), THREE_NAMES)));
 }
 
 /// Three seats, the third with little, and the cards before the flop.
@@ -219,7 +232,10 @@ const THREE_SEATS: [&[u8]; 6] = [
 ];
 
 /// Whether lines like these are refused at their last behind those of three seats.
-fn all_refused(names: &Names, table: &[(&[&[u8]], BetFault)]) -> bool {
+fn all_refused(names: &Option<Names>, table: &[(&[&[u8]], BetFault)]) -> bool {
+    let Some(names) = names else {
+        return false;
+    };
     for (lines, fault) in table {
         let mut replay = Replay::new(&DOLLARS, 14);
         if !all_stand(&mut replay, names, &THREE_SEATS)
@@ -232,10 +248,9 @@ fn all_refused(names: &Names, table: &[(&[&[u8]], BetFault)]) -> bool {
 }
 
 #[test]
-fn each_refusal_comes_with_what_it_carries(rt: HostRuntime) -> Result<(), Fail> {
-    let names = three_names(rt.alloc()).ok().ok_or("memory")?;
+fn each_refusal_comes_with_what_it_carries(rt: HostRuntime) {
+    let names = names_of(rt.alloc(), THREE_NAMES);
     assert!(rt; all_refused(&names, &refusals()));
-    Ok(())
 }
 
 /// Each refusal once.

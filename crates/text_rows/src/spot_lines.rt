@@ -1,5 +1,6 @@
 use card_sets::{Card, CardSet, Game};
 use spot_text::{SpotFault, has_word, read_spot};
+use std::alloc::Global;
 use std::test::Fail;
 
 /// Whether the set has the cards that the words name, and no others.
@@ -21,39 +22,91 @@ fn fault_of(line: &[u8]) -> Option<SpotFault> {
     }
 }
 
-#[test]
-fn a_good_line_gives_the_hands_the_board_and_the_dead_cards(rt: HostRuntime) -> Result<(), Fail> {
-    let lines: [&[u8]; 4] = [
-        b"holdem As Ah - Kd Qd -- Jd Td 2c 3h / 4h 4c",
-        b"holdem Ah As - Qd Kd -- 3h 2c Td Jd / 4c 4h",
-        b"holdem\tAs\tAh\t-\tKd\tQd\t--\tJd\tTd\t2c\t3h\t/\t4h\t4c",
-        b"\t holdem \t As    Ah -\t\tKd Qd --   Jd Td 2c \t 3h / 4h   4c\t",
-    ];
-    for line in lines {
-        let known = read_spot(line).ok().ok_or("refused")?;
-        assert_eq!(rt; known.game, Game::Holdem);
-        assert_eq!(rt; known.count, 2);
-        assert!(rt; holds(known.hands[0], &[*b"As", *b"Ah"]));
-        assert!(rt; holds(known.hands[1], &[*b"Kd", *b"Qd"]));
-        assert!(rt; holds(known.board, &[*b"Jd", *b"Td", *b"2c", *b"3h"]));
-        assert!(rt; holds(known.dead, &[*b"4h", *b"4c"]));
+/// What a line gives: the game, how many hands, some of them by their places, the board and the dead cards.
+type Read = (
+    Game,
+    u8,
+    &'static [(usize, &'static [[u8; 2]])],
+    &'static [[u8; 2]],
+    &'static [[u8; 2]],
+);
+
+/// Whether hands have these cards.
+fn has_hands(hands: &[CardSet], wanted: &[(usize, &[[u8; 2]])]) -> bool {
+    for (place, words) in wanted {
+        match hands.get(*place) {
+            Some(set) if holds(*set, words) => {}
+            _ => return false,
+        }
     }
-    Ok(())
+    true
+}
+
+/// Whether a line gives this.
+fn is_read(line: &[u8], wanted: &Read) -> bool {
+    let (game, count, hands, board, dead) = *wanted;
+    match read_spot(line) {
+        Ok(known) => {
+            known.game == game
+                && known.count == count
+                && has_hands(&known.hands, hands)
+                && holds(known.board, board)
+                && holds(known.dead, dead)
+        }
+        Err(_) => false,
+    }
+}
+
+/// Whether each of these lines does.
+fn all_read(lines: &[&[u8]], wanted: &Read) -> bool {
+    for line in lines {
+        if !is_read(line, wanted) {
+            return false;
+        }
+    }
+    true
 }
 
 #[test]
-fn ten_hands_are_read_in_order(rt: HostRuntime) -> Result<(), Fail> {
-    let line =
-        b"holdem 2c 2d - 3c 3d - 4c 4d - 5c 5d - 6c 6d - 7c 7d - 8c 8d - 9c 9d - Tc Td - Jc Jd -- Qc Qd Qh / Kc Kd As";
-    let known = read_spot(line).ok().ok_or("refused")?;
-    assert_eq!(rt; known.count, 10);
-    assert!(rt; holds(known.hands[0], &[*b"2c", *b"2d"]));
-    assert!(rt; holds(known.hands[4], &[*b"6c", *b"6d"]));
-    assert!(rt; holds(known.hands[9], &[*b"Jc", *b"Jd"]));
-    assert!(rt; holds(known.board, &[*b"Qc", *b"Qd", *b"Qh"]));
-    assert!(rt; holds(known.dead, &[*b"Kc", *b"Kd", *b"As"]));
-    Ok(())
+fn a_good_line_gives_the_hands_the_board_and_the_dead_cards(rt: HostRuntime) {
+    assert!(rt; all_read(GOOD_LINES, &TWO_HANDS));
 }
+
+const GOOD_LINES: &[&[u8]] = &[
+    b"holdem As Ah - Kd Qd -- Jd Td 2c 3h / 4h 4c",
+    b"holdem Ah As - Qd Kd -- 3h 2c Td Jd / 4c 4h",
+    b"holdem\tAs\tAh\t-\tKd\tQd\t--\tJd\tTd\t2c\t3h\t/\t4h\t4c",
+    b"\t holdem \t As    Ah -\t\tKd Qd --   Jd Td 2c \t 3h / 4h   4c\t",
+];
+
+const TWO_HANDS: Read = (
+    Game::Holdem,
+    2,
+    &[(0, &[*b"As", *b"Ah"]), (1, &[*b"Kd", *b"Qd"])],
+    &[*b"Jd", *b"Td", *b"2c", *b"3h"],
+    &[*b"4h", *b"4c"],
+);
+
+#[test]
+fn ten_hands_are_read_in_order(rt: HostRuntime) {
+    assert!(rt; all_read(LONG_LINE, &TEN_HANDS));
+}
+
+const LONG_LINE: &[&[u8]] = &[
+    b"holdem 2c 2d - 3c 3d - 4c 4d - 5c 5d - 6c 6d - 7c 7d - 8c 8d - 9c 9d - Tc Td - Jc Jd -- Qc Qd Qh / Kc Kd As",
+];
+
+const TEN_HANDS: Read = (
+    Game::Holdem,
+    10,
+    &[
+        (0, &[*b"2c", *b"2d"]),
+        (4, &[*b"6c", *b"6d"]),
+        (9, &[*b"Jc", *b"Jd"]),
+    ],
+    &[*b"Qc", *b"Qd", *b"Qh"],
+    &[*b"Kc", *b"Kd", *b"As"],
+);
 
 /// Whether each of these lines is refused for this.
 fn all_refused(lines: &[&[u8]], fault: &SpotFault) -> bool {
@@ -110,12 +163,19 @@ const OTHER_WORDS: &[&[u8]] = &[
     b"omaha8 As Ah 2c 3c - Ks Ah Kd Kc -- xx",
 ];
 
-/// Whether each of these lines is refused for this card, which stands twice.
+/// Whether a line is refused for this card, which stands twice.
+fn repeats(line: &[u8], text: [u8; 2]) -> bool {
+    match Card::read(text) {
+        Some(card) => fault_of(line) == Some(SpotFault::TwiceCard(card)),
+        None => false,
+    }
+}
+
+/// Whether each of these lines is.
 fn all_repeat(table: &[(&[u8], [u8; 2])]) -> bool {
     for (line, text) in table {
-        match Card::read(*text) {
-            Some(card) if fault_of(line) == Some(SpotFault::TwiceCard(card)) => {}
-            _ => return false,
+        if !repeats(line, *text) {
+            return false;
         }
     }
     true
@@ -343,59 +403,100 @@ const SIZES: &[(&[u8], Game, [u32; 2], u32, u32)] = &[
     (b"triple27 7c 5d 4h 3s - / Kc", Game::Triple27, [4, 0], 0, 1),
 ];
 
-#[test]
-fn dead_cards_may_leave_too_few_for_the_board(rt: HostRuntime) -> Result<(), Fail> {
-    // Four cards in two hands and 43 dead ones leave five, as many as the board takes.
-    let mut line = Vec::from_slice(rt.alloc(), b"holdem 2c 2d - 2h 2s /")?;
-    let suits = [b'c', b'd', b'h', b's'];
+/// A line that goes on with a word again and again.
+fn repeated(alloc: Global, front: &[u8], word: &[u8], times: u32) -> Result<Vec<u8>, Fail> {
+    let mut line = Vec::from_slice(alloc, front)?;
+    for _ in 0..times {
+        line.extend_from_slice(word)?;
+    }
+    Ok(line)
+}
+
+/// A line with the deuces in two hands, and with the cards of all four suits from trey to queen dead.
+fn crowded(alloc: Global) -> Result<Vec<u8>, Fail> {
+    let mut line = Vec::from_slice(alloc, b"holdem 2c 2d - 2h 2s /")?;
     for rank in *b"3456789TJQ" {
-        for suit in suits {
+        for suit in *b"cdhs" {
             line.extend_from_slice(&[b' ', rank, suit])?;
         }
     }
-    line.extend_from_slice(b" Kc Kd Kh")?;
-    assert!(rt; fault_of(&line).is_none());
-    line.extend_from_slice(b" Ks")?;
-    assert!(rt; fault_of(&line) == Some(SpotFault::DeckShort));
-    line.extend_from_slice(b" Ac Ad Ah As")?;
-    assert!(rt; fault_of(&line) == Some(SpotFault::DeckShort));
-    Ok(())
+    Ok(line)
+}
+
+/// Whether a line leaves too few cards. None where it is refused for another fault.
+fn is_short(line: &[u8]) -> Option<bool> {
+    match read_spot(line) {
+        Ok(_) => Some(false),
+        Err(SpotFault::DeckShort) => Some(true),
+        Err(_) => None,
+    }
+}
+
+/// Whether a line that goes on with each of these leaves too few cards, or enough.
+fn all_short(line: &mut Vec<u8>, table: &[(&[u8], bool)]) -> Result<bool, Fail> {
+    for (words, short) in table {
+        line.extend_from_slice(words)?;
+        if is_short(line) != Some(*short) {
+            return Ok(false);
+        }
+    }
+    Ok(true)
 }
 
 #[test]
-fn a_line_of_spaces_and_tabs_has_no_word(rt: HostRuntime) -> Result<(), Fail> {
-    let lines: [(&[u8], bool); 6] = [
-        (b"", false),
-        (b" ", false),
-        (b"\t \t", false),
-        (b"a", true),
-        (b" \t-", true),
-        (b"\r", true),
-    ];
-    for (line, has) in lines {
-        assert_eq!(rt; has_word(line), has);
+fn dead_cards_may_leave_too_few_for_the_board(rt: HostRuntime) -> Result<(), Fail> {
+    let mut line = crowded(rt.alloc())?;
+    assert!(rt; all_short(&mut line, MORE_DEAD_CARDS)?);
+    Ok(())
+}
+
+/// Four cards in two hands and 43 dead ones leave five, as many as the board takes.
+const MORE_DEAD_CARDS: &[(&[u8], bool)] = &[
+    (b" Kc Kd Kh", false),
+    (b" Ks", true),
+    (b" Ac Ad Ah As", true),
+];
+
+/// Whether each of these lines has a word, or none.
+fn all_worded(table: &[(&[u8], bool)]) -> bool {
+    for (line, has) in table {
+        if has_word(line) != *has {
+            return false;
+        }
     }
+    true
+}
+
+#[test]
+fn a_line_of_spaces_and_tabs_has_no_word(rt: HostRuntime) {
+    assert!(rt; all_worded(WORDED));
+}
+
+const WORDED: &[(&[u8], bool)] = &[
+    (b"", false),
+    (b" ", false),
+    (b"\t \t", false),
+    (b"a", true),
+    (b" \t-", true),
+    (b"\r", true),
+];
+
+#[test]
+fn a_million_spaces_are_read(rt: HostRuntime) -> Result<(), Fail> {
+    let spaces = repeated(rt.alloc(), b"", b" ", 1_000_000)?;
+    assert!(rt; !has_word(&spaces));
+    let mut line = repeated(rt.alloc(), b"holdem As Ah - Kd Qd", b" ", 1_000_000)?;
+    assert!(rt; fault_of(&line).is_none());
+    line.push(b'x')?;
+    assert!(rt; all_refused(&[&line], &SpotFault::BadCard));
     Ok(())
 }
 
 #[test]
 fn long_lines_are_answered(rt: HostRuntime) -> Result<(), Fail> {
-    let spaces = vec![in rt.alloc(); b' '; 1_000_000]?;
-    assert!(rt; !has_word(&spaces));
-    let mut line = Vec::from_slice(rt.alloc(), b"holdem As Ah - Kd Qd")?;
-    line.extend_from_slice(&spaces)?;
-    assert!(rt; fault_of(&line).is_none());
-    line.extend_from_slice(b"x")?;
-    assert!(rt; fault_of(&line) == Some(SpotFault::BadCard));
-
-    let mut cards = Vec::from_slice(rt.alloc(), b"holdem")?;
-    let mut hands = Vec::from_slice(rt.alloc(), b"holdem As Ah")?;
-    for _ in 0..60_000 {
-        cards.extend_from_slice(b" 2c")?;
-        hands.extend_from_slice(b" -")?;
-    }
-    let deuce = Card::read(*b"2c").ok_or("no card")?;
-    assert!(rt; fault_of(&cards) == Some(SpotFault::TwiceCard(deuce)));
-    assert!(rt; fault_of(&hands) == Some(SpotFault::HandSize));
+    let cards = repeated(rt.alloc(), b"holdem", b" 2c", 60_000)?;
+    assert!(rt; repeats(&cards, *b"2c"));
+    let hands = repeated(rt.alloc(), b"holdem As Ah", b" -", 60_000)?;
+    assert!(rt; all_refused(&[&hands], &SpotFault::HandSize));
     Ok(())
 }

@@ -1,11 +1,10 @@
 //! All-in points, and the cards known there, of hands worked out by hand.
 
-use super::{DOLLARS, all_stand, card, step_line, three_names};
+use super::{DOLLARS, THREE_NAMES, all_stand, step_line};
+use crate::names::names_of;
 use betting_replay::Replay;
-use card_sets::{Card, CardSet, Game, Memory};
+use card_sets::{Card, CardSet, Game};
 use history_text::{Header, Limit, Names, Part, Street};
-use std::alloc::Global;
-use std::test::Fail;
 
 /// The set of some cards.
 fn cards(texts: &[[u8; 2]]) -> Option<CardSet> {
@@ -16,11 +15,11 @@ fn cards(texts: &[[u8; 2]]) -> Option<CardSet> {
     Some(set)
 }
 
-/// Whether two sets have the same cards.
-fn same(some: Option<CardSet>, others: Option<CardSet>) -> bool {
-    match (some, others) {
-        (Some(some), Some(others)) => {
-            some.count() == others.count() && some.minus(others).count() == 0
+/// Whether the cards that are known are these.
+fn is_known(found: Option<CardSet>, texts: &[[u8; 2]]) -> bool {
+    match (found, cards(texts)) {
+        (Some(found), Some(wanted)) => {
+            found.count() == wanted.count() && found.minus(wanted).count() == 0
         }
         _ => false,
     }
@@ -60,19 +59,37 @@ const AFTER_CALL: [&[u8]; 7] = [
     b"bob: mucks hand",
 ];
 
-#[test]
-fn the_first_point_is_kept(rt: HostRuntime) -> Result<(), Fail> {
-    let names = three_names(rt.alloc()).ok().ok_or("memory")?;
+/// Whether no all-in point is known.
+fn has_no_point(replay: &Replay) -> bool {
+    replay.all_in_point().is_none()
+        && replay.all_in_contenders() == 0
+        && replay.dead_cards().count() == 0
+}
+
+/// Whether the point is before the flop, with the cards of the folded first seat and of the third.
+fn has_first_point(replay: &Replay) -> bool {
+    replay.all_in_point() == Some(Street::First)
+        && replay.all_in_contenders() == 12
+        && is_known(Some(replay.dead_cards()), &[*b"As", *b"Ks"])
+        && is_known(replay.cards_at(3, Street::First), &[*b"Qs", *b"Qh"])
+        && replay.cards_at(2, Street::First).is_none()
+}
+
+/// Whether the point is known from the call on, and stays.
+fn keeps_the_first_point(names: &Option<Names>) -> bool {
+    let Some(names) = names else {
+        return false;
+    };
     let mut replay = Replay::new(&DOLLARS, 14);
-    assert!(rt; all_stand(&mut replay, &names, &BEFORE_CALL));
-    assert!(rt; replay.all_in_point().is_none() && replay.all_in_contenders() == 0);
-    assert!(rt; replay.dead_cards().count() == 0);
-    assert!(rt; all_stand(&mut replay, &names, &AFTER_CALL));
-    assert!(rt; replay.all_in_point() == Some(Street::First) && replay.all_in_contenders() == 12);
-    assert!(rt; same(Some(replay.dead_cards()), cards(&[*b"As", *b"Ks"])));
-    assert!(rt; same(replay.cards_at(3, Street::First), cards(&[*b"Qs", *b"Qh"])));
-    assert!(rt; replay.cards_at(2, Street::First).is_none());
-    Ok(())
+    all_stand(&mut replay, names, &BEFORE_CALL)
+        && has_no_point(&replay)
+        && all_stand(&mut replay, names, &AFTER_CALL)
+        && has_first_point(&replay)
+}
+
+#[test]
+fn the_first_point_is_kept(rt: HostRuntime) {
+    assert!(rt; keeps_the_first_point(&names_of(rt.alloc(), THREE_NAMES)));
 }
 
 /// Stakes of 10 and 20 chips.
@@ -86,12 +103,7 @@ fn chips(game: Game) -> Header {
 }
 
 /// The names of two seats.
-fn two_names(alloc: Global) -> Result<Names, Memory> {
-    let mut names = Names::new(alloc);
-    names.add(1, b"x")?;
-    names.add(2, b"y")?;
-    Ok(names)
-}
+const TWO_NAMES: &[(u8, &[u8])] = &[(1, b"x"), (2, b"y")];
 
 /// A hand of razz in which the second player's cards face down are shown at the end alone.
 const RAZZ: [&[u8]; 22] = [
@@ -126,26 +138,47 @@ const RAZZ_END: [&[u8]; 4] = [
     b"*** SUMMARY ***",
 ];
 
-#[test]
-fn cards_face_down_are_those_of_a_later_bracket(rt: HostRuntime) -> Result<(), Fail> {
-    let names = two_names(rt.alloc()).ok().ok_or("memory")?;
+const RAZZ_SHOWN: [&[u8]; 1] = [b"Seat 2: y mucked [8c 8d Kc Kd Qc Qd 9h]"];
+
+/// Whether the point is on the fifth street, with the cards of the first seat alone.
+fn has_one_hand(replay: &Replay) -> bool {
+    replay.all_in_point() == Some(Street::Fifth)
+        && is_known(
+            replay.cards_at(1, Street::Fifth),
+            &[*b"As", *b"2d", *b"3h", *b"4c", *b"5s"],
+        )
+        && replay.cards_at(2, Street::Fifth).is_none()
+        && replay.final_cards(2).is_none()
+}
+
+/// Whether the cards of the second seat are known on the fifth street and the third, and in the end.
+fn has_shown_hand(replay: &Replay) -> bool {
+    is_known(
+        replay.cards_at(2, Street::Fifth),
+        &[*b"8c", *b"8d", *b"Kc", *b"Kd", *b"Qc"],
+    ) && is_known(replay.cards_at(2, Street::First), &[*b"8c", *b"8d", *b"Kc"])
+        && replay.dead_cards().count() == 0
+        && replay.final_cards(2).is_some()
+        && replay.final_cards(1).is_none()
+}
+
+/// Whether the second hand isn't known before the summary, and is so behind it.
+fn is_shown_late(names: &Option<Names>) -> bool {
+    let Some(names) = names else {
+        return false;
+    };
     let header = chips(Game::Razz);
     let mut replay = Replay::new(&header, 6);
-    assert!(rt; go(&mut replay, &names, &header, Part::Preamble, &RAZZ));
-    assert!(rt; go(&mut replay, &names, &header, Part::Play, &RAZZ_END));
-    assert!(rt; replay.all_in_point() == Some(Street::Fifth));
-    let fifth = cards(&[*b"As", *b"2d", *b"3h", *b"4c", *b"5s"]);
-    assert!(rt; same(replay.cards_at(1, Street::Fifth), fifth));
-    assert!(rt; replay.cards_at(2, Street::Fifth).is_none() && replay.final_cards(2).is_none());
-    let shown: [&[u8]; 1] = [b"Seat 2: y mucked [8c 8d Kc Kd Qc Qd 9h]"];
-    assert!(rt; go(&mut replay, &names, &header, Part::Summary, &shown));
-    let found = cards(&[*b"8c", *b"8d", *b"Kc", *b"Kd", *b"Qc"]);
-    assert!(rt; same(replay.cards_at(2, Street::Fifth), found));
-    let first = cards(&[*b"8c", *b"8d", *b"Kc"]);
-    assert!(rt; same(replay.cards_at(2, Street::First), first));
-    assert!(rt; replay.dead_cards().count() == 0);
-    assert!(rt; replay.final_cards(2).is_some() && replay.final_cards(1).is_none());
-    Ok(())
+    go(&mut replay, names, &header, Part::Preamble, &RAZZ)
+        && go(&mut replay, names, &header, Part::Play, &RAZZ_END)
+        && has_one_hand(&replay)
+        && go(&mut replay, names, &header, Part::Summary, &RAZZ_SHOWN)
+        && has_shown_hand(&replay)
+}
+
+#[test]
+fn cards_face_down_are_those_of_a_later_bracket(rt: HostRuntime) {
+    assert!(rt; is_shown_late(&names_of(rt.alloc(), TWO_NAMES)));
 }
 
 /// How many cards are known.
@@ -172,10 +205,20 @@ fn is_kept(names: &Names, header: &Header, lines: &[&[u8]], at: Street, drawn: &
         && replay.dead_cards().count() == drawn.3
 }
 
-/// Whether this is so of each of these draws.
-fn all_kept(names: &Names, header: &Header, lines: &[&[u8]], at: Street, table: &[Drawn]) -> bool {
+/// Whether this is so of each of these draws in a game.
+fn all_kept(
+    names: &Option<Names>,
+    game: Game,
+    lines: &[&[u8]],
+    at: Street,
+    table: &[Drawn],
+) -> bool {
+    let Some(names) = names else {
+        return false;
+    };
+    let header = chips(game);
     for drawn in table {
-        if !is_kept(names, header, lines, at, drawn) {
+        if !is_kept(names, &header, lines, at, drawn) {
             return false;
         }
     }
@@ -223,13 +266,10 @@ const WAYS_TO_DRAW: &[Drawn] = &[
 ];
 
 #[test]
-fn what_is_kept_goes_by_the_discards(rt: HostRuntime) -> Result<(), Fail> {
-    let names = two_names(rt.alloc()).ok().ok_or("memory")?;
-    let single = chips(Game::Lowball27);
-    assert!(rt; all_kept(&names, &single, &DRAW, Street::First, WAYS_TO_DRAW));
-    let five = chips(Game::Draw5);
-    assert!(rt; all_kept(&names, &five, &DRAW, Street::First, WAYS_TO_DRAW));
-    Ok(())
+fn what_is_kept_goes_by_the_discards(rt: HostRuntime) {
+    let names = names_of(rt.alloc(), TWO_NAMES);
+    assert!(rt; all_kept(&names, Game::Lowball27, &DRAW, Street::First, WAYS_TO_DRAW));
+    assert!(rt; all_kept(&names, Game::Draw5, &DRAW, Street::First, WAYS_TO_DRAW));
 }
 
 /// Two draws, behind which both are all in. A card that x threw away on the first is dealt to him on the second.
@@ -282,17 +322,8 @@ const WAYS_TO_DRAW_LAST: &[Drawn] = &[
 ];
 
 #[test]
-fn what_is_kept_on_the_last_of_three_draws(rt: HostRuntime) -> Result<(), Fail> {
-    let names = two_names(rt.alloc()).ok().ok_or("memory")?;
-    let triple = chips(Game::Triple27);
-    assert!(rt;
-        all_kept(
-            &names,
-            &triple,
-            &TWO_DRAWS,
-            Street::SecondDraw,
-            WAYS_TO_DRAW_LAST
-        )
-    );
-    Ok(())
+fn what_is_kept_on_the_last_of_three_draws(rt: HostRuntime) {
+    let names = names_of(rt.alloc(), TWO_NAMES);
+    let at = Street::SecondDraw;
+    assert!(rt; all_kept(&names, Game::Triple27, &TWO_DRAWS, at, WAYS_TO_DRAW_LAST));
 }

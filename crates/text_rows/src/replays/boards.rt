@@ -1,10 +1,10 @@
 //! Hands that are run twice.
 
-use super::{DOLLARS, all_stand, card, is_refused, three_names};
+use super::{DOLLARS, THREE_NAMES, all_stand, card, is_refused};
+use crate::names::names_of;
 use betting_replay::{BetFault, Replay};
 use card_sets::{Card, CardSet};
 use history_text::{Names, Street};
-use std::test::Fail;
 
 /// Two seats that are all in before the flop.
 const ALL_IN: [&[u8]; 7] = [
@@ -35,17 +35,37 @@ fn is_board(board: CardSet, one: Card, other: Card) -> bool {
     board.count() == 5 && board.has(one) && !board.has(other)
 }
 
-#[test]
-fn two_whole_boards_are_dealt(rt: HostRuntime) -> Result<(), Fail> {
-    let names = three_names(rt.alloc()).ok().ok_or("memory")?;
+/// Whether there is a second board, of five cards, this one and not that.
+fn is_second_board(replay: &Replay, one: Card, other: Card) -> bool {
+    match replay.second_board() {
+        Some(second) => is_board(second, one, other),
+        None => false,
+    }
+}
+
+/// Whether a hand is run twice from before the flop, with a jack and a queen on the rivers.
+fn has_two_boards(replay: &Replay) -> bool {
+    replay.is_twice()
+        && replay.all_in_point() == Some(Street::First)
+        && is_board(replay.board(), card(36), card(40))
+        && is_second_board(replay, card(40), card(36))
+}
+
+/// Whether a hand isn't run twice before its boards, and is so behind them.
+fn deals_two_boards(names: &Option<Names>) -> bool {
+    let Some(names) = names else {
+        return false;
+    };
     let mut replay = Replay::new(&DOLLARS, 6);
-    assert!(rt; all_stand(&mut replay, &names, &ALL_IN) && !replay.is_twice());
-    assert!(rt; all_stand(&mut replay, &names, &BOARDS) && replay.is_twice());
-    assert!(rt; replay.all_in_point() == Some(Street::First));
-    assert!(rt; is_board(replay.board(), card(36), card(40)));
-    let second = replay.second_board().ok_or("no second board")?;
-    assert!(rt; is_board(second, card(40), card(36)));
-    Ok(())
+    all_stand(&mut replay, names, &ALL_IN)
+        && !replay.is_twice()
+        && all_stand(&mut replay, names, &BOARDS)
+        && has_two_boards(&replay)
+}
+
+#[test]
+fn two_whole_boards_are_dealt(rt: HostRuntime) {
+    assert!(rt; deals_two_boards(&names_of(rt.alloc(), THREE_NAMES)));
 }
 
 /// A river that is dealt twice, with one showdown.
@@ -58,15 +78,28 @@ const RIVERS: [&[u8]; 6] = [
     b"*** SUMMARY ***",
 ];
 
-#[test]
-fn two_boards_share_the_cards_before(rt: HostRuntime) -> Result<(), Fail> {
-    let names = three_names(rt.alloc()).ok().ok_or("memory")?;
+/// Whether the second board has the first card of the flop, and a queen and no jack on the river.
+fn shares_the_flop(replay: &Replay) -> bool {
+    match replay.second_board() {
+        Some(second) => second.has(card(0)) && is_board(second, card(40), card(36)),
+        None => false,
+    }
+}
+
+/// Whether this is so behind two rivers.
+fn deals_two_rivers(names: &Option<Names>) -> bool {
+    let Some(names) = names else {
+        return false;
+    };
     let mut replay = Replay::new(&DOLLARS, 6);
-    assert!(rt; all_stand(&mut replay, &names, &ALL_IN));
-    assert!(rt; all_stand(&mut replay, &names, &RIVERS));
-    let second = replay.second_board().ok_or("no second board")?;
-    assert!(rt; second.has(card(0)) && is_board(second, card(40), card(36)));
-    Ok(())
+    all_stand(&mut replay, names, &ALL_IN)
+        && all_stand(&mut replay, names, &RIVERS)
+        && shares_the_flop(&replay)
+}
+
+#[test]
+fn two_boards_share_the_cards_before(rt: HostRuntime) {
+    assert!(rt; deals_two_rivers(&names_of(rt.alloc(), THREE_NAMES)));
 }
 
 /// Whether lines like these are refused at their last behind the all-in.
@@ -139,13 +172,21 @@ const OF_THE_FIRST: [&[u8]; 4] = [
     b"*** SECOND RIVER *** [2c 7d 9h 4s] [Jc]",
 ];
 
+/// Whether lines out of order are refused, and a card that comes twice on the second board.
+fn come_in_order(names: &Option<Names>) -> bool {
+    match names {
+        Some(names) => {
+            all_disordered(names, DISORDERED)
+                && is_refused_behind(names, &SHARED, &BetFault::CardTwice(card(11)))
+                && is_refused_behind(names, &OF_THE_FIRST, &BetFault::CardTwice(card(36)))
+        }
+        None => false,
+    }
+}
+
 #[test]
-fn markers_of_two_boards_come_in_their_order(rt: HostRuntime) -> Result<(), Fail> {
-    let names = three_names(rt.alloc()).ok().ok_or("memory")?;
-    assert!(rt; all_disordered(&names, DISORDERED));
-    assert!(rt; is_refused_behind(&names, &SHARED, &BetFault::CardTwice(card(11))));
-    assert!(rt; is_refused_behind(&names, &OF_THE_FIRST, &BetFault::CardTwice(card(36))));
-    Ok(())
+fn markers_of_two_boards_come_in_their_order(rt: HostRuntime) {
+    assert!(rt; come_in_order(&names_of(rt.alloc(), THREE_NAMES)));
 }
 
 /// Two seats with chips behind them.
@@ -160,11 +201,16 @@ const CALLED: [&[u8]; 8] = [
     b"*** FIRST FLOP *** [2c 7d 9h]",
 ];
 
-#[test]
-fn no_hand_is_run_twice_while_two_have_chips(rt: HostRuntime) -> Result<(), Fail> {
-    let names = three_names(rt.alloc()).ok().ok_or("memory")?;
+/// Whether the marker of a first board is refused there.
+fn stays_one_board(names: &Option<Names>) -> bool {
+    let Some(names) = names else {
+        return false;
+    };
     let mut replay = Replay::new(&DOLLARS, 6);
-    assert!(rt; is_refused(&mut replay, &names, &CALLED, &BetFault::StreetOrder));
-    assert!(rt; !replay.is_twice());
-    Ok(())
+    is_refused(&mut replay, names, &CALLED, &BetFault::StreetOrder) && !replay.is_twice()
+}
+
+#[test]
+fn no_hand_is_run_twice_while_two_have_chips(rt: HostRuntime) {
+    assert!(rt; stays_one_board(&names_of(rt.alloc(), THREE_NAMES)));
 }

@@ -1,8 +1,11 @@
 //! Posts and returns, counted by hand.
 
-use super::{DOLLARS, all_stand, three_names};
+ghost use Rattle.std.specs.Prelude.{◌<◌};
+
+use super::{DOLLARS, THREE_NAMES, all_stand};
+use crate::names::names_of;
 use betting_replay::Replay;
-use std::test::Fail;
+use history_text::Names;
 
 /// A big blind that is short, a second small blind, and a raise over the stated big blind.
 const RAISED: [&[u8]; 10] = [
@@ -49,24 +52,45 @@ const BOTH: [&[u8]; 8] = [
     b"cat: checks",
 ];
 
-#[test]
-fn posts_are_live_or_dead(rt: HostRuntime) -> Result<(), Fail> {
-    let names = three_names(rt.alloc()).ok().ok_or("memory")?;
-    let mut raised = Replay::new(&DOLLARS, 14);
-    assert!(rt; all_stand(&mut raised, &names, &RAISED));
-    assert!(rt; raised.paid(3).live == 200 && raised.paid(3).dead == 50);
-    let mut both = Replay::new(&DOLLARS, 14);
-    assert!(rt; all_stand(&mut both, &names, &BOTH));
-    assert!(rt; both.paid(3).live == 100 && both.paid(3).dead == 50);
-    Ok(())
+/// Whether behind these lines a seat has so much in, of which so much is live and so much dead.
+fn is_paid(names: &Names, lines: &[&[u8]], seat: u8, live: u64, dead: u64) -> bool
+    requires { seat < 11 }
+{
+    let mut replay = Replay::new(&DOLLARS, 14);
+    if !all_stand(&mut replay, names, lines) {
+        return false;
+    }
+    let paid = replay.paid(seat);
+    paid.live == live && paid.dead == dead
+}
+
+/// Whether a second small blind is dead beside what is live, and of both blinds the small one is.
+fn are_live_or_dead(names: &Option<Names>) -> bool {
+    match names {
+        Some(names) => { is_paid(names, &RAISED, 3, 200, 50) && is_paid(names, &BOTH, 3, 100, 50) }
+        None => false,
+    }
 }
 
 #[test]
-fn a_bet_comes_back_by_the_street(rt: HostRuntime) -> Result<(), Fail> {
-    let names = three_names(rt.alloc()).ok().ok_or("memory")?;
+fn posts_are_live_or_dead(rt: HostRuntime) {
+    assert!(rt; are_live_or_dead(&names_of(rt.alloc(), THREE_NAMES)));
+}
+
+/// Whether a bet is in before it comes back, and with its player after that.
+fn comes_back(names: &Option<Names>) -> bool {
+    let Some(names) = names else {
+        return false;
+    };
     let mut replay = Replay::new(&DOLLARS, 14);
-    assert!(rt; all_stand(&mut replay, &names, &CALLED) && replay.paid(1).live == 310);
-    assert!(rt; all_stand(&mut replay, &names, &RETURNED) && replay.paid(1).live == 110);
-    assert!(rt; replay.stack(1) == 4890);
-    Ok(())
+    all_stand(&mut replay, names, &CALLED)
+        && replay.paid(1).live == 310
+        && all_stand(&mut replay, names, &RETURNED)
+        && replay.paid(1).live == 110
+        && replay.stack(1) == 4890
+}
+
+#[test]
+fn a_bet_comes_back_by_the_street(rt: HostRuntime) {
+    assert!(rt; comes_back(&names_of(rt.alloc(), THREE_NAMES)));
 }
