@@ -82,26 +82,44 @@ fn posted_twice(alloc: Global, job: &Job, tally: &Tally) -> Result<Option<Posted
 /// With one card to come there are 44 rivers, of which two are kings.
 const TURN: &[u8] = b"holdem As Ah - Ks Kh -- 2c 7d 9h 4s";
 
-#[test]
-fn a_block_that_is_posted_twice_counts_once(rt: HostRuntime) -> Result<(), Fail> {
-    let job = job_of(TURN).ok_or("no job")?;
+/// The tally of all runouts of a job.
+fn counted(job: &Job) -> Tally
+    ensures { Counts (deal_of job.now.table)
+        (runouts_after (state_of job.now.table.known)) result }
+{
     let mut scratch = Scratch::new();
     let mut tally = Tally::zero();
-    count_job(&job, &mut scratch, &mut tally);
-    let posted = posted_twice(rt.alloc(), &job, &tally).ok().ok_or("memory")?;
-    let posted = posted.ok_or("not one block")?;
-    assert_eq!(rt; posted.first, Posted::Fresh);
-    assert_eq!(rt; posted.second, Posted::Already);
-    assert_eq!(rt; posted.handed, [true, true]);
-    assert_eq!(rt; posted.closed.by_workers, 1);
-    let total = &posted.closed.total;
+    count_job(job, &mut scratch, &mut tally);
+    tally
+}
+
+/// The same block posted twice, of all runouts; none for want of memory, or where the job hasn't one block.
+fn posted(alloc: Global, job: &Job) -> Option<PostedTwice> {
+    posted_twice(alloc, job, &counted(job)).ok()?
+}
+
+/// Whether the first post counts and the second doesn't, and both workers handed the block in.
+fn is_posted_once(posted: &PostedTwice) -> bool {
+    posted.first == Posted::Fresh
+        && posted.second == Posted::Already
+        && posted.handed == [true, true]
+}
+
+/// Whether a total has each of 44 rivers once, of which the aces win 42.
+fn is_total(total: &Tally) -> bool {
     let aces = Cell {
         win: 42,
         tie: 0,
         lose: 2,
     };
-    assert_eq!(rt; total.runouts(), 44);
-    assert_eq!(rt; total.cell(0, 0, Side::High), aces);
-    assert_eq!(rt; total.units(0, 0), 42 * 5040);
+    total.runouts() == 44 && total.cell(0, 0, Side::High) == aces && total.units(0, 0) == 42 * 5040
+}
+
+#[test]
+fn a_block_that_is_posted_twice_counts_once(rt: HostRuntime) -> Result<(), Fail> {
+    let job = job_of(TURN).ok_or("no job")?;
+    let posted = posted(rt.alloc(), &job).ok_or("not posted")?;
+    assert!(rt; is_posted_once(&posted));
+    assert!(rt; posted.closed.by_workers == 1 && is_total(&posted.closed.total));
     Ok(())
 }

@@ -60,6 +60,15 @@ const FULL: [CoreEvent; 2] = [
     },
 ];
 
+const POP_OF_0: CoreEvent = CoreEvent::Pop { worker: 0 };
+
+const POP_OF_1: CoreEvent = CoreEvent::Pop { worker: 1 };
+
+const PUSH_TO_1: CoreEvent = CoreEvent::Push {
+    worker: 1,
+    block: 7,
+};
+
 /// Two workers, each with one block in its queue.
 fn two_queues(alloc: Global) -> Result<State, Memory>
     ensures { IfOk result
@@ -135,16 +144,39 @@ fn booked_of_two(alloc: Global, job: &Job) -> Result<Option<State>, Memory> {
     Ok(Some(last))
 }
 
+/// Whether two workers have these blocks in their queues and in their hands, and these are booked.
+fn is_state(state: &State, queues: [&[u32]; 2], held: &[Option<u32>], booked: &[u32]) -> bool {
+    has_queue(state, 0, queues[0])
+        && has_queue(state, 1, queues[1])
+        && holds(state, held)
+        && has_booked(state, booked)
+}
+
+/// Whether a state is that of the two queues.
+fn is_start(state: &State) -> bool {
+    is_state(state, [&[0], &[1]], &[None, None], &[])
+}
+
+/// Whether the thief has booked both blocks.
+fn is_stolen(state: &State) -> bool {
+    is_state(state, [&[], &[]], &[None, None], &[1, 0])
+}
+
+/// Whether worker 0 holds his block.
+fn is_popped(state: &State) -> bool {
+    is_state(state, [&[], &[1]], &[Some(0), None], &[])
+}
+
+/// Whether worker 1 holds his block, with another behind it.
+fn is_pushed(state: &State) -> bool {
+    is_state(state, [&[0], &[7]], &[None, Some(1)], &[])
+}
+
 #[test]
 fn a_stolen_block_is_booked_by_the_thief(rt: HostRuntime) -> Result<(), Fail> {
     let start = queues_of_two(rt.alloc()).ok_or("memory")?;
     let (last, refused) = behind(rt.alloc(), &start, &STOLEN).ok_or("memory")?;
-    assert_eq!(rt; refused, 1);
-    assert!(rt; has_booked(&last, &[1, 0]));
-    assert!(rt; holds(&last, &[None, None]));
-    assert!(rt; has_queue(&last, 0, &[]));
-    assert!(rt; has_queue(&last, 1, &[]));
-    assert!(rt; has_queue(&start, 0, &[0]));
+    assert!(rt; refused == 1 && is_stolen(&last) && is_start(&start));
     Ok(())
 }
 
@@ -153,35 +185,23 @@ fn both_blocks_of_a_job_are_booked(rt: HostRuntime) -> Result<(), Fail> {
     let job = job_of(TWO_BLOCKS).ok_or("no job")?;
     let last = booked_of_two(rt.alloc(), &job).ok().ok_or("memory")?;
     let last = last.ok_or("not two blocks")?;
-    assert!(rt; has_booked(&last, &[1, 0]));
+    assert!(rt; is_stolen(&last));
     Ok(())
 }
 
 #[test]
 fn a_refused_event_changes_nothing(rt: HostRuntime) -> Result<(), Fail> {
     let mut state = queues_of_two(rt.alloc()).ok_or("memory")?;
-    assert!(rt; are_refused(&mut state, &WRONG));
-    assert!(rt; has_queue(&state, 0, &[0]));
-    assert!(rt; has_queue(&state, 1, &[1]));
-    assert!(rt; holds(&state, &[None, None]));
-    assert!(rt; has_booked(&state, &[]));
-    assert!(rt; is_done(&mut state, CoreEvent::Pop { worker: 0 }));
-    assert!(rt; are_refused(&mut state, &FULL));
-    assert!(rt; has_queue(&state, 1, &[1]));
-    assert!(rt; holds(&state, &[Some(0), None]));
+    assert!(rt; are_refused(&mut state, &WRONG) && is_start(&state));
+    assert!(rt; is_done(&mut state, POP_OF_0));
+    assert!(rt; are_refused(&mut state, &FULL) && is_popped(&state));
     Ok(())
 }
 
 #[test]
 fn a_pushed_block_comes_last(rt: HostRuntime) -> Result<(), Fail> {
     let mut state = queues_of_two(rt.alloc()).ok_or("memory")?;
-    let push = CoreEvent::Push {
-        worker: 1,
-        block: 7,
-    };
-    assert!(rt; is_done(&mut state, push));
-    assert!(rt; is_done(&mut state, CoreEvent::Pop { worker: 1 }));
-    assert!(rt; holds(&state, &[None, Some(1)]));
-    assert!(rt; has_queue(&state, 1, &[7]));
+    assert!(rt; is_done(&mut state, PUSH_TO_1));
+    assert!(rt; is_done(&mut state, POP_OF_1) && is_pushed(&state));
     Ok(())
 }

@@ -3,7 +3,7 @@
 ghost use Rattle.std.specs.Prelude.{◌≡◌, ◌+◌, ◌-◌, ◌<◌, ◌≤◌, [], ◌∷◌};
 ghost use Rattle.showdown_tally.specs.Deals.{deal_of};
 
-use crate::spots::{ACES_AND_KINGS, job_of};
+use crate::spots::{ACES_AND_KINGS, has_all_blocks, job_of};
 use card_sets::Memory;
 use equity_job::{Job, Scratch};
 use std::alloc::Global;
@@ -44,6 +44,33 @@ struct Work {
     closed: Closed,
 }
 
+/// How many blocks two workers took, each from both deques.
+fn taken_by_two<N: Naming>(seats: &Seats<N>) -> usize
+    requires { N.all ≡ 3 }
+{
+    let mut taken: usize = 0;
+    for worker in 0..2 {
+        for deque in 0..2 {
+            taken = taken.saturating_add(seats.taken(worker, deque).len());
+        }
+    }
+    taken
+}
+
+/// Whether each of two workers has an end mark of both deques.
+fn have_ended<N: Naming>(seats: &Seats<N>) -> bool
+    requires { N.all ≡ 3 }
+{
+    for worker in 0..2 {
+        for deque in 0..2 {
+            if !seats.ended(worker, deque) {
+                return false;
+            }
+        }
+    }
+    true
+}
+
 /// The seats of two workers, step by step.
 fn worked<N: Naming + Send + Sync, R: Threads + Wait + Sync>(
     rt: &R,
@@ -58,16 +85,8 @@ fn worked<N: Naming + Send + Sync, R: Threads + Wait + Sync>(
 {
     let mut seats = Seats::<N>::start(alloc, job, blank, 2)?;
     seats.work(rt, job, &OpenGate);
-    let first = seats
-        .taken(0, 0)
-        .len()
-        .saturating_add(seats.taken(0, 1).len());
-    let second = seats
-        .taken(1, 0)
-        .len()
-        .saturating_add(seats.taken(1, 1).len());
-    let taken = first.saturating_add(second);
-    let ended = seats.ended(0, 0) && seats.ended(0, 1) && seats.ended(1, 0) && seats.ended(1, 1);
+    let taken = taken_by_two(&seats);
+    let ended = have_ended(&seats);
     let closed = seats.finish(job);
     Ok(Work {
         taken,
@@ -85,8 +104,7 @@ fn by_two<R: Threads + Wait + Sync>(rt: &R, alloc: Global, job: &Job) -> Result<
 fn one_worker_counts_all_blocks(rt: HostRuntime) -> Result<(), Fail> {
     let job = job_of(ACES_AND_KINGS).ok_or("a job")?;
     let closed = by_one(rt.alloc(), &job).ok().ok_or("memory")?;
-    assert_eq!(rt; closed.total.runouts(), 1_712_304);
-    assert_eq!(rt; closed.by_workers, 27);
+    assert!(rt; has_all_blocks(&closed));
     Ok(())
 }
 
@@ -94,9 +112,7 @@ fn one_worker_counts_all_blocks(rt: HostRuntime) -> Result<(), Fail> {
 fn two_workers_take_all_blocks(rt: HostRuntime) -> Result<(), Fail> {
     let job = job_of(ACES_AND_KINGS).ok_or("a job")?;
     let work = by_two(&rt, rt.alloc(), &job).ok().ok_or("memory")?;
-    assert!(rt; work.ended);
-    assert_eq!(rt; work.taken, 27);
-    assert_eq!(rt; work.closed.total.runouts(), 1_712_304);
-    assert_eq!(rt; work.closed.by_workers, 27);
+    assert!(rt; work.ended && work.taken == 27);
+    assert!(rt; has_all_blocks(&work.closed));
     Ok(())
 }

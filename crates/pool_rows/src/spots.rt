@@ -3,6 +3,7 @@
 use equity_job::Job;
 use report_table::table_alone;
 use spot_text::read_spot;
+use tally_book::Closed;
 
 /// Aces against kings before the flop: 1,712,304 runouts in 27 blocks.
 pub(crate) const ACES_AND_KINGS: &[u8] = b"holdem As Ah - Ks Kh";
@@ -16,4 +17,9 @@ pub(crate) fn job_of(line: &[u8]) -> Option<Job> {
         Ok(job) => Some(job),
         Err(_) => None,
     }
+}
+
+/// Whether a count of aces and kings has each runout, and each block by a worker.
+pub(crate) fn has_all_blocks(closed: &Closed) -> bool {
+    closed.total.runouts() == 1_712_304 && closed.by_workers == 27
 }
