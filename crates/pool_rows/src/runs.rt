@@ -7,7 +7,6 @@ use crate::workers::HoldsTheFirst;
 use byte_ends::{MemorySink, MemorySource};
 use run_engine::{run, run_alone};
 use std::alloc::Global;
-use std::process::Abort;
 use std::sync::Wait;
 use std::test::Fail;
 use std::thread::Threads;
@@ -102,42 +101,63 @@ fn alone(alloc: Global, words: &[String], input: &[u8]) -> Result<Ran, Fail> {
     })
 }
 
-/// By 1, 2 and 16 workers these words over this input write the same and end with this status, as on one thread.
-fn same_by_workers<R: Threads + Wait + Sync + Abort>(
+/// Whether so many workers write the same over this input, and end with the same status.
+fn is_same<R: Threads + Wait + Sync>(
+    rt: &R,
+    alloc: Global,
+    words: &[&str],
+    workers: &str,
+    input: &[u8],
+    one: &Ran,
+) -> Result<bool, Fail> {
+    let mut words = owned(alloc, words)?;
+    words.push(String::from_str(alloc, workers)?)?;
+    let ran = shared(rt, alloc, words.as_slice(), input, &OpenGate)?;
+    Ok(ran.status == one.status && ran.written.as_slice() == one.written.as_slice())
+}
+
+/// Whether a run on one thread writes something, and ends with this status.
+fn is_run(one: &Ran, status: u8) -> bool {
+    one.status == status && !one.written.is_empty()
+}
+
+/// Whether by 1, 2 and 16 workers these words over this input write the same and end with this status, as on one thread.
+fn same_by_workers<R: Threads + Wait + Sync>(
     rt: &R,
     alloc: Global,
     words: &[&str],
     input: &[u8],
     status: u8,
-) -> Result<(), Fail> {
-    let mut words = owned(alloc, words)?;
-    let one = alone(alloc, words.as_slice(), input)?;
-    assert_eq!(rt; one.status, status);
-    assert!(rt; !one.written.is_empty());
-    for workers in ["--workers=1", "--workers=2", "--workers=16"] {
-        words.push(String::from_str(alloc, workers)?)?;
-        let ran = shared(rt, alloc, words.as_slice(), input, &OpenGate)?;
-        words.pop();
-        assert_eq!(rt; ran.status, status);
-        assert_eq!(rt; ran.written.as_slice(), one.written.as_slice());
+) -> Result<bool, Fail> {
+    let one = alone(alloc, owned(alloc, words)?.as_slice(), input)?;
+    if !is_run(&one, status) {
+        return Ok(false);
     }
-    Ok(())
+    for workers in ["--workers=1", "--workers=2", "--workers=16"] {
+        if !is_same(rt, alloc, words, workers, input, &one)? {
+            return Ok(false);
+        }
+    }
+    Ok(true)
 }
 
 #[test]
 fn spots_are_the_same_by_any_number_of_workers(rt: HostRuntime) -> Result<(), Fail> {
-    same_by_workers(&rt, rt.alloc(), &["spots"], SPOTS, 1)
+    assert!(rt; same_by_workers(&rt, rt.alloc(), &["spots"], SPOTS, 1)?);
+    Ok(())
 }
 
 #[test]
 fn an_all_in_is_the_same_by_any_number_of_workers(rt: HostRuntime) -> Result<(), Fail> {
-    same_by_workers(&rt, rt.alloc(), &["audit"], ALL_IN.as_bytes(), 0)?;
-    same_by_workers(&rt, rt.alloc(), &["streets"], ALL_IN.as_bytes(), 0)
+    assert!(rt; same_by_workers(&rt, rt.alloc(), &["audit"], ALL_IN.as_bytes(), 0)?);
+    assert!(rt; same_by_workers(&rt, rt.alloc(), &["streets"], ALL_IN.as_bytes(), 0)?);
+    Ok(())
 }
 
 #[test]
 fn made_hands_are_the_same_by_any_number_of_workers(rt: HostRuntime) -> Result<(), Fail> {
-    same_by_workers(&rt, rt.alloc(), &["made", "--hands=100"], b"", 0)
+    assert!(rt; same_by_workers(&rt, rt.alloc(), &["made", "--hands=100"], b"", 0)?);
+    Ok(())
 }
 
 #[test]
@@ -145,7 +165,6 @@ fn a_run_goes_on_while_one_of_two_workers_is_held(rt: HostRuntime) -> Result<(),
     let gate = HoldsTheFirst::new();
     let words = owned(rt.alloc(), &["spots", "--workers", "2"])?;
     let ran = shared(&rt, rt.alloc(), words.as_slice(), PREFLOP, &gate)?;
-    assert_eq!(rt; ran.status, 0);
-    assert!(rt; gate.was_released());
+    assert!(rt; ran.status == 0 && gate.was_released());
     Ok(())
 }
