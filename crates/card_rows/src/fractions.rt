@@ -34,11 +34,6 @@ fn all_rounded(cases: &[(u128, u128, u32, &[u8])]) -> bool {
     true
 }
 
-#[test]
-fn fractions_are_rounded_half_up_and_written_with_their_places(rt: HostRuntime) {
-    assert!(rt; all_rounded(CASES));
-}
-
 const CASES: &[(u128, u128, u32, &[u8])] = &[
     (4200, 44, 2, b"95.45"),
     (200, 44, 2, b"4.55"),
@@ -56,6 +51,11 @@ const CASES: &[(u128, u128, u32, &[u8])] = &[
     (TWICE, 1, 4, b"200000000000000000000000000000000.0000"),
     (TWICE, GREATEST, 4, b"2.0000"),
 ];
+
+#[test]
+fn fractions_are_rounded_half_up_and_written_with_their_places(rt: HostRuntime) {
+    assert!(rt; all_rounded(CASES));
+}
 
 /// The greatest number with so many places.
 fn greatest(places: u32) -> Fixed {

@@ -28,28 +28,6 @@ pub(crate) enum Hand {
     Mixed,
 }
 
-/// The text of a hand.
-pub(crate) fn text_of(hand: Hand) -> &'static str {
-    match hand {
-        Hand::SixSeats => SIX_SEATS,
-        Hand::SidePots => SIDE_POTS,
-        Hand::OddChips => ODD_CHIPS,
-        Hand::HeadsUp => HEADS_UP,
-        Hand::OddNames => ODD_NAMES,
-        Hand::Twice => TWICE,
-        Hand::Aces => ACES,
-        Hand::TiedStud => TIED_STUD,
-        Hand::Razz => RAZZ,
-        Hand::SingleDraw => DRAW,
-        Hand::Triple => TRIPLE,
-        Hand::Stud8 => STUD8,
-        Hand::Draw5 => DRAW5,
-        Hand::Odd5 => ODD5,
-        Hand::LongSeats => LONG_SEATS,
-        Hand::Mixed => HANDS,
-    }
-}
-
 /// A cash hand of six seats, with chat, a time-out, a call on the turn that is all-in, and a mucked hand. It has a byte
 /// order mark before it and a carriage return at the end of each line.
 const SIX_SEATS: &str = "\u{feff}\
@@ -238,6 +216,28 @@ x collected 100 from pot\n\
 y collected 100 from pot\n\
 *** SUMMARY ***\n\
 Total pot 200 | Rake 0\n";
+
+/// The text of a hand.
+pub(crate) fn text_of(hand: Hand) -> &'static str {
+    match hand {
+        Hand::SixSeats => SIX_SEATS,
+        Hand::SidePots => SIDE_POTS,
+        Hand::OddChips => ODD_CHIPS,
+        Hand::HeadsUp => HEADS_UP,
+        Hand::OddNames => ODD_NAMES,
+        Hand::Twice => TWICE,
+        Hand::Aces => ACES,
+        Hand::TiedStud => TIED_STUD,
+        Hand::Razz => RAZZ,
+        Hand::SingleDraw => DRAW,
+        Hand::Triple => TRIPLE,
+        Hand::Stud8 => STUD8,
+        Hand::Draw5 => DRAW5,
+        Hand::Odd5 => ODD5,
+        Hand::LongSeats => LONG_SEATS,
+        Hand::Mixed => HANDS,
+    }
+}
 
 /// What `check` reports of it.
 pub(crate) const TWICE_REPORT: &str = "hand 2 accepted holdem rake 0 twice\n\

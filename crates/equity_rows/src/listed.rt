@@ -6,11 +6,6 @@
 /// A spot line with its block.
 pub(crate) type Listed = (&'static [u8], &'static str);
 
-/// All of them.
-pub(crate) fn spots() -> &'static [Listed] {
-    SPOTS
-}
-
 const SPOTS: &[Listed] = &[
     (
         b"holdem Qd Qh - 8s 9s -- 2h 7s Ts",
@@ -390,3 +385,8 @@ hand 3 ev 0.426
 ",
     ),
 ];
+
+/// All of them.
+pub(crate) fn spots() -> &'static [Listed] {
+    SPOTS
+}

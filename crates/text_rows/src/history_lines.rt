@@ -53,12 +53,6 @@ fn is_no_header(line: &[u8]) -> bool {
     !is_header(line)
 }
 
-#[test]
-fn headers_are_read(rt: HostRuntime) {
-    assert!(rt; all_headers(HEADERS));
-    assert!(rt; is_no_header(b"PokerStars Hand #x"));
-}
-
 const HEADERS: &[(&[u8], Game, Limit, bool, u64)] = &[
     (CASH_TITLE, Game::Holdem, Limit::NoLimit, true, 100),
     (
@@ -140,6 +134,12 @@ const HEADERS: &[(&[u8], Game, Limit, bool, u64)] = &[
     ),
 ];
 
+#[test]
+fn headers_are_read(rt: HostRuntime) {
+    assert!(rt; all_headers(HEADERS));
+    assert!(rt; is_no_header(b"PokerStars Hand #x"));
+}
+
 /// Whether a line is a header line in which the number of the hand stands there.
 fn is_numbered(line: &[u8], place: (usize, usize)) -> bool {
     is_header(line) && hand_number(line) == place
@@ -169,11 +169,6 @@ fn all_refused(table: &[(&[u8], TextFault)]) -> bool {
         }
     }
     true
-}
-
-#[test]
-fn headers_have_four_faults(rt: HostRuntime) {
-    assert!(rt; all_refused(HEADER_FAULTS));
 }
 
 const HEADER_FAULTS: &[(&[u8], TextFault)] = &[
@@ -216,6 +211,11 @@ const HEADER_FAULTS: &[(&[u8], TextFault)] = &[
     ),
 ];
 
+#[test]
+fn headers_have_four_faults(rt: HostRuntime) {
+    assert!(rt; all_refused(HEADER_FAULTS));
+}
+
 /// Whether a line has a fault, in a hand with these names.
 fn has_fault(names: &Names, part: Part, line: &[u8], fault: TextFault) -> bool {
     match read_line(names, &CASH, part, line) {
@@ -235,12 +235,6 @@ fn all_faulty(names: &Option<Names>, table: &[(Part, &[u8], TextFault)]) -> bool
         }
     }
     true
-}
-
-#[test]
-fn lines_have_their_first_fault(rt: HostRuntime) {
-    let names = names_of(rt.alloc(), SEATED);
-    assert!(rt; all_faulty(&names, LINE_FAULTS));
 }
 
 const LINE_FAULTS: &[(Part, &[u8], TextFault)] = &[
@@ -311,6 +305,12 @@ const LINE_FAULTS: &[(Part, &[u8], TextFault)] = &[
     ),
 ];
 
+#[test]
+fn lines_have_their_first_fault(rt: HostRuntime) {
+    let names = names_of(rt.alloc(), SEATED);
+    assert!(rt; all_faulty(&names, LINE_FAULTS));
+}
+
 /// What a line of play says in a game.
 fn played(names: &Names, game: Game, line: &[u8]) -> Result<Event, TextFault> {
     let header = Header {
@@ -361,12 +361,6 @@ fn all_dealt(
         }
     }
     true
-}
-
-#[test]
-fn each_game_has_its_deals_and_draws(rt: HostRuntime) {
-    let names = names_of(rt.alloc(), SEATED);
-    assert!(rt; all_dealt(&names, DEALS));
 }
 
 const DEALS: &[(Game, &[u8], Result<(u8, usize), TextFault>)] = &[
@@ -437,6 +431,12 @@ const DEALS: &[(Game, &[u8], Result<(u8, usize), TextFault>)] = &[
     ),
 ];
 
+#[test]
+fn each_game_has_its_deals_and_draws(rt: HostRuntime) {
+    let names = names_of(rt.alloc(), SEATED);
+    assert!(rt; all_dealt(&names, DEALS));
+}
+
 /// The street that a marker begins in a game. None where the line is no marker of it.
 fn street_in(names: &Names, game: Game, line: &[u8]) -> Option<Street> {
     match played(names, game, line) {
@@ -465,12 +465,6 @@ fn all_marked(names: &Option<Names>, table: &[(Game, &[u8], Option<Street>)]) ->
         }
     }
     true
-}
-
-#[test]
-fn each_game_has_its_markers(rt: HostRuntime) {
-    let names = names_of(rt.alloc(), SEATED);
-    assert!(rt; all_marked(&names, MARKERS));
 }
 
 const MARKERS: &[(Game, &[u8], Option<Street>)] = &[
@@ -518,6 +512,12 @@ const MARKERS: &[(Game, &[u8], Option<Street>)] = &[
     (Game::Triple27, b"*** DRAW ***", None),
     (Game::Triple27, b"*** HOLE CARDS ***", None),
 ];
+
+#[test]
+fn each_game_has_its_markers(rt: HostRuntime) {
+    let names = names_of(rt.alloc(), SEATED);
+    assert!(rt; all_marked(&names, MARKERS));
+}
 
 /// Whether an event is this act of a seat.
 fn is_act(names: &Names, line: &[u8], of: u8, wanted: Act, last: bool) -> bool {
@@ -591,24 +591,6 @@ fn all_markers(names: &Names, table: &[(&[u8], Street, BoardNumber, usize)]) -> 
     true
 }
 
-/// Whether acts, markers, a seat and a total are read.
-fn all_read(names: &Option<Names>) -> bool {
-    match names {
-        Some(names) => {
-            all_acts(names, ACTS)
-                && all_markers(names, BOARDS)
-                && is_seat(names, SEAT, 5, 10000, (8, 12))
-                && is_total(names, TOTAL, 12100, 250)
-        }
-        None => false,
-    }
-}
-
-#[test]
-fn lines_are_read(rt: HostRuntime) {
-    assert!(rt; all_read(&names_of(rt.alloc(), SEATED)));
-}
-
 const ACTS: &[(&[u8], u8, Act, bool)] = &[
     (
         b"carl: raises $2 to $3",
@@ -637,3 +619,21 @@ const BOARDS: &[(&[u8], Street, BoardNumber, usize)] = &[
 const SEAT: &[u8] = b"Seat 5: emil ($100 in chips)";
 
 const TOTAL: &[u8] = b"Total pot $121 | Rake $2.50";
+
+/// Whether acts, markers, a seat and a total are read.
+fn all_read(names: &Option<Names>) -> bool {
+    match names {
+        Some(names) => {
+            all_acts(names, ACTS)
+                && all_markers(names, BOARDS)
+                && is_seat(names, SEAT, 5, 10000, (8, 12))
+                && is_total(names, TOTAL, 12100, 250)
+        }
+        None => false,
+    }
+}
+
+#[test]
+fn lines_are_read(rt: HostRuntime) {
+    assert!(rt; all_read(&names_of(rt.alloc(), SEATED)));
+}

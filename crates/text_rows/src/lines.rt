@@ -46,11 +46,6 @@ fn all_cut(table: &[(&[u8], &[&[u8]])]) -> bool {
     true
 }
 
-#[test]
-fn each_text_is_cut_into_its_lines(rt: HostRuntime) {
-    assert!(rt; all_cut(TEXTS));
-}
-
 const TEXTS: &[(&[u8], &[&[u8]])] = &[
     (b"", &[]),
     (b"\n", &[b""]),
@@ -67,6 +62,11 @@ const TEXTS: &[(&[u8], &[&[u8]])] = &[
     (b" \xef\xbb\xbfa", &[b" \xef\xbb\xbfa"]),
 ];
 
+#[test]
+fn each_text_is_cut_into_its_lines(rt: HostRuntime) {
+    assert!(rt; all_cut(TEXTS));
+}
+
 /// Whether the line at each of these places of a text has the places beside it.
 fn all_placed(bytes: &[u8], table: &[(usize, Option<(usize, usize, usize)>)]) -> bool {
     for (at, wanted) in table {
@@ -77,11 +77,6 @@ fn all_placed(bytes: &[u8], table: &[(usize, Option<(usize, usize, usize)>)]) ->
     true
 }
 
-#[test]
-fn a_line_tells_where_its_text_and_the_next_line_begin(rt: HostRuntime) {
-    assert!(rt; all_placed(TWO_LINES, PLACES));
-}
-
 const TWO_LINES: &[u8] = b"\xef\xbb\xbfab \r\ncd";
 
 const PLACES: &[(usize, Option<(usize, usize, usize)>)] = &[
@@ -89,6 +84,11 @@ const PLACES: &[(usize, Option<(usize, usize, usize)>)] = &[
     (8, Some((8, 10, 10))),
     (10, None),
 ];
+
+#[test]
+fn a_line_tells_where_its_text_and_the_next_line_begin(rt: HostRuntime) {
+    assert!(rt; all_placed(TWO_LINES, PLACES));
+}
 
 /// Whether an amount stands at a place of a text, of so many units and up to that place, or this fault.
 fn is_read(
@@ -114,12 +114,6 @@ fn all_read(table: &[(&[u8], bool, Result<(u64, usize), AmountFault>)]) -> bool 
     true
 }
 
-#[test]
-fn amounts_are_read(rt: HostRuntime) {
-    assert!(rt; all_read(AMOUNTS));
-    assert!(rt; is_read(b"1", 2, false, Err(AmountFault::NotAmount)));
-}
-
 const AMOUNTS: &[(&[u8], bool, Result<(u64, usize), AmountFault>)] = &[
     (b"$0.50", true, Ok((50, 5))),
     (b"$1 USD", true, Ok((100, 2))),
@@ -141,3 +135,9 @@ const AMOUNTS: &[(&[u8], bool, Result<(u64, usize), AmountFault>)] = &[
     (b"-1", true, Err(AmountFault::NotAmount)),
     (b"1.50", false, Err(AmountFault::NotAmount)),
 ];
+
+#[test]
+fn amounts_are_read(rt: HostRuntime) {
+    assert!(rt; all_read(AMOUNTS));
+    assert!(rt; is_read(b"1", 2, false, Err(AmountFault::NotAmount)));
+}

@@ -67,11 +67,6 @@ fn all_read(lines: &[&[u8]], wanted: &Read) -> bool {
     true
 }
 
-#[test]
-fn a_good_line_gives_the_hands_the_board_and_the_dead_cards(rt: HostRuntime) {
-    assert!(rt; all_read(GOOD_LINES, &TWO_HANDS));
-}
-
 const GOOD_LINES: &[&[u8]] = &[
     b"holdem As Ah - Kd Qd -- Jd Td 2c 3h / 4h 4c",
     b"holdem Ah As - Qd Kd -- 3h 2c Td Jd / 4c 4h",
@@ -88,8 +83,8 @@ const TWO_HANDS: Read = (
 );
 
 #[test]
-fn ten_hands_are_read_in_order(rt: HostRuntime) {
-    assert!(rt; all_read(LONG_LINE, &TEN_HANDS));
+fn a_good_line_gives_the_hands_the_board_and_the_dead_cards(rt: HostRuntime) {
+    assert!(rt; all_read(GOOD_LINES, &TWO_HANDS));
 }
 
 const LONG_LINE: &[&[u8]] = &[
@@ -108,6 +103,11 @@ const TEN_HANDS: Read = (
     &[*b"Kc", *b"Kd", *b"As"],
 );
 
+#[test]
+fn ten_hands_are_read_in_order(rt: HostRuntime) {
+    assert!(rt; all_read(LONG_LINE, &TEN_HANDS));
+}
+
 /// Whether each of these lines is refused for this.
 fn all_refused(lines: &[&[u8]], fault: &SpotFault) -> bool {
     for line in lines {
@@ -116,11 +116,6 @@ fn all_refused(lines: &[&[u8]], fault: &SpotFault) -> bool {
         }
     }
     true
-}
-
-#[test]
-fn another_game_is_an_unknown_word(rt: HostRuntime) {
-    assert!(rt; all_refused(OTHER_GAMES, &SpotFault::UnknownWord));
 }
 
 const OTHER_GAMES: &[&[u8]] = &[
@@ -137,8 +132,8 @@ const OTHER_GAMES: &[&[u8]] = &[
 ];
 
 #[test]
-fn a_word_that_may_not_stand_there_is_a_bad_card(rt: HostRuntime) {
-    assert!(rt; all_refused(OTHER_WORDS, &SpotFault::BadCard));
+fn another_game_is_an_unknown_word(rt: HostRuntime) {
+    assert!(rt; all_refused(OTHER_GAMES, &SpotFault::UnknownWord));
 }
 
 const OTHER_WORDS: &[&[u8]] = &[
@@ -163,6 +158,11 @@ const OTHER_WORDS: &[&[u8]] = &[
     b"omaha8 As Ah 2c 3c - Ks Ah Kd Kc -- xx",
 ];
 
+#[test]
+fn a_word_that_may_not_stand_there_is_a_bad_card(rt: HostRuntime) {
+    assert!(rt; all_refused(OTHER_WORDS, &SpotFault::BadCard));
+}
+
 /// Whether a line is refused for this card, which stands twice.
 fn repeats(line: &[u8], text: [u8; 2]) -> bool {
     match Card::read(text) {
@@ -181,11 +181,6 @@ fn all_repeat(table: &[(&[u8], [u8; 2])]) -> bool {
     true
 }
 
-#[test]
-fn the_first_card_that_stands_twice_is_named(rt: HostRuntime) {
-    assert!(rt; all_repeat(REPEATED));
-}
-
 const REPEATED: &[(&[u8], [u8; 2])] = &[
     (b"holdem As Ah - As Kh", *b"As"),
     (b"holdem As Ah - Ah Qd -- As", *b"Ah"),
@@ -202,11 +197,8 @@ const REPEATED: &[(&[u8], [u8; 2])] = &[
 ];
 
 #[test]
-fn sizes_are_tested_in_order(rt: HostRuntime) {
-    assert!(rt; all_refused(HANDS_OF_OTHER_SIZES, &SpotFault::HandSize));
-    assert!(rt; all_refused(BOARDS_OF_OTHER_SIZES, &SpotFault::BoardSize));
-    assert!(rt; all_refused(OTHER_COUNTS_OF_HANDS, &SpotFault::PlayerCount));
-    assert!(rt; all_refused(SHORT_DECKS, &SpotFault::DeckShort));
+fn the_first_card_that_stands_twice_is_named(rt: HostRuntime) {
+    assert!(rt; all_repeat(REPEATED));
 }
 
 const HANDS_OF_OTHER_SIZES: &[&[u8]] = &[
@@ -271,6 +263,14 @@ const SHORT_DECKS: &[&[u8]] = &[
     b"triple27 2c - 2d - 2h - 2s - 3c - 3d - 3h - 3s - 4c - 4d / 4h 4s 5c",
 ];
 
+#[test]
+fn sizes_are_tested_in_order(rt: HostRuntime) {
+    assert!(rt; all_refused(HANDS_OF_OTHER_SIZES, &SpotFault::HandSize));
+    assert!(rt; all_refused(BOARDS_OF_OTHER_SIZES, &SpotFault::BoardSize));
+    assert!(rt; all_refused(OTHER_COUNTS_OF_HANDS, &SpotFault::PlayerCount));
+    assert!(rt; all_refused(SHORT_DECKS, &SpotFault::DeckShort));
+}
+
 /// Whether each of these lines has its game, cards in the first two hands, on the board and dead.
 fn all_sized(table: &[(&[u8], Game, [u32; 2], u32, u32)]) -> bool {
     for (line, game, own, board, dead) in table {
@@ -286,11 +286,6 @@ fn all_sized(table: &[(&[u8], Game, [u32; 2], u32, u32)]) -> bool {
         }
     }
     true
-}
-
-#[test]
-fn each_game_has_its_sizes(rt: HostRuntime) {
-    assert!(rt; all_sized(SIZES));
 }
 
 const SIZES: &[(&[u8], Game, [u32; 2], u32, u32)] = &[
@@ -403,6 +398,11 @@ const SIZES: &[(&[u8], Game, [u32; 2], u32, u32)] = &[
     (b"triple27 7c 5d 4h 3s - / Kc", Game::Triple27, [4, 0], 0, 1),
 ];
 
+#[test]
+fn each_game_has_its_sizes(rt: HostRuntime) {
+    assert!(rt; all_sized(SIZES));
+}
+
 /// A line that goes on with a word again and again.
 fn repeated(alloc: Global, front: &[u8], word: &[u8], times: u32) -> Result<Vec<u8>, Fail> {
     let mut line = Vec::from_slice(alloc, front)?;
@@ -443,19 +443,19 @@ fn all_short(line: &mut Vec<u8>, table: &[(&[u8], bool)]) -> Result<bool, Fail> 
     Ok(true)
 }
 
-#[test]
-fn dead_cards_may_leave_too_few_for_the_board(rt: HostRuntime) -> Result<(), Fail> {
-    let mut line = crowded(rt.alloc())?;
-    assert!(rt; all_short(&mut line, MORE_DEAD_CARDS)?);
-    Ok(())
-}
-
 /// Four cards in two hands and 43 dead ones leave five, as many as the board takes.
 const MORE_DEAD_CARDS: &[(&[u8], bool)] = &[
     (b" Kc Kd Kh", false),
     (b" Ks", true),
     (b" Ac Ad Ah As", true),
 ];
+
+#[test]
+fn dead_cards_may_leave_too_few_for_the_board(rt: HostRuntime) -> Result<(), Fail> {
+    let mut line = crowded(rt.alloc())?;
+    assert!(rt; all_short(&mut line, MORE_DEAD_CARDS)?);
+    Ok(())
+}
 
 /// Whether each of these lines has a word, or none.
 fn all_worded(table: &[(&[u8], bool)]) -> bool {
@@ -467,11 +467,6 @@ fn all_worded(table: &[(&[u8], bool)]) -> bool {
     true
 }
 
-#[test]
-fn a_line_of_spaces_and_tabs_has_no_word(rt: HostRuntime) {
-    assert!(rt; all_worded(WORDED));
-}
-
 const WORDED: &[(&[u8], bool)] = &[
     (b"", false),
     (b" ", false),
@@ -480,6 +475,11 @@ const WORDED: &[(&[u8], bool)] = &[
     (b" \t-", true),
     (b"\r", true),
 ];
+
+#[test]
+fn a_line_of_spaces_and_tabs_has_no_word(rt: HostRuntime) {
+    assert!(rt; all_worded(WORDED));
+}
 
 #[test]
 fn a_million_spaces_are_read(rt: HostRuntime) -> Result<(), Fail> {
