@@ -8,6 +8,10 @@ mod cuts;
 #[cfg(test)]
 mod ends;
 #[cfg(test)]
+mod game_lines;
+#[cfg(test)]
+mod headers;
+#[cfg(test)]
 mod history_lines;
 #[cfg(test)]
 mod lines;
