@@ -29,7 +29,7 @@ pub struct Acts {
 }
 
 /// What was dealt to a seat.
-#[derive(Clone, Copy, Debug)]
+#[derive(Clone, Copy)]
 pub struct Deals {
     /// What was dealt to it on the first street, or before.
     pub first: CardSet,
@@ -59,7 +59,7 @@ pub struct SeatDraws {
 }
 
 /// How the player of a seat drew on the last of several draws.
-#[derive(Clone, Copy, Debug)]
+#[derive(Clone, Copy)]
 pub struct LastDraw {
     /// What he held by the text when it began.
     pub held: CardSet,

@@ -15,7 +15,7 @@ use showdown_tally::Table;
 
 /// An equity that can be counted: a table, what is still to be dealt there, and how many ways to deal it there are, which is
 /// at most `RUNOUT_MAX`.
-#[derive(Clone, Copy, Debug)]
+#[derive(Clone, Copy)]
 pub struct Job {
     /// The known cards and the pots.
     pub table: Table,

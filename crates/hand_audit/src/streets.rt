@@ -23,7 +23,7 @@ use showdown_tally::Table;
 use std::alloc::{AllocError, Global};
 
 /// What is known on a street behind the all-in point of a hand.
-#[derive(Clone, Copy, Debug)]
+#[derive(Clone, Copy)]
 pub struct StreetState {
     /// The street.
     pub street: Street,

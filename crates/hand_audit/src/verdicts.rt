@@ -6,7 +6,7 @@ use history_text::{Names, Street};
 use showdown_tally::Table;
 
 /// The moment from which a hand is played out with no more acts, with cards still to come.
-#[derive(Clone, Copy, Debug)]
+#[derive(Clone, Copy)]
 pub enum AllIn {
     /// The hand has none.
     None,

@@ -7,7 +7,7 @@ ghost use Rattle.hand_cuts.specs.Scans.{EndsLine};
 use memchr::memchr;
 
 /// Where a header line begins, and its number.
-#[derive(Clone, Copy, Debug)]
+#[derive(Clone, Copy)]
 pub(crate) struct Head {
     pub(crate) at: usize,
     pub(crate) line: u32,
@@ -17,7 +17,7 @@ pub(crate) struct Head {
 /// handed out. The lines from there up to `looked`, where line `number` begins, were looked at, and
 /// `head` is the one of them that is a header line. No newline stands between `looked` and
 /// `searched`.
-#[derive(Clone, Copy, Debug)]
+#[derive(Clone, Copy)]
 pub(crate) struct Scan {
     pub(crate) at: usize,
     pub(crate) line: u32,

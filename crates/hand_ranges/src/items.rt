@@ -8,7 +8,7 @@ use card_sets::Card;
 use line_text::{digit_count, number_of};
 
 /// Whether the cards of a hand are of one suit.
-#[derive(Clone, Copy, Debug, PartialEq, Eq)]
+#[derive(Clone, Copy, PartialEq, Eq)]
 pub(crate) enum Suits {
     /// They are.
     One,
@@ -19,7 +19,7 @@ pub(crate) enum Suits {
 }
 
 /// Some hands. Ranks are 0 for a deuce to 12 for an ace.
-#[derive(Clone, Copy, Debug)]
+#[derive(Clone, Copy)]
 pub(crate) enum Item {
     /// The pairs from a rank on to another.
     Pairs {
@@ -41,7 +41,7 @@ pub(crate) enum Item {
 }
 
 /// An item, and how much it adds to the weight of its hands, 1 to 100.
-#[derive(Clone, Copy, Debug)]
+#[derive(Clone, Copy)]
 pub(crate) struct Entry {
     item: Item,
     weight: u8,

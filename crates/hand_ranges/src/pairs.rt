@@ -12,7 +12,7 @@ use card_sets::{Card, CardSet};
 use std::alloc::{AllocError, Global};
 
 /// The hand of two cards, the lower first, and how much it weighs.
-#[derive(Clone, Copy, Debug)]
+#[derive(Clone, Copy)]
 pub(crate) struct Pair {
     low: Card,
     high: Card,

@@ -6,7 +6,7 @@ use card_sets::CardSet;
 use std::marker::Model;
 
 /// A hand of a range, and how much it weighs.
-#[derive(Clone, Copy, Debug)]
+#[derive(Clone, Copy)]
 pub struct Weighted {
     /// Its two cards.
     pub hand: CardSet,
@@ -16,7 +16,7 @@ pub struct Weighted {
 
 /// The hands of a player. Clauses see the list of the hands with their weights, rising by the lower
 /// card and then by the higher one.
-#[derive(Debug, Drop)]
+#[derive(Drop)]
 pub struct Range {
     /// The hands, rising.
     pub(crate) hands: Vec<Weighted>,
@@ -41,7 +41,7 @@ impl Range {
 }
 
 /// What is known of a spot with ranges.
-#[derive(Debug, Drop)]
+#[derive(Drop)]
 pub struct RangeSpot {
     /// The board.
     pub board: CardSet,

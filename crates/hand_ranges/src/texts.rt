@@ -6,7 +6,7 @@ ghost use Rattle.std.specs.Iterator.{YieldsFirstRef, item_count};
 ghost use Rattle.hand_ranges.specs.Texts.{is_comma, texts_of, texts_left};
 
 /// The texts of a word, from the left.
-#[derive(Clone, Copy, Debug)]
+#[derive(Clone, Copy)]
 pub(crate) struct Texts<'a> {
     rest: Option<&'a [u8]>,
 }

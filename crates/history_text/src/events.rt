@@ -149,7 +149,7 @@ pub(crate) enum Verb {
 ///     cards: Cards::of(&[Card::read(*b"Kh")?, Card::read(*b"9s")?, Card::read(*b"2c")?])?,
 /// };
 /// ```
-#[derive(Debug, Drop)]
+#[derive(Drop)]
 pub enum Event {
     /// A seat line.
     Seat {
@@ -294,8 +294,8 @@ impl TextFault {
     ghost use Rattle.history_text.specs.FaultNames.{fault_name};
 
     /// Its name, as the report writes it.
-    pub fn name(&self) -> &'static str
-        ensures { result.now ≡ fault_name self.now }
+    pub fn name(self) -> &'static str
+        ensures { result.now ≡ fault_name self }
     {
         match self {
             TextFault::UnknownGame => "UnknownGame",

@@ -108,7 +108,7 @@ impl Opening for Limit {
 }
 
 /// A game's name and its limit, and what stands behind them.
-#[derive(Clone, Copy, Debug)]
+#[derive(Clone, Copy)]
 struct NamedGame<'a> {
     game: Game,
     limit: Limit,

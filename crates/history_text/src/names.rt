@@ -11,7 +11,7 @@ use std::alloc::Global;
 use std::marker::Model;
 
 /// A seat and its name.
-#[derive(Debug, Drop)]
+#[derive(Drop)]
 struct Seated {
     seat: u8,
     name: Vec<u8>,
@@ -109,7 +109,7 @@ impl Names {
 }
 
 /// A name that begins a text: its seat, its length, and what stands behind it and its mark.
-#[derive(Clone, Copy, Debug)]
+#[derive(Clone, Copy)]
 pub(crate) struct NameFit<'a> {
     pub(crate) seat: u8,
     pub(crate) length: usize,

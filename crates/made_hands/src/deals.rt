@@ -12,7 +12,7 @@ use rank_high::{high_of_set, law_best_numbers_keep_order};
 use std::cmp::Ordering;
 
 /// Two players' cards, the board, and what the players begin with, in whole dollars.
-#[derive(Clone, Copy, Debug)]
+#[derive(Clone, Copy)]
 pub(crate) struct Deal {
     /// The two cards of A, who has the button.
     pub(crate) first: [Card; 2],

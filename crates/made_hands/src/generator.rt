@@ -7,7 +7,7 @@ ghost use Rattle.made_hands.specs.Generator.{drawn, next_state, state_after};
 use card_sets::{Card, CardSet};
 
 /// A linear congruential generator of 64 bits.
-#[derive(Clone, Copy, Debug)]
+#[derive(Clone, Copy)]
 pub(crate) struct Generator {
     /// The seed, or the state behind the last draw.
     pub(crate) state: u64,

@@ -10,7 +10,7 @@ use std::alloc::{AllocError, Global};
 use std::marker::Model;
 
 /// The pots of a hand, the main pot first. Clauses see the list of them.
-#[derive(Debug, Drop)]
+#[derive(Drop)]
 pub struct Pots {
     items: Vec<Pot>,
 }

@@ -5,7 +5,7 @@ ghost use Rattle.std.specs.Prelude.{◌≡◌, ◌<◌, ◌≤◌, [], ◌∷◌
 use std::marker::Model;
 
 /// Up to ten seats, in the order in which they get odd units. Clauses see the list of them.
-#[derive(Debug, Drop)]
+#[derive(Drop)]
 pub struct OddOrder {
     seats: [u8; 10],
     count: u8,

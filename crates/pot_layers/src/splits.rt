@@ -11,7 +11,7 @@ use std::alloc::{AllocError, Global};
 use std::marker::Model;
 
 /// The parts of a pot, by rising seat. Clauses see the list of them.
-#[derive(Debug, Drop)]
+#[derive(Drop)]
 pub struct Shares {
     items: Vec<Share>,
 }

@@ -22,7 +22,7 @@ use std::alloc::AllocError;
 use std::marker::Model;
 
 /// What the runouts of the counted all-in of a hand come to.
-#[derive(Clone, Copy, Debug)]
+#[derive(Clone, Copy)]
 pub struct AllInSums {
     /// How many runouts there are.
     pub runouts: u128,

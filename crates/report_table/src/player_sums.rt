@@ -14,7 +14,7 @@ use hand_audit::{AllIn, Payment, PotLine, Settlement};
 use showdown_tally::{Table, Tally};
 
 /// What hands of one unit of money come to for a player.
-#[derive(Clone, Copy, Debug)]
+#[derive(Clone, Copy)]
 pub struct PlayerSums {
     /// How many hands he plays.
     pub hands: u64,

@@ -18,7 +18,7 @@ use indexmap::IndexMap;
 use std::alloc::{AllocError, Global};
 
 /// A name, and the unit of the hands that it is summed over: hundredths, or else chips.
-#[derive(Debug, PartialEq, Eq, Hash, Drop)]
+#[derive(PartialEq, Eq, Hash, Drop)]
 pub(crate) struct PlayerKey {
     pub(crate) hundredths: bool,
     pub(crate) name: Vec<u8>,

@@ -15,7 +15,7 @@ use std::alloc::Global;
 const PIECE: usize = 16_384;
 
 /// How the reading ended, or that it goes on.
-#[derive(Clone, Copy, Debug, PartialEq, Eq)]
+#[derive(Clone, Copy, PartialEq, Eq)]
 pub(crate) enum Ending {
     /// At the end of the input.
     Whole,

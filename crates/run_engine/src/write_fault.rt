@@ -4,7 +4,7 @@ use byte_ends::Failed;
 use card_sets::Memory;
 
 /// Why a report wasn't written whole.
-#[derive(Clone, Copy, Debug, PartialEq, Eq)]
+#[derive(Clone, Copy, PartialEq, Eq)]
 pub(crate) enum WriteFault {
     /// A write failed.
     Failed,

@@ -24,7 +24,7 @@ pub struct Slot {
 }
 
 /// What is still to be dealt: the cards that may come, and the slots that they fill.
-#[derive(Clone, Copy, Debug)]
+#[derive(Clone, Copy)]
 pub struct Shape {
     /// The cards that may come.
     pub unseen: CardSet,

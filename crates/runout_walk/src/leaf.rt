@@ -16,7 +16,7 @@ use std::sync::ledger::Ledger;
 use step_count::Steps;
 
 /// A slot that has some cards, and gets so many more of the rest.
-#[derive(Clone, Copy, Debug)]
+#[derive(Clone, Copy)]
 pub struct Tail {
     /// The cards that it has.
     pub taken: CardSet,

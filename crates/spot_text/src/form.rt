@@ -24,7 +24,7 @@ pub fn card_of(word: &[u8]) -> Option<Card>
 }
 
 /// Where a spot is read.
-#[derive(Clone, Copy, Debug, PartialEq, Eq)]
+#[derive(Clone, Copy, PartialEq, Eq)]
 pub(crate) enum Section {
     /// Among the hands.
     Hands,

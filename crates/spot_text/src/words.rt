@@ -5,7 +5,7 @@ ghost use Rattle.std.specs.Iterator.{YieldsFirstRef, item_count};
 ghost use Rattle.spot_text.specs.Words.{is_gap, words, is_blank, words_left};
 
 /// The words of a line, from the left.
-#[derive(Clone, Copy, Debug)]
+#[derive(Clone, Copy)]
 pub struct Words<'a> {
     rest: &'a [u8],
 }

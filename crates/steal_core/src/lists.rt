@@ -7,7 +7,7 @@ use std::alloc::Global;
 use std::marker::Model;
 
 /// Some blocks: a queue, front first, or those that are booked, in their order. Clauses see the list of them.
-#[derive(Debug, Drop)]
+#[derive(Drop)]
 pub struct Blocks {
     items: Vec<u32>,
 }
@@ -74,7 +74,7 @@ impl Blocks {
 }
 
 /// The queues of all workers, by their numbers. Clauses see the list of them.
-#[derive(Debug, Drop)]
+#[derive(Drop)]
 pub struct Queues {
     items: Vec<Blocks>,
 }
@@ -147,7 +147,7 @@ impl Queues {
 }
 
 /// The hands of all workers, by their numbers: a block or none. Clauses see the list of them.
-#[derive(Debug, Drop)]
+#[derive(Drop)]
 pub struct Hands {
     items: Vec<Option<u32>>,
 }

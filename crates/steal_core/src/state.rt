@@ -8,7 +8,7 @@ use card_sets::Memory;
 use std::alloc::Global;
 
 /// Where each block is.
-#[derive(Debug, Drop)]
+#[derive(Drop)]
 pub struct State {
     /// The workers' queues, front first.
     pub queues: Queues,

@@ -7,7 +7,7 @@ pub trait Gate {
 }
 
 /// Lets everyone in at once.
-#[derive(Clone, Copy, Debug)]
+#[derive(Clone, Copy)]
 pub struct OpenGate;
 
 impl Gate for OpenGate {

@@ -2,24 +2,8 @@
 #![tactic(auto)]
 
 #[cfg(test)]
-mod audits;
+mod bytes;
 #[cfg(test)]
-mod cuts;
-#[cfg(test)]
-mod ends;
-#[cfg(test)]
-mod game_lines;
-#[cfg(test)]
-mod headers;
-#[cfg(test)]
-mod history_lines;
-#[cfg(test)]
-mod lines;
-#[cfg(test)]
-mod made;
-#[cfg(test)]
-mod names;
-#[cfg(test)]
-mod replays;
+mod histories;
 #[cfg(test)]
 mod spot_lines;

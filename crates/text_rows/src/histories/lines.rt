@@ -1,6 +1,6 @@
 //! Lines of a hand as a site writes them, and their faults.
 
-use crate::names::{SEATED, names_of};
+use crate::histories::names::{SEATED, names_of};
 use card_sets::Game;
 use history_text::*;
 

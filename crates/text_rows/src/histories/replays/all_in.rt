@@ -1,7 +1,7 @@
 //! All-in points, and the cards known there, of hands worked out by hand.
 
 use super::{DOLLARS, THREE_NAMES, all_stand, step_line};
-use crate::names::names_of;
+use crate::histories::names::names_of;
 use betting_replay::Replay;
 use card_sets::{Card, CardSet, Game};
 use history_text::{Header, Limit, Names, Part, Street};

@@ -1,7 +1,7 @@
 //! Hands that are run twice.
 
 use super::{DOLLARS, THREE_NAMES, all_stand, card, is_refused};
-use crate::names::names_of;
+use crate::histories::names::names_of;
 use betting_replay::{BetFault, Replay};
 use card_sets::{Card, CardSet};
 use history_text::{Names, Street};

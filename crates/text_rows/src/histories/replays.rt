@@ -4,7 +4,7 @@ ghost use Rattle.std.specs.Prelude.{◌<◌, ◌≤◌, ◌^◌, IsTrue};
 ghost use Rattle.betting_replay.specs.Events.{SeatFits};
 ghost use Rattle.betting_replay.specs.Limits.{ActFits, AmountsFit};
 
-use crate::names::names_of;
+use crate::histories::names::names_of;
 use betting_replay::{BetFault, Replay};
 use card_sets::{Card, Game};
 use history_text::{Act, Event, Header, Limit, Names, Part, Street, read_line};

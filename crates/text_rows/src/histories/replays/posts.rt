@@ -3,7 +3,7 @@
 ghost use Rattle.std.specs.Prelude.{◌<◌};
 
 use super::{DOLLARS, THREE_NAMES, all_stand};
-use crate::names::names_of;
+use crate::histories::names::names_of;
 use betting_replay::Replay;
 use history_text::Names;
 

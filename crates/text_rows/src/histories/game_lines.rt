@@ -1,6 +1,6 @@
 //! Deals, draws and markers of each game.
 
-use crate::names::{SEATED, names_of};
+use crate::histories::names::{SEATED, names_of};
 use card_sets::Game;
 use history_text::*;
 
