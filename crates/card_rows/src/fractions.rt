@@ -1,3 +1,5 @@
+//! Fractions, rounded once and written out.
+
 use share_fractions::{Fixed, LONGEST_TEXT, rounded};
 
 /// The greatest denominator: ten to the power 32.

@@ -1,3 +1,5 @@
+//! Counters of steps.
+
 ghost use Rattle.std.specs.Prelude.{◌≡◌, ◌+◌, ◌<◌, length};
 
 use std::marker::Brand;

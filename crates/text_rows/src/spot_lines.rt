@@ -1,3 +1,5 @@
+//! Lines of spots, and their faults.
+
 use card_sets::{Card, CardSet, Game};
 use spot_text::{SpotFault, has_word, read_spot};
 use std::alloc::Global;
