@@ -1,7 +1,8 @@
 -- The lemmas of this crate that proofs of other crates may cite.
 
--- What a table has at a seat is what its list by seats was made of.
+-- What a list by seats has at a seat is what it was made of. So a table has there what the events make of the seat's chips and acts.
 pub use Rattle.betting_replay.proofs.lemmas.seats.SeatLists.{at_by_seat}
+pub use Rattle.betting_replay.proofs.lemmas.seats.SeatStates.{chips_are, acts_are}
 -- A step that answers `Ok` found no fault. Then the event passed each test, and none of them failed. Its seat is below 11.
 pub use Rattle.betting_replay.proofs.lemmas.steps.PassedTests.{no_fault, not_failed, passed}
 pub use Rattle.betting_replay.proofs.lemmas.steps.NextTable.{seat_below}

@@ -9,7 +9,7 @@ use Rattle.card_sets.specs.declared.streets.Street.{Street as StreetName}
 use Rattle.betting_replay.specs.Events.{seat_of, is_seat_line, bought}
 use Rattle.betting_replay.specs.Limits.{Fits}
 use Rattle.betting_replay.specs.Sums.{stack, paid, dead}
-use Rattle.betting_replay.specs.TableAfter.{Table, table_of, chips_at, acts_at, own_at, final_at, known_at, dead_at, chips_of, acts_of, dead_cards}
+use Rattle.betting_replay.specs.TableAfter.{ReplayState, table_of, chips_at, acts_at, own_at, final_at, known_at, dead_at, chips_of, acts_of, dead_cards}
 use Rattle.betting_replay.specs.Places.{owned}
 use Rattle.betting_replay.specs.Known.{final_cards, cards_at}
 use Rattle.betting_replay.specs.Turns.{may_act, owes_before, next_to_act}
@@ -49,7 +49,7 @@ ShowsDead = (header : Header) (players : ℕ) (h : List Event)
     → dead_at (table_of header players h) ≡ dead_cards header players h
 
 -- the seat may act at the table, and nobody who owes an act comes before it
-pub record IsInTurn (t : Table) (p : ℕ) : Type 0 where
+pub record IsInTurn (t : ReplayState) (p : ℕ) : Type 0 where
   pub may : may_act t p ≡ true
   pub first : owes_before t p ≡ None
 

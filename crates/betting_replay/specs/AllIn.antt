@@ -5,17 +5,17 @@ use Rattle.card_sets.specs.declared.streets.Street.{Street as StreetName}
 use Rattle.betting_replay.specs.declared.points.Point.{Point}
 use Rattle.card_sets.specs.PlayerSets.{has_player}
 use Rattle.betting_replay.specs.Seats.{count_seats}
-use Rattle.betting_replay.specs.Table.{Table, own_at}
+use Rattle.betting_replay.specs.Table.{ReplayState, own_at}
 use Rattle.betting_replay.specs.Turns.{is_contender, contender_count, has_chips, next_to_act}
 use Rattle.betting_replay.specs.Accounts.{contenders}
 
 -- how many contenders have chips left
-unfoldable pub funded_count : Table → ℕ
+unfoldable pub funded_count : ReplayState → ℕ
 funded_count t = count_seats (λ p. is_contender t p && has_chips t p)
 
 -- nobody can bet any more: the first street has begun, two contenders or more are left, at most one of them has chips, nobody owes an act, and the last street is to come
-unfoldable pub is_point : Table → Bool
-is_point t = t.opened && nat_le 2 (contender_count t) && nat_le (funded_count t) 1 && is_none (next_to_act t) && not t.last_begun
+unfoldable pub is_point : ReplayState → Bool
+is_point t = t.course.opened && nat_le 2 (contender_count t) && nat_le (funded_count t) 1 && is_none (next_to_act t) && not t.course.last_begun
 
 -- a point on a street, with the contenders there
 abbrev pub point_on : Option StreetName → ℕ → Option Point
@@ -23,8 +23,8 @@ point_on None seats = None
 point_on (Some street) seats = Some (record { street = street; contenders = seats })
 
 -- the point that this moment is, if it is one
-unfoldable pub point_now : Table → Option Point
-point_now t = if is_point t then point_on t.street (contenders t) else None
+unfoldable pub point_now : ReplayState → Option Point
+point_now t = if is_point t then point_on t.course.street (contenders t) else None
 
 -- the street of the point, and the contenders there
 abbrev pub point_street : Option Point → Option StreetName
@@ -49,5 +49,5 @@ abbrev pub dead_by : ℕ → Option Point → (ℕ → List ℕ) → List ℕ �
 dead_by players None own thrown = []
 dead_by players (Some point) own thrown = union thrown (cards_of_seats (had_folded players point) own 11)
 
-unfoldable pub dead_at : Table → List ℕ
+unfoldable pub dead_at : ReplayState → List ℕ
 dead_at t = dead_by t.players t.point (own_at t) t.thrown

@@ -7,6 +7,7 @@ use Rattle.history_text.specs.declared.events.Event.{Event}
 use Rattle.history_text.specs.declared.events.Event.TheVariants.{Street}
 use Rattle.card_sets.specs.declared.streets.Street.{Street as StreetName}
 use Rattle.card_sets.specs.declared.streets.Street.TheVariants.{First, Flop, Turn, River}
+use Rattle.betting_replay.specs.declared.boards.Board.{Board}
 use Rattle.betting_replay.specs.Streets.{same_street}
 use Rattle.betting_replay.specs.Sums.{twice_from, second_street}
 
@@ -37,6 +38,34 @@ board_on street (e ∷ h) = union (board_on street h) (named_on street e)
 abbrev pub second_on : StreetName → List Event → List ℕ
 second_on street [] = []
 second_on street (e ∷ h) = union (second_on street h) (named_second street e)
+
+-- a board before any card
+abbrev pub no_board : Board
+no_board = record { flop = []; turn = []; river = [] }
+
+-- the boards street by street: the only one or the first of two, and the second
+abbrev pub board_of : List Event → Board
+board_of h = record { flop = board_on Flop h; turn = board_on Turn h; river = board_on River h }
+
+abbrev pub second_of : List Event → Board
+second_of h = record { flop = second_on Flop h; turn = second_on Turn h; river = second_on River h }
+
+-- the same after one event more: a marker's cards come to the board of their street
+abbrev pub board_after : Event → Board → Board
+board_after (Street marker number cards) b = record {
+  flop = union b.flop (named_on Flop (Street marker number cards));
+  turn = union b.turn (named_on Turn (Street marker number cards));
+  river = union b.river (named_on River (Street marker number cards));
+}
+board_after e b = b
+
+abbrev pub second_after : Event → Board → Board
+second_after (Street marker number cards) b = record {
+  flop = union b.flop (named_second Flop (Street marker number cards));
+  turn = union b.turn (named_second Turn (Street marker number cards));
+  river = union b.river (named_second River (Street marker number cards));
+}
+second_after e b = b
 
 -- the cards of the streets up to one, of a flop, a turn and a river, and of those before one
 abbrev pub up_to : StreetName → List ℕ → List ℕ → List ℕ → List ℕ

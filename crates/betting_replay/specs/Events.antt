@@ -108,7 +108,7 @@ is_fold (Call units) = false
 is_fold (Bet units) = false
 is_fold (Raise by to) = false
 
--- the event is a post of the small blind, a bring-in, a fold, an act, a seat line, a showdown's marker
+-- the event is a post of the small blind, a bring-in, a fold, an act, a seat line
 abbrev pub posts_small : Event → Bool
 posts_small (Post seat kind units all_in) = is_small kind
 posts_small _ = false

@@ -17,7 +17,7 @@ use Rattle.card_sets.specs.Streets.{next_street}
 use Rattle.betting_replay.specs.Streets.{same_street, is_drawing, begun_by_drawing, is_first, is_number}
 use Rattle.betting_replay.specs.Sums.{is_last_of}
 use Rattle.card_sets.specs.PlayerSets.{has_player}
-use Rattle.betting_replay.specs.TableAfter.{Table, chips_at, acts_at, own_at, table_of}
+use Rattle.betting_replay.specs.TableAfter.{ReplayState, chips_at, acts_at, own_at, table_of}
 use Rattle.betting_replay.specs.Turns.{live_at, greatest, contender_count, has_chips, any_shown, may_act, owes_before, next_to_act, due, call_fits, raise_fits}
 use Rattle.betting_replay.specs.AllIn.{funded_count}
 use Rattle.betting_replay.specs.Returns.{return_fits, uncalled_due}
@@ -33,36 +33,36 @@ fault_with fault None = None
 fault_with fault (Some n) = Some (fault n)
 
 -- 1: a post, an act or a collection of one who has folded, a post or an act of one with no chips left, a collection of no player
-unfoldable pub not_in_hand : Table → Event → Option BetFault
+unfoldable pub not_in_hand : ReplayState → Event → Option BetFault
 not_in_hand t (Post seat kind units all_in) = fault_if ((acts_at t seat).folded || not (has_chips t seat)) NotInHand
 not_in_hand t (Act seat act all_in shown) = fault_if ((acts_at t seat).folded || not (has_chips t seat)) NotInHand
 not_in_hand t (Collect seat units pot) = fault_if ((acts_at t seat).folded || not (has_player t.players seat)) NotInHand
 not_in_hand t _ = None
 
 -- 2: an act where one who owes stands between; the first such
-unfoldable pub out_of_turn : Table → Event → Option BetFault
+unfoldable pub out_of_turn : ReplayState → Event → Option BetFault
 out_of_turn t (Act seat act all_in shown) = fault_with OutOfTurn (owes_before t seat)
 out_of_turn t _ = None
 
 -- 3: an act of one who may not act
-unfoldable pub nothing_owed : Table → Event → Option BetFault
+unfoldable pub nothing_owed : ReplayState → Event → Option BetFault
 nothing_owed t (Act seat act all_in shown) = fault_if (not (may_act t seat)) NothingOwed
 nothing_owed t _ = None
 
 -- 4 to 7: a check below the greatest, a call of another amount, a bet where there is one, a raise of another amount
-unfoldable pub act_amiss : Table → ℕ → Deed → Option BetFault
+unfoldable pub act_amiss : ReplayState → ℕ → Deed → Option BetFault
 act_amiss t seat Fold = None
 act_amiss t seat Check = fault_if (nat_lt (live_at t seat) (greatest t)) (CheckFacingBet (due t seat))
 act_amiss t seat (Call units) = fault_if (not (call_fits t seat units)) (CallAmount (due t seat))
 act_amiss t seat (Bet units) = fault_if (nat_lt 0 (greatest t)) BetFacingBet
 act_amiss t seat (Raise by to) = fault_if (not (raise_fits t by to)) (RaiseAmount (greatest t))
 
-unfoldable pub amount_amiss : Table → Event → Option BetFault
+unfoldable pub amount_amiss : ReplayState → Event → Option BetFault
 amount_amiss t (Act seat act all_in shown) = act_amiss t seat act
 amount_amiss t _ = None
 
 -- 8: more than the stack
-unfoldable pub above_stack : Table → Event → Option BetFault
+unfoldable pub above_stack : ReplayState → Event → Option BetFault
 above_stack t (Post seat kind units all_in) = fault_if (nat_lt (chips_at t seat).stack units) (AboveStack (chips_at t seat).stack)
 above_stack t (Act seat act all_in shown) = fault_if (nat_lt (chips_at t seat).stack (act_chips act (live_at t seat))) (AboveStack (chips_at t seat).stack)
 above_stack t _ = None
@@ -75,7 +75,7 @@ puts_in (Call units) = true
 puts_in (Bet units) = true
 puts_in (Raise by to) = true
 
-unfoldable pub all_in_word : Table → Event → Option BetFault
+unfoldable pub all_in_word : ReplayState → Event → Option BetFault
 all_in_word t (Post seat kind units all_in) = fault_if (all_in && not (units == (chips_at t seat).stack)) AllInWord
 all_in_word t (Act seat act all_in shown) =
     let empties = act_chips act (live_at t seat) == (chips_at t seat).stack in
@@ -83,20 +83,20 @@ all_in_word t (Act seat act all_in shown) =
 all_in_word t _ = None
 
 -- 10: a marker, a return, a collection, or the first discard or stand-pat of a draw that no marker began, while somebody owes
-unfoldable pub street_early : Table → Event → Option BetFault
+unfoldable pub street_early : ReplayState → Event → Option BetFault
 street_early t (Street street number cards) = fault_with StreetEarly (next_to_act t)
 street_early t (Uncalled seat units) = fault_with StreetEarly (next_to_act t)
 street_early t (Collect seat units pot) = fault_with StreetEarly (next_to_act t)
-street_early t (Discard seat count cards) = if is_some (begun_by_drawing t.header.game t.street) then fault_with StreetEarly (next_to_act t) else None
-street_early t (Pat seat) = if is_some (begun_by_drawing t.header.game t.street) then fault_with StreetEarly (next_to_act t) else None
+street_early t (Discard seat count cards) = if is_some (begun_by_drawing t.header.game t.course.street) then fault_with StreetEarly (next_to_act t) else None
+street_early t (Pat seat) = if is_some (begun_by_drawing t.header.game t.course.street) then fault_with StreetEarly (next_to_act t) else None
 street_early t _ = None
 
 -- 11: a marker that isn't the next of its game on its board, or with fewer than two contenders; a showdown out of order; a showdown
 -- or a summary before the last street with two contenders or more; a discard or a stand-pat off the draw
 
 -- a hand with a board may be run twice from the next street on where the first has begun, and at most one contender has chips left
-unfoldable pub may_part : Table → Bool
-may_part t = has_board t.header.game && t.opened && nat_le (funded_count t) 1
+unfoldable pub may_part : ReplayState → Bool
+may_part t = has_board t.header.game && t.course.opened && nat_le (funded_count t) 1
 
 -- the street that comes next on a board, where this comes next in the game. On the only board none does once the hand is run twice;
 -- on the first of two the next, until markers of the second stood
@@ -117,63 +117,63 @@ next_second (Some from) board.Only last next = None
 next_second (Some from) board.First last next = if last then Some from else None
 next_second (Some from) board.Second last next = next
 
-abbrev pub next_on : Table → BoardNumber → Option StreetName
-next_on t board.Only = next_only t.twice (next_street t.header.game t.street)
-next_on t board.First = next_first (may_part t) t.twice t.marker (next_street t.header.game t.street)
-next_on t board.Second = next_second t.twice t.marker (is_last_of t.header.game t.street) (next_street t.header.game t.street)
+abbrev pub next_on : ReplayState → BoardNumber → Option StreetName
+next_on t board.Only = next_only t.course.split_from (next_street t.header.game t.course.street)
+next_on t board.First = next_first (may_part t) t.course.split_from t.course.marker (next_street t.header.game t.course.street)
+next_on t board.Second = next_second t.course.split_from t.course.marker (is_last_of t.header.game t.course.street) (next_street t.header.game t.course.street)
 
 -- the last street has begun, on both boards where the hand is run twice
-abbrev pub all_begun : Table → Bool
-all_begun t = t.last_begun && (is_none t.twice || is_last_of t.header.game t.second)
+abbrev pub all_begun : ReplayState → Bool
+all_begun t = t.course.last_begun && (is_none t.course.split_from || is_last_of t.header.game t.course.second_street)
 
-abbrev pub may_end : Table → Bool
+abbrev pub may_end : ReplayState → Bool
 may_end t = all_begun t || nat_lt (contender_count t) 2
 
 -- a showdown's marker comes once: the only one or that of the first board, and behind either that of the second; those of two boards
 -- only where the hand is run twice
-abbrev pub shows_next : Table → BoardNumber → Bool
-shows_next t board.Only = not (any_shown t.showdowns)
-shows_next t board.First = is_some t.twice && not (any_shown t.showdowns)
-shows_next t board.Second = is_some t.twice && any_shown t.showdowns && not t.showdowns.second
+abbrev pub shows_next : ReplayState → BoardNumber → Bool
+shows_next t board.Only = not (any_shown t.course.showdowns)
+shows_next t board.First = is_some t.course.split_from && not (any_shown t.course.showdowns)
+shows_next t board.Second = is_some t.course.split_from && any_shown t.course.showdowns && not t.course.showdowns.second
 
-abbrev pub marker_stands : Table → BoardNumber → StreetName → Bool
+abbrev pub marker_stands : ReplayState → BoardNumber → StreetName → Bool
 marker_stands t number ShowDown = shows_next t number && may_end t
 marker_stands t number Summary = is_number board.Only number && may_end t
 marker_stands t number street = same_street street (next_on t number) && nat_le 2 (contender_count t)
 
-abbrev pub draw_stands : Table → Bool
-draw_stands t = is_drawing t.street || (is_some (begun_by_drawing t.header.game t.street) && nat_le 2 (contender_count t))
+abbrev pub draw_stands : ReplayState → Bool
+draw_stands t = is_drawing t.course.street || (is_some (begun_by_drawing t.header.game t.course.street) && nat_le 2 (contender_count t))
 
-unfoldable pub street_order : Table → Event → Option BetFault
+unfoldable pub street_order : ReplayState → Event → Option BetFault
 street_order t (Street street number cards) = fault_if (not (marker_stands t number street)) StreetOrder
 street_order t (Discard seat count cards) = fault_if (not (draw_stands t)) StreetOrder
 street_order t (Pat seat) = fault_if (not (draw_stands t)) StreetOrder
 street_order t _ = None
 
 -- 12: a return of another amount than is uncalled over the whole hand, or over the street
-unfoldable pub uncalled_amiss : Table → Event → Option BetFault
+unfoldable pub uncalled_amiss : ReplayState → Event → Option BetFault
 uncalled_amiss t (Uncalled seat units) = fault_if (not (return_fits t seat units)) (UncalledAmount (uncalled_due t))
 uncalled_amiss t _ = None
 
 -- 13: a card that belongs elsewhere, was thrown away face up and may not come again, stands twice in the bracket, or was named before it comes on the
 -- board; the first such
-unfoldable pub card_twice : Table → Event → Option BetFault
+unfoldable pub card_twice : ReplayState → Event → Option BetFault
 card_twice t e = fault_with CardTwice (first_twice (is_free t.named (own_at t (seat_of e)) (is_board e)) (barred t.header.game t.thrown) (cards_named e))
 
 -- 14: a post behind the marker of the first street; a bring-in elsewhere than on the first street before its first act
-unfoldable pub post_late : Table → Event → Option BetFault
+unfoldable pub post_late : ReplayState → Event → Option BetFault
 post_late t (Post seat kind units all_in) =
-    fault_if (if is_bring_in kind then not (is_first t.street && is_none t.last) else t.opened) PostLate
+    fault_if (if is_bring_in kind then not (is_first t.course.street && is_none t.course.last_actor) else t.course.opened) PostLate
 post_late t _ = None
 
 -- 15: a second line of a seat
-unfoldable pub seat_twice : Table → Event → Option BetFault
+unfoldable pub seat_twice : ReplayState → Event → Option BetFault
 seat_twice t (Seat seat units first end) = fault_if (chips_at t seat).seated SeatTwice
 seat_twice t _ = None
 
 -- 16: more cards than the game gives a seat: its own, and as many drawn ones at each draw. A card that was thrown away and may come again is no
 -- longer the seat's
-unfoldable pub too_many_cards : Table → Event → Option BetFault
+unfoldable pub too_many_cards : ReplayState → Event → Option BetFault
 too_many_cards t e =
     if seat_of e == 0 then None
     else fault_if (nat_lt (most_owned t.header.game) (length (with_given t.header.game e (cards_named e) (own_at t (seat_of e))))) (TooManyCards (seat_of e))
@@ -185,13 +185,13 @@ first_fault (None ∷ tests) = first_fault tests
 first_fault (Some fault ∷ tests) = Some fault
 
 -- the tests in their order
-abbrev pub tests : Table → Event → List (Option BetFault)
+abbrev pub tests : ReplayState → Event → List (Option BetFault)
 tests t e =
     not_in_hand t e ∷ out_of_turn t e ∷ nothing_owed t e ∷ amount_amiss t e ∷ above_stack t e ∷ all_in_word t e
     ∷ street_early t e ∷ street_order t e ∷ uncalled_amiss t e ∷ card_twice t e ∷ post_late t e ∷ seat_twice t e ∷ too_many_cards t e ∷ []
 
 -- the first of them that an event fails at a table
-unfoldable pub fault_at : Table → Event → Option BetFault
+unfoldable pub fault_at : ReplayState → Event → Option BetFault
 fault_at t e = first_fault (tests t e)
 
 -- the fault of an event after those of a hand so far, or none

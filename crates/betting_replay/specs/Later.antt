@@ -8,7 +8,7 @@ use Rattle.history_text.specs.declared.events.Event.TheVariants.{Street}
 use Rattle.betting_replay.specs.Boards.{is_second}
 use Rattle.betting_replay.specs.Streets.{begins, is_later}
 use Rattle.betting_replay.specs.Turns.{any_shown}
-use Rattle.betting_replay.specs.TableAfter.{Table, table_of}
+use Rattle.betting_replay.specs.TableAfter.{ReplayState, table_of}
 
 -- the event is a marker of a second board
 abbrev pub is_of_second : Event → Bool
@@ -25,8 +25,8 @@ abbrev pub later_by : Game → Option StreetName → Event → Option StreetName
 later_by game street e = if is_of_second e then None else if_later (begins game street e)
 
 -- the street after the first that an event begins behind the all-in point, and before any showdown's marker
-abbrev pub later_begun : Table → Event → Option StreetName
-later_begun t e = if is_some t.point && not (any_shown t.showdowns) then later_by t.header.game t.street e else None
+abbrev pub later_begun : ReplayState → Event → Option StreetName
+later_begun t e = if is_some t.point && not (any_shown t.course.showdowns) then later_by t.header.game t.course.street e else None
 
 abbrev pub listed : Option StreetName → List StreetName
 listed None = []

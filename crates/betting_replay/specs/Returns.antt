@@ -4,18 +4,18 @@ use Rattle.pot_layers.specs.declared.paid.Paid.{Paid}
 use Rattle.pot_layers.specs.Uncalled.{uncalled}
 use Rattle.betting_replay.specs.Accounts.{paid_by}
 use Rattle.betting_replay.specs.Seats.{places_from}
-use Rattle.betting_replay.specs.Table.{Table}
+use Rattle.betting_replay.specs.Table.{ReplayState}
 use Rattle.betting_replay.specs.Turns.{live_at}
 
 -- what a seat has put in, by what is live of it on the street alone
-unfoldable pub live_by : Table → ℕ → Paid
+unfoldable pub live_by : ReplayState → ℕ → Paid
 live_by t p = record (paid_by t p) { live = live_at t p }
 
 -- what the ten seats have put in, over the hand with antes and on the street
-unfoldable pub hand_sums : Table → List Paid
+unfoldable pub hand_sums : ReplayState → List Paid
 hand_sums t = places_from (paid_by t) 1 10
 
-unfoldable pub street_sums : Table → List Paid
+unfoldable pub street_sums : ReplayState → List Paid
 street_sums t = places_from (live_by t) 1 10
 
 -- so many units of the seat are what is uncalled
@@ -24,7 +24,7 @@ is_return None seat units = false
 is_return (Some back) seat units = (back.0 == seat) && (back.1 == units)
 
 -- so many units may come back to a seat: what is uncalled over the whole hand, or on the street
-unfoldable pub return_fits : Table → ℕ → ℕ → Bool
+unfoldable pub return_fits : ReplayState → ℕ → ℕ → Bool
 return_fits t seat units = is_return (uncalled (hand_sums t)) seat units || is_return (uncalled (street_sums t)) seat units
 
 -- how many units are uncalled over the whole hand: 0 where no seat alone has paid more than every other
@@ -32,5 +32,5 @@ abbrev pub units_of : Option (ℕ × ℕ) → ℕ
 units_of None = 0
 units_of (Some back) = back.1
 
-abbrev pub uncalled_due : Table → ℕ
+abbrev pub uncalled_due : ReplayState → ℕ
 uncalled_due t = units_of (uncalled (hand_sums t))

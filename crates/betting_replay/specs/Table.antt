@@ -1,65 +1,39 @@
 -- The table: what each seat has and has done, and what lies open.
 use Rattle.std.specs.Prelude.{ℕ, Bool, false, List, [], Option, None, is_some, slice_index_or}
 use Rattle.history_text.specs.declared.events.Header.{Header}
+use Rattle.history_text.specs.declared.events.BoardNumber.TheVariants as board
 use Rattle.card_sets.specs.declared.streets.Street.{Street as StreetName}
-use Rattle.history_text.specs.declared.events.BoardNumber.{BoardNumber}
+use Rattle.betting_replay.specs.declared.boards.Board.{Board}
+use Rattle.betting_replay.specs.declared.course.Course.{Course}
 use Rattle.betting_replay.specs.declared.points.Point.{Point}
-use Rattle.betting_replay.specs.declared.points.Showdowns.{Showdowns}
 use Rattle.betting_replay.specs.declared.seats.Chips.{Chips}
 use Rattle.betting_replay.specs.declared.seats.Acts.{Acts}
 use Rattle.betting_replay.specs.declared.seats.Deals.{Deals}
 use Rattle.betting_replay.specs.declared.seats.SeatDraws.{SeatDraws}
 use Rattle.betting_replay.specs.declared.seats.LastDraw.{LastDraw}
+use Rattle.betting_replay.specs.declared.seats.SeatState.{SeatState}
 use Rattle.card_sets.specs.Cards.{union}
 use Rattle.betting_replay.specs.Boards.{up_to, shared_by, second_by}
 use Rattle.betting_replay.specs.Known.{Holding, final_by, known_by}
 
 -- a table, as a replay is seen
-pub record Table : Type 0 where
+pub record ReplayState : Type 0 where
   pub header : Header
   -- bit s for seat s
   pub players : ℕ
-  -- by seat
-  pub chips : List Chips
-  pub acts : List Acts
-  -- the cards that belong to each seat, and to the board at number 0
-  pub own : List (List ℕ)
-  -- the cards dealt to each seat, those that it holds by the text, and the last whole hand that it showed
-  pub dealt : List (List ℕ)
-  pub held : List (List ℕ)
-  pub shown : List (Option (List ℕ))
-  -- what was dealt to each seat street by street, the last bracket of seven that it showed, how it drew, and how on the last draw
-  pub deals : List Deals
-  pub rows : List (Option (List ℕ))
-  pub draws : List SeatDraws
-  pub lasts : List LastDraw
+  -- what each seat has and its player has done, by its number. Number 0 is no seat: among the cards it is the board, the first where there are two
+  pub seats : List SeatState
   -- all cards that have a place
   pub named : List ℕ
   -- those that were thrown away face up and weren't named again
   pub thrown : List ℕ
-  -- the cards that came to the board on each street, and to the second board
-  pub flop : List ℕ
-  pub turn : List ℕ
-  pub river : List ℕ
-  pub second_flop : List ℕ
-  pub second_turn : List ℕ
-  pub second_river : List ℕ
+  -- the cards that came to the board on each street, to the first where there are two; and to the second
+  pub first_board : Board
+  pub second_board : Board
   -- the seat of the button, 0 where there is none
   pub button : ℕ
-  -- the street that the hand is on
-  pub street : Option StreetName
-  -- whether the first street has begun, and whether the last has
-  pub opened : Bool
-  pub last_begun : Bool
-  -- the board of the last marker, and which showdown's markers stood
-  pub marker : BoardNumber
-  pub showdowns : Showdowns
-  -- the street from which on there are two boards, and the street that the second has come to
-  pub twice : Option StreetName
-  pub second : Option StreetName
-  -- whether a small blind was posted, and the last actor of the street
-  pub small_posted : Bool
-  pub last : Option ℕ
+  -- how far the hand has come
+  pub course : Course
   -- the first moment that was an all-in point
   pub point : Option Point
 
@@ -78,50 +52,85 @@ no_draws = record { hidden = false; pat = false; five = false }
 abbrev pub no_last_draw : LastDraw
 no_last_draw = record { held = []; hidden_before = false; thrown = []; hidden = false; pat = false; five = false }
 
+-- a seat that no event was about
+abbrev pub no_seat : SeatState
+no_seat = record {
+  chips = no_chips;
+  acts = no_acts;
+  own = [];
+  dealt = [];
+  held = [];
+  shown = None;
+  deals = no_deals;
+  seven_shown = None;
+  draws = no_draws;
+  last_draw = no_last_draw;
+}
+
+-- a hand before its first event
+abbrev pub no_course : Course
+no_course = record {
+  street = None;
+  opened = false;
+  last_begun = false;
+  small_posted = false;
+  last_actor = None;
+  marker = board.Only;
+  showdowns = record { plain = false; first = false; second = false };
+  split_from = None;
+  second_street = None;
+}
+
 -- what a seat of the table has, and has done
-abbrev pub chips_at : Table → ℕ → Chips
-chips_at t p = slice_index_or t.chips p no_chips
+abbrev pub seat_at : ReplayState → ℕ → SeatState
+seat_at t p = slice_index_or t.seats p no_seat
 
-abbrev pub acts_at : Table → ℕ → Acts
-acts_at t p = slice_index_or t.acts p no_acts
+abbrev pub chips_at : ReplayState → ℕ → Chips
+chips_at t p = (seat_at t p).chips
 
-abbrev pub own_at : Table → ℕ → List ℕ
-own_at t p = slice_index_or t.own p []
+abbrev pub acts_at : ReplayState → ℕ → Acts
+acts_at t p = (seat_at t p).acts
 
-abbrev pub dealt_at : Table → ℕ → List ℕ
-dealt_at t p = slice_index_or t.dealt p []
+abbrev pub own_at : ReplayState → ℕ → List ℕ
+own_at t p = (seat_at t p).own
 
-abbrev pub held_at : Table → ℕ → List ℕ
-held_at t p = slice_index_or t.held p []
+abbrev pub dealt_at : ReplayState → ℕ → List ℕ
+dealt_at t p = (seat_at t p).dealt
 
-abbrev pub shown_at : Table → ℕ → Option (List ℕ)
-shown_at t p = slice_index_or t.shown p None
+abbrev pub held_at : ReplayState → ℕ → List ℕ
+held_at t p = (seat_at t p).held
 
-abbrev pub deals_at : Table → ℕ → Deals
-deals_at t p = slice_index_or t.deals p no_deals
+abbrev pub shown_at : ReplayState → ℕ → Option (List ℕ)
+shown_at t p = (seat_at t p).shown
 
-abbrev pub row_at : Table → ℕ → Option (List ℕ)
-row_at t p = slice_index_or t.rows p None
+abbrev pub deals_at : ReplayState → ℕ → Deals
+deals_at t p = (seat_at t p).deals
 
-abbrev pub draws_at : Table → ℕ → SeatDraws
-draws_at t p = slice_index_or t.draws p no_draws
+abbrev pub row_at : ReplayState → ℕ → Option (List ℕ)
+row_at t p = (seat_at t p).seven_shown
 
-abbrev pub last_draw_at : Table → ℕ → LastDraw
-last_draw_at t p = slice_index_or t.lasts p no_last_draw
+abbrev pub draws_at : ReplayState → ℕ → SeatDraws
+draws_at t p = (seat_at t p).draws
+
+abbrev pub last_draw_at : ReplayState → ℕ → LastDraw
+last_draw_at t p = (seat_at t p).last_draw
 
 -- the board's cards of the streets up to one
-abbrev pub board_at : Table → StreetName → List ℕ
-board_at t street = up_to street t.flop t.turn t.river
+abbrev pub board_at : ReplayState → StreetName → List ℕ
+board_at t street = up_to street t.first_board.flop t.first_board.turn t.first_board.river
 
 -- whether the hand is run twice, and the cards of the second board
-abbrev pub is_twice : Table → Bool
-is_twice t = is_some t.twice
+abbrev pub is_twice : ReplayState → Bool
+is_twice t = is_some t.course.split_from
 
-abbrev pub second_board_at : Table → Option (List ℕ)
-second_board_at t = second_by t.second (shared_by t.twice t.flop t.turn t.river) (union (union t.second_flop t.second_turn) t.second_river)
+abbrev pub second_board_at : ReplayState → Option (List ℕ)
+second_board_at t =
+    second_by t.course.second_street
+    (shared_by t.course.split_from t.first_board.flop t.first_board.turn t.first_board.river)
+    (union (union t.second_board.flop t.second_board.turn) t.second_board.river)
 
 -- what the text gives of a seat's cards
-abbrev pub holding_at : Table → ℕ → Holding
+abbrev pub holding_at : ReplayState → ℕ → Holding
 holding_at t p = record {
   own = own_at t p;
   dealt = dealt_at t p;
@@ -135,8 +144,8 @@ holding_at t p = record {
 }
 
 -- a seat's final cards, and its cards on a street
-unfoldable pub final_at : Table → ℕ → Option (List ℕ)
+unfoldable pub final_at : ReplayState → ℕ → Option (List ℕ)
 final_at t p = final_by t.header.game (holding_at t p)
 
-unfoldable pub known_at : Table → ℕ → StreetName → Option (List ℕ)
+unfoldable pub known_at : ReplayState → ℕ → StreetName → Option (List ℕ)
 known_at t p street = known_by t.header.game (holding_at t p) street

@@ -2,18 +2,19 @@
 use Rattle.std.specs.Prelude.{◌≡◌, ℕ, List, [], ◌∷◌, Option, None}
 use Rattle.history_text.specs.declared.events.Header.{Header}
 use Rattle.history_text.specs.declared.events.Event.{Event}
-use Rattle.card_sets.specs.declared.streets.Street.TheVariants.{Flop, Turn, River}
+use Rattle.betting_replay.specs.declared.course.Course.{Course}
 use Rattle.betting_replay.specs.declared.points.Point.{Point}
 use Rattle.betting_replay.specs.declared.seats.Chips.{Chips}
 use Rattle.betting_replay.specs.declared.seats.Acts.{Acts}
+use Rattle.betting_replay.specs.declared.seats.SeatState.{SeatState}
 use Rattle.betting_replay.specs.Seats.{by_seat, or_else}
 use Rattle.betting_replay.specs.Sums.{street, button, opened, last_begun, marker_board, showdowns_of, twice_from, second_street, small_posted, seated, live, dead as dead_chips, paid, stack, folded, acted, brought_in, last_actor}
 use Rattle.betting_replay.specs.Places.{owned, named, thrown}
-use Rattle.betting_replay.specs.Boards.{board_on, second_on}
+use Rattle.betting_replay.specs.Boards.{board_of, second_of}
 use Rattle.betting_replay.specs.Hands.{dealt, held, shown, row}
 use Rattle.betting_replay.specs.Dealing.{deals_of, draws_of, last_draw_of}
 use Rattle.betting_replay.specs.AllIn.{point_now, dead_by}
-pub use Rattle.betting_replay.specs.Table.{Table, no_chips, no_acts, no_deals, no_draws, no_last_draw, chips_at, acts_at, own_at, dealt_at, held_at, shown_at, deals_at, row_at, draws_at, last_draw_at, board_at, is_twice, second_board_at, holding_at, final_at, known_at}
+pub use Rattle.betting_replay.specs.Table.{ReplayState, no_chips, no_acts, no_deals, no_draws, no_last_draw, no_seat, seat_at, chips_at, acts_at, own_at, dealt_at, held_at, shown_at, deals_at, row_at, draws_at, last_draw_at, board_at, is_twice, second_board_at, holding_at, final_at, known_at}
 pub use Rattle.betting_replay.specs.AllIn.{dead_at}
 
 -- what the events so far make of a seat
@@ -23,39 +24,46 @@ chips_of header h p = record { seated = seated h p; stack = stack header h p; pa
 abbrev pub acts_of : Header → List Event → ℕ → Acts
 acts_of header h p = record { folded = folded h p; acted = acted header h p; brought_in = brought_in header h p }
 
--- the table after the events so far, where this is the point that was found
-abbrev pub table_with : Header → ℕ → List Event → Option Point → Table
-table_with header players h found = record {
-  header = header;
-  players = players;
-  chips = by_seat (chips_of header h);
-  acts = by_seat (acts_of header h);
-  own = by_seat (owned header.game h);
-  dealt = by_seat (dealt h);
-  held = by_seat (held h);
-  shown = by_seat (shown header h);
-  deals = by_seat (deals_of header h);
-  rows = by_seat (row h);
-  draws = by_seat (draws_of h);
-  lasts = by_seat (last_draw_of header h);
-  named = named header.game h;
-  thrown = thrown h;
-  flop = board_on Flop h;
-  turn = board_on Turn h;
-  river = board_on River h;
-  second_flop = second_on Flop h;
-  second_turn = second_on Turn h;
-  second_river = second_on River h;
-  button = button h;
+abbrev pub seat_state : Header → List Event → ℕ → SeatState
+seat_state header h p = record {
+  chips = chips_of header h p;
+  acts = acts_of header h p;
+  own = owned header.game h p;
+  dealt = dealt h p;
+  held = held h p;
+  shown = shown header h p;
+  deals = deals_of header h p;
+  seven_shown = row h p;
+  draws = draws_of h p;
+  last_draw = last_draw_of header h p;
+}
+
+-- how far they bring the hand
+abbrev pub course_of : Header → List Event → Course
+course_of header h = record {
   street = street header h;
   opened = opened header h;
   last_begun = last_begun header h;
+  small_posted = small_posted h;
+  last_actor = last_actor header h;
   marker = marker_board h;
   showdowns = showdowns_of h;
-  twice = twice_from h;
-  second = second_street h;
-  small_posted = small_posted h;
-  last = last_actor header h;
+  split_from = twice_from h;
+  second_street = second_street h;
+}
+
+-- the table after the events so far, where this is the point that was found
+abbrev pub table_with : Header → ℕ → List Event → Option Point → ReplayState
+table_with header players h found = record {
+  header = header;
+  players = players;
+  seats = by_seat (seat_state header h);
+  named = named header.game h;
+  thrown = thrown h;
+  first_board = board_of h;
+  second_board = second_of h;
+  button = button h;
+  course = course_of header h;
   point = found;
 }
 
@@ -65,7 +73,7 @@ point header players [] = None
 point header players (e ∷ h) = or_else (point header players h) (point_now (table_with header players (e ∷ h) None))
 
 -- the table after the events so far
-abbrev pub table_of : Header → ℕ → List Event → Table
+abbrev pub table_of : Header → ℕ → List Event → ReplayState
 table_of header players h = table_with header players h (point header players h)
 
 -- the cards that are dead at the point, by all events so far
@@ -73,5 +81,5 @@ abbrev pub dead_cards : Header → ℕ → List Event → List ℕ
 dead_cards header players h = dead_by players (point header players h) (owned header.game h) (thrown h)
 
 -- a table stands for a hand so far: its header, its players, and its events, the latest first
-pub record StandsFor (t : Table) (header : Header) (players : ℕ) (h : List Event) : Type 0 where
+pub record StandsFor (t : ReplayState) (header : Header) (players : ℕ) (h : List Event) : Type 0 where
   pub is : t ≡ table_of header players h

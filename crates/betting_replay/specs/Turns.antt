@@ -4,23 +4,23 @@ use Rattle.card_sets.specs.PlayerSets.{has_player}
 use Rattle.betting_replay.specs.Seats.{greatest_of, count_seats, first_between, first_after}
 use Rattle.betting_replay.specs.Streets.{is_first}
 use Rattle.betting_replay.specs.declared.points.Showdowns.{Showdowns}
-use Rattle.betting_replay.specs.Table.{Table, chips_at, acts_at}
+use Rattle.betting_replay.specs.Table.{ReplayState, chips_at, acts_at}
 
 -- what a seat has put in live on the street, and the greatest of any
-abbrev pub live_at : Table → ℕ → ℕ
+abbrev pub live_at : ReplayState → ℕ → ℕ
 live_at t p = (chips_at t p).live
 
-unfoldable pub greatest : Table → ℕ
+unfoldable pub greatest : ReplayState → ℕ
 greatest t = greatest_of (live_at t)
 
 -- a player who hasn't folded
-unfoldable pub is_contender : Table → ℕ → Bool
+unfoldable pub is_contender : ReplayState → ℕ → Bool
 is_contender t p = has_player t.players p && not (acts_at t p).folded
 
-unfoldable pub contender_count : Table → ℕ
+unfoldable pub contender_count : ReplayState → ℕ
 contender_count t = count_seats (is_contender t)
 
-abbrev pub has_chips : Table → ℕ → Bool
+abbrev pub has_chips : ReplayState → ℕ → Bool
 has_chips t p = nat_lt 0 (chips_at t p).stack
 
 -- a showdown's marker stood, of whichever board
@@ -28,29 +28,29 @@ abbrev pub any_shown : Showdowns → Bool
 any_shown s = s.plain || s.first || s.second
 
 -- betting is open from the first street's marker to the first showdown's
-abbrev pub is_open : Table → Bool
-is_open t = t.opened && not (any_shown t.showdowns)
+abbrev pub is_open : ReplayState → Bool
+is_open t = t.course.opened && not (any_shown t.course.showdowns)
 
 -- how many other contenders have chips left
-unfoldable pub rivals : Table → ℕ → ℕ
+unfoldable pub rivals : ReplayState → ℕ → ℕ
 rivals t p = count_seats (λ q. not (q == p) && is_contender t q && has_chips t q)
 
 -- the seat is below the greatest, or has neither acted nor brought in on the street while another has chips left
-unfoldable pub is_pending : Table → ℕ → Bool
+unfoldable pub is_pending : ReplayState → ℕ → Bool
 is_pending t p =
     nat_lt (live_at t p) (greatest t)
     || (not (acts_at t p).acted && not (acts_at t p).brought_in && nat_lt 0 (rivals t p))
 
 -- betting is open, and two are in the hand: elsewhere nobody owes an act
-abbrev pub is_played : Table → Bool
+abbrev pub is_played : ReplayState → Bool
 is_played t = is_open t && nat_le 2 (contender_count t)
 
 -- the seat owes an act
-unfoldable pub owes : Table → ℕ → Bool
+unfoldable pub owes : ReplayState → ℕ → Bool
 owes t p = is_open t && nat_le 2 (contender_count t) && is_contender t p && has_chips t p && is_pending t p
 
 -- the seat may act
-unfoldable pub may_act : Table → ℕ → Bool
+unfoldable pub may_act : ReplayState → ℕ → Bool
 may_act t p = is_open t && is_contender t p && has_chips t p && (owes t p || not (acts_at t p).acted)
 
 -- who comes before the seat: the first who owes strictly between the last actor and it
@@ -58,34 +58,34 @@ abbrev pub owes_before_by : Option ℕ → (ℕ → Bool) → ℕ → Option ℕ
 owes_before_by None test p = None
 owes_before_by (Some a) test p = first_between test a p
 
-abbrev pub owes_before : Table → ℕ → Option ℕ
-owes_before t p = owes_before_by t.last (owes t) p
+abbrev pub owes_before : ReplayState → ℕ → Option ℕ
+owes_before t p = owes_before_by t.course.last_actor (owes t) p
 
 -- who owes next, after the last actor
-abbrev pub next_to_act : Table → Option ℕ
-next_to_act t = first_after (owes t) t.last
+abbrev pub next_to_act : ReplayState → Option ℕ
+next_to_act t = first_after (owes t) t.course.last_actor
 
 -- what is due of a seat
-abbrev pub due : Table → ℕ → ℕ
+abbrev pub due : ReplayState → ℕ → ℕ
 due t p = greatest t - live_at t p
 
 -- on the first street the stated big blind, where it is above the greatest
-abbrev pub has_level : Table → Bool
-has_level t = is_first t.street && nat_lt (greatest t) t.header.big
+abbrev pub has_level : ReplayState → Bool
+has_level t = is_first t.course.street && nat_lt (greatest t) t.header.big
 
 -- what is due of a seat up to the stated big blind
-abbrev pub due_to_level : Table → ℕ → ℕ
+abbrev pub due_to_level : ReplayState → ℕ → ℕ
 due_to_level t p = t.header.big - live_at t p
 
 -- a call of so many units may stand: the amount due; or what is due to the level; or the whole stack, where it is below one of these
-unfoldable pub call_fits : Table → ℕ → ℕ → Bool
+unfoldable pub call_fits : ReplayState → ℕ → ℕ → Bool
 call_fits t p units =
     ((units == due t p) && nat_lt 0 (due t p))
     || (has_level t && (units == due_to_level t p))
     || ((units == (chips_at t p).stack) && (nat_lt units (due t p) || (has_level t && nat_lt units (due_to_level t p))))
 
 -- a raise by so many units, to so many
-unfoldable pub raise_fits : Table → ℕ → ℕ → Bool
+unfoldable pub raise_fits : ReplayState → ℕ → ℕ → Bool
 raise_fits t by to =
     nat_lt (greatest t) to
     && ((by == to - greatest t) || (has_level t && nat_lt t.header.big to && (by == to - t.header.big)))

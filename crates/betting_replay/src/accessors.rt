@@ -3,12 +3,22 @@
 ghost use Rattle.std.specs.Prelude.{◌≡◌, ℕ, ◌+◌, ◌^◌, ◌<◌, ◌≤◌};
 ghost use Rattle.card_sets.specs.PlayerSets.{has_player};
 ghost use Rattle.betting_replay.specs.Accounts.{paid_by, stack_at, contenders};
+ghost use Rattle.betting_replay.specs.Table.{seat_at};
 
 use crate::replay::Replay;
+use crate::seats::SeatState;
 use history_text::Street;
 use pot_layers::Paid;
 
 impl Replay {
+    /// What a seat has, and what its player has done.
+    pub(crate) fn seat_at(&self, seat: u8) -> SeatState
+        requires { seat < 11 }
+        ensures { result ≡ seat_at self.now seat }
+    {
+        self.seats[seat as usize]
+    }
+
     /// What a seat has put in over the hand, in units, and whether its player is one who hasn't folded.
     #[tactic(auto, unfolding(crate::specs::Accounts::paid_by))]
     pub fn paid(&self, seat: u8) -> Paid
@@ -16,7 +26,7 @@ impl Replay {
         ensures value { result ≡ paid_by self.now seat }
         ensures room { result.live + result.dead < 10 ^ 15 }
     {
-        let chips = self.chips[seat as usize];
+        let chips = self.seats[seat as usize].chips;
         Paid {
             seat,
             live: chips.paid,
@@ -34,7 +44,8 @@ impl Replay {
 
     /// The seat of the button, by the last line that named it; 0 where none did.
     pub fn button(&self) -> u8
-        ensures { result ≡ self.now.button }
+        ensures value { result ≡ self.now.button }
+        ensures few { result ≤ 10 }
     {
         self.button
     }
@@ -50,9 +61,9 @@ impl Replay {
     /// The street: that of the last marker, a showdown's and the summary's too, or the draw that a
     /// discard or a stand-pat began. None exactly before the first marker.
     pub fn street(&self) -> Option<Street>
-        ensures { result ≡ self.now.street }
+        ensures { result ≡ self.now.course.street }
     {
-        self.street
+        self.course.street
     }
 
     /// What is left before the player of a seat, in units.
@@ -60,6 +71,6 @@ impl Replay {
         requires { seat < 11 }
         ensures { result ≡ stack_at self.now seat }
     {
-        self.chips[seat as usize].stack
+        self.seats[seat as usize].chips.stack
     }
 }

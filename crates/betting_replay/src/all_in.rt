@@ -33,11 +33,11 @@ impl Replay {
     fn is_point(&self) -> bool
         ensures { result ≡ is_point self.now }
     {
-        self.opened
+        self.course.opened
             && self.contender_count() >= 2
             && self.funded_count() <= 1
-            && self.next_to_act().is_none()
-            && !self.last_begun
+            && self.owes().is_none()
+            && !self.course.last_begun
     }
 
     /// The point that this moment is, if it is one.
@@ -46,7 +46,7 @@ impl Replay {
         ensures { result ≡ point_now self.now }
     {
         if self.is_point() {
-            point_on(self.street, self.contenders())
+            point_on(self.course.street, self.contenders())
         } else {
             None
         }
@@ -54,9 +54,9 @@ impl Replay {
 
     /// Whether no moment so far was one, and a street is still to come.
     fn awaits_point(&self) -> bool
-        ensures { result ≡ (is_none self.now.point && not self.now.last_begun) }
+        ensures { result ≡ (is_none self.now.point && not self.now.course.last_begun) }
     {
-        self.point.is_none() && !self.last_begun
+        self.point.is_none() && !self.course.last_begun
     }
 
     /// The first point is kept. The seats are looked at only where one may still be found.
@@ -106,7 +106,7 @@ impl Replay {
         let mut cards = CardSet::empty();
         for seat in 0..11 {
             if self.had_folded(point, seat) {
-                cards = cards.union(self.own[seat as usize]);
+                cards = cards.union(self.seats[seat as usize].own);
             }
         }
         cards
@@ -115,7 +115,7 @@ impl Replay {
     /// The cards that are dead at that point: all that were thrown away face up, and all of the players
     /// who had folded there, by the whole text. None are where no moment was one.
     #[tactic(auto, unfolding(crate::specs::AllIn::dead_at))]
-    pub fn dead_cards(&self) -> CardSet
+    pub fn dead(&self) -> CardSet
         ensures { result ≡ dead_at self.now }
     {
         match self.point {

@@ -1,13 +1,38 @@
 //! The cards of a board, street by street, and of the second board of a hand that is run twice.
 
 ghost use Rattle.std.specs.Prelude.{◌≡◌};
-ghost use Rattle.betting_replay.specs.Boards.{is_second, named_on, named_second, before, shared_by, second_by};
+ghost use Rattle.betting_replay.specs.Boards.{is_second, named_on, named_second, no_board, board_after, second_after, before, shared_by, second_by};
 ghost use Rattle.betting_replay.specs.TableAfter.{board_at, is_twice, second_board_at};
 
+use crate::places::with_cards;
 use crate::replay::Replay;
 use crate::streets::same_street;
 use card_sets::{Card, CardSet};
 use history_text::{BoardNumber, Event, Street};
+
+/// The cards that came to a board, by the street on which they came.
+#[derive(Clone, Copy)]
+pub struct Board {
+    /// Those of the flop.
+    pub flop: CardSet,
+    /// That of the turn.
+    pub turn: CardSet,
+    /// That of the river.
+    pub river: CardSet,
+}
+
+impl Board {
+    /// Before any card.
+    pub(crate) fn new() -> Board
+        ensures { result ≡ no_board }
+    {
+        Board {
+            flop: CardSet::empty(),
+            turn: CardSet::empty(),
+            river: CardSet::empty(),
+        }
+    }
+}
 
 /// Whether a board is the second of two.
 fn is_second(board: BoardNumber) -> bool
@@ -17,7 +42,7 @@ fn is_second(board: BoardNumber) -> bool
 }
 
 /// The cards that an event gives to the board on a street, to the first where there are two.
-pub(crate) fn cards_on(street: Street, e: &Event) -> &[Card]
+fn cards_on(street: Street, e: &Event) -> &[Card]
     ensures { result.now ≡ named_on street e.now }
 {
     match e {
@@ -37,7 +62,7 @@ pub(crate) fn cards_on(street: Street, e: &Event) -> &[Card]
 }
 
 /// The cards that an event gives to the second board on a street.
-pub(crate) fn cards_second(street: Street, e: &Event) -> &[Card]
+fn cards_second(street: Street, e: &Event) -> &[Card]
     ensures { result.now ≡ named_second street e.now }
 {
     match e {
@@ -56,37 +81,71 @@ pub(crate) fn cards_second(street: Street, e: &Event) -> &[Card]
     }
 }
 
+/// The only board, or the first of two, after an event.
+pub(crate) fn board_after(e: &Event, board: Board) -> Board
+    ensures { result ≡ board_after e.now board }
+{
+    match e {
+        Event::Street { .. } => Board {
+            flop: with_cards(board.flop, cards_on(Street::Flop, e)),
+            turn: with_cards(board.turn, cards_on(Street::Turn, e)),
+            river: with_cards(board.river, cards_on(Street::River, e)),
+        },
+        _ => board,
+    }
+}
+
+/// The second board after an event.
+pub(crate) fn second_after(e: &Event, board: Board) -> Board
+    ensures { result ≡ second_after e.now board }
+{
+    match e {
+        Event::Street { .. } => Board {
+            flop: with_cards(board.flop, cards_second(Street::Flop, e)),
+            turn: with_cards(board.turn, cards_second(Street::Turn, e)),
+            river: with_cards(board.river, cards_second(Street::River, e)),
+        },
+        _ => board,
+    }
+}
+
 impl Replay {
     /// The cards of the board that came on the streets up to this one, of the first where there are two.
     /// A showdown and the summary stand behind all streets.
     pub fn board_at(&self, street: Street) -> CardSet
         ensures { result ≡ board_at self.now street }
     {
+        let board = self.first_board;
         match street {
             Street::First => CardSet::empty(),
-            Street::Flop => self.flop,
-            Street::Turn => self.flop.union(self.turn),
-            _ => self.flop.union(self.turn).union(self.river),
+            Street::Flop => board.flop,
+            Street::Turn => board.flop.union(board.turn),
+            _ => board.flop.union(board.turn).union(board.river),
         }
     }
 
     /// The cards of the board that came on the streets before this one.
     fn board_before(&self, street: Street) -> CardSet
-        ensures { result ≡ before street self.now.flop self.now.turn self.now.river }
+        ensures { result
+            ≡ before street self.now.first_board.flop self.now.first_board.turn
+            self.now.first_board.river }
     {
+        let board = self.first_board;
         match street {
             Street::First | Street::Flop => CardSet::empty(),
-            Street::Turn => self.flop,
-            Street::River => self.flop.union(self.turn),
-            _ => self.flop.union(self.turn).union(self.river),
+            Street::Turn => board.flop,
+            Street::River => board.flop.union(board.turn),
+            _ => board.flop.union(board.turn).union(board.river),
         }
     }
 
     /// The cards that two boards share.
     fn shared_cards(&self) -> CardSet
-        ensures { result ≡ shared_by self.now.twice self.now.flop self.now.turn self.now.river }
+        ensures { result
+            ≡ shared_by self.now.course.split_from self.now.first_board.flop
+            self.now.first_board.turn self.now.first_board.river }
     {
-        match self.twice {
+        match self.course.split_from {
             Some(street) => self.board_before(street),
             None => CardSet::empty(),
         }
@@ -96,7 +155,7 @@ impl Replay {
     pub fn is_twice(&self) -> bool
         ensures { result ≡ is_twice self.now }
     {
-        self.twice.is_some()
+        self.course.split_from.is_some()
     }
 
     /// The cards of the second board: those that it shares with the first, and its own. None exactly where
@@ -104,11 +163,9 @@ impl Replay {
     pub fn second_board(&self) -> Option<CardSet>
         ensures { result ≡ second_board_at self.now }
     {
-        let own = self
-            .second_flop
-            .union(self.second_turn)
-            .union(self.second_river);
-        match self.second {
+        let second = self.second_board;
+        let own = second.flop.union(second.turn).union(second.river);
+        match self.course.second_street {
             Some(_) => Some(self.shared_cards().union(own)),
             None => None,
         }

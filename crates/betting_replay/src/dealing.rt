@@ -1,13 +1,14 @@
 //! What was dealt to a seat, street by street, and how it drew.
 
 ghost use Rattle.std.specs.Prelude.{◌≡◌, ℕ, length, []};
+ghost use Rattle.betting_replay.specs.Counting.{seat_dealt};
 ghost use Rattle.betting_replay.specs.Dealing.{counts_on, dealt_on, up_by, given_by, deals_three, hides, stands_pat, discards_five, deals_after, draws_after, last_draw_after};
 
-use crate::hands::{cards_dealt, held_after};
-use crate::places::{cards_thrown, with_cards};
-use crate::seats::{Deals, LastDraw, SeatDraws};
+use crate::hands::{cards_dealt, held_after, row_by, shown_after};
+use crate::places::{cards_given, cards_thrown, with_cards, with_given};
+use crate::seats::{Deals, LastDraw, SeatDraws, SeatState};
 use crate::streets::same_street;
-use card_sets::Card;
+use card_sets::{Card, Game};
 use history_text::{Event, Street};
 
 /// Whether a deal counts on a street, where the hand is on one.
@@ -57,7 +58,7 @@ fn deals_three(e: &Event) -> bool
 }
 
 /// What was dealt to a seat, after an event about it.
-pub(crate) fn deals_after(now: Option<Street>, e: &Event, deals: Deals) -> Deals
+fn deals_after(now: Option<Street>, e: &Event, deals: Deals) -> Deals
     ensures { result ≡ deals_after now e.now deals }
 {
     Deals {
@@ -99,7 +100,7 @@ fn discards_five(e: &Event) -> bool
 }
 
 /// How a player drew, after an event about his seat.
-pub(crate) fn draws_after(e: &Event, draws: SeatDraws) -> SeatDraws
+fn draws_after(e: &Event, draws: SeatDraws) -> SeatDraws
     ensures { result ≡ draws_after e.now draws }
 {
     SeatDraws {
@@ -111,7 +112,7 @@ pub(crate) fn draws_after(e: &Event, draws: SeatDraws) -> SeatDraws
 
 /// How a player drew on the last draw, after an event about his seat. The last street has begun with the
 /// event or before it, or hasn't.
-pub(crate) fn last_draw_after(late: bool, e: &Event, last: LastDraw) -> LastDraw
+fn last_draw_after(late: bool, e: &Event, last: LastDraw) -> LastDraw
     ensures { result ≡ last_draw_after late e.now last }
 {
     if late {
@@ -128,5 +129,29 @@ pub(crate) fn last_draw_after(late: bool, e: &Event, last: LastDraw) -> LastDraw
             hidden_before: hides(e) || last.hidden_before,
             ..last
         }
+    }
+}
+
+/// The cards and draws of a seat after an event about it, in a hand of this game on this street. The last
+/// street has begun with the event or before it, or hasn't.
+pub(crate) fn seat_dealt(
+    game: Game,
+    now: Option<Street>,
+    late: bool,
+    e: &Event,
+    seat: SeatState,
+) -> SeatState
+    ensures { result ≡ seat_dealt game now late e.now seat }
+{
+    SeatState {
+        own: with_given(game, e, cards_given(e), seat.own),
+        dealt: with_cards(seat.dealt, cards_dealt(e)),
+        held: held_after(e, seat.held),
+        shown: shown_after(game, e, seat.shown),
+        deals: deals_after(now, e, seat.deals),
+        seven_shown: row_by(e).or(seat.seven_shown),
+        draws: draws_after(e, seat.draws),
+        last_draw: last_draw_after(late, e, seat.last_draw),
+        ..seat
     }
 }

@@ -91,6 +91,6 @@ impl Replay {
     pub fn board(&self) -> CardSet
         ensures { result ≡ own_at self.now 0 }
     {
-        self.own[0]
+        self.seats[0].own
     }
 }

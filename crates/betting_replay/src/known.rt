@@ -48,7 +48,9 @@ impl Replay {
         ensures { result ≡ final_with count (holding_at self.now seat) }
     {
         let place = seat as usize;
-        self.shown[place].or(if_many(count, self.dealt[place]))
+        self.seats[place]
+            .shown
+            .or(if_many(count, self.seats[place].dealt))
     }
 
     /// The final cards of a draw game.
@@ -57,13 +59,13 @@ impl Replay {
         ensures { result ≡ final_drawn (holding_at self.now seat) }
     {
         let place = seat as usize;
-        if let Some(cards) = self.shown[place] {
+        if let Some(cards) = self.seats[place].shown {
             return Some(cards);
         }
-        if self.draws[place].hidden {
+        if self.seats[place].draws.hidden {
             return None;
         }
-        if_many(5, self.dealt[place].minus(self.thrown))
+        if_many(5, self.seats[place].dealt.minus(self.thrown))
     }
 
     /// The final cards of a game with several draws.
@@ -72,13 +74,13 @@ impl Replay {
         ensures { result ≡ final_held (holding_at self.now seat) }
     {
         let place = seat as usize;
-        if let Some(cards) = self.shown[place] {
+        if let Some(cards) = self.seats[place].shown {
             return Some(cards);
         }
-        if self.draws[place].hidden {
+        if self.seats[place].draws.hidden {
             return None;
         }
-        if_many(5, self.held[place])
+        if_many(5, self.seats[place].held)
     }
 
     /// A seat's final cards. With a board they are the last whole hand that it showed, or that the
@@ -94,7 +96,7 @@ impl Replay {
         let game = self.header.game;
         match game.family() {
             Family::Board => self.final_with(seat, game.own_size()),
-            Family::Stud => if_many(7, self.own[seat as usize]),
+            Family::Stud => if_many(7, self.seats[seat as usize].own),
             Family::Draw => self.final_drawn(seat),
             Family::TripleDraw => self.final_held(seat),
         }
@@ -105,11 +107,11 @@ impl Replay {
         requires { seat < 11 }
         ensures { result ≡ so_many count (with_first (holding_at self.now seat) cards) }
     {
-        let deals = self.deals[seat as usize];
+        let deals = self.seats[seat as usize].deals;
         if deals.down {
             return if_many(count, cards);
         }
-        match with_down(cards, deals.up, self.rows[seat as usize]) {
+        match with_down(cards, deals.up, self.seats[seat as usize].seven_shown) {
             Some(cards) => if_many(count, cards),
             None => None,
         }
@@ -120,7 +122,7 @@ impl Replay {
         requires { seat < 11 }
         ensures { result ≡ known_stud (holding_at self.now seat) street }
     {
-        let deals = self.deals[seat as usize];
+        let deals = self.seats[seat as usize].deals;
         let fourth = deals.first.union(deals.fourth);
         let fifth = fourth.union(deals.fifth);
         match street {
@@ -128,7 +130,7 @@ impl Replay {
             Street::Fourth => self.so_many(seat, 4, fourth),
             Street::Fifth => self.so_many(seat, 5, fifth),
             Street::Sixth => self.so_many(seat, 6, fifth.union(deals.sixth)),
-            _ => if_many(7, self.own[seat as usize]),
+            _ => if_many(7, self.seats[seat as usize].own),
         }
     }
 
@@ -138,10 +140,10 @@ impl Replay {
         ensures { result ≡ draws_openly (holding_at self.now seat) }
     {
         let place = seat as usize;
-        let given = self.deals[place].given;
+        let given = self.seats[place].deals.given;
         given.count() == 5
-            && !self.draws[place].hidden
-            && self.own[place].minus(given).is_apart(self.thrown)
+            && !self.seats[place].draws.hidden
+            && self.seats[place].own.minus(given).is_apart(self.thrown)
     }
 
     /// What a player keeps when he draws.
@@ -151,12 +153,12 @@ impl Replay {
     {
         let place = seat as usize;
         if self.draws_openly(seat) {
-            return Some(self.deals[place].given.minus(self.thrown));
+            return Some(self.seats[place].deals.given.minus(self.thrown));
         }
-        if self.draws[place].pat && self.own[place].is_apart(self.thrown) {
+        if self.seats[place].draws.pat && self.seats[place].own.is_apart(self.thrown) {
             return self.final_drawn(seat);
         }
-        if self.draws[place].five {
+        if self.seats[place].draws.five {
             return Some(CardSet::empty());
         }
         None
@@ -179,7 +181,7 @@ impl Replay {
         requires { seat < 11 }
         ensures { result ≡ draws_last_openly (last_draw_at self.now seat) }
     {
-        let last = self.lasts[seat as usize];
+        let last = self.seats[seat as usize].last_draw;
         last.held.count() == 5 && !last.hidden_before && !last.hidden
     }
 
@@ -188,7 +190,7 @@ impl Replay {
         requires { seat < 11 }
         ensures { result ≡ kept_last (holding_at self.now seat) }
     {
-        let last = self.lasts[seat as usize];
+        let last = self.seats[seat as usize].last_draw;
         if last.pat {
             return self.final_held(seat);
         }

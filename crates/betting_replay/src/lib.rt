@@ -9,17 +9,23 @@
 //! has put in, its cards that are known at the end and on a street, the cards of the board and of a second one, and the
 //! all-in point with the players who were in the hand there and the cards that are dead.
 //!
-//! Clauses see a replay as a `Table`: the chips, acts and cards of each seat, and what lies open. What
-//! each of them is after some events is defined over the list of these events alone, the latest first,
-//! with no running sums. `table_of` puts them together, and a replay stands for a hand so far where it
-//! is that table (`StandsFor`). The rules are questions to the table; `legal` asks them of the table of
-//! a list.
+//! A replay reads as the table (`Replay`): each seat with its chips, acts and cards (`SeatState`), the one
+//! or two boards (`Board`), and how far the hand has come (`Course`). A step goes by the kind of its event. A
+//! remark changes nothing. Any other event counts for the chips and acts of its seat and for the course of
+//! the hand, and for the cards only where it moves some; then its street begins, if it begins one, and the
+//! moment may be the all-in point.
+//!
+//! Clauses see a replay as a `ReplayState`, which has the same fields. What each of them is after some events
+//! is defined over the list of these events alone, the latest first, with no running sums. `table_of` puts
+//! them together, and a replay stands for a hand so far where it is that table (`StandsFor`). The rules are
+//! questions to the table; `legal` asks them of the table of a list.
 #![tactic(auto)]
 
 mod accessors;
 mod all_in;
 mod boards;
 mod counting;
+mod course;
 mod dealing;
 mod faults;
 mod hands;

@@ -1,6 +1,9 @@
 //! What each seat has, and has done.
 
-use card_sets::CardSet;
+ghost use Rattle.std.specs.Prelude.{◌≡◌};
+ghost use Rattle.betting_replay.specs.Table.{no_seat};
+
+use card_sets::{Card, CardSet};
 
 /// The chips of a seat, in units.
 #[derive(Clone, Copy, Debug, PartialEq, Eq)]
@@ -73,4 +76,79 @@ pub struct LastDraw {
     pub pat: bool,
     /// He discarded five at once on it.
     pub five: bool,
+}
+
+/// What a seat has, and what its player has done.
+#[derive(Clone, Copy)]
+pub struct SeatState {
+    /// Its chips, in units.
+    pub chips: Chips,
+    /// What its player has done.
+    pub acts: Acts,
+    /// The cards that belong to it. Those of number 0 are the board's, the first one's where there are two.
+    pub own: CardSet,
+    /// All cards that were dealt to it.
+    pub dealt: CardSet,
+    /// What it holds by the text: what was dealt to it and it hasn't thrown away face up since.
+    pub held: CardSet,
+    /// The last whole hand that its player showed, or that the summary gives. None before one, and again
+    /// after a discard.
+    pub shown: Option<CardSet>,
+    /// What was dealt to it, street by street.
+    pub deals: Deals,
+    /// The last bracket of seven cards that its player showed, or that the summary gives, in its order.
+    pub seven_shown: Option<[Card; 7]>,
+    /// How its player drew.
+    pub draws: SeatDraws,
+    /// How he drew on the last of several draws.
+    pub last_draw: LastDraw,
+}
+
+impl SeatState {
+    /// Before any event.
+    pub(crate) fn new() -> SeatState
+        ensures { result ≡ no_seat }
+    {
+        SeatState {
+            chips: Chips {
+                seated: false,
+                stack: 0,
+                paid: 0,
+                dead: 0,
+                live: 0,
+            },
+            acts: Acts {
+                folded: false,
+                acted: false,
+                brought_in: false,
+            },
+            own: CardSet::empty(),
+            dealt: CardSet::empty(),
+            held: CardSet::empty(),
+            shown: None,
+            deals: Deals {
+                first: CardSet::empty(),
+                fourth: CardSet::empty(),
+                fifth: CardSet::empty(),
+                sixth: CardSet::empty(),
+                up: CardSet::empty(),
+                given: CardSet::empty(),
+                down: false,
+            },
+            seven_shown: None,
+            draws: SeatDraws {
+                hidden: false,
+                pat: false,
+                five: false,
+            },
+            last_draw: LastDraw {
+                held: CardSet::empty(),
+                hidden_before: false,
+                thrown: CardSet::empty(),
+                hidden: false,
+                pat: false,
+                five: false,
+            },
+        }
+    }
 }

@@ -1,43 +1,31 @@
 //! The replay goes on by one event.
 
-ghost use Rattle.std.specs.Prelude.{◌≡◌, ℕ, [], ◌∷◌, List, None, OnOk, OnErr, ◌<◌};
-ghost use Rattle.std.specs.Int.{bit_at};
+ghost use Rattle.std.specs.Prelude.{◌≡◌, ℕ, [], ◌∷◌, List, None, OnOk, OnErr, ◌<◌, ◌≤◌};
 ghost use Rattle.history_text.specs.declared.events.Event.{Event};
 ghost use Rattle.history_text.specs.declared.events.Header.{Header};
-ghost use Rattle.betting_replay.specs.Events.{SeatFits, seat_of, button_after, posts_small, is_act};
+ghost use Rattle.betting_replay.specs.Events.{SeatFits, button_after};
 ghost use Rattle.betting_replay.specs.Limits.{AmountsFit};
 ghost use Rattle.betting_replay.specs.TableAfter.{StandsFor};
-ghost use Rattle.betting_replay.specs.Counting.{counted};
+ghost use Rattle.betting_replay.specs.Counting.{moves_cards, paid_after, dealt_after, noted_after, counted};
 ghost use Rattle.betting_replay.specs.Faults.{verdict, legal, fault_at};
 
-use crate::boards::{cards_on, cards_second};
-use crate::counting::{acts_after, chips_after};
-use crate::dealing::{deals_after, draws_after, last_draw_after};
+use crate::boards::{Board, board_after, second_after};
+use crate::counting::seat_paid;
+use crate::course::{Course, course_after};
+use crate::dealing::seat_dealt;
 use crate::faults::BetFault;
-use crate::hands::{cards_dealt, held_after, row_by, shown_after};
-use crate::places::{
-    cards_given, cards_named, cards_thrown, seat_of, with_cards, with_given, without_cards,
-};
-use crate::points::Showdowns;
+use crate::places::{cards_named, cards_thrown, seat_of, with_cards, with_given, without_cards};
 use crate::replay::Replay;
-use crate::seats::{Acts, Chips, Deals, LastDraw, SeatDraws};
-use crate::streets::{begins_on, marker_after, showdowns_after};
+use crate::seats::SeatState;
 use card_sets::{CardSet, PlayerSet};
-use history_text::{BoardNumber, Event, Header, PostKind, Street};
-
-/// Whether an event posts the small blind.
-fn posts_small(e: &Event) -> bool
-    ensures { result ≡ posts_small e.now }
-{
-    match *e {
-        Event::Post { kind, .. } => kind == PostKind::Small,
-        _ => false,
-    }
-}
+use history_text::{Event, Header};
 
 /// The seat of the button after an event, where it was at another before.
 fn button_after(e: &Event, before: u8) -> u8
-    ensures { result ≡ button_after e.now before }
+    requires seat { SeatFits e.now }
+    requires few { before ≤ 10 }
+    ensures value { result ≡ button_after e.now before }
+    ensures few { result ≤ 10 }
 {
     match *e {
         Event::Button { seat } => seat,
@@ -45,11 +33,20 @@ fn button_after(e: &Event, before: u8) -> u8
     }
 }
 
-/// Whether an event is an act.
-fn is_act(e: &Event) -> bool
-    ensures { result ≡ is_act e.now }
+/// Whether an event may give a card a place or take one, or says how a player draws.
+fn moves_cards(e: &Event) -> bool
+    ensures { result ≡ moves_cards e.now }
 {
-    matches!(e, Event::Act { .. })
+    match e {
+        Event::Deal { .. }
+        | Event::Street { .. }
+        | Event::Show { .. }
+        | Event::SeatCards { .. }
+        | Event::Discard { .. }
+        | Event::Pat { .. } => true,
+        Event::Act { shown, .. } => !shown.items().is_empty(),
+        _ => false,
+    }
 }
 
 impl Replay {
@@ -60,72 +57,61 @@ impl Replay {
         Replay {
             header: *header,
             players: PlayerSet::of(players),
-            chips: [Chips {
-                seated: false,
-                stack: 0,
-                paid: 0,
-                dead: 0,
-                live: 0,
-            }; 11],
-            acts: [Acts {
-                folded: false,
-                acted: false,
-                brought_in: false,
-            }; 11],
-            own: [CardSet::empty(); 11],
-            dealt: [CardSet::empty(); 11],
-            held: [CardSet::empty(); 11],
-            shown: [None; 11],
-            deals: [Deals {
-                first: CardSet::empty(),
-                fourth: CardSet::empty(),
-                fifth: CardSet::empty(),
-                sixth: CardSet::empty(),
-                up: CardSet::empty(),
-                given: CardSet::empty(),
-                down: false,
-            }; 11],
-            rows: [None; 11],
-            draws: [SeatDraws {
-                hidden: false,
-                pat: false,
-                five: false,
-            }; 11],
-            lasts: [LastDraw {
-                held: CardSet::empty(),
-                hidden_before: false,
-                thrown: CardSet::empty(),
-                hidden: false,
-                pat: false,
-                five: false,
-            }; 11],
+            seats: [SeatState::new(); 11],
             named: CardSet::empty(),
             thrown: CardSet::empty(),
-            flop: CardSet::empty(),
-            turn: CardSet::empty(),
-            river: CardSet::empty(),
-            second_flop: CardSet::empty(),
-            second_turn: CardSet::empty(),
-            second_river: CardSet::empty(),
+            first_board: Board::new(),
+            second_board: Board::new(),
             button: 0,
-            street: None,
-            opened: false,
-            last_begun: false,
-            marker: BoardNumber::Only,
-            showdowns: Showdowns {
-                plain: false,
-                first: false,
-                second: false,
-            },
-            twice: None,
-            second: None,
-            small_posted: false,
-            last: None,
+            course: Course::new(),
             point: None,
         }
     }
 
-    /// The event, which passed each test, counts for its seat.
+    /// The event counts for the chips and acts of its seat.
+    #[tactic(auto, unfolding(crate::specs::Counting::paid_after))]
+    fn count_chips(&mut self, e: &Event)
+        requires seat { SeatFits e.now }
+        requires amounts { AmountsFit e.now }
+        requires legal { fault_at self.old e.now ≡ None }
+        ensures { self.new ≡ paid_after self.old e.now }
+    {
+        let place = seat_of(e);
+        let big = self.header.big;
+        let posted = self.course.small_posted;
+        let seat = seat_paid(big, posted, e, self.seat_at(place));
+        self.seats[place as usize] = seat;
+    }
+
+    /// The event counts for the cards of its seat, and for those that lie open.
+    #[tactic(auto, unfolding(crate::specs::Counting::dealt_after))]
+    fn count_cards(&mut self, e: &Event)
+        requires { SeatFits e.now }
+        ensures { self.new ≡ dealt_after self.old e.now }
+    {
+        let place = seat_of(e) as usize;
+        let game = self.header.game;
+        let late = self.begins_last(e);
+        let cards = cards_named(e);
+        let seat = seat_dealt(game, self.course.street, late, e, self.seats[place]);
+        self.seats[place] = seat;
+        self.named = with_given(game, e, cards, self.named);
+        self.thrown = with_cards(without_cards(self.thrown, cards), cards_thrown(e));
+        self.first_board = board_after(e, self.first_board);
+        self.second_board = second_after(e, self.second_board);
+    }
+
+    /// The event counts for the button and the course of the hand.
+    #[tactic(auto, unfolding(crate::specs::Counting::noted_after))]
+    fn note(&mut self, e: &Event)
+        requires { SeatFits e.now }
+        ensures { self.new ≡ noted_after self.old e.now }
+    {
+        self.button = button_after(e, self.button);
+        self.course = course_after(e, self.course);
+    }
+
+    /// The event, which passed each test, counts. Cards are looked at only where it moves some.
     #[tactic(auto, unfolding(crate::specs::Counting::counted))]
     fn count(&mut self, e: &Event)
         requires seat { SeatFits e.now }
@@ -133,39 +119,11 @@ impl Replay {
         requires legal { fault_at self.old e.now ≡ None }
         ensures { self.new ≡ counted self.old e.now }
     {
-        let seat = seat_of(e);
-        let place = seat as usize;
-        let game = self.header.game;
-        let cards = cards_named(e);
-        let thrown = cards_thrown(e);
-        let late = self.begins_last(e);
-        self.chips[place] = chips_after(self.header.big, self.small_posted, e, self.chips[place]);
-        self.acts[place] = acts_after(e, self.acts[place]);
-        self.own[place] = with_given(game, e, cards_given(e), self.own[place]);
-        self.dealt[place] = with_cards(self.dealt[place], cards_dealt(e));
-        self.held[place] = held_after(e, self.held[place]);
-        self.shown[place] = shown_after(game, e, self.shown[place]);
-        self.deals[place] = deals_after(self.street, e, self.deals[place]);
-        self.rows[place] = row_by(e).or(self.rows[place]);
-        self.draws[place] = draws_after(e, self.draws[place]);
-        self.lasts[place] = last_draw_after(late, e, self.lasts[place]);
-        self.named = with_given(game, e, cards, self.named);
-        self.thrown = with_cards(without_cards(self.thrown, cards), thrown);
-        self.flop = with_cards(self.flop, cards_on(Street::Flop, e));
-        self.turn = with_cards(self.turn, cards_on(Street::Turn, e));
-        self.river = with_cards(self.river, cards_on(Street::River, e));
-        self.second_flop = with_cards(self.second_flop, cards_second(Street::Flop, e));
-        self.second_turn = with_cards(self.second_turn, cards_second(Street::Turn, e));
-        self.second_river = with_cards(self.second_river, cards_second(Street::River, e));
-        self.button = button_after(e, self.button);
-        self.marker = marker_after(e, self.marker);
-        self.showdowns = showdowns_after(e, self.showdowns);
-        self.twice = self.twice.or(begins_on(BoardNumber::First, e));
-        self.second = begins_on(BoardNumber::Second, e).or(self.second);
-        self.small_posted = posts_small(e) || self.small_posted;
-        if is_act(e) {
-            self.last = Some(seat);
+        self.count_chips(e);
+        if moves_cards(e) {
+            self.count_cards(e);
         }
+        self.note(e);
     }
 
     /// Goes on by an event where it may follow those before it, and else answers the first rule that
@@ -181,6 +139,9 @@ impl Replay {
             → StandsFor self.old header players h → StandsFor self.new header players (e.now ∷ h)) }
         ensures err { OnErr result (self.new ≡ self.old) }
     {
+        if let Event::Remark = *e {
+            return Ok(());
+        }
         self.judge(e)?;
         self.count(e);
         self.begin_with(e);

@@ -2,18 +2,17 @@
 
 ghost use Rattle.std.specs.Prelude.{◌≡◌, ℕ, Option, Some, ◌<◌, ◌≤◌};
 ghost use Rattle.betting_replay.specs.Events.{SeatFits};
-ghost use Rattle.betting_replay.specs.Streets.{same_street, is_drawing, begun_by_drawing, is_later, is_end, is_number, begins, begins_on, shows_on, marker_after};
+ghost use Rattle.betting_replay.specs.Streets.{same_street, is_drawing, begun_by_drawing, is_later, is_end, is_number, begins, begins_on, shows_on};
 ghost use Rattle.betting_replay.specs.Sums.{is_last_of};
 ghost use Rattle.betting_replay.specs.Faults.{verdict, fault_with, may_part, next_only, next_first, next_second, next_on, all_begun, may_end, shows_next, marker_stands, draw_stands, street_early, street_order};
-ghost use Rattle.betting_replay.specs.Counting.{begins_last, cleared, begun_with, begun, showdowns_after};
+ghost use Rattle.betting_replay.specs.Counting.{begins_last, cleared, begun_with, begun};
 ghost use Rattle.betting_replay.specs.Later.{is_of_second, if_later, later_by, later_begun};
 ghost use Rattle.betting_replay.specs.Turns.{next_to_act};
 ghost use Rattle.betting_replay.specs.declared.faults.BetFault.TheVariants.{StreetEarly};
 
-use crate::counting::{clear_acts, clear_chips};
+use crate::counting::clear_seats;
 use crate::faults::BetFault;
 use crate::judge::fault_if;
-use crate::points::Showdowns;
 use crate::replay::Replay;
 use card_sets::Game;
 use history_text::{BoardNumber, Event, Street};
@@ -87,7 +86,7 @@ pub(crate) fn begins_on(number: BoardNumber, e: &Event) -> Option<Street>
 }
 
 /// Whether an event is a showdown's marker of a board.
-fn shows_on(number: BoardNumber, e: &Event) -> bool
+pub(crate) fn shows_on(number: BoardNumber, e: &Event) -> bool
     ensures { result ≡ shows_on number e.now }
 {
     match *e {
@@ -95,27 +94,6 @@ fn shows_on(number: BoardNumber, e: &Event) -> bool
             is_number(number, board) && street == Street::ShowDown
         }
         _ => false,
-    }
-}
-
-/// The board of the last marker, after an event.
-pub(crate) fn marker_after(e: &Event, before: BoardNumber) -> BoardNumber
-    ensures { result ≡ marker_after e.now before }
-{
-    match *e {
-        Event::Street { board, .. } => board,
-        _ => before,
-    }
-}
-
-/// The showdown markers that stood, after an event.
-pub(crate) fn showdowns_after(e: &Event, before: Showdowns) -> Showdowns
-    ensures { result ≡ showdowns_after e.now before }
-{
-    Showdowns {
-        plain: shows_on(BoardNumber::Only, e) || before.plain,
-        first: shows_on(BoardNumber::First, e) || before.first,
-        second: shows_on(BoardNumber::Second, e) || before.second,
     }
 }
 
@@ -222,7 +200,7 @@ impl Replay {
         ensures { result ≡ later_begun self.now e.now }
     {
         if self.point.is_some() && !self.any_shown() {
-            later_by(self.header.game, self.street, e)
+            later_by(self.header.game, self.course.street, e)
         } else {
             None
         }
@@ -232,18 +210,18 @@ impl Replay {
     fn clear(&mut self)
         ensures { self.new ≡ cleared self.old }
     {
-        clear_chips(&mut self.chips);
-        clear_acts(&mut self.acts);
-        self.last = None;
+        clear_seats(&mut self.seats);
+        self.course.last_actor = None;
     }
 
     /// A street begins.
     fn begin(&mut self, street: Street)
         ensures { self.new ≡ begun_with (Some street) self.old }
     {
-        self.street = Some(street);
-        self.opened = street == Street::First || self.opened;
-        self.last_begun = self.header.game.is_last(street) || self.last_begun;
+        let last = self.header.game.is_last(street);
+        self.course.street = Some(street);
+        self.course.opened = street == Street::First || self.course.opened;
+        self.course.last_begun = last || self.course.last_begun;
         if is_later(street) {
             self.clear();
         }
@@ -254,7 +232,7 @@ impl Replay {
     pub(crate) fn begin_with(&mut self, e: &Event)
         ensures { self.new ≡ begun self.old e.now }
     {
-        if let Some(street) = begins(self.header.game, self.street, e) {
+        if let Some(street) = begins(self.header.game, self.course.street, e) {
             self.begin(street);
         }
     }
@@ -264,14 +242,14 @@ impl Replay {
         ensures { result ≡ begins_last self.now e.now }
     {
         let game = self.header.game;
-        is_last_of(game, begins(game, self.street, e)) || self.last_begun
+        is_last_of(game, begins(game, self.course.street, e)) || self.course.last_begun
     }
 
     /// Nobody owes an act.
     fn all_acted(&self) -> Result<(), BetFault>
         ensures { result ≡ verdict (fault_with StreetEarly (next_to_act self.now)) }
     {
-        match self.next_to_act() {
+        match self.owes() {
             Some(seat) => Err(BetFault::StreetEarly(seat)),
             None => Ok(()),
         }
@@ -287,7 +265,7 @@ impl Replay {
                 self.all_acted()
             }
             Event::Discard { .. } | Event::Pat { .. } => {
-                if begun_by_drawing(self.header.game, self.street).is_some() {
+                if begun_by_drawing(self.header.game, self.course.street).is_some() {
                     self.all_acted()
                 } else {
                     Ok(())
@@ -303,20 +281,25 @@ impl Replay {
     fn may_part(&self) -> bool
         ensures { result ≡ may_part self.now }
     {
-        self.header.game.has_board() && self.opened && self.funded_count() <= 1
+        self.header.game.has_board() && self.course.opened && self.funded_count() <= 1
     }
 
     /// The street that comes next on a board.
     fn next_on(&self, board: BoardNumber) -> Option<Street>
         ensures { result ≡ next_on self.now board }
     {
-        let next = self.header.game.next_street(self.street);
+        let next = self.header.game.next_street(self.course.street);
         match board {
-            BoardNumber::Only => next_only(self.twice, next),
-            BoardNumber::First => next_first(self.may_part(), self.twice, self.marker, next),
+            BoardNumber::Only => next_only(self.course.split_from, next),
+            BoardNumber::First => next_first(
+                self.may_part(),
+                self.course.split_from,
+                self.course.marker,
+                next,
+            ),
             BoardNumber::Second => {
-                let last = is_last_of(self.header.game, self.street);
-                next_second(self.twice, self.marker, last, next)
+                let last = is_last_of(self.header.game, self.course.street);
+                next_second(self.course.split_from, self.course.marker, last, next)
             }
         }
     }
@@ -325,7 +308,9 @@ impl Replay {
     fn all_begun(&self) -> bool
         ensures { result ≡ all_begun self.now }
     {
-        self.last_begun && (self.twice.is_none() || is_last_of(self.header.game, self.second))
+        self.course.last_begun
+            && (self.course.split_from.is_none()
+                || is_last_of(self.header.game, self.course.second_street))
     }
 
     /// Whether the hand may end: all streets have begun, or one player is left.
@@ -342,9 +327,11 @@ impl Replay {
     {
         match board {
             BoardNumber::Only => !self.any_shown(),
-            BoardNumber::First => self.twice.is_some() && !self.any_shown(),
+            BoardNumber::First => self.course.split_from.is_some() && !self.any_shown(),
             BoardNumber::Second => {
-                self.twice.is_some() && self.any_shown() && !self.showdowns.second
+                self.course.split_from.is_some()
+                    && self.any_shown()
+                    && !self.course.showdowns.second
             }
         }
     }
@@ -364,8 +351,8 @@ impl Replay {
     fn draw_stands(&self) -> bool
         ensures { result ≡ draw_stands self.now }
     {
-        is_drawing(self.street)
-            || begun_by_drawing(self.header.game, self.street).is_some()
+        is_drawing(self.course.street)
+            || begun_by_drawing(self.header.game, self.course.street).is_some()
                 && self.contender_count() >= 2
     }
 

@@ -15,7 +15,7 @@ impl Replay {
         requires { seat < 11 }
         ensures { result ≡ live_at self.now seat }
     {
-        self.chips[seat as usize].live
+        self.seats[seat as usize].chips.live
     }
 
     /// The greatest that any seat has put in live on the street.
@@ -36,7 +36,7 @@ impl Replay {
         requires { seat < 11 }
         ensures { result ≡ is_contender self.now seat }
     {
-        self.is_player(seat) && !self.acts[seat as usize].folded
+        self.is_player(seat) && !self.seats[seat as usize].acts.folded
     }
 
     /// The players who have not folded.
@@ -58,21 +58,22 @@ impl Replay {
         requires { seat < 11 }
         ensures { result ≡ has_chips self.now seat }
     {
-        self.chips[seat as usize].stack > 0
+        self.seats[seat as usize].chips.stack > 0
     }
 
     /// Whether a showdown's marker stood, of whichever board.
     pub(crate) fn any_shown(&self) -> bool
-        ensures { result ≡ any_shown self.now.showdowns }
+        ensures { result ≡ any_shown self.now.course.showdowns }
     {
-        self.showdowns.plain || self.showdowns.first || self.showdowns.second
+        let shown = self.course.showdowns;
+        shown.plain || shown.first || shown.second
     }
 
     /// Whether betting is open.
     pub(crate) fn is_open(&self) -> bool
         ensures { result ≡ is_open self.now }
     {
-        self.opened && !self.any_shown()
+        self.course.opened && !self.any_shown()
     }
 
     /// How many other contenders have chips left.
@@ -94,7 +95,7 @@ impl Replay {
         requires most { most ≡ greatest self.now }
         ensures { result ≡ is_pending self.now seat }
     {
-        let acts = self.acts[seat as usize];
+        let acts = self.seats[seat as usize].acts;
         self.live(seat) < most || !acts.acted && !acts.brought_in && self.rivals(seat) > 0
     }
 
@@ -118,7 +119,7 @@ impl Replay {
 
     /// Whether the seat owes an act.
     #[tactic(auto, unfolding(crate::specs::Turns::owes))]
-    pub(crate) fn owes(&self, seat: u8) -> bool
+    fn owes_act(&self, seat: u8) -> bool
         requires { seat < 11 }
         ensures { result ≡ owes self.now seat }
     {
@@ -134,7 +135,7 @@ impl Replay {
         self.is_open()
             && self.is_contender(seat)
             && self.has_chips(seat)
-            && (self.owes(seat) || !self.acts[seat as usize].acted)
+            && (self.owes_act(seat) || !self.seats[seat as usize].acts.acted)
     }
 
     /// The first seat from one on, and below an end, that owes an act.
@@ -174,17 +175,17 @@ impl Replay {
         requires few { seat ≤ 10 }
         ensures { result ≡ owes_before self.now seat }
     {
-        self.owes_between(self.last?, seat)
+        self.owes_between(self.course.last_actor?, seat)
     }
 
     /// The first who owes an act after the last actor, or from seat 1 where nobody has acted. None
     /// exactly where nobody owes one.
-    pub fn next_to_act(&self) -> Option<u8>
+    pub fn owes(&self) -> Option<u8>
         ensures value { result ≡ next_to_act self.now }
         ensures nobody { IsNone result → (p : ℕ) → 1 ≤ p → p ≤ 10 → owes self.now p ≡ false }
         ensures one { IfSome result (λ seat. owes self.now seat ≡ true) }
     {
-        match self.last {
+        match self.course.last_actor {
             None => self.first_owing(1, 11),
             Some(last) => self
                 .first_owing(last + 1, 11)

@@ -1,1 +1,3 @@
+pub mod GivenBytes
 pub mod Repeats
+pub mod Written

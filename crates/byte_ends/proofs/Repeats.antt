@@ -1,5 +1,5 @@
 -- The bytes of a line, again and again.
-use Rattle.std.proofs.Common.{◌≡◌, ℕ, zero, suc, ◌+◌, ◌-◌, ◌≤◌, ◌%◌, List, [], ◌∷◌, ◌++◌, length, take, drop, slice_index_or, refl, sym, ap, ◌∙◌, arith}
+use Rattle.std.proofs.Common.{◌≡◌, ℕ, zero, suc, ◌+◌, ◌-◌, ◌≤◌, ◌%◌, List, [], ◌∷◌, ◌++◌, length, take, drop, slice_index_or, refl, ap, ◌∙◌, arith}
 use Rattle.byte_ends.specs.Repeat.{repeated}
 
 pub repeated-length : (line : List ℕ) (number count : ℕ) → length (repeated line number count) ≡ count

@@ -1,5 +1,7 @@
 -- What a source and a sink of bytes do.
-use Rattle.std.specs.Prelude.{◌≡◌, ℕ, ◌+◌, ◌-◌, ◌<◌, ◌≤◌, ◌^◌, List, [], ◌++◌, take, drop, length, min, Option, Some, None, ◌⊎◌}
+use Rattle.std.specs.Prelude.{◌≡◌, ℕ, ◌+◌, ◌-◌, ◌<◌, ◌≤◌, ◌^◌, List, [], ◌∷◌, ◌++◌, take, drop, length, min, Option, Some, None, Result, Ok, Err, ◌⊎◌}
+use Rattle.std.specs.List.{concat}
+use Rattle.byte_ends.specs.declared.Failed.{Failed}
 
 -- the count of faults rose, or stands at its type's end
 abbrev pub Rises : ℕ → ℕ → Type 0
@@ -31,3 +33,40 @@ abbrev pub WritesFront : Option (List ℕ) → Option (List ℕ) → List ℕ �
 WritesFront None new piece = new ≡ None
 WritesFront (Some taken) new piece =
     (n : ℕ) × (n ≤ length piece) × (new ≡ Some (taken ++ take n piece))
+
+-- the bytes that a call moved, the first of the piece, or none where it failed
+abbrev pub moved_by : Result ℕ Failed → List ℕ → Option (List ℕ)
+moved_by (Ok n) piece = Some (take n piece)
+moved_by (Err _) piece = None
+
+-- what one call does to the count of faults
+abbrev pub CountsFault : ℕ → ℕ → Option (List ℕ) → Type 0
+CountsFault old new (Some _) = new ≡ old
+CountsFault old new None = Rises old new
+
+-- what one read does to the bytes still to come, where they are told: it gives the first of them, none only where none is left,
+-- or it fails and they stay
+abbrev pub GivesFirst : Option (List ℕ) → Option (List ℕ) → Option (List ℕ) → Type 0
+GivesFirst None new read = new ≡ None
+GivesFirst (Some left) new None = new ≡ Some left
+GivesFirst (Some left) new (Some bytes) =
+    (rest : List ℕ) × (new ≡ Some rest) × (left ≡ bytes ++ rest) × (bytes ≡ [] → left ≡ [])
+
+-- what one write does to the bytes taken so far, where they are told: some are put behind them, or it fails and they stay
+abbrev pub TakesMore : Option (List ℕ) → Option (List ℕ) → Option (List ℕ) → Type 0
+TakesMore None new write = new ≡ None
+TakesMore (Some taken) new None = new ≡ Some taken
+TakesMore (Some taken) new (Some bytes) = new ≡ Some (taken ++ bytes)
+
+-- some writes, one after the other, each of one byte or more, lead a sink from here to there
+abbrev pub WritesOn : {K : Type 0} → (K → K → Option (List ℕ) → Type 0) → K → List (List ℕ) → K → Type 0
+WritesOn writes old [] new = new ≡ old
+WritesOn {K} writes old (piece ∷ later) new =
+    (mid : K) × (0 < length piece) × writes old mid (Some piece) × WritesOn writes mid later new
+
+-- writes of a piece, one after the other: they take all of it, or one of them fails with some of it left, and it is the last
+abbrev pub WritesOut : {K : Type 0} → (K → K → Option (List ℕ) → Type 0) → K → K → List ℕ → Result (Unit {0}) Failed → Type 0
+WritesOut writes old new piece (Ok _) = (parts : List (List ℕ)) × (concat parts ≡ piece) × WritesOn writes old parts new
+WritesOut {K} writes old new piece (Err _) =
+    (parts : List (List ℕ)) × (left : List ℕ) × (mid : K) × (0 < length left) × (concat parts ++ left ≡ piece)
+    × WritesOn writes old parts mid × writes mid new None

@@ -1,4 +1,5 @@
 pub mod Ends
 pub mod Memory
+pub mod MemoryLaws
 pub mod Repeat
 pub mod Standard

@@ -1,6 +1,7 @@
 -- What is seen of a source and a sink over memory, and what their types keep.
-use Rattle.std.specs.Prelude.{ℕ, ◌+◌, ◌-◌, ◌<◌, ◌≤◌, ◌^◌, min, List, Contains}
+use Rattle.std.specs.Prelude.{◌≡◌, ℕ, ◌+◌, ◌-◌, ◌<◌, ◌≤◌, ◌^◌, min, List, [], ◌++◌, length, Contains, Option, Some, None, ◌⊎◌}
 use Rattle.std.specs.List.Sorted.{IsStrictlyIncreasing}
+use Rattle.byte_ends.specs.Ends.{Rises, one_more}
 
 -- a source: the bytes still to come, the most that one read gives, the numbers of the reads that
 -- fail, and how many reads were made and how many of them failed
@@ -40,3 +41,32 @@ pub record IsSinkSound (length room capacity piece : ℕ) (fails : List ℕ) : T
   pub fits : length + room ≤ capacity
   pub some : 0 < piece
   pub rising : IsStrictlyIncreasing fails
+
+-- some bytes are given of those that are left, the first of them and no more than so many at once; none only where none is left
+pub record IsGiven (most : ℕ) (left bytes rest : List ℕ) : Type 0 where
+  pub first : left ≡ bytes ++ rest
+  pub few : length bytes ≤ most
+  pub some : bytes ≡ [] → left ≡ []
+
+-- one read of a source: where it is listed it fails, and else it gives some bytes
+abbrev pub ReadsMemory : SourceState → SourceState → Option (List ℕ) → Type 0
+ReadsMemory old new None =
+    IsListed old.fails old.calls × Rises old.faults new.faults
+    × (new ≡ record old { calls = one_more old.calls; faults = one_more old.faults })
+ReadsMemory old new (Some bytes) =
+    (IsListed old.fails old.calls → ⊥) × (rest : List ℕ) × IsGiven old.piece old.left bytes rest
+    × (new ≡ record old { left = rest; calls = one_more old.calls })
+
+-- one write to a sink: where it is listed or no room is left it fails, and else it takes one byte or more, as many as its piece
+-- and its room allow at the most
+abbrev pub WritesMemory : SinkState → SinkState → Option (List ℕ) → Type 0
+WritesMemory old new None =
+    (IsListed old.fails old.calls ⊎ (old.room ≡ 0)) × Rises old.faults new.faults
+    × (new ≡ record old { calls = one_more old.calls; faults = one_more old.faults })
+WritesMemory old new (Some bytes) =
+    (IsListed old.fails old.calls → ⊥) × (0 < length bytes) × (length bytes ≤ min old.piece old.room)
+    × (new ≡ record old {
+      taken = old.taken ++ bytes;
+      room = old.room - length bytes;
+      calls = one_more old.calls;
+    })

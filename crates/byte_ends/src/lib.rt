@@ -16,7 +16,7 @@
 #![tactic(auto)]
 
 ghost use Rattle.std.specs.Prelude.{◌≡◌, ℕ, ◌<◌, ◌≤◌, length, List, Option, IfOk, OnOk, OnErr};
-ghost use Rattle.byte_ends.specs.Ends.{Rises, Reads, Takes, WritesAll, WritesFront};
+ghost use Rattle.byte_ends.specs.Ends.{CountsFault, GivesFirst, Reads, Rises, Takes, TakesMore, WritesAll, WritesFront, WritesOut, moved_by};
 
 mod memory;
 mod repeat;
@@ -38,6 +38,10 @@ pub trait Source {
     /// How many reads have failed, up to 2^64 - 1.
     ghost faults: { Self → ℕ };
 
+    /// What one read does to it, which has room for a byte or more: it gives some bytes, none of them at the end of
+    /// the input only, or it fails.
+    ghost reads: { Self → Self → Option (List ℕ) → Type 0 };
+
     /// Reads some bytes into the front of the piece and answers how many. 0 for a piece that
     /// isn't empty is the end of the input.
     fn read(&mut self, piece: &mut [u8]) -> Result<usize, Failed>
@@ -49,7 +53,14 @@ pub trait Source {
 
         // One that fails is counted, and leaves what is left as it was.
         ensures fault { OnErr result (Rises (faults self.old) (faults self.new)) }
-        ensures same { OnErr result (left self.new ≡ left self.old) };
+        ensures same { OnErr result (left self.new ≡ left self.old) }
+
+        // It is one read.
+        ensures one { 0 < length piece.old → reads self.old self.new (moved_by result piece.new) };
+
+    // One read gives the first of the bytes still to come, where they are told, or is counted as a fault.
+    ghost tells: { (old new : Self) (read : Option (List ℕ)) → reads old new read
+        → GivesFirst (left old) (left new) read × CountsFault (faults old) (faults new) read };
 }
 
 /// What bytes are written to.
@@ -59,6 +70,9 @@ pub trait Sink {
 
     /// How many writes have failed, up to 2^64 - 1.
     ghost faults: { Self → ℕ };
+
+    /// What one write does to it, of a piece that has a byte or more: it takes some of its first bytes, or it fails.
+    ghost writes: { Self → Self → Option (List ℕ) → Type 0 };
 
     /// Takes some bytes of the front of the piece, at least one of a piece that isn't empty, and
     /// answers how many.
@@ -71,16 +85,24 @@ pub trait Sink {
 
         // One that fails is counted, and takes nothing.
         ensures fault { OnErr result (Rises (faults self.old) (faults self.new)) }
-        ensures same { OnErr result (taken self.new ≡ taken self.old) };
+        ensures same { OnErr result (taken self.new ≡ taken self.old) }
+
+        // It is one write.
+        ensures one { 0 < length piece.now → writes self.old self.new (moved_by result piece.now) };
+
+    // One write puts bytes behind those that were taken, where they are told, or is counted as a fault.
+    ghost tells: { (old new : Self) (write : Option (List ℕ)) → writes old new write
+        → TakesMore (taken old) (taken new) write × CountsFault (faults old) (faults new) write };
 }
 
 /// Writes all of the bytes, by as many writes as it takes. Where one fails, a front of the bytes
-/// is written.
+/// is written, and nothing is tried again.
 pub fn write_all<K: Sink>(sink: &mut K, bytes: &[u8]) -> Result<(), Failed>
     ensures ok { OnOk result (WritesAll (K.taken sink.old) (K.taken sink.new) bytes.now) }
     ensures fine { OnOk result (K.faults sink.new ≡ K.faults sink.old) }
     ensures fault { OnErr result (Rises (K.faults sink.old) (K.faults sink.new)) }
     ensures front { OnErr result (WritesFront (K.taken sink.old) (K.taken sink.new) bytes.now) }
+    ensures order { WritesOut K.writes sink.old sink.new bytes.now result }
 {
     let mut at = 0;
     while at < bytes.len() {

@@ -2,8 +2,9 @@
 
 ghost use Rattle.std.specs.Prelude.{◌≡◌, ◌-◌, ◌<◌, ◌≤◌, ◌↔◌, ◌⊎◌, ◌++◌, [], length, Some, IsErr, IfOk, OnOk, OnErr, drop, take};
 ghost use Rattle.std.specs.List.Sorted.{IsStrictlyIncreasing};
-ghost use Rattle.byte_ends.specs.Ends.{Rises, Reads, Takes, one_more};
-ghost use Rattle.byte_ends.specs.Memory.{IsListed, least};
+ghost use Rattle.byte_ends.specs.Ends.{Rises, Reads, Takes, moved_by, one_more};
+ghost use Rattle.byte_ends.specs.Memory.{IsListed, ReadsMemory, WritesMemory, least};
+ghost use Rattle.byte_ends.specs.MemoryLaws.{read_tells, write_tells};
 
 use crate::{Failed, Sink, Source};
 use card_sets::Memory;
@@ -68,6 +69,8 @@ impl Source for MemorySource {
 
     ghost faults = { λ s. s.faults };
 
+    ghost reads = { ReadsMemory };
+
     fn read(&mut self, piece: &mut [u8]) -> Result<usize, Failed>
         // What the trait says of each source.
         ensures within { IfOk result (λ n. n ≤ length piece.new) }
@@ -76,6 +79,8 @@ impl Source for MemorySource {
         ensures fine { OnOk result (self.new.faults ≡ self.old.faults) }
         ensures fault { OnErr result (Rises self.old.faults self.new.faults) }
         ensures same { OnErr result (Some self.new.left ≡ Some self.old.left) }
+        ensures one { 0 < length piece.old
+            → ReadsMemory self.old self.new (moved_by result piece.new) }
 
         // Just the listed reads fail.
         ensures refused { IsErr result ↔ IsListed self.old.fails self.old.calls }
@@ -108,6 +113,8 @@ impl Source for MemorySource {
         self.at += count;
         Ok(count)
     }
+
+    ghost tells = { read_tells };
 }
 
 /// A sink over memory with a limited room, whose writes of the listed numbers fail.
@@ -184,6 +191,8 @@ impl Sink for MemorySink {
 
     ghost faults = { λ s. s.faults };
 
+    ghost writes = { WritesMemory };
+
     fn write(&mut self, piece: &[u8]) -> Result<usize, Failed>
         // What the trait says of each sink.
         ensures within { IfOk result (λ n. n ≤ length piece.now) }
@@ -193,6 +202,8 @@ impl Sink for MemorySink {
         ensures fine { OnOk result (self.new.faults ≡ self.old.faults) }
         ensures fault { OnErr result (Rises self.old.faults self.new.faults) }
         ensures same { OnErr result (Some self.new.taken ≡ Some self.old.taken) }
+        ensures one { 0 < length piece.now
+            → WritesMemory self.old self.new (moved_by result piece.now) }
 
         // The listed writes fail, and those for which there is no room at all.
         ensures refused { IsErr result ↔
@@ -227,4 +238,6 @@ impl Sink for MemorySink {
         self.room -= count;
         Ok(count)
     }
+
+    ghost tells = { write_tells };
 }

@@ -1,9 +1,9 @@
 //! A source that gives one line again and again.
 
 ghost use Rattle.std.specs.Prelude.{◌≡◌, ◌+◌, ◌<◌, ◌≤◌, ◌^◌, ◌++◌, length, Some, IsOk, IfOk, OnOk, OnErr, drop, take};
-ghost use Rattle.byte_ends.specs.Ends.{Rises, Reads};
+ghost use Rattle.byte_ends.specs.Ends.{Reads, moved_by};
 ghost use Rattle.byte_ends.specs.Memory.{least};
-ghost use Rattle.byte_ends.specs.Repeat.{repeated};
+ghost use Rattle.byte_ends.specs.Repeat.{ReadsRepeat, read_tells, repeated};
 
 use crate::{Failed, Source};
 use std::marker::Model;
@@ -51,12 +51,16 @@ impl Source for RepeatSource {
 
     ghost faults = { λ _. 0 };
 
+    ghost reads = { ReadsRepeat };
+
     fn read(&mut self, piece: &mut [u8]) -> Result<usize, Failed>
         // What the trait says of each source, and no read fails.
         ensures within { IfOk result (λ n. n ≤ length piece.new) }
         ensures bytes { IfOk result (λ n.
             Reads (Some self.old.left) (Some self.new.left) piece.old piece.new n) }
         ensures fine { IsOk result }
+        ensures one { 0 < length piece.old
+            → ReadsRepeat self.old self.new (moved_by result piece.new) }
 
         // How much is read, what stands where in the piece, and what the source shows then.
         ensures amount { IfOk result (λ n.
@@ -71,6 +75,8 @@ impl Source for RepeatSource {
         self.left -= count as u64;
         Ok(count)
     }
+
+    ghost tells = { read_tells };
 }
 
 /// Fills a piece with the bytes of a line again and again, from the one with this number on.

@@ -3,7 +3,8 @@
 
 ghost use Rattle.std.specs.Prelude.{◌≡◌, ◌<◌, ◌≤◌, length, None, IfOk, OnOk, OnErr};
 ghost use Rattle.std.specs.Io.KnownBytes.{ReadConsumes, WriteAppends};
-ghost use Rattle.byte_ends.specs.Ends.{Rises, one_more};
+ghost use Rattle.byte_ends.specs.Ends.{Rises, moved_by, one_more};
+ghost use Rattle.byte_ends.specs.Standard.{ReadsStd, WritesStd, read_tells, write_tells};
 
 use crate::{Failed, Sink, Source};
 use std::io::{Read, Write};
@@ -38,12 +39,16 @@ impl<R: Read> Source for StdSource<R> {
 
     ghost faults = { λ s. s.faults };
 
+    ghost reads = { ReadsStd };
+
     /// One read of the reader. Each error of it is a fault.
     fn read(&mut self, piece: &mut [u8]) -> Result<usize, Failed>
         // What the trait says of each source, but that no bytes are told.
         ensures within { IfOk result (λ n. n ≤ length piece.new) }
         ensures fine { OnOk result (self.new.faults ≡ self.old.faults) }
         ensures fault { OnErr result (Rises self.old.faults self.new.faults) }
+        ensures one { 0 < length piece.old
+            → ReadsStd self.old self.new (moved_by result piece.new) }
 
         // The count goes up by one, and stays at its type's end.
         ensures counted { OnErr result (self.new.faults ≡ one_more self.old.faults) }
@@ -59,6 +64,8 @@ impl<R: Read> Source for StdSource<R> {
             }
         }
     }
+
+    ghost tells = { read_tells };
 }
 
 /// A sink over a writer of std.
@@ -90,6 +97,8 @@ impl<W: Write> Sink for StdSink<W> {
 
     ghost faults = { λ s. s.faults };
 
+    ghost writes = { WritesStd };
+
     /// One write of the writer. Each error of it is a fault, and so is a write of no byte of a
     /// piece that isn't empty.
     fn write(&mut self, piece: &[u8]) -> Result<usize, Failed>
@@ -98,6 +107,8 @@ impl<W: Write> Sink for StdSink<W> {
         ensures some { IfOk result (λ n. 0 < length piece.now → 0 < n) }
         ensures fine { OnOk result (self.new.faults ≡ self.old.faults) }
         ensures fault { OnErr result (Rises self.old.faults self.new.faults) }
+        ensures one { 0 < length piece.now
+            → WritesStd self.old self.new (moved_by result piece.now) }
 
         // The count goes up by one, and stays at its type's end.
         ensures counted { OnErr result (self.new.faults ≡ one_more self.old.faults) }
@@ -113,4 +124,6 @@ impl<W: Write> Sink for StdSink<W> {
             }
         }
     }
+
+    ghost tells = { write_tells };
 }

@@ -1,9 +1,9 @@
-//! Reads and writes that fail at any place, in each mode and form: what was closed by then is reported, and nothing else.
+//! Reads that fail at any place, in each mode and form: what was closed by then is reported, and nothing else.
 
-use crate::faults::SPOT;
+use crate::checks::SIDE_POTS_REPORT;
 use crate::forms::{line_count, told};
-use crate::histories::{Hand, TWICE_REPORT};
-use crate::runs::{AMPLE, Edges, Part, Ran, did, front, input_of, joined, run, run_by_workers};
+use crate::histories::{CUT_AND_WHOLE, Hand, TWICE_REPORT};
+use crate::runs::{AMPLE, Edges, Part, did, front, input_of, joined, run_by_workers};
 use crate::streets::ACES_REPORT;
 use std::alloc::Global;
 use std::process::Abort;
@@ -32,7 +32,7 @@ const OPEN_HAND: &str = "PokerStars Hand #3: Hold'em No Limit (5/10)\nSeat 1: z 
 const OPEN_REPORT: &str = "hand 3 rejected line 28 Unfinished\n";
 
 /// A hand that is cut off, one that is run twice, and one that is open.
-const HANDS: &[Part] = &[
+pub(crate) const HANDS: &[Part] = &[
     Part::Whole(CUT_HAND),
     Part::All(Hand::Twice),
     Part::Whole(OPEN_HAND),
@@ -69,7 +69,17 @@ pot 0 high win 0 0.00 tie 0 0.00 lose 1 100.00 y
 pot 0 ev 0.000 y
 ";
 
+/// The report of a hand that is cut off behind its twelfth line.
+pub(crate) const TWELVE_REPORT: &str = "hand 88 rejected line 12 Unfinished\n";
+
 const OF_HANDS: &[Broken] = &[
+    Broken {
+        mode: "check",
+        input: CUT_AND_WHOLE,
+        closes: (13, usize::MAX),
+        is_sum: false,
+        texts: &[TWELVE_REPORT, SIDE_POTS_REPORT],
+    },
     Broken {
         mode: "check",
         input: HANDS,
@@ -115,7 +125,7 @@ const OF_ALL_INS: &[Broken] = &[
     },
 ];
 
-const SPOTS: &[Part] = &[Part::Whole(
+pub(crate) const SPOTS: &[Part] = &[Part::Whole(
     "badugi As Ah
 holdem As Ah - Ks Kh -- 2c 7d 9h 4s
 holdem As Ah",
@@ -130,7 +140,7 @@ hand 2 high win 2 4.55 tie 0 0.00 lose 42 95.45
 hand 2 ev 0.045
 ";
 
-const RANGES: &[Part] = &[Part::Whole(
+pub(crate) const RANGES: &[Part] = &[Part::Whole(
     "holdem KAs - AsAh
 holdem AsAh - KsKh,QcQd:2 -- 2c 7d 9h 4s
 holdem AsAh",
@@ -407,108 +417,6 @@ fn workers_share<R: Threads + Wait + Sync + Abort>(
 fn any_read_may_fail_with_workers(rt: HostRuntime) -> Result<(), Fail> {
     for row in OF_SHARED {
         workers_share(&rt, rt.alloc(), row.mode, row)?;
-    }
-    Ok(())
-}
-
-/// Words, an input, how many bytes a write takes, and each of how many writes is tried.
-type Writes = (
-    &'static [&'static str],
-    &'static [Part<'static>],
-    usize,
-    usize,
-);
-
-/// The status of a run that wrote this much of all that it writes.
-fn status_of(written: &[u8], whole: &Ran) -> u8 {
-    if written.len() == whole.written.len() {
-        whole.status
-    } else {
-        4
-    }
-}
-
-/// Where the write of this number fails, of so many bytes each, the run ends with status 4 and with the front of its
-/// report that was taken.
-fn write_fails(
-    rt: &impl Abort,
-    alloc: Global,
-    words: &[&str],
-    input: &[u8],
-    whole: &Ran,
-    taken: usize,
-    write: usize,
-) -> Result<(), Fail> {
-    let edges = Edges {
-        taken,
-        write_fault: Some(write as u64),
-        ..AMPLE
-    };
-    let ran = run(alloc, words, input, edges)?;
-    let written = front(&whole.written, write.saturating_mul(taken));
-    did(rt, &ran, status_of(written, whole), written, "a write");
-    Ok(())
-}
-
-/// So it is with these writes.
-fn all_writes_fail(
-    rt: &impl Abort,
-    alloc: Global,
-    row: &Writes,
-    input: &[u8],
-    whole: &Ran,
-) -> Result<(), Fail> {
-    let writes = whole.written.len() / row.3.max(1);
-    for number in 0..writes.saturating_add(1) {
-        let write = number.saturating_mul(row.3);
-        write_fails(rt, alloc, row.0, input, whole, row.2, write)?;
-    }
-    Ok(())
-}
-
-/// So it is over the input of a row.
-fn each_write_fails(rt: &impl Abort, alloc: Global, row: &Writes) -> Result<(), Fail> {
-    let input = input_of(alloc, row.1)?;
-    let whole = run(alloc, row.0, &input, AMPLE)?;
-    all_writes_fail(rt, alloc, row, &input, &whole)
-}
-
-const SOME_WRITES: &[Writes] = &[
-    (&["check", "--format=text", "--hands=3"], HANDS, 1, 7),
-    (&["check", "--format=csv", "--hands=3"], HANDS, 1, 7),
-    (&["audit", "--format=text", "--hands=3"], HANDS, 1, 7),
-    (&["audit", "--format=csv", "--hands=3"], HANDS, 1, 7),
-    (&["streets", "--format=text", "--hands=3"], HANDS, 1, 7),
-    (&["streets", "--format=csv", "--hands=3"], HANDS, 1, 7),
-    (&["totals", "--format=text", "--hands=3"], HANDS, 1, 7),
-    (&["totals", "--format=csv", "--hands=3"], HANDS, 1, 7),
-    (&["made", "--format=text", "--hands=3"], HANDS, 1, 7),
-    (&["made", "--format=csv", "--hands=3"], HANDS, 1, 7),
-    (&["spots", "--format=text", "--hands=3"], SPOTS, 1, 7),
-    (&["spots", "--format=csv", "--hands=3"], SPOTS, 1, 7),
-    (&["ranges", "--format=text", "--hands=3"], RANGES, 1, 7),
-    (&["ranges", "--format=csv", "--hands=3"], RANGES, 1, 7),
-];
-
-#[test]
-fn any_write_may_fail(rt: HostRuntime) -> Result<(), Fail> {
-    for row in SOME_WRITES {
-        each_write_fails(&rt, rt.alloc(), row)?;
-    }
-    Ok(())
-}
-
-const ALL_WRITES: &[Writes] = &[
-    (&["check"], HANDS, 1, 1),
-    (&["check", "--format=csv"], HANDS, 1, 1),
-    (&["--help"], &[], 1, 1),
-    (&["spots"], &[Part::Whole(SPOT)], 5, 1),
-];
-
-#[test]
-fn the_write_of_any_byte_may_fail(rt: HostRuntime) -> Result<(), Fail> {
-    for row in ALL_WRITES {
-        each_write_fails(&rt, rt.alloc(), row)?;
     }
     Ok(())
 }

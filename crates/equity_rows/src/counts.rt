@@ -1,10 +1,9 @@
-//! The spots of a listing: what a run writes of them, and their count by blocks beside the plain one.
+//! The spots of a listing: their count by blocks beside the plain one.
 
 ghost use Rattle.std.specs.Prelude.{◌≡◌, ◌<◌};
 
-use crate::listed::{Listed, spots};
+use crate::listed::spots;
 use crate::plain::count_plain;
-use crate::runs::{AMPLE, ends};
 use card_sets::{Known, Side};
 use equity_job::{Job, Scratch, count_job};
 use report_table::table_alone;
@@ -13,16 +12,7 @@ use spot_text::read_spot;
 use std::marker::Brand;
 use std::process::Abort;
 use std::sync::ledger::{Blank, Ledger};
-use std::test::Fail;
 use step_count::Steps;
-
-#[test]
-fn spots_have_the_counts_of_the_listing(rt: HostRuntime) -> Result<(), Fail> {
-    for (line, block) in spots() {
-        ends(&rt, rt.alloc(), &["spots"], AMPLE, line, 0, &[block])?;
-    }
-    Ok(())
-}
 
 /// The tally of one walk, with a counter of its own.
 fn in_one_walk<L: Ledger>(job: &Job, blank: Blank) -> Tally
@@ -95,11 +85,11 @@ fn is_spot_counted_alike(line: &[u8], scratch: &mut Scratch) -> bool {
 }
 
 /// All spots of some are, in their order and then in the other, whatever the room held before.
-fn are_counted_alike(rt: &impl Abort, all: &[Listed], scratch: &mut Scratch) {
-    for (line, _) in all {
+fn are_counted_alike(rt: &impl Abort, all: &[&[u8]], scratch: &mut Scratch) {
+    for line in all {
         assert!(rt; is_spot_counted_alike(line, scratch));
     }
-    for (line, _) in all.iter().rev() {
+    for line in all.iter().rev() {
         assert!(rt; is_spot_counted_alike(line, scratch));
     }
 }

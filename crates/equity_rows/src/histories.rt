@@ -1,7 +1,6 @@
 //! Histories of hands.
 
 use crate::checks::TIED_STUD;
-use crate::mixed::HANDS;
 use crate::more_games::{DRAW5, ODD5, STUD8, TRIPLE};
 use crate::other_games::{DRAW, LONG_SEATS, RAZZ};
 use crate::runs::{LAST, Part};
@@ -25,7 +24,6 @@ pub(crate) enum Hand {
     Draw5,
     Odd5,
     LongSeats,
-    Mixed,
 }
 
 /// A cash hand of six seats, with chat, a time-out, a call on the turn that is all-in, and a mucked hand. It has a byte
@@ -235,7 +233,6 @@ pub(crate) fn text_of(hand: Hand) -> &'static str {
         Hand::Draw5 => DRAW5,
         Hand::Odd5 => ODD5,
         Hand::LongSeats => LONG_SEATS,
-        Hand::Mixed => HANDS,
     }
 }
 

@@ -6,6 +6,8 @@ mod audits;
 #[cfg(test)]
 mod broken_ends;
 #[cfg(test)]
+mod broken_writes;
+#[cfg(test)]
 mod bytes;
 #[cfg(test)]
 mod changed_hands;
@@ -24,6 +26,8 @@ mod games;
 #[cfg(test)]
 mod histories;
 #[cfg(test)]
+mod large;
+#[cfg(test)]
 mod laws;
 #[cfg(test)]
 mod limits;
@@ -31,8 +35,6 @@ mod limits;
 mod listed;
 #[cfg(test)]
 mod long;
-#[cfg(test)]
-mod mixed;
 #[cfg(test)]
 mod more_games;
 #[cfg(test)]

@@ -1,6 +1,7 @@
 //! Inputs of as many bytes as are read, and of more: 1 GiB.
 
 ghost use Rattle.std.specs.Prelude.{◌≤◌, None, length};
+ghost use Rattle.equity_rows.specs.Filled.{ReadsFilled, filled_tells};
 
 use crate::checks::SIDE_POTS_REPORT;
 use crate::faults::{REPORT, SPOT};
@@ -36,6 +37,8 @@ impl<'a> Source for Filled<'a> {
 
     ghost faults = { λ _. 0 };
 
+    ghost reads = { λ _ _ read. ReadsFilled read };
+
     fn read(&mut self, piece: &mut [u8]) -> Result<usize, Failed> {
         if !self.front.is_empty() {
             let (count, left) = take_front(piece, self.front);
@@ -55,6 +58,8 @@ impl<'a> Source for Filled<'a> {
         }
         Ok(count)
     }
+
+    ghost tells = { λ _ _ read given. filled_tells read given };
 }
 
 /// The run of a mode over a source ends with this status and writes this.

@@ -1,38 +1,11 @@
-//! Inputs that come in pieces, and what is written before they end.
+//! Inputs that come in pieces.
 
 use crate::forms::goes_so;
 use crate::histories::{CUT_AND_WHOLE, Hand};
-use crate::runs::{
-    AMPLE, Edges, NO_WRITE, Part, ends, holds, input_of, owned, run, sink_of, source_of,
-};
-use byte_ends::Source;
-use run_engine::run_alone;
+use crate::runs::{AMPLE, Edges, Part, ends, holds, input_of, run};
 use std::alloc::Global;
 use std::process::Abort;
 use std::test::Fail;
-
-/// Ends of which a read gives a hundred bytes at the most, and the first write fails.
-const HUNDRED: Edges = Edges {
-    piece: 100,
-    ..NO_WRITE
-};
-
-/// A block is written before the input is read to its end: where its write fails, bytes are left, and the
-/// next read gives them.
-#[test]
-fn a_failed_write_leaves_bytes_unread(rt: HostRuntime) -> Result<(), Fail> {
-    let alloc = rt.alloc();
-    let input = input_of(alloc, &[Part::Hands(Hand::SidePots, 100)])?;
-    let words = owned(alloc, &["check"])?;
-    let mut source = source_of(alloc, &input, HUNDRED)?;
-    let mut sink = sink_of(alloc, HUNDRED)?;
-    let status = run_alone(alloc, &words, &mut source, &mut sink);
-    assert!(rt; status == 4 && sink.bytes().is_empty());
-    let mut piece = [0u8; 16];
-    let more = source.read(&mut piece);
-    assert!(rt; more == Ok(16));
-    Ok(())
-}
 
 /// How many bytes a read gives at the most.
 const PIECES: [usize; 5] = [1, 2, 7, 64, 4096];

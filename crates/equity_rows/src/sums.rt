@@ -59,10 +59,14 @@ total,hundredths,hands,1,allins,0,collected,0.00,expected,0.00,,,zoë b\n";
 /// Of no hand.
 const NONE: &str = "totals hands 0 accepted 0 rejected 0\n";
 
-/// Of three made hands with seed 1, and of forty with seed 9.
+/// Of three and of a hundred made hands with seed 1, and of forty with seed 9.
 const THREE: &str = "made hands 3 accepted 3 runouts 2970 first 4309200 second 10659600\n";
 
 const FORTY: &str = "made hands 40 accepted 40 runouts 39600 first 94431960 second 105152040\n";
+
+/// Each hand has 990 runouts, and each runout gives 5040 units: the two sums are 498960000 together.
+const HUNDRED: &str =
+    "made hands 100 accepted 100 runouts 99000 first 255928680 second 243031320\n";
 
 const NO_HANDS: &str = "made hands 0 accepted 0 runouts 0 first 0 second 0\n";
 
@@ -142,6 +146,13 @@ const MADE: &[Case] = &[
         SPOT,
         0,
         &[FORTY],
+    ),
+    (
+        &["made", "--seed=1", "--hands=100"],
+        NO_READ,
+        SPOT,
+        0,
+        &[HUNDRED],
     ),
     (&["made", "--hands=0"], NO_READ, SPOT, 0, &[NO_HANDS]),
 ];

@@ -10,7 +10,7 @@ use Rattle.pot_layers.specs.declared.paid.Pot.{Pot}
 use Rattle.pot_layers.specs.Pots.{pots}
 use Rattle.betting_replay.specs.AllIn.{point_street, point_contenders, dead_at}
 use Rattle.betting_replay.specs.Seats.{by_seat}
-use Rattle.betting_replay.specs.Table.{Table as Replayed, board_at, known_at}
+use Rattle.betting_replay.specs.Table.{ReplayState, board_at, known_at}
 use Rattle.betting_replay.specs.TableAfter.{table_of}
 use Rattle.showdown_tally.specs.declared.table.Table.{Table}
 use Rattle.hand_audit.specs.Showings.{paid_in}
@@ -48,7 +48,7 @@ all_in_at point pots =
 
 -- what a replay tells of a point on a street: the contenders there, the cards of each seat on that street, the board of the streets
 -- up to it, and the dead cards
-unfoldable pub known_there : Game → Replayed → Street → AtPoint
+unfoldable pub known_there : Game → ReplayState → Street → AtPoint
 known_there game t street = record {
   game = game;
   street = street;
@@ -63,11 +63,11 @@ abbrev pub eligible_in : List Pot → List ℕ
 eligible_in all = map (λ pot. pot.eligible) all
 
 -- the all-in by a replay's point; its pots are those of the whole hand
-abbrev pub all_in_on : Game → Replayed → Option Street → AllIn
+abbrev pub all_in_on : Game → ReplayState → Option Street → AllIn
 all_in_on game t None = NoAllIn
 all_in_on game t (Some street) = all_in_at (known_there game t street) (eligible_in (pots (paid_in t)))
 
-unfoldable pub all_in_by : Game → Replayed → AllIn
+unfoldable pub all_in_by : Game → ReplayState → AllIn
 all_in_by game t = all_in_on game t (point_street t.point)
 
 -- the all-in of a hand

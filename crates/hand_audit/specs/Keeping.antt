@@ -1,5 +1,5 @@
 -- What is kept of the lines so far.
-use Rattle.std.specs.Prelude.{◌≡◌, ℕ, ◌≤◌, ◌<◌, ◌^◌, true, false, List, [], ◌∷◌, length, Result, Ok, Err, Option, Some, None, All, IfOk}
+use Rattle.std.specs.Prelude.{◌≡◌, ℕ, ◌+◌, ◌≤◌, ◌<◌, ◌^◌, true, false, List, [], ◌∷◌, length, Result, Ok, Err, Option, Some, None, All, IfOk}
 use Rattle.std.specs.List.{list_any}
 use Rattle.history_text.specs.declared.events.Header.{Header}
 use Rattle.history_text.specs.declared.events.Event.{Event}
@@ -11,12 +11,12 @@ use Rattle.history_text.specs.Lines.{line_event}
 use Rattle.history_text.specs.Within.{IsSeated, stands_in}
 use Rattle.betting_replay.specs.Accepted.{IsAccepted}
 use Rattle.betting_replay.specs.CardLaws.{MarkerFits, MarkersFit}
+use Rattle.betting_replay.specs.Later.{later_streets}
 use Rattle.betting_replay.specs.Limits.{Fits}
-use Rattle.betting_replay.specs.Sums.{button}
 use Rattle.betting_replay.specs.TableAfter.{StandsFor}
 use Rattle.hand_audit.specs.declared.cause.Cause.{Cause}
 use Rattle.hand_audit.specs.declared.cause.Cause.TheVariants.{Text}
-use Rattle.hand_audit.specs.declared.hand.Hand.{Hand}
+use Rattle.hand_audit.specs.declared.hand.AuditState.{AuditState}
 use Rattle.hand_audit.specs.declared.follow.Followed.{Followed}
 use Rattle.hand_audit.specs.declared.follow.Followed.TheVariants.{Departs, Ends}
 use Rattle.hand_audit.specs.Lines.{SoFar, part_of, part_after, named_by, with_event, nothing}
@@ -62,27 +62,26 @@ IsCut reads None others = (reads ≡ []) × (others ≡ [])
 IsCut reads (Some said) others = reads ≡ said ∷ others
 
 -- what is kept stands for the lines so far of a hand with this header and these players
-pub record Keeps (hand : Hand) (header : Header) (players : ℕ) (so_far : SoFar) : Type 0 where
+pub record Keeps (hand : AuditState) (header : Header) (players : ℕ) (so_far : SoFar) : Type 0 where
   pub stands : StandsFor hand.replay header players so_far.events
   pub names : hand.names ≡ so_far.names
   pub part : hand.part ≡ part_of so_far.events
   pub collections : hand.collections.items ≡ collections so_far.events
-  pub button : hand.button ≡ button so_far.events
+  pub streets : hand.streets.items ≡ later_streets header players so_far.events
   pub rake : hand.rake ≡ rake so_far.events
   pub total : hand.total ≡ list_any is_total so_far.events
   pub seats : All IsSeated so_far.names
   pub accepted : IsAccepted header players so_far.events
   pub markers : MarkersFit header.game so_far.events
 
--- what holds of it whatever the hand: the button is a seat or none; behind a total line the summary's lines alone are left, and
+-- what holds of it whatever the hand: behind a total line the summary's lines alone are left, and
 -- what was collected is no more than the stated pot
-pub record IsSound (hand : Hand) : Type 0 where
-  pub button : hand.button ≤ 10
+pub record IsSound (hand : AuditState) : Type 0 where
   pub part : hand.total ≡ true → hand.part ≡ SummaryPart
   pub room : hand.total ≡ true → taken hand.collections.items < 10 ^ 15
 
 -- after a line that says this, its cause is given, or what is kept stands for it too
-abbrev pub Goes : Hand → Header → ℕ → SoFar → List ℕ → Result Event TextFault → Option Cause → Type 0
+abbrev pub Goes : AuditState → Header → ℕ → SoFar → List ℕ → Result Event TextFault → Option Cause → Type 0
 Goes new header players so_far line (Err fault) cause = cause ≡ Some (Text fault)
 Goes new header players so_far line (Ok e) (Some c) = event_cause header players so_far.events e ≡ Some c
 Goes new header players so_far line (Ok e) None = (event_cause header players so_far.events e ≡ None) × Keeps new header players (with_event line e so_far)
@@ -92,9 +91,11 @@ abbrev pub EndsAs : Header → ℕ → List Event → Result HandSettled Cause �
 EndsAs header players h (Ok settled) = (end_cause header players h ≡ None) × IsOfHand (showing_of header players h) settled
 EndsAs header players h (Err cause) = end_cause header players h ≡ Some cause
 
--- what comes of following the lines: the first that departs, or what is kept at the end, and what became of the chips
-abbrev pub Follows : Header → ℕ → ℕ → List (List ℕ) → Followed → Type 0
-Follows header players number lines (Departs line cause) = departs_from header players number nothing lines ≡ Some (line, cause)
-Follows header players number lines (Ends hand settled) =
-    (departs_from header players number nothing lines ≡ None) × Keeps hand header players (read_all header nothing lines)
+-- what comes of following the lines, whatever the number of the line before them: the first that departs, told by how many they are up to
+-- it, or what is kept at the end, and what became of the chips
+abbrev pub Follows : Header → ℕ → List (List ℕ) → Followed → Type 0
+Follows header players lines (Departs count cause) =
+    (count ≤ length lines) × ((number : ℕ) → departs_from header players number nothing lines ≡ Some (number + count, cause))
+Follows header players lines (Ends hand settled) =
+    ((number : ℕ) → departs_from header players number nothing lines ≡ None) × Keeps hand header players (read_all header nothing lines)
     × IsOfHand (showing_of header players (read_all header nothing lines).events) settled

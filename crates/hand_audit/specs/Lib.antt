@@ -24,6 +24,5 @@ pub mod CardsKnown
 pub mod TablePots
 pub mod MarkLaws
 pub mod Streets
-pub mod Walks
 pub mod LaterCards
 pub mod LaterOrder

@@ -11,7 +11,7 @@ use Rattle.history_text.specs.declared.events.Event.{Event}
 use Rattle.history_text.specs.declared.events.Part.TheVariants.{Preamble}
 use Rattle.history_text.specs.declared.events.TextFault.{TextFault}
 use Rattle.history_text.specs.Within.{IsSeated}
-use Rattle.hand_audit.specs.declared.first_pass.Pass.{Pass}
+use Rattle.hand_audit.specs.declared.first_pass.PlayerScan.{PlayerScan}
 use Rattle.hand_audit.specs.Keeping.{IsRead, AreReads, names_by, part_by}
 use Rattle.hand_audit.specs.Lines.{SoFar, part_of, players_in, with_line, with_seat, seat_at, is_again}
 
@@ -24,7 +24,7 @@ abbrev pub HasNumbers : BTreeSet (Bor (List ℕ)) → List ℕ → Type 0
 HasNumbers set before = (n : ℕ) → contains_by (λ k. slice_cmp nat_cmp (digits_text n) k.now) set ≡ list_any (λ s. s == n) before
 
 -- it stands for the lines so far, after seat lines of these numbers
-pub record Passes (pass : Pass) (so_far : SoFar) (before : List ℕ) : Type 0 where
+pub record Passes (pass : PlayerScan) (so_far : SoFar) (before : List ℕ) : Type 0 where
   pub names : pass.names ≡ so_far.names
   pub part : pass.part ≡ part_of so_far.events
   pub players : pass.players ≡ players_in so_far.events
@@ -32,7 +32,7 @@ pub record Passes (pass : Pass) (so_far : SoFar) (before : List ℕ) : Type 0 wh
   pub seated : All IsSeated so_far.names
 
 -- after a line more: it is a second line of its number, and nothing changed that counts, or it is kept too
-abbrev pub Took : Pass → Header → SoFar → List ℕ → List ℕ → Bool → Type 0
+abbrev pub Took : PlayerScan → Header → SoFar → List ℕ → List ℕ → Bool → Type 0
 Took new header so_far seats line true = (is_again seats (seat_at (part_of so_far.events) line) ≡ true) × Passes new so_far seats
 Took new header so_far seats line false =
     (is_again seats (seat_at (part_of so_far.events) line) ≡ false) × Passes new (with_line header so_far line) (with_seat seats (seat_at (part_of so_far.events) line))
@@ -46,7 +46,7 @@ abbrev pub with_read : List (Result Event TextFault) → Result Event TextFault 
 with_read reads said = if nat_lt (length reads) READS_MAX then reads ++ said ∷ [] else reads
 
 -- a line was read, and the pass goes on behind it
-pub record Noted (old new : Pass) (header : Header) (line : List ℕ) : Type 0 where
+pub record Noted (old new : PlayerScan) (header : Header) (line : List ℕ) : Type 0 where
   pub said : Result Event TextFault
   pub is : IsRead old.names header old.part line said
   pub names : new.names ≡ names_by said line old.names
@@ -54,12 +54,12 @@ pub record Noted (old new : Pass) (header : Header) (line : List ℕ) : Type 0 w
   pub reads : new.reads.items ≡ with_read old.reads.items said
 
 -- a line that doesn't end the pass was read
-abbrev pub Notes : Pass → Pass → Header → List ℕ → Bool → Type 0
+abbrev pub Notes : PlayerScan → PlayerScan → Header → List ℕ → Bool → Type 0
 Notes old new header line true = new.reads ≡ old.reads
 Notes old new header line false = Noted old new header line
 
 -- the reads that are kept are those of the first lines; as long as there is room for more, those of the lines that are left may follow them
-pub record HasReads (pass : Pass) (header : Header) (all left : List (List ℕ)) : Type 0 where
+pub record HasReads (pass : PlayerScan) (header : Header) (all left : List (List ℕ)) : Type 0 where
   pub reads : AreReads header [] Preamble pass.reads.items all
   pub more : length pass.reads.items < READS_MAX → (others : List (Result Event TextFault)) → AreReads header pass.names pass.part others left
       → AreReads header [] Preamble (pass.reads.items ++ others) all

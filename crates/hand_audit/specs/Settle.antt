@@ -161,6 +161,12 @@ beyond_from pay tolerance p zero = None
 beyond_from pay tolerance p (suc n) =
     if nat_lt (tolerance p) (distance (pay p).got (pay p).due) then Some (pay p) else beyond_from pay tolerance (p + 1) n
 
+-- the same among some payments
+abbrev pub beyond_among : (ℕ → ℕ) → List Payment → Option Payment
+beyond_among tolerance [] = None
+beyond_among tolerance (pay ∷ pays) =
+    if nat_lt (tolerance pay.seat) (distance pay.got pay.due) then Some pay else beyond_among tolerance pays
+
 -- one pot whose names fit, by the collections that are from it
 abbrev pub net_of : Showing → Source → ℕ
 net_of s source = taken_from (counts_from source) s.collections

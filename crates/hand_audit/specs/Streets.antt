@@ -1,5 +1,5 @@
 -- The later streets of a hand that is played out: those behind its all-in point.
-use Rattle.std.specs.Prelude.{◌≡◌, ℕ, Bool, true, false, List, [], ◌∷◌, map, Option, Some, None, Result, Ok, Err}
+use Rattle.std.specs.Prelude.{ℕ, Bool, true, false, List, [], ◌∷◌, map, Option, Some, None, Result, Ok, Err}
 use Rattle.card_sets.specs.declared.games.Game.{Game}
 use Rattle.card_sets.specs.declared.streets.Street.{Street}
 use Rattle.history_text.specs.Headers.{header_of}
@@ -8,12 +8,11 @@ use Rattle.history_text.specs.declared.events.Event.{Event}
 use Rattle.history_text.specs.declared.events.TextFault.{TextFault}
 use Rattle.pot_layers.specs.Pots.{pots}
 use Rattle.betting_replay.specs.Later.{later_streets}
-use Rattle.betting_replay.specs.Table.{Table as Replayed}
+use Rattle.betting_replay.specs.Table.{ReplayState}
 use Rattle.betting_replay.specs.TableAfter.{table_of}
 use Rattle.showdown_tally.specs.declared.table.Table.{Table}
 use Rattle.hand_audit.specs.AllIns.{all_in_at, known_there, eligible_in}
-use Rattle.hand_audit.specs.Departs.{departs_from}
-use Rattle.hand_audit.specs.Lines.{nothing, players_of}
+use Rattle.hand_audit.specs.Lines.{players_of}
 use Rattle.hand_audit.specs.Showings.{paid_in}
 use Rattle.hand_audit.specs.Verdict.{events_of}
 use Rattle.hand_audit.specs.declared.streets.StreetState.{StreetState}
@@ -29,11 +28,11 @@ table_in Unknown = None
 table_in (Known street seats table) = Some table
 
 -- what is known on a street, of the contenders at the point and with its dead cards, as if the point lay on it. The pots have these players
-abbrev pub state_on : Game → Replayed → List ℕ → Street → StreetState
+abbrev pub state_on : Game → ReplayState → List ℕ → Street → StreetState
 state_on game t eligible street = record { street = street; table = table_in (all_in_at (known_there game t street) eligible) }
 
 -- what is known on each of some streets; the pots are those of the whole hand
-abbrev pub states_on : Game → Replayed → List Street → List StreetState
+abbrev pub states_on : Game → ReplayState → List Street → List StreetState
 states_on game t streets = map (state_on game t (eligible_in (pots (paid_in t)))) streets
 
 -- what is known on the later streets of a hand
@@ -60,7 +59,7 @@ has_known_all_in None = false
 has_known_all_in (Some (Rejected line cause hundredths)) = false
 has_known_all_in (Some (Accepted settlement all_in names players)) = is_known all_in
 
--- none of the lines behind a header line departs
-pub record NoneDeparts (header : Header) (players : ℕ) (lines : List (List ℕ)) : Type 0 where
-  pub first : ℕ
-  pub none : departs_from header players first nothing lines ≡ None
+-- the later streets of a hand on which this is the verdict: none of a rejected one
+abbrev pub streets_of : HandAudit → List (List ℕ) → List StreetState
+streets_of (Rejected line cause hundredths) lines = []
+streets_of (Accepted settlement all_in names players) lines = states_in lines

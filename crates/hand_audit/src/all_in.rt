@@ -69,7 +69,7 @@ fn known_there(game: Game, replay: &Replay, street: Street) -> AtPoint
         contenders: PlayerSet::of(replay.all_in_contenders()),
         cards: cards_on(replay, street),
         board: replay.board_at(street),
-        dead: replay.dead_cards(),
+        dead: replay.dead(),
     }
 }
 

@@ -1,6 +1,6 @@
 //! The verdict on a hand.
 
-ghost use Rattle.std.specs.Prelude.{◌≡◌, ◌+◌, ◌<◌, ◌^◌, IfOk, IsTrue, Some, length};
+ghost use Rattle.std.specs.Prelude.{◌≡◌, ℕ, ◌+◌, ◌<◌, ◌^◌, IfOk, IsTrue, Some, length, true};
 ghost use Rattle.line_text.specs.Lines.{lines};
 ghost use Rattle.hand_audit.specs.Departs.{begins_hand};
 ghost use Rattle.hand_audit.specs.Verdict.{audit_of, accepted_by};
@@ -8,40 +8,112 @@ ghost use Rattle.hand_audit.specs.Lines.{SoFar};
 ghost use Rattle.hand_audit.specs.Showings.{showing_of};
 ghost use Rattle.hand_audit.specs.SettlementAnswers.{IsOfHand};
 ghost use Rattle.hand_audit.specs.Keeping.{Keeps};
+ghost use Rattle.hand_audit.specs.Streets.{states_of, streets_of};
 
 use crate::all_in::all_in_by;
 use crate::cause::Cause;
 use crate::first_pass::players_of;
 use crate::follow::{Followed, follow};
-use crate::hand::Hand;
+use crate::hand::AuditState;
 use crate::settlement::Settlement;
 use crate::settling::HandSettled;
+use crate::streets::{AuditedStreets, StreetState, states_of};
 use crate::verdicts::HandAudit;
 use card_sets::Memory;
 use history_text::{Header, read_header};
 use line_text::next_line;
-use std::alloc::Global;
+use std::alloc::{AllocError, Global};
 
 /// The verdict on a hand in which no line departs.
-fn accepted(header: &Header, players: u16, hand: Hand, settled: HandSettled) -> HandAudit
-    ensures { (so_far : SoFar) → Keeps hand header.now players so_far
+fn accepted(header: &Header, players: u16, state: AuditState, settled: HandSettled) -> HandAudit
+    ensures { (so_far : SoFar) → Keeps state header.now players so_far
         → IsOfHand (showing_of header.now players so_far.events) settled
         → result ≡ accepted_by header.now players so_far }
 {
-    let all_in = all_in_by(header.game, &hand.replay, settled.pots.items());
+    let all_in = all_in_by(header.game, &state.replay, settled.pots.items());
     HandAudit::Accepted {
         settlement: Settlement {
             game: header.game,
             hundredths: header.hundredths,
-            rake: hand.rake,
+            rake: state.rake,
             fits: settled.fits,
-            twice: hand.replay.is_twice(),
+            twice: state.replay.is_twice(),
             pots: settled.pots,
             paid: settled.paid,
         },
         all_in,
-        names: hand.names,
+        names: state.names,
         players,
+    }
+}
+
+/// The later streets of a hand in which no line departs, where they are asked for.
+fn streets_if(
+    alloc: Global,
+    asked: bool,
+    header: &Header,
+    state: &AuditState,
+    settled: &HandSettled,
+) -> Result<Vec<StreetState>, AllocError>
+    ensures { IfOk result (λ states. (players : ℕ) (so_far : SoFar)
+        → Keeps state.now header.now players so_far
+        → IsOfHand (showing_of header.now players so_far.events) settled.now → asked ≡ true
+        → states.items ≡ states_of header.now players so_far.events) }
+{
+    if !asked {
+        return Ok(Vec::new(alloc));
+    }
+    states_of(alloc, header, state, settled)
+}
+
+/// The verdict on a hand, with its later streets where they are asked for.
+fn audited(
+    alloc: Global,
+    bytes: &[u8],
+    first_line: u32,
+    asked: bool,
+) -> Result<AuditedStreets, Memory>
+    requires header { IsTrue (begins_hand (lines bytes.now)) }
+    requires numbers { first_line + length (lines bytes.now) < 2 ^ 32 }
+    ensures verdict { IfOk result (λ both.
+        audit_of first_line (lines bytes.now) ≡ Some both.audit) }
+    ensures streets { IfOk result (λ both. asked ≡ true
+        → both.streets.items ≡ streets_of both.audit (lines bytes.now)) }
+{
+    let Some(head) = next_line(bytes, 0) else {
+        unreachable!();
+    };
+    let header = match read_header(&bytes[head.first..head.end]) {
+        Ok(header) => header,
+        Err(fault) => {
+            return Ok(AuditedStreets {
+                audit: HandAudit::Rejected {
+                    line: first_line,
+                    cause: Cause::Text(fault),
+                    hundredths: false,
+                },
+                streets: Vec::new(alloc),
+            });
+        }
+    };
+    let found = players_of(alloc, &header, bytes, head.next)?;
+    let players = found.players;
+    match follow(alloc, &header, players, &found.reads, bytes, head.next)? {
+        Followed::Departs(count, cause) => Ok(AuditedStreets {
+            audit: HandAudit::Rejected {
+                line: first_line + count as u32,
+                cause,
+                hundredths: header.hundredths,
+            },
+            streets: Vec::new(alloc),
+        }),
+        Followed::Ends(state, settled) => {
+            let streets = streets_if(alloc, asked, &header, &state, &settled)?;
+            Ok(AuditedStreets {
+                audit: accepted(&header, players, state, settled),
+                streets,
+            })
+        }
     }
 }
 
@@ -53,35 +125,24 @@ pub fn audit_hand(alloc: Global, bytes: &[u8], first_line: u32) -> Result<HandAu
     requires numbers { first_line + length (lines bytes.now) < 2 ^ 32 }
     ensures verdict { IfOk result (λ audit. audit_of first_line (lines bytes.now) ≡ Some audit) }
 {
-    let Some(head) = next_line(bytes, 0) else {
-        unreachable!();
-    };
-    let header = match read_header(&bytes[head.first..head.end]) {
-        Ok(header) => header,
-        Err(fault) => {
-            return Ok(HandAudit::Rejected {
-                line: first_line,
-                cause: Cause::Text(fault),
-                hundredths: false,
-            });
-        }
-    };
-    let passed = players_of(alloc, &header, bytes, head.next)?;
-    let players = passed.players;
-    match follow(
-        alloc,
-        &header,
-        players,
-        &passed.reads,
-        bytes,
-        head.next,
-        first_line,
-    )? {
-        Followed::Departs(line, cause) => Ok(HandAudit::Rejected {
-            line,
-            cause,
-            hundredths: header.hundredths,
-        }),
-        Followed::Ends(hand, settled) => Ok(accepted(&header, players, hand, settled)),
-    }
+    let both = audited(alloc, bytes, first_line, false)?;
+    Ok(both.audit)
+}
+
+/// The same verdict, and the later streets of an accepted hand, by one reading: those that begin in the
+/// text behind the all-in point and before any showdown's marker, in order, each with what is known on
+/// it. A rejected hand has none. Where the all-in is known they are what `later_streets` answers.
+pub fn audit_with_streets(
+    alloc: Global,
+    bytes: &[u8],
+    first_line: u32,
+) -> Result<AuditedStreets, Memory>
+    requires header { IsTrue (begins_hand (lines bytes.now)) }
+    requires numbers { first_line + length (lines bytes.now) < 2 ^ 32 }
+    ensures verdict { IfOk result (λ both.
+        audit_of first_line (lines bytes.now) ≡ Some both.audit) }
+    ensures streets { IfOk result (λ both.
+        both.streets.items ≡ streets_of both.audit (lines bytes.now)) }
+{
+    audited(alloc, bytes, first_line, true)
 }

@@ -13,7 +13,7 @@ ghost use Rattle.hand_audit.specs.Lines.{SoFar, nothing, seat_number, seat_at, i
 ghost use Rattle.hand_audit.specs.Keeping.{AreReads};
 ghost use Rattle.hand_audit.specs.Passing.{HasNumbers, HasReads, Notes, Passes, Took, digits_text, with_read};
 
-use crate::hand::{Read, part_after, read, seat_name};
+use crate::hand::{LineReading, part_after, read, seat_name};
 use card_sets::{Memory, PlayerSet};
 use history_text::{Event, Header, Names, Part, seat_digits};
 use line_text::next_line;
@@ -28,7 +28,7 @@ const READS_ROOM: usize = 64;
 
 /// What the pass keeps of the lines so far.
 #[derive(Drop)]
-pub(crate) struct Pass<'a> {
+pub(crate) struct PlayerScan<'a> {
     /// The seats and names of the seat lines.
     pub(crate) names: Names,
     /// The part of the next line.
@@ -38,16 +38,16 @@ pub(crate) struct Pass<'a> {
     /// The numbers of the seat lines that stood, digit by digit: they may be of any length.
     pub(crate) seats: BTreeSet<&'a [u8]>,
     /// What the first lines were found to say, at most `READS_MAX`.
-    pub(crate) reads: Vec<Read>,
+    pub(crate) reads: Vec<LineReading>,
 }
 
 /// What the first pass finds: who plays, and what the first lines say.
 #[derive(Drop)]
-pub(crate) struct Passed {
+pub(crate) struct PlayersFound {
     /// Bit s for seat s.
     pub(crate) players: u16,
     /// What the first lines say.
-    pub(crate) reads: Vec<Read>,
+    pub(crate) reads: Vec<LineReading>,
 }
 
 /// Digits without the zeros before their number; none where they say 0.
@@ -135,7 +135,7 @@ fn with_player_of(players: PlayerSet, e: &Event) -> PlayerSet
 }
 
 /// What a line says is kept, where there is room for it.
-fn keep_read(reads: &mut Vec<Read>, said: Read) -> Result<(), AllocError>
+fn keep_read(reads: &mut Vec<LineReading>, said: LineReading) -> Result<(), AllocError>
     ensures { OnOk result (reads.new.items ≡ with_read reads.old.items said) }
 {
     if reads.len() < READS_MAX {
@@ -144,14 +144,14 @@ fn keep_read(reads: &mut Vec<Read>, said: Read) -> Result<(), AllocError>
     Ok(())
 }
 
-impl<'a> Pass<'a> {
+impl<'a> PlayerScan<'a> {
     /// Of no line.
-    fn new(alloc: Global) -> Result<Pass<'a>, AllocError>
+    fn new(alloc: Global) -> Result<PlayerScan<'a>, AllocError>
         ensures passes { IfOk result (λ pass. Passes pass nothing []) }
         ensures reads { IfOk result (λ pass. (header : Header) (left : List (List ℕ))
             → HasReads pass header left left) }
     {
-        Ok(Pass {
+        Ok(PlayerScan {
             names: Names::new(alloc),
             part: Part::Preamble,
             players: PlayerSet::empty(),
@@ -190,10 +190,10 @@ impl<'a> Pass<'a> {
     }
 
     /// What was found.
-    fn ends(self) -> Passed
+    fn ends(self) -> PlayersFound
         ensures { result ≡ record { players = self.entry.players; reads = self.entry.reads } }
     {
-        Passed {
+        PlayersFound {
             players: self.players.bits(),
             reads: self.reads,
         }
@@ -206,14 +206,14 @@ pub(crate) fn players_of(
     header: &Header,
     bytes: &[u8],
     start: usize,
-) -> Result<Passed, Memory>
+) -> Result<PlayersFound, Memory>
     requires { start ≤ length bytes.now }
     ensures players { IfOk result (λ passed. passed.players
         ≡ players_of header.now (lines (drop start bytes.now))) }
     ensures reads { IfOk result (λ passed.
         AreReads header.now [] Preamble passed.reads.items (lines (drop start bytes.now))) }
 {
-    let mut pass = Pass::new(alloc)?;
+    let mut pass = PlayerScan::new(alloc)?;
     let mut at = start;
     'lines: while let Some(line) = next_line(bytes, at) {
         if pass.take(header, &bytes[line.first..line.end])? {

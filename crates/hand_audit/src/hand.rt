@@ -5,7 +5,7 @@ ghost use Rattle.pot_layers.specs.Pots.{pots, put_in_all};
 ghost use Rattle.hand_audit.specs.Winning.{AreDecided};
 ghost use Rattle.history_text.specs.declared.events.Event.{Event};
 ghost use Rattle.history_text.specs.declared.events.Header.{Header};
-ghost use Rattle.betting_replay.specs.Events.{button_after};
+ghost use Rattle.betting_replay.specs.Later.{listed};
 ghost use Rattle.betting_replay.specs.TableAfter.{StandsFor};
 ghost use Rattle.hand_audit.specs.Lines.{SoFar, nothing, part_after, read_at, named_by, with_event};
 ghost use Rattle.hand_audit.specs.Collections.{collected_by, taken};
@@ -31,7 +31,7 @@ use std::alloc::{AllocError, Global};
 
 /// What is kept of the lines of a hand so far.
 #[derive(Drop)]
-pub(crate) struct Hand {
+pub(crate) struct AuditState {
     /// The replay of their events.
     pub(crate) replay: Replay,
     /// The seats and names of the seat lines.
@@ -40,8 +40,8 @@ pub(crate) struct Hand {
     pub(crate) part: Part,
     /// What was collected, in the order of the lines.
     pub(crate) collections: Vec<Collection>,
-    /// The seat of the button; 0 before it is said.
-    pub(crate) button: u8,
+    /// The later streets that began, in the order of the lines.
+    pub(crate) streets: Vec<Street>,
     /// The stated rake; 0 before a total line.
     pub(crate) rake: u64,
     /// Whether a total line stood.
@@ -73,16 +73,6 @@ fn is_total(e: &Event) -> bool
     ensures { result ≡ is_total e.now }
 {
     matches!(e, Event::Total { .. })
-}
-
-/// The seat of the button after an event, where it was at another before.
-fn button_after(e: &Event, before: u8) -> u8
-    ensures { result ≡ button_after e.now before }
-{
-    match *e {
-        Event::Button { seat } => seat,
-        _ => before,
-    }
 }
 
 /// The stated rake behind an event.
@@ -124,12 +114,22 @@ fn collect(all: &mut Vec<Collection>, e: &Event) -> Result<(), AllocError>
     }
 }
 
+/// A later street that began is kept.
+fn note(streets: &mut Vec<Street>, begun: Option<Street>) -> Result<(), AllocError>
+    ensures { OnOk result (streets.new.items ≡ streets.old.items ++ listed begun) }
+{
+    if let Some(street) = begun {
+        streets.push(street)?;
+    }
+    Ok(())
+}
+
 /// What a line was found to say, or its fault.
-pub(crate) type Read = Result<Event, TextFault>;
+pub(crate) type LineReading = Result<Event, TextFault>;
 
 /// What a line says. Its seat is one of the table's, its amounts are within the greatest, and its name
 /// within the line.
-pub(crate) fn read(names: &Names, header: &Header, part: Part, line: &[u8]) -> Read
+pub(crate) fn read(names: &Names, header: &Header, part: Part, line: &[u8]) -> LineReading
     requires { All IsSeated names.now }
     ensures { IsRead names.now header.now part line.now result }
 {
@@ -144,18 +144,18 @@ fn with_rake(taken: u128, rake: u64) -> u128
     taken + u128::from(rake)
 }
 
-impl Hand {
+impl AuditState {
     /// Of no line, in a hand with this header and these players.
-    pub(crate) fn new(alloc: Global, header: &Header, players: u16) -> Hand
+    pub(crate) fn new(alloc: Global, header: &Header, players: u16) -> AuditState
         ensures keeps { Keeps result header.now players nothing }
         ensures sound { IsSound result }
     {
-        Hand {
+        AuditState {
             replay: Replay::new(header, players),
             names: Names::new(alloc),
             part: Part::Preamble,
             collections: Vec::new(alloc),
-            button: 0,
+            streets: Vec::new(alloc),
             rake: 0,
             total: false,
         }
@@ -207,7 +207,7 @@ impl Hand {
         &mut self,
         header: &Header,
         line: &[u8],
-        said: &Read,
+        said: &LineReading,
     ) -> Result<Option<Cause>, Memory>
         requires names { All IsSeated self.old.names }
         requires sound { IsSound self.old }
@@ -223,6 +223,7 @@ impl Hand {
             Err(fault) => return Ok(Some(Cause::Text(*fault))),
         };
         let amiss = self.total_cause(e);
+        let begun = self.replay.later_begun(e);
         if let Err(fault) = self.replay.step(e) {
             return Ok(Some(Cause::Bet(fault)));
         }
@@ -231,8 +232,8 @@ impl Hand {
         }
         seat_name(&mut self.names, e, line)?;
         collect(&mut self.collections, e)?;
+        note(&mut self.streets, begun)?;
         self.part = part_after(e, self.part);
-        self.button = button_after(e, self.button);
         self.rake = rake_by(e, self.rake);
         self.total = is_total(e) || self.total;
         Ok(None)
@@ -243,7 +244,7 @@ impl Hand {
         &mut self,
         header: &Header,
         line: &[u8],
-        said: Option<&Read>,
+        said: Option<&LineReading>,
     ) -> Result<Option<Cause>, Memory>
         requires names { All IsSeated self.old.names }
         requires sound { IsSound self.old }
@@ -269,13 +270,13 @@ impl Hand {
         requires sound { IsSound self.now }
         requires total { self.now.total ≡ true }
         ensures { IfOk result (λ settled.
-            AreDecided (showing_at game self.now.replay self.now.collections.items self.now.button)
+            AreDecided (showing_at game self.now.replay self.now.collections.items)
             (pots (paid_in self.now.replay))
-            → IsOfHand (showing_at game self.now.replay self.now.collections.items self.now.button)
+            → IsOfHand (showing_at game self.now.replay self.now.collections.items)
             settled) }
     {
         let all = pots_of(alloc, &self.replay)?;
-        let standings = Standings::of(&self.replay, game, self.button);
+        let standings = Standings::of(&self.replay, game);
         let most = taken_from(&self.collections, Source::Any) as u64;
         settle(alloc, &standings, all.items(), &self.collections, most)
     }

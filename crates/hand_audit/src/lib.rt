@@ -1,11 +1,12 @@
 //! The verdict on a hand: whether each line keeps to the rules, what became of the chips, and the all-in.
 //!
 //! `audit_hand` takes the lines of one hand, its header line first. It answers `Rejected` with the first line that departs and the cause,
-//! or `Accepted` with a `Settlement` and an `AllIn`. `later_streets` tells what is known on each street behind a known all-in.
+//! or `Accepted` with a `Settlement` and an `AllIn`. `later_streets` tells what is known on each street behind a known all-in, and
+//! `audit_with_streets` answers both by one reading of the lines.
 //!
 //! 1. *First pass* (`first_pass`). Each line is read once, and who plays is noted. What the first 256 lines say is kept.
 //! 2. *Second pass* (`follow`, `hand`). What each line says is stepped by a `Replay`. A line departs where it can't be read, where the
-//!    replay refuses it, or where a stated total isn't what the replay has counted.
+//!    replay refuses it, or where a stated total isn't what the replay has counted. Later streets are noted on the way.
 //! 3. *Settlement* (`settling`, `shares`, `payments`). Behind the last line the pots are made. Where it is known who won a pot, by cards
 //!    or since one player is left, it is split by the rules, and that is held against what was collected. A payment that is too far off
 //!    has the last line depart.
@@ -45,7 +46,7 @@ mod verdicts;
 mod winners;
 mod worths;
 
-pub use audit::audit_hand;
+pub use audit::{audit_hand, audit_with_streets};
 pub use cause::Cause;
 pub use laws::{
     law_a_lone_player_wins_a_side_of_each_part, law_a_mark_is_a_card_of_its_player,
@@ -55,5 +56,5 @@ pub use laws::{
     law_pots_go_by_boards, law_unknown_all_ins_have_unknown_cards,
 };
 pub use settlement::{Payment, Payments, PotLine, PotLines, Settlement};
-pub use streets::{StreetState, later_streets};
+pub use streets::{AuditedStreets, StreetState, later_streets};
 pub use verdicts::{AllIn, HandAudit};

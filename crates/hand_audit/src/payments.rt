@@ -3,7 +3,7 @@
 ghost use Rattle.std.specs.Prelude.{◌≡◌, ℕ, ◌+◌, ◌-◌, ◌<◌, ◌≤◌, ◌==◌, ◌||◌, ◌^◌, if◌then◌else◌, nat_lt, IfOk, Some, None};
 ghost use Rattle.pot_layers.specs.declared.paid.Share.{Share};
 ghost use Rattle.pot_layers.specs.Split.{given_in_all};
-ghost use Rattle.hand_audit.specs.Settle.{due_of_seat, sides_of_seat, payment, is_payment, distance, payments_from, beyond_from};
+ghost use Rattle.hand_audit.specs.Settle.{due_of_seat, sides_of_seat, payment, is_payment, distance, payments_from, beyond_among};
 ghost use Rattle.hand_audit.specs.Collections.{taken_from, got_from};
 ghost use Rattle.hand_audit.specs.PotNames.{counts_from};
 
@@ -116,26 +116,19 @@ pub(crate) fn payments(
     Ok(pays)
 }
 
-/// The first payment of a pot that is beyond its tolerance.
-pub(crate) fn beyond(
-    checked: bool,
-    all: &[Collection],
-    shares: &[Share],
-    source: Source,
-    most: u64,
-) -> Option<Payment>
-    requires taken { taken_from (counts_from source) all.now ≤ most }
-    requires given { given_in_all shares.now ≤ most }
-    ensures { result
-        ≡ beyond_from (λ p. payment checked (got_from (counts_from source) p all.now) shares.now p)
-        (λ p. sides_of_seat p shares.now) 1 10 }
+/// The first of some payments that is beyond its tolerance: one unit for each side of a part that the seat
+/// wins by the shares.
+pub(crate) fn first_beyond(pays: &[Payment], shares: &[Share]) -> Option<Payment>
+    ensures { result ≡ beyond_among (λ p. sides_of_seat p shares.now) pays.now }
 {
-    for seat in 1..11 {
-        let got = got_of(all, source, seat, most);
-        let pay = payment(checked, got, shares, seat, most);
-        if is_beyond(pay, sides_of_seat(shares, seat)) {
-            return Some(pay);
+    match pays {
+        [] => None,
+        [pay, others @ ..] => {
+            if is_beyond(*pay, sides_of_seat(shares, pay.seat)) {
+                Some(*pay)
+            } else {
+                first_beyond(others, shares)
+            }
         }
     }
-    None
 }

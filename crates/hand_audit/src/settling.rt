@@ -9,7 +9,7 @@ ghost use Rattle.hand_audit.specs.Winning.{Tells, IsReady, IsDecided, AreDecided
 ghost use Rattle.hand_audit.specs.SettlementAnswers.{IsOfPot, AreOfPots, IsOfHand};
 
 use crate::collections::Collection;
-use crate::payments::{beyond, payments};
+use crate::payments::{first_beyond, payments};
 use crate::pot_names::{Source, fits, taken_from};
 use crate::settlement::{Payment, Payments, PotLine, PotLines};
 use crate::shares::shares_if;
@@ -21,7 +21,8 @@ use std::alloc::{AllocError, Global};
 /// What became of the chips of a hand, and the first payment that is beyond its tolerance.
 #[derive(Drop)]
 pub(crate) struct HandSettled {
-    /// Whether each collection names one of the pots, and each pot one or more of them.
+    /// Whether each collection names one of the pots, each pot has one or more of them, and none has more
+    /// collected than it holds.
     pub(crate) fits: bool,
     /// The pots.
     pub(crate) pots: PotLines,
@@ -56,7 +57,7 @@ fn settle_pot(
     let net = taken_from(all, source) as u64;
     let shares = shares_if(alloc, checked, standings, eligible, net)?;
     let paid = payments(alloc, checked, all, shares.items(), source, pot.units)?;
-    let beyond = beyond(checked, all, shares.items(), source, pot.units);
+    let beyond = first_beyond(&paid, shares.items());
     Ok(PotSettled {
         line: PotLine {
             gross: pot.units,

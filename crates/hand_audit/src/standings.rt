@@ -71,10 +71,8 @@ impl Standings {
     ghost use Rattle.hand_audit.specs.Showings.{showing_at};
 
     /// Of a hand so far.
-    pub(crate) fn of(replay: &Replay, game: Game, button: u8) -> Standings
-        requires { button ≤ 10 }
-        ensures tells { (all : List Collection)
-            → Tells result (showing_at game replay.now all button) }
+    pub(crate) fn of(replay: &Replay, game: Game) -> Standings
+        ensures tells { (all : List Collection) → Tells result (showing_at game replay.now all) }
         ensures ready { IsReady result }
     {
         Standings {
@@ -82,7 +80,7 @@ impl Standings {
             known: known(replay),
             board: on_board(replay, game, replay.board()),
             second: on_second(replay, game, second_of(replay)),
-            button,
+            button: replay.button(),
         }
     }
 

@@ -1,20 +1,24 @@
 //! The later streets of a hand that is played out.
 
-ghost use Rattle.std.specs.Prelude.{◌≡◌, ◌≤◌, ◌∷◌, ◌++◌, [], IfOk, OnOk, IsTrue, drop, length, map};
+ghost use Rattle.std.specs.Prelude.{◌≡◌, ℕ, ◌≤◌, ◌∷◌, ◌++◌, [], IfOk, OnOk, IsTrue, length, map};
 ghost use Rattle.line_text.specs.Lines.{lines};
 ghost use Rattle.hand_audit.specs.AllIns.{all_in_at, known_there};
 ghost use Rattle.hand_audit.specs.Departs.{begins_hand};
+ghost use Rattle.hand_audit.specs.Keeping.{Keeps};
+ghost use Rattle.hand_audit.specs.Lines.{SoFar};
 ghost use Rattle.hand_audit.specs.PotSeats.{eligible_of};
-ghost use Rattle.hand_audit.specs.Streets.{table_in, state_on, states_in, has_known_all_in, NoneDeparts};
+ghost use Rattle.hand_audit.specs.SettlementAnswers.{IsOfHand};
+ghost use Rattle.hand_audit.specs.Showings.{showing_of};
+ghost use Rattle.hand_audit.specs.Streets.{table_in, state_on, states_of, states_in, has_known_all_in};
 ghost use Rattle.hand_audit.specs.Verdict.{audit_of};
-ghost use Rattle.hand_audit.specs.Walks.{begun_by, Walks};
 
 use crate::all_in::all_in_on;
 use crate::first_pass::players_of;
-use crate::hand::{Hand, Read, read};
+use crate::follow::{Followed, follow};
+use crate::hand::AuditState;
 use crate::settlement::PotLine;
 use crate::settling::HandSettled;
-use crate::verdicts::AllIn;
+use crate::verdicts::{AllIn, HandAudit};
 use betting_replay::Replay;
 use card_sets::{Game, Memory};
 use history_text::{Header, Street, read_header};
@@ -32,15 +36,13 @@ pub struct StreetState {
     pub table: Option<Table>,
 }
 
-/// What a walk over the lines of a hand ends with.
+/// A verdict on a hand, and its later streets.
 #[derive(Drop)]
-pub(crate) struct Walked {
-    /// What is kept of all lines.
-    pub(crate) hand: Hand,
-    /// What became of the chips.
-    pub(crate) settled: HandSettled,
-    /// The later streets, in their order.
-    pub(crate) streets: Vec<Street>,
+pub struct AuditedStreets {
+    /// The verdict.
+    pub audit: HandAudit,
+    /// What is known on the streets behind the all-in point, in their order; none of a rejected hand.
+    pub streets: Vec<StreetState>,
 }
 
 /// The table of an all-in.
@@ -107,52 +109,25 @@ fn states_on(
     Ok(states)
 }
 
-/// The later street that a line begins is kept.
-fn note(streets: &mut Vec<Street>, replay: &Replay, said: &Read) -> Result<(), AllocError>
-    ensures { OnOk result (streets.new.items ≡ streets.old.items ++ begun_by replay.now said.now) }
-{
-    let Ok(e) = said else {
-        return Ok(());
-    };
-    if let Some(street) = replay.later_begun(e) {
-        streets.push(street)?;
-    }
-    Ok(())
-}
-
-/// Walks over the lines from a place on, of a hand with this header and these players in which no line
-/// departs.
-fn walk(
+/// What is known on the later streets of a hand, of whose lines this is kept.
+pub(crate) fn states_of(
     alloc: Global,
     header: &Header,
-    players: u16,
-    bytes: &[u8],
-    start: usize,
-) -> Result<Walked, Memory>
-    requires within { start ≤ length bytes.now }
-    requires none { NoneDeparts header.now players (lines (drop start bytes.now)) }
-    ensures { IfOk result (λ walked.
-        Walks header.now players (lines (drop start bytes.now)) walked) }
+    state: &AuditState,
+    settled: &HandSettled,
+) -> Result<Vec<StreetState>, AllocError>
+    ensures { IfOk result (λ states. (players : ℕ) (so_far : SoFar)
+        → Keeps state.now header.now players so_far
+        → IsOfHand (showing_of header.now players so_far.events) settled.now
+        → states.items ≡ states_of header.now players so_far.events) }
 {
-    let mut hand = Hand::new(alloc, header, players);
-    let mut streets = Vec::new(alloc);
-    let mut at = start;
-    'lines: while let Some(line) = next_line(bytes, at) {
-        let said = read(&hand.names, header, hand.part, &bytes[line.first..line.end]);
-        note(&mut streets, &hand.replay, &said)?;
-        if let Some(_) = hand.take_line(header, &bytes[line.first..line.end], Some(&said))? {
-            unreachable!();
-        }
-        at = line.next;
-    }
-    match hand.end(alloc, header.game)? {
-        Ok(settled) => Ok(Walked {
-            hand,
-            settled,
-            streets,
-        }),
-        Err(_) => unreachable!(),
-    }
+    states_on(
+        alloc,
+        header.game,
+        &state.replay,
+        settled.pots.items(),
+        &state.streets,
+    )
 }
 
 /// The later streets of a hand that `audit_hand` on these arguments accepts with a known all-in: those
@@ -175,14 +150,19 @@ pub fn later_streets(
     let Ok(header) = read_header(&bytes[head.first..head.end]) else {
         unreachable!();
     };
-    let passed = players_of(alloc, &header, bytes, head.next)?;
-    let walked = walk(alloc, &header, passed.players, bytes, head.next)?;
-    let states = states_on(
+    let found = players_of(alloc, &header, bytes, head.next)?;
+    match follow(
         alloc,
-        header.game,
-        &walked.hand.replay,
-        walked.settled.pots.items(),
-        &walked.streets,
-    )?;
-    Ok(states)
+        &header,
+        found.players,
+        &found.reads,
+        bytes,
+        head.next,
+    )? {
+        Followed::Departs(_, _) => unreachable!(),
+        Followed::Ends(state, settled) => {
+            let states = states_of(alloc, &header, &state, &settled)?;
+            Ok(states)
+        }
+    }
 }

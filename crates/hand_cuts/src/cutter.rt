@@ -12,8 +12,8 @@ use card_sets::Memory;
 use std::alloc::Global;
 use std::marker::Model;
 
-/// A stream that is cut into hands or lines. It holds the bytes that weren't handed out yet, and knows
-/// how far they have been looked at, so that what comes in small pieces isn't looked at again for each.
+/// A stream that is cut into hands or lines. It holds what was handed out since `forget` and the bytes
+/// that weren't yet, and knows how far they have been looked at, so that what comes in small pieces isn't looked at again for each.
 #[derive(Drop)]
 pub struct Cutter {
     kind: CutKind,

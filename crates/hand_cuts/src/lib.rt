@@ -18,8 +18,9 @@
 //! 4. What was handed out is dropped by one move of the bytes behind it, and the places of the scan
 //!    go down by as much.
 //!
-//! Each byte is searched for a newline once, and moved only where something before it is dropped. No
-//! clause counts either.
+//! A line that is open isn't searched again from its start with each piece: each byte is searched for
+//! a newline twice, when it comes and when its line is asked whether it is a header line. It is moved only
+//! where something before it is dropped. No clause counts either.
 #![tactic(auto)]
 
 mod cutter;

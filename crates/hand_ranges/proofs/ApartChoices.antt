@@ -12,16 +12,16 @@ pub sum_same : {X : Type 0} (xs : List X) (f g : X → ℕ) → ((x : X) → f x
 sum_same [] f g h = refl
 sum_same (x ∷ xs) f g h = sum_by-cons f x xs ∙ ap (λ n. n + sum_by f xs) (h x) ∙ ap (λ n. g x + n) (sum_same xs f g h) ∙ sym (sum_by-cons g x xs)
 
-sum_map : {X Y : Type 0} (g : X → Y) (f : Y → ℕ) (xs : List X) → sum_by f (map g xs) ≡ sum_by (λ x. f (g x)) xs
+pub sum_map : {X Y : Type 0} (g : X → Y) (f : Y → ℕ) (xs : List X) → sum_by f (map g xs) ≡ sum_by (λ x. f (g x)) xs
 sum_map g f [] = refl
 sum_map g f (x ∷ xs) = sum_by-cons f (g x) (map g xs) ∙ ap (λ n. f (g x) + n) (sum_map g f xs) ∙ sym (sum_by-cons (λ x. f (g x)) x xs)
 
-sum_flat : {X Y : Type 0} (g : X → List Y) (f : Y → ℕ) (xs : List X) → sum_by f (flat_map g xs) ≡ sum_by (λ x. sum_by f (g x)) xs
+pub sum_flat : {X Y : Type 0} (g : X → List Y) (f : Y → ℕ) (xs : List X) → sum_by f (flat_map g xs) ≡ sum_by (λ x. sum_by f (g x)) xs
 sum_flat g f [] = refl
 sum_flat g f (x ∷ xs) = sum_by-append f (g x) (flat_map g xs) ∙ ap (λ n. sum_by f (g x) + n) (sum_flat g f xs) ∙ sym (sum_by-cons (λ x. sum_by f (g x)) x xs)
 
 -- a sum over those that pass
-sum_filter : {X : Type 0} (p : X → Bool) (f : X → ℕ) (xs : List X) → sum_by f (filter p xs) ≡ sum_by (λ x. cond (p x) (f x) 0) xs
+pub sum_filter : {X : Type 0} (p : X → Bool) (f : X → ℕ) (xs : List X) → sum_by f (filter p xs) ≡ sum_by (λ x. cond (p x) (f x) 0) xs
 sum_filter p f [] = refl
 sum_filter p f (x ∷ xs) =
     let rest = sum_filter p f xs in
@@ -96,7 +96,7 @@ pub walked_same : (ranges : List (List Weighted)) (taken : List Weighted) (f g :
 walked_same [] taken f g h = h taken
 walked_same (range ∷ ranges) taken f g h = sum_same range _ _ (λ w. ap (λ n. cond (is_disjoint (taken ++ w ∷ [])) n 0) (walked_same ranges (taken ++ w ∷ []) f g h))
 
-zero_both : (b : Bool) (n : ℕ) → n ≡ 0 → cond b n 0 ≡ 0
+pub zero_both : (b : Bool) (n : ℕ) → n ≡ 0 → cond b n 0 ≡ 0
 zero_both true n h = h
 zero_both false n h = refl
 

@@ -1,5 +1,5 @@
 -- One word more of a copy of the words.
-use Rattle.std.proofs.Common.{◌≡◌, ℕ, List, [], ◌∷◌, Bool, true, false, not, drop, refl, sym, ap, ◌∙◌, Some, None, Bor}
+use Rattle.std.proofs.Common.{◌≡◌, ℕ, List, ◌∷◌, Bool, true, false, not, drop, refl, sym, ap, ◌∙◌, Some, None, Bor}
 use Rattle.std.specs.Prelude.{Option}
 use Rattle.std.specs.Iterator.{YieldsFirstRef}
 use Rattle.std.proofs.Math.Bool.{beq}

@@ -1,8 +1,8 @@
 -- The items of a word, added one after another to all hands.
-use Rattle.std.proofs.Common.{◌≡◌, ℕ, ◌+◌, ◌≤◌, Bool, true, false, cond, ◌&&◌, List, [], ◌∷◌, ◌++◌, map, refl, sym, ap, ◌∙◌, append_assoc, append-nil, Some, None, arith}
-use Rattle.std.specs.Prelude.{Option, is_some, nat_le}
-use Rattle.std.specs.List.{list_all, filter_map, flat_map, cons_option, sum_by}
-use Rattle.std.proofs.lemmas.Bool.{leb-true, and_from}
+use Rattle.std.proofs.Common.{◌≡◌, ℕ, ◌+◌, Bool, true, false, ◌&&◌, List, [], ◌∷◌, ◌++◌, map, refl, sym, ap, ◌∙◌, append_assoc, append-nil, Some, None, arith}
+use Rattle.std.specs.Prelude.{is_some, nat_le}
+use Rattle.std.specs.List.{list_all, filter_map, flat_map, cons_option}
+use Rattle.std.proofs.lemmas.Bool.{and_from}
 use Rattle.std.proofs.lemmas.List.Sums.{sum_by-append, sum_by-cons}
 use mathlib.Core.Bool.{true≢false}
 use Rattle.card_sets.specs.Cards.{cards_above, deck}

@@ -20,3 +20,11 @@ pub mod SheetSteps
 pub mod SmallTallies
 pub mod BlockFacts
 pub mod FullBoards
+pub mod WinnersBeside
+pub mod ShownChoices
+pub mod BoardSums
+pub mod ChoiceEnds
+pub mod EndSums
+pub mod BoardTallies
+pub mod GivenOut
+pub mod NamedHands

@@ -1,6 +1,6 @@
 -- What a line with ranges says, test by test.
-use Rattle.std.proofs.Common.{◌≡◌, ℕ, Bool, true, false, cond, ◌&&◌, ◌==◌, List, [], ◌∷◌, length, map, refl, sym, ap, ◌∙◌, Some, None}
-use Rattle.std.specs.Prelude.{Option, Result, Ok, Err}
+use Rattle.std.proofs.Common.{◌≡◌, ℕ, Bool, true, false, cond, ◌&&◌, List, [], ◌∷◌, length, map, refl, sym, ap, ◌∙◌, Some, None}
+use Rattle.std.specs.Prelude.{Ok, Err}
 use Rattle.std.specs.List.{list_all}
 use Rattle.std.specs.Str.{bytes_eq}
 use Rattle.std.proofs.lemmas.List.{length-map}
@@ -10,7 +10,6 @@ use Rattle.spot_text.specs.Games.{board_fits}
 use Rattle.spot_text.specs.Parts.{hand_words, board_words, dead_words, all_cards, cards_of, in_form, set_of}
 use Rattle.spot_text.specs.Spot.{repeated_after}
 use Rattle.spot_text.specs.Words.{words}
-use Rattle.hand_ranges.specs.declared.faults.RangeFault.{RangeFault}
 use Rattle.hand_ranges.specs.declared.faults.RangeFault.TheVariants.{UnknownWord, BadCard, BadRange, TwiceCard, BoardSize, PlayerCount, DeckShort}
 use Rattle.hand_ranges.specs.declared.spot.Weighted.{Weighted}
 use Rattle.hand_ranges.specs.Hands.{is_range, hands_of}

@@ -1,12 +1,12 @@
 -- All hands of two cards stand in their order, and there are 1326 at the most.
-use Rattle.std.proofs.Common.{◌≡◌, ℕ, zero, suc, ◌+◌, ◌-◌, ◌*◌, ◌<◌, ◌≤◌, Bool, true, false, ◌&&◌, ◌==◌, List, [], ◌∷◌, ◌++◌, map, length, refl, sym, ap, ◌∙◌, length-append, inl, inr, arith}
+use Rattle.std.proofs.Common.{◌≡◌, ℕ, zero, suc, ◌+◌, ◌-◌, ◌*◌, ◌<◌, ◌≤◌, true, ◌&&◌, ◌==◌, List, [], ◌∷◌, ◌++◌, map, length, refl, sym, ◌∙◌, length-append, inl, inr, arith}
 use Rattle.std.specs.Prelude.{nat_lt}
 use Rattle.std.specs.List.{flat_map}
 use Rattle.std.proofs.lemmas.Bool.{cases_lt, ltb-true}
 use Rattle.std.proofs.lemmas.List.{length-map}
 use mathlib.Core.Bool.{true≢false}
 use Rattle.card_sets.specs.Bits.{has-cards_where}
-use Rattle.card_sets.specs.Cards.{cards_above, deck, has_card, IsRising, RisingFrom}
+use Rattle.card_sets.specs.Cards.{cards_above, deck, has_card, RisingFrom}
 use Rattle.card_sets.specs.Rising.{IsRising-cards_where}
 use Rattle.card_sets.proofs.CallerLemmas.{and_first, has_past}
 use Rattle.hand_ranges.specs.Hands.{pair, pairs_of, all_pairs}

@@ -1,8 +1,8 @@
 -- The words of the ranges, word by word.
-use Rattle.std.proofs.Common.{◌≡◌, ℕ, ◌≤◌, Bool, true, false, ◌||◌, ◌&&◌, List, [], ◌∷◌, ◌++◌, length, map, refl, sym, ap, ◌∙◌, append_assoc, arith}
+use Rattle.std.proofs.Common.{◌≡◌, ℕ, true, false, ◌||◌, ◌&&◌, List, [], ◌∷◌, refl, ap, ◌∙◌}
 use Rattle.std.specs.List.{flat_map, list_all, onto_first}
 use Rattle.spot_text.specs.Parts.{is_slash, is_dashes, is_dash, hand_words, board_words, dead_words, all_cards, cards_of, in_form}
-use Rattle.spot_text.proofs.CallerLemmas.{hands_end, hands_dash, hands_card, none_first, some_hand, cards_split, parts_same}
+use Rattle.spot_text.proofs.CallerLemmas.{hands_end, hands_dash, hands_card, none_first, cards_split, parts_same}
 use Rattle.spot_text.specs.Spot.{repeated_after}
 use Rattle.hand_ranges.specs.RangeSpot.{range_words, table_cards}
 

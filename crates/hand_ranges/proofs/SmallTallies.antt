@@ -1,8 +1,7 @@
 -- The numbers of a tally are small enough to be written, and there is a runout.
-use Rattle.std.proofs.Common.{◌≡◌, ℕ, zero, suc, ◌+◌, ◌-◌, ◌*◌, ◌^◌, ◌<◌, ◌≤◌, Bool, true, false, ◌==◌, List, [], ◌∷◌, ◌++◌, map, length, refl, sym, ap, ◌∙◌, length-append, All, filter, arith, inl, inr}
-use Rattle.std.specs.Prelude.{nat_lt, slice_index, slice_index_or}
+use Rattle.std.proofs.Common.{◌≡◌, ℕ, suc, ◌+◌, ◌-◌, ◌*◌, ◌^◌, ◌<◌, ◌≤◌, false, ◌==◌, List, [], ◌∷◌, map, length, refl, ap, ◌∙◌, length-append, All, arith}
+use Rattle.std.specs.Prelude.{nat_lt, slice_index_or}
 use Rattle.std.specs.List.{sum_by, flat_map}
-use Rattle.std.proofs.lemmas.Bool.{cases_lt}
 use Rattle.std.proofs.lemmas.List.{length-map}
 use Rattle.std.proofs.lemmas.List.Elements.{All-nil, All-cons, All-head, All-tail, All-append, All-map, All-filter, All-weaker}
 use Rattle.std.proofs.lemmas.List.Sums.{sum_by-cons, sum_by-le, count_by-le-length, length-filter}
@@ -15,7 +14,6 @@ use Rattle.showdown_tally.specs.CountLaws.{units_small}
 use Rattle.showdown_tally.specs.Showdown.{wins, ties, loses, units}
 use Rattle.showdown_tally.specs.Tallies.{runouts_after}
 use Rattle.hand_ranges.specs.declared.spot.Weighted.{Weighted}
-use Rattle.hand_ranges.specs.declared.tally.RangeCell.{RangeCell}
 use Rattle.hand_ranges.specs.declared.tally.RangeTally.{RangeTally}
 use Rattle.hand_ranges.specs.Choices.{taken_from, is_disjoint, choices, weight_of, deal_of_choice, full_runouts, full_cell, full_units, most_choices, full_weight, runouts_of_choice, are_above, has_no_choice}
 use Rattle.hand_ranges.specs.Counted.{IsTallyOf, IsSmall}
@@ -64,7 +62,7 @@ taken_length : (ranges : List (List Weighted)) → length (taken_from ranges) �
 taken_length [] = refl
 taken_length (range ∷ ranges) = flat_length (taken_from ranges) range ∙ ap (λ n. length range * n) (taken_length ranges)
 
-choices_few : (ranges : List (List Weighted)) → length (choices ranges) ≤ most_choices ranges
+pub choices_few : (ranges : List (List Weighted)) → length (choices ranges) ≤ most_choices ranges
 choices_few ranges = omega (arith, length-filter is_disjoint (taken_from ranges), count_by-le-length is_disjoint (taken_from ranges), taken_length ranges)
 
 -- how often they count together

@@ -1,11 +1,10 @@
 -- What a line says of ranges may be dealt.
-use Rattle.std.proofs.Common.{◌≡◌, ℕ, suc, ◌+◌, ◌-◌, ◌*◌, ◌<◌, ◌≤◌, Bool, true, false, cond, ◌&&◌, ◌==◌, List, [], ◌∷◌, ◌++◌, map, length, refl, sym, ap, ◌∙◌, subst, length-append, Some, None, arith}
-use Rattle.std.specs.Prelude.{Option, Result, Ok, Err, if◌then◌else◌, nat_le, nat_lt, is_none}
+use Rattle.std.proofs.Common.{◌≡◌, ℕ, suc, ◌+◌, ◌-◌, ◌*◌, ◌<◌, ◌≤◌, Bool, true, false, cond, ◌&&◌, ◌==◌, List, [], ◌∷◌, map, length, refl, sym, ap, ◌∙◌, subst, length-append, Some, None, arith}
+use Rattle.std.specs.Prelude.{Option, Ok, Err, nat_le, nat_lt, is_none}
 use Rattle.std.specs.List.{list_all, filter_map, flat_map, cons_option}
 use Rattle.std.specs.Str.{bytes_eq}
 use Rattle.std.proofs.lemmas.Bool.{ltb-true, leb-true, and_from}
 use Rattle.std.proofs.lemmas.List.{length-map}
-use mathlib.Core.Bool.{true≢false}
 use Rattle.card_sets.specs.Bits.{IsCardSet-cards_where}
 use Rattle.card_sets.specs.Cards.{has_card}
 use Rattle.card_sets.specs.Disjoint.{apart}
@@ -19,8 +18,7 @@ use Rattle.spot_text.specs.Parts.{hand_words, board_words, dead_words, all_cards
 use Rattle.spot_text.specs.Spot.{repeated_after}
 use Rattle.spot_text.specs.Words.{words}
 use Rattle.spot_text.specs.Written.{all_differ}
-use Rattle.hand_ranges.specs.declared.faults.RangeFault.{RangeFault}
-use Rattle.hand_ranges.specs.declared.faults.RangeFault.TheVariants.{UnknownWord, BadCard, BadRange, TwiceCard, BoardSize, PlayerCount, DeckShort}
+use Rattle.hand_ranges.specs.declared.faults.RangeFault.TheVariants.{UnknownWord, BadCard, BadRange, BoardSize, PlayerCount, DeckShort}
 use Rattle.hand_ranges.specs.declared.items.Entry.{Entry}
 use Rattle.hand_ranges.specs.declared.pairs.Pair.{Pair}
 use Rattle.hand_ranges.specs.declared.spot.Weighted.{Weighted}

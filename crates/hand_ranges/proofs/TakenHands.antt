@@ -80,7 +80,7 @@ places_apart board dead hands off h d =
 
 -- ---- empty sets behind the hands
 
-none_apart : (s : List ℕ) → apart s [] ≡ true
+pub none_apart : (s : List ℕ) → apart s [] ≡ true
 none_apart [] = refl
 none_apart (c ∷ s) = none_apart s
 
@@ -144,6 +144,11 @@ taken_light count weight more h l =
 pub light_all : (count weight : ℕ) → count ≤ 4 → weight ≤ 256 ^ count → weight ≤ 2 ^ 32
 light_all count weight few h =
     let power : 256 ^ count ≤ 256 ^ 4 = pow-le-pow_right (let some : 0 < 256 = omega arith in some) few in
+    omega (arith, h, power)
+
+pub light_three : (count weight : ℕ) → count < 4 → weight ≤ 256 ^ count → weight ≤ 2 ^ 24
+light_three count weight few h =
+    let power : 256 ^ count ≤ 256 ^ 3 = pow-le-pow_right (let some : 0 < 256 = omega arith in some) (let k : count ≤ 3 = omega arith in k) in
     omega (arith, h, power)
 
 -- ---- the hands with empty sets behind them, written

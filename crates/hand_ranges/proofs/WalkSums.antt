@@ -12,7 +12,7 @@ use Rattle.hand_ranges.specs.declared.tally.RangeTally.{RangeTally}
 use Rattle.hand_ranges.specs.Choices.{choices, is_disjoint, weight_of, walked, over_choices, full_cell, full_units, runouts_of_choice}
 use Rattle.hand_ranges.specs.Counted.{IsTallyOf}
 use Rattle.hand_ranges.specs.RangeSpot.{Ranges}
-use Rattle.hand_ranges.specs.Walks.{Column, Choices, Weight, Wins, Ties, Losses, Units, none, cell_in, number_in, added_by, GrowsBy, AreNoneBeyond}
+use Rattle.hand_ranges.specs.Walks.{Column, Choices, Weight, Wins, Ties, Losses, Units, none, cell_in, number_in, added_by, all_added, GrowsBy, IsAllOf, AreNoneBeyond}
 use Rattle.showdown_tally.proofs.CallerLemmas.{index_default}
 use Rattle.hand_ranges.proofs.ApartChoices.{choices_walked, length_walked, walked_same, walked_none}
 
@@ -88,32 +88,33 @@ there hand n x l = let a : nat_lt hand n ≡ true = lt-ltb hand n l in rw a refl
 beyond : (hand n x : ℕ) → n ≤ hand → cond (nat_lt hand n) x 0 ≡ 0
 beyond hand n x l = let a : nat_lt hand n ≡ false = le-ltb hand n l in rw a refl
 
--- the number of a column that starts at 0
-whole : (spot : Ranges) (tally : RangeTally) (column : Column) (number : List Weighted → ℕ) → number_in tally column ≡ 0 + walked spot.ranges [] (added_by spot column) → ((choice : List Weighted) → added_by spot column choice ≡ weight_of choice * number choice)
+-- a number is what all choices add
+whole : (spot : Ranges) (tally : RangeTally) (column : Column) (number : List Weighted → ℕ) → number_in tally column ≡ all_added spot spot.ranges [] column → ((choice : List Weighted) → added_by spot column choice ≡ weight_of choice * number choice)
     → number_in tally column ≡ over_choices number spot.ranges
 whole spot tally column number e same =
-    e ∙ (let z : 0 + walked spot.ranges [] (added_by spot column) ≡ walked spot.ranges [] (added_by spot column) = omega arith in z)
-    ∙ walked_same spot.ranges [] (added_by spot column) (λ choice. weight_of choice * number choice) same ∙ sym (choices_walked spot.ranges (λ choice. weight_of choice * number choice))
+    e ∙ walked_same spot.ranges [] (added_by spot column) (λ choice. weight_of choice * number choice) same ∙ sym (choices_walked spot.ranges (λ choice. weight_of choice * number choice))
 
 times_one : (n : ℕ) → n ≡ n * 1
 times_one n = omega arith
 
--- where the tally has no choice, there is none
-pub no_choice : (spot : Ranges) (old tally : RangeTally) (taken : List Weighted) → taken ≡ [] → ((column : Column) → number_in old column ≡ 0) → GrowsBy old tally (λ column. walked spot.ranges taken (added_by spot column)) → length (choices spot.ranges) ≡ tally.choices
-no_choice spot old tally taken none zeros grows =
-    let grown : tally.choices ≡ old.choices + walked spot.ranges taken (λ choice. 1) = grows Choices in
-    let zero_old : old.choices ≡ 0 = zeros Choices in
-    let all : length (choices spot.ranges) ≡ walked spot.ranges [] (λ choice. 1) = length_walked spot.ranges in
-    let same : walked spot.ranges taken (λ choice. 1) ≡ walked spot.ranges [] (λ choice. 1) = ap (λ t. walked spot.ranges t (λ choice. 1)) none in
-    omega (arith, grown, zero_old, all, same)
+-- what is walked over all ranges from nothing
+pub all_walked : (spot : Ranges) (old tally : RangeTally) (taken : List Weighted) → taken ≡ [] → ((column : Column) → number_in old column ≡ 0) → GrowsBy old tally (λ column. all_added spot spot.ranges taken column) → IsAllOf spot tally
+all_walked spot old tally taken none zeros grows column =
+    let grown = grows column in
+    let zero = zeros column in
+    let same : all_added spot spot.ranges taken column ≡ all_added spot spot.ranges [] column = ap (λ t. all_added spot spot.ranges t column) none in
+    omega (arith, grown, zero, same)
 
--- what is walked over all ranges from nothing is the tally
-pub tally_of : (spot : Ranges) (old tally : RangeTally) (taken : List Weighted) → taken ≡ [] → ((column : Column) → number_in old column ≡ 0) → GrowsBy old tally (λ column. walked spot.ranges taken (added_by spot column)) → (runouts : ℕ) → runouts ≡ runouts_of_choice spot → length spot.ranges ≤ 4 → length tally.cells ≡ 4
+-- where the tally has no choice, there is none
+pub no_choice : (spot : Ranges) (tally : RangeTally) → IsAllOf spot tally → length (choices spot.ranges) ≡ tally.choices
+no_choice spot tally numbers = length_walked spot.ranges ∙ sym (numbers Choices)
+
+-- what all choices add is the tally
+pub tally_of : (spot : Ranges) (tally : RangeTally) → IsAllOf spot tally → (runouts : ℕ) → runouts ≡ runouts_of_choice spot → length spot.ranges ≤ 4 → length tally.cells ≡ 4
     → IsTallyOf spot (record tally { runouts = runouts })
-tally_of spot old tally taken empty zeros grows runouts each few four =
-    let from : (column : Column) → number_in tally column ≡ 0 + walked spot.ranges [] (added_by spot column) = λ column. grows column ∙ ap (λ n. n + walked spot.ranges taken (added_by spot column)) (zeros column) ∙ ap (λ t. 0 + walked spot.ranges t (added_by spot column)) empty in
+tally_of spot tally from runouts each few four =
     record {
-      count = from Choices ∙ (let z : 0 + walked spot.ranges [] (added_by spot Choices) ≡ walked spot.ranges [] (λ choice. 1) = omega arith in z) ∙ sym (length_walked spot.ranges);
+      count = from Choices ∙ sym (length_walked spot.ranges);
       each = each;
       total = whole spot tally Weight (λ choice. 1) (from Weight) (λ choice. times_one (weight_of choice));
       ends = λ hand d l. rw (default_cell hand d (omega arith)) (record {
@@ -128,11 +129,10 @@ tally_of spot old tally taken empty zeros grows runouts each few four =
     default_cell hand d l = index_default tally.cells hand d none (omega arith)
 
 -- a player that there isn't has nothing
-pub none_beyond : (spot : Ranges) (old tally : RangeTally) (taken : List Weighted) → ((column : Column) → number_in old column ≡ 0) → GrowsBy old tally (λ column. walked spot.ranges taken (added_by spot column)) → AreNoneBeyond (length spot.ranges) tally
-none_beyond spot old tally taken zeros grows hand l =
+pub none_beyond : (spot : Ranges) (tally : RangeTally) → IsAllOf spot tally → AreNoneBeyond (length spot.ranges) tally
+none_beyond spot tally numbers hand l =
     let zero : (column : Column) → ((choice : List Weighted) → added_by spot column choice ≡ 0) → number_in tally column ≡ 0 = λ column same.
-    grows column ∙ ap (λ n. n + walked spot.ranges taken (added_by spot column)) (zeros column)
-    ∙ ap (λ n. 0 + n) (walked_same spot.ranges taken (added_by spot column) (λ choice. 0) same ∙ walked_none spot.ranges taken) in
+    numbers column ∙ walked_same spot.ranges [] (added_by spot column) (λ choice. 0) same ∙ walked_none spot.ranges [] in
     let a : (cell_in tally hand).win ≡ 0 = zero (Wins hand) (λ choice. beyond hand (length spot.ranges) _ l) in
     let b : (cell_in tally hand).tie ≡ 0 = zero (Ties hand) (λ choice. beyond hand (length spot.ranges) _ l) in
     let c : (cell_in tally hand).lose ≡ 0 = zero (Losses hand) (λ choice. beyond hand (length spot.ranges) _ l) in

@@ -1,12 +1,18 @@
 -- What the count of a spot with ranges answers.
-use Rattle.std.specs.Prelude.{◌≡◌, ℕ, ◌*◌, ◌^◌, ◌<◌, ◌≤◌, true, false, length, slice_index, slice_index_or, Result, Ok, Err}
+use Rattle.std.specs.Prelude.{◌≡◌, ℕ, ◌*◌, ◌^◌, ◌<◌, ◌≤◌, true, false, List, [], ◌∷◌, map, length, slice_index, slice_index_or, Result, Ok, Err}
 use Rattle.equity_job.specs.declared.limits.TheConstants.{RUNOUT_MAX}
+use Rattle.hand_ranges.specs.declared.spot.Weighted.{Weighted}
 use Rattle.hand_ranges.specs.declared.tally.RangeCell.{RangeCell}
 use Rattle.hand_ranges.specs.declared.tally.RangeTally.{RangeTally}
 use Rattle.hand_ranges.specs.declared.tally.RangeJobFault.{RangeJobFault}
 use Rattle.hand_ranges.specs.declared.tally.RangeJobFault.TheVariants.{AboveLimit, NoChoice}
 use Rattle.hand_ranges.specs.Choices.{choices, over_choices, full_cell, full_units, full_weight, runouts_of_choice, are_above, has_no_choice}
 use Rattle.hand_ranges.specs.RangeSpot.{Ranges}
+
+-- ranges of one hand each
+abbrev pub ranges_of_one : List ℕ → List ℕ → List Weighted → Ranges
+ranges_of_one board dead choice =
+    record { board = board; dead = dead; ranges = map (λ w. w ∷ []) choice }
 
 -- how the runouts of all choices end for a player, and the units that they give him, each as often as its choice counts
 abbrev pub wins_of : Ranges → ℕ → ℕ
@@ -23,6 +29,14 @@ losses_of spot hand =
 
 abbrev pub units_of : Ranges → ℕ → ℕ
 units_of spot hand = over_choices (full_units spot.board spot.dead hand) spot.ranges
+
+-- a player's numbers, where each player has one hand, are those of his hand in the spot with these hands
+pub record IsSpotOf (board dead : List ℕ) (choice : List Weighted) (hand : ℕ) : Type 0 where
+  pub wins : wins_of (ranges_of_one board dead choice) hand ≡ (full_cell board dead hand choice).win
+  pub ties : ties_of (ranges_of_one board dead choice) hand ≡ (full_cell board dead hand choice).tie
+  pub losses : losses_of (ranges_of_one board dead choice) hand
+      ≡ (full_cell board dead hand choice).lose
+  pub given : units_of (ranges_of_one board dead choice) hand ≡ full_units board dead hand choice
 
 -- the cell of a player
 pub record IsCellOf (spot : Ranges) (hand : ℕ) (cell : RangeCell) : Type 0 where

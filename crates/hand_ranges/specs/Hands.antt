@@ -1,5 +1,5 @@
 -- The hands of a range and their weights.
-use Rattle.std.specs.Prelude.{ℕ, Bool, ◌==◌, ◌&&◌, ◌+◌, if◌then◌else◌, nat_le, nat_lt, List, [], ◌∷◌, map, Option, Some, None, is_some}
+use Rattle.std.specs.Prelude.{ℕ, Bool, ◌&&◌, ◌+◌, if◌then◌else◌, nat_le, nat_lt, List, [], ◌∷◌, map, Option, Some, None, is_some}
 use Rattle.std.specs.List.{list_all, filter_map, flat_map, sum_by}
 use Rattle.card_sets.specs.Cards.{deck, cards_above}
 use Rattle.card_sets.specs.Disjoint.{apart}

@@ -5,10 +5,12 @@ pub use Rattle.spot_text.specs.Parts
 pub mod Texts
 pub mod Items
 pub mod Hands
+pub mod ItemHands
 pub mod RangeSpot
 pub mod Sound
 pub mod Choices
 pub mod Taken
 pub mod Walks
+pub mod Boards
 pub mod Counted
 pub mod Blocks

@@ -1,11 +1,8 @@
 -- Where a walk over the ranges stands, and what it adds to a tally.
 use Rattle.std.specs.Prelude.{◌≡◌, ℕ, ◌+◌, ◌*◌, ◌≤◌, ◌^◌, ◌==◌, nat_lt, if◌then◌else◌, List, [], ◌∷◌, length, slice_index, slice_index_or}
-use Rattle.card_sets.specs.PlayerSets.{hands_below}
 use Rattle.card_sets.specs.declared.games.Side.TheVariants.{High}
 use Rattle.equity_job.specs.declared.limits.TheConstants.{RUNOUT_MAX}
 use Rattle.showdown_tally.specs.Cells.{Sums, cell_at, units_at}
-use Rattle.showdown_tally.specs.SetShares.{set_cell}
-use Rattle.showdown_tally.specs.Showdown.{part_of}
 use Rattle.showdown_tally.specs.declared.cells.Cell.{Cell}
 use Rattle.hand_ranges.specs.declared.spot.Weighted.{Weighted}
 use Rattle.hand_ranges.specs.declared.tally.RangeCell.{RangeCell}
@@ -97,13 +94,9 @@ count_adds n weight cells units (Ties hand) = hands_add n weight cells units (Ti
 count_adds n weight cells units (Losses hand) = hands_add n weight cells units (Losses hand)
 count_adds n weight cells units (Units hand) = hands_add n weight cells units (Units hand)
 
--- what the count of a choice, by its sums or by the set that wins its only runout, adds for the hands below n
+-- what the count of a choice adds, by its sums, for the hands below n
 abbrev pub sums_add : ℕ → ℕ → Sums → Column → ℕ
 sums_add n weight sums = hands_add n weight (λ h. cell_at sums 0 h High) (λ h. units_at sums 0 h)
-
-abbrev pub set_adds : ℕ → ℕ → ℕ → Column → ℕ
-set_adds n weight set =
-    hands_add n weight (λ h. set_cell n h set) (λ h. part_of 5040 (hands_below set n) h)
 
 -- and what it adds to the choices and their weight too
 abbrev pub choice_adds : ℕ → ℕ → Sums → Column → ℕ
@@ -116,6 +109,10 @@ added spot choice column = added_by spot column choice
 
 abbrev pub all_added : Ranges → List (List Weighted) → List Weighted → Column → ℕ
 all_added spot ranges taken column = walked ranges taken (added_by spot column)
+
+-- each number of a tally is what all choices add
+abbrev pub IsAllOf : Ranges → RangeTally → Type 0
+IsAllOf spot tally = (column : Column) → number_in tally column ≡ all_added spot spot.ranges [] column
 
 -- a cell, and so many times the runouts of another more
 abbrev pub cell_and : RangeCell → ℕ → Cell → RangeCell

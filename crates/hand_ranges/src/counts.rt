@@ -1,21 +1,20 @@
 //! The count of ranges.
 
-ghost use Rattle.std.specs.Prelude.{◌≡◌, ℕ, ◌+◌, ◌*◌, ◌<◌, ◌≤◌, ◌^◌, [], length, IfOk};
+ghost use Rattle.std.specs.Prelude.{◌≡◌, ℕ, ◌+◌, ◌*◌, ◌<◌, ◌≤◌, ◌^◌, [], length, false, IfOk};
 ghost use Rattle.equity_job.specs.declared.limits.TheConstants.{RUNOUT_MAX};
 ghost use Rattle.showdown_tally.specs.Tallies.{Counts, runouts_after};
 ghost use Rattle.hand_ranges.specs.Choices.{are_above, deal_of_choice, most_choices, runouts_of_choice};
 ghost use Rattle.hand_ranges.specs.Counted.{IsCountOf};
 ghost use Rattle.hand_ranges.specs.Sound.{IsSound};
 ghost use Rattle.hand_ranges.specs.RangeSpot.{ranges_in};
-ghost use Rattle.hand_ranges.specs.Taken.{AreValues, chosen};
-ghost use Rattle.hand_ranges.specs.Walks.{AreFew, AreNoneBeyond, Column, number_in};
-ghost use Rattle.hand_ranges.specs.Walks.{GrowsBy, IsWalk, IsWithin, added, all_added};
+ghost use Rattle.hand_ranges.specs.Taken.{chosen};
+ghost use Rattle.hand_ranges.specs.Walks.{AreFew, AreNoneBeyond, GrowsBy, IsAllOf, IsWalk, IsWithin, added, all_added};
 
-use crate::shown::{add_shown, value_beside};
+use crate::boards::count_by_boards;
 use crate::spot::{Range, RangeSpot};
 use crate::sums::add_count;
 use crate::taken::Taken;
-use crate::tally::{RangeCell, RangeJobFault, RangeTally};
+use crate::tally::{RangeJobFault, RangeTally, four_places, no_tally};
 use equity_job::{Job, RUNOUT_MAX, Scratch, count_job};
 use runout_ranges::count_choices;
 use showdown_tally::Tally;
@@ -42,9 +41,8 @@ fn add_choice(
     tally: &mut Tally,
     total: &mut RangeTally,
 )
-    // One hand of each range is taken, and what is kept of their values is right.
+    // One hand of each range is taken.
     requires walk { IsWalk (ranges_in spot.now) [] (chosen taken.now) }
-    requires values { AreValues spot.now.board (chosen taken.now) taken.now.values }
 
     // The tally has room for one choice more.
     requires few { total.old.choices < RUNOUT_MAX }
@@ -54,10 +52,6 @@ fn add_choice(
     ensures grows { GrowsBy total.old total.new (added (ranges_in spot.now) (chosen taken.now)) }
     ensures within { IsWithin total.new }
 {
-    if spot.board.count() == 5 {
-        add_shown(spot, taken, total);
-        return;
-    }
     taken.facts();
     count_choice(spot, taken, scratch, tally);
     add_count(total, taken.count, taken.weight, tally);
@@ -72,9 +66,8 @@ fn add_choices(
     tally: &mut Tally,
     total: &mut RangeTally,
 )
-    // One hand of each of the first ranges is taken, and what is kept of their values is right.
+    // One hand of each of the first ranges is taken.
     requires walk { IsWalk (ranges_in spot.now) ranges.now (chosen taken.now) }
-    requires values { AreValues spot.now.board (chosen taken.now) taken.now.values }
 
     // The tally has room for all choices that may go on from them.
     requires few { total.old.choices + most_choices ranges.now ≤ RUNOUT_MAX }
@@ -94,8 +87,7 @@ fn add_choices(
     let hands = range.hands();
     for w in hands {
         if taken.is_apart(w.hand) {
-            let value = value_beside(spot.board, w.hand);
-            let more = taken.with(*w, value);
+            let more = taken.with(*w, None);
             add_choices(spot, others, &more, scratch, tally, total);
         }
     }
@@ -134,30 +126,62 @@ fn are_above(spot: &RangeSpot, runouts: u64) -> bool
     u128::from(choices) * u128::from(runouts) > u128::from(RUNOUT_MAX)
 }
 
-/// A tally of no choice.
-fn no_tally(runouts: u64) -> RangeTally
-    ensures none { (column : Column) → number_in result column ≡ 0 }
-    ensures runouts { result.runouts ≡ runouts }
+/// The counts of all choices of one hand from each range in which no card is in two hands, a choice
+/// at a time.
+fn count_by_choices(spot: &RangeSpot, scratch: &mut Scratch) -> RangeTally
+    requires sound { IsSound (ranges_in spot.now) }
+    requires within { are_above RUNOUT_MAX (ranges_in spot.now) ≡ false }
+    ensures { IsAllOf (ranges_in spot.now) result }
 {
-    let none = RangeCell {
-        win: 0,
-        tie: 0,
-        lose: 0,
+    let mut total = no_tally();
+    let mut tally = Tally::zero();
+    add_choices(
+        spot,
+        &spot.ranges,
+        &Taken::none(),
+        scratch,
+        &mut tally,
+        &mut total,
+    );
+    total
+}
+
+/// How many hands the ranges have together.
+fn all_hands(ranges: &[Range]) -> u64
+    requires few { AreFew ranges.now }
+    requires four { length ranges.now ≤ 4 }
+    ensures { result ≤ 2048 * length ranges.now }
+{
+    let [range, others @ ..] = ranges else {
+        return 0;
     };
-    RangeTally {
-        choices: 0,
-        runouts,
-        weight: 0,
-        cells: [none; 4],
-        units: [0; 4],
+    range.hands().len() as u64 + all_hands(others)
+}
+
+/// Whether to count a choice at a time is faster: before the flop, where there are millions of boards, and
+/// on a flop where the choices are few beside the hands that would be valued on each board. Nothing but time
+/// depends on it.
+fn are_few(spot: &RangeSpot) -> bool
+    requires { IsSound (ranges_in spot.now) }
+{
+    match spot.board.count() {
+        0 => true,
+        3 => most_choices(&spot.ranges) < 6 * all_hands(&spot.ranges),
+        _ => false,
     }
 }
 
-/// A tally has four places. A law: the call does nothing.
-fn four_places(total: &RangeTally)
-    ensures { length total.now.cells ≡ 4 }
+/// The same, in the faster of two ways.
+fn count_all(spot: &RangeSpot, runouts: u64, scratch: &mut Scratch) -> RangeTally
+    requires sound { IsSound (ranges_in spot.now) }
+    requires runouts { runouts ≡ runouts_of_choice (ranges_in spot.now) }
+    requires within { are_above RUNOUT_MAX (ranges_in spot.now) ≡ false }
+    ensures { IsAllOf (ranges_in spot.now) result }
 {
-    let _cells: &[RangeCell] = &total.cells;
+    if are_few(spot) {
+        return count_by_choices(spot, scratch);
+    }
+    count_by_boards(spot, runouts)
 }
 
 /// The counts of all choices of one hand from each range in which no card is in two hands: how the
@@ -175,16 +199,7 @@ pub fn count_ranges(spot: &RangeSpot, scratch: &mut Scratch) -> Result<RangeTall
     if are_above(spot, runouts) {
         return Err(RangeJobFault::AboveLimit);
     }
-    let mut total = no_tally(0);
-    let mut tally = Tally::zero();
-    add_choices(
-        spot,
-        &spot.ranges,
-        &Taken::none(),
-        scratch,
-        &mut tally,
-        &mut total,
-    );
+    let mut total = count_all(spot, runouts, scratch);
     if total.choices == 0 {
         return Err(RangeJobFault::NoChoice);
     }

@@ -19,36 +19,50 @@
 //!    range.
 //! 2. *Limit* (`count_ranges`). The sizes of the ranges and the runouts of a choice are multiplied, and more
 //!    than `RUNOUT_MAX` of them aren't counted.
-//! 3. *Walk* (`counts`). One hand is taken from each range in turn. A hand that shares a card with one taken
-//!    before leads to no choice, and the walk turns back there.
-//! 4. *Choices* (`counts`, `shown`). A whole choice is one job of `equity_job`. Beside a full board the value
-//!    of each hand is worked out as it is taken, and a choice costs as many comparisons as it has hands.
+//! 3. *Boards* (`boards`, `beside`). From the flop on each board that can come is taken in turn, and each hand
+//!    that has no card of it is valued once beside it. Cells and units come of how often each set of hands wins
+//!    (`ends`).
+//! 4. *Choices* (`showdowns`, `versus`). Beside a board one hand is taken from each range in turn, and a hand that
+//!    shares a card with one taken before leads nowhere. Each hand of the last range is compared with the best of
+//!    those taken: two numbers and two sets of cards a choice.
+//! 5. *Before the flop* (`counts`). There are millions of boards and few choices, so there each choice is a job of
+//!    `equity_job`.
 //!
 //! The crate knows Texas Hold'em alone, and neither histories nor workers. It counts on the thread that calls
 //! it, in a room that it is lent; only what a line says takes memory.
 #![tactic(auto)]
 
+mod beside;
 mod blocks;
+mod boards;
 mod counts;
+mod ends;
 mod faults;
+mod item_laws;
 mod items;
 mod laws;
 mod lines;
 mod pairs;
 mod read;
 mod reading_laws;
-mod shown;
+mod showdowns;
 mod spot;
 mod sums;
 mod taken;
 mod tally;
 mod texts;
+mod versus;
 mod walks;
+mod winners;
 
 pub use blocks::write_ranges;
 pub use counts::count_ranges;
 pub use faults::RangeFault;
-pub use laws::{law_choices_are_walked, law_choices_have_equal_runouts};
+pub use item_laws::law_items_name_their_hands;
+pub use laws::{
+    law_choices_are_given_out, law_choices_are_walked, law_choices_have_equal_runouts,
+    law_one_hand_each_is_a_spot,
+};
 pub use read::read_ranges;
 pub use reading_laws::law_lines_give_sound_ranges;
 pub use spot::{Range, RangeSpot, Weighted};

@@ -1,6 +1,7 @@
 //! One hand from each of the first ranges.
 
-ghost use Rattle.std.specs.Prelude.{◌≡◌, ◌+◌, ◌-◌, ◌*◌, ◌<◌, ◌≤◌, ◌^◌, ◌++◌, [], ◌∷◌};
+ghost use Rattle.std.specs.Prelude.{◌≡◌, ℕ, List, ◌+◌, ◌-◌, ◌*◌, ◌<◌, ◌≤◌, ◌^◌, ◌++◌, [], ◌∷◌};
+ghost use Rattle.card_sets.specs.Cards.{IsCardSet};
 ghost use Rattle.std.specs.Prelude.{true, length, take, drop, set, replicate, IsTrue};
 ghost use Rattle.std.specs.List.{list_all};
 ghost use Rattle.card_sets.specs.Disjoint.{apart};
@@ -74,6 +75,7 @@ impl Taken {
         ensures disjoint { is_disjoint (take self.now.count self.now.hands) ≡ true }
         ensures product { self.now.weight ≡ weight_of (take self.now.count self.now.hands) }
         ensures light { self.now.weight ≤ 2 ^ 32 }
+        ensures three { self.now.count < 4 → self.now.weight ≤ 2 ^ 24 }
     {
         let _hands: &[Weighted] = &self.hands;
         let _values: &[Option<u32>] = &self.values;
@@ -86,6 +88,18 @@ impl Taken {
     {
         let hands = &self.hands[..usize::from(self.count)];
         hands.iter().all(|w| w.hand.is_apart(hand))
+    }
+
+    /// All their cards.
+    pub(crate) fn cards(&self) -> CardSet
+        ensures { (hand : List ℕ) → IsCardSet hand → apart hand result
+            ≡ list_all (λ w. apart w.hand hand) (take self.now.count self.now.hands) }
+    {
+        let mut cards = CardSet::empty();
+        for w in &self.hands[..usize::from(self.count)] {
+            cards = cards.union(w.hand);
+        }
+        cards
     }
 
     /// These and one more, and what it is worth.

@@ -4,6 +4,8 @@
 #[cfg(test)]
 mod book;
 #[cfg(test)]
+mod gates;
+#[cfg(test)]
 mod machine;
 #[cfg(test)]
 mod runs;

@@ -3,7 +3,8 @@
 ghost use Rattle.std.specs.Prelude.{◌<◌};
 ghost use Rattle.std.specs.List.Sorted.{IsStrictlyIncreasing};
 
-use crate::workers::HoldsTheFirst;
+use crate::gates::{HoldsTheFirst, HoldsUntilFour, Notes};
+use crate::spots::FIFTH_STREET;
 use byte_ends::{MemorySink, MemorySource};
 use run_engine::{run, run_alone};
 use std::alloc::Global;
@@ -166,5 +167,39 @@ fn a_run_goes_on_while_one_of_two_workers_is_held(rt: HostRuntime) -> Result<(),
     let words = owned(rt.alloc(), &["spots", "--workers", "2"])?;
     let ran = shared(&rt, rt.alloc(), words.as_slice(), PREFLOP, &gate)?;
     assert!(rt; ran.status == 0 && gate.was_released());
+    Ok(())
+}
+
+#[test]
+fn a_run_has_four_workers_inside_at_once(rt: HostRuntime) -> Result<(), Fail> {
+    let gate = HoldsUntilFour::new();
+    let words = owned(rt.alloc(), &["spots", "--workers", "4"])?;
+    let ran = shared(&rt, rt.alloc(), words.as_slice(), FIFTH_STREET, &gate)?;
+    assert!(rt; ran.status == 0 && gate.were_four());
+    Ok(())
+}
+
+/// Spots with dead cards, and whether workers count their runouts: hold'em with C(47, 5) in 24 blocks; a draw of four cards and of
+/// one, C(35, 4) * 31 in 25; and of three and of two, C(31, 3) * C(28, 2) in 26.
+const AROUND_THE_BOUND: &[(&[u8], bool)] = &[
+    (b"holdem As Ah - Ks Kh / 2c\n", false),
+    (
+        b"lowball27 2s - 3s 4h 5d 7c / 8c 8d 8h 8s 9c 9d 9h 9s Tc Td Th Ts\n",
+        true,
+    ),
+    (
+        b"lowball27 2s 3s - 4h 5d 7c / 8c 8d 8h 8s 9c 9d 9h 9s Tc Td Th Ts Jc Jd Jh Js\n",
+        true,
+    ),
+];
+
+#[test]
+fn workers_count_from_a_bound_on(rt: HostRuntime) -> Result<(), Fail> {
+    let words = owned(rt.alloc(), &["spots", "--workers", "2"])?;
+    for (line, are_shared) in AROUND_THE_BOUND {
+        let gate = Notes::new();
+        let ran = shared(&rt, rt.alloc(), words.as_slice(), line, &gate)?;
+        assert!(rt; ran.status == 0 && gate.has_some() == *are_shared);
+    }
     Ok(())
 }

@@ -2,84 +2,16 @@
 
 ghost use Rattle.std.specs.Prelude.{◌≤◌};
 
-use crate::spots::{ACES_AND_KINGS, has_all_blocks, job_of};
+use crate::gates::{HoldsTheFirst, HoldsUntilFour};
+use crate::spots::{ACES_AND_KINGS, FIFTH_STREET, has_all_blocks, job_of};
 use card_sets::Side;
 use equity_job::{Job, Scratch, count_job};
 use showdown_tally::Tally;
 use std::alloc::Global;
 use std::sync::Wait;
-use std::sync::atomic::{AtomicU64, Ordering};
 use std::test::Fail;
 use std::thread::Threads;
-use steal_pool::{Gate, OpenGate, count_with_workers};
-
-/// A bit for each of the 27 blocks of aces against kings before the flop, of 1,712,304 runouts.
-const BLOCKS: u64 = (1 << 27) - 1;
-
-/// After how many turns without a new block a held worker is let go.
-const TURNS: u64 = 1_000_000_000;
-
-/// Holds the worker that enters the first block until all others are entered, which only another worker can do
-/// meanwhile.
-#[derive(Drop)]
-pub(crate) struct HoldsTheFirst {
-    /// A bit for each block that was entered.
-    entered: AtomicU64,
-    /// Blocks that were entered twice.
-    again: AtomicU64,
-    /// Whether the worker was let go since nobody came.
-    in_vain: AtomicU64,
-}
-
-impl HoldsTheFirst {
-    pub(crate) fn new() -> HoldsTheFirst {
-        HoldsTheFirst {
-            entered: AtomicU64::new(0),
-            again: AtomicU64::new(0),
-            in_vain: AtomicU64::new(0),
-        }
-    }
-
-    /// Whether each block was entered once, and the held worker was let go since all others were.
-    pub(crate) fn was_released(&self) -> bool {
-        self.in_vain.load(Ordering::SeqCst) == 0
-            && self.entered.load(Ordering::SeqCst) == BLOCKS
-            && self.again.load(Ordering::SeqCst) == 0
-    }
-
-    /// Returns when all blocks are entered, or none was for many turns.
-    fn hold(&self) {
-        let mut seen = 0;
-        let mut turns: u64 = 0;
-        for _ in 0..u64::MAX {
-            let entered = self.entered.load(Ordering::SeqCst);
-            if entered == BLOCKS {
-                return;
-            }
-            turns = if entered == seen {
-                turns.saturating_add(1)
-            } else {
-                0
-            };
-            seen = entered;
-            if turns >= TURNS {
-                self.in_vain.store(1, Ordering::SeqCst);
-                return;
-            }
-        }
-    }
-}
-
-impl Gate for HoldsTheFirst {
-    fn enter(&self, _worker: u32, block: u32) {
-        let bit = 1 << (block % 64);
-        let before = self.entered.fetch_or(bit, Ordering::SeqCst);
-        self.again.fetch_or(before & bit, Ordering::SeqCst);
-        if before == 0 {
-            self.hold();
-        }
-    }
-}
+use steal_pool::{OpenGate, count_with_workers};
 
 /// The job of aces against kings.
 fn preflop() -> Option<Job> {
@@ -124,6 +56,18 @@ fn a_free_worker_takes_the_blocks_of_a_held_one(rt: HostRuntime) -> Result<(), F
         .ok()
         .ok_or("memory")?;
     assert!(rt; gate.was_released() && closed.by_workers == 27);
+    Ok(())
+}
+
+#[test]
+fn four_workers_are_inside_at_once(rt: HostRuntime) -> Result<(), Fail> {
+    let job = job_of(FIFTH_STREET).ok_or("a job")?;
+    let gate = HoldsUntilFour::new();
+    let closed = count_with_workers(&rt, rt.alloc(), &job, 4, &gate)
+        .ok()
+        .ok_or("memory")?;
+    assert!(rt; gate.were_four());
+    assert!(rt; closed.total.runouts() == 9_085_230 && closed.by_workers == 139);
     Ok(())
 }
 

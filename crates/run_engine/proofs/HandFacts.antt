@@ -1,9 +1,8 @@
 -- What is written of a hand, part by part.
-use Rattle.std.proofs.Common.{◌≡◌, ℕ, Bool, true, false, if◌then◌else◌, List, [], ◌++◌, Option, Some, refl, ap, sym, ◌∙◌, append_assoc}
+use Rattle.std.proofs.Common.{◌≡◌, ℕ, Bool, true, false, if◌then◌else◌, List, [], ◌++◌, Some, refl, ap, sym, ◌∙◌, append_assoc}
 use Rattle.std.specs.List.{flat_map}
-use Rattle.hand_audit.specs.Streets.{has_known_all_in}
+use Rattle.hand_audit.specs.Streets.{states_in, streets_of}
 use Rattle.hand_audit.specs.declared.streets.StreetState.{StreetState}
-use Rattle.hand_audit.specs.declared.verdicts.AllIn.{AllIn}
 use Rattle.hand_audit.specs.declared.verdicts.AllIn.TheVariants.{None as NoAllIn, Unknown, Known}
 use Rattle.hand_audit.specs.declared.verdicts.HandAudit.TheVariants.{Rejected, Accepted}
 use Rattle.hand_audit.specs.declared.verdicts.HandAudit.{HandAudit}
@@ -36,9 +35,15 @@ pub streets_some : (form : Form) (audit : HandAudit) (states : List StreetState)
 unfolding street_blocks
 streets_some form audit states some = sym (ap (λ (b : Bool). if b then flat_map (street_block form audit) states else []) some)
 
--- an all-in that is counted is known
-pub counted_known : (audit : HandAudit) → has_counted audit ≡ true → has_known_all_in (Some audit) ≡ true
-counted_known (Rejected line cause hundredths) some = some
-counted_known (Accepted settlement NoAllIn names players) some = some
-counted_known (Accepted settlement Unknown names players) some = some
-counted_known (Accepted settlement (Known street seats table) names players) some = refl
+-- the later streets of a verdict are written as those of the hand's lines: of a rejected hand there are none either way
+pub streets_by_lines : (form : Form) (audit : HandAudit) (lines : List (List ℕ)) →
+    street_blocks form audit (streets_of audit lines) ≡ street_blocks form audit (states_in lines)
+unfolding street_blocks
+streets_by_lines form (Rejected line cause hundredths) lines = refl
+streets_by_lines form (Accepted settlement all_in names players) lines = refl
+
+-- behind what there was
+pub told_by_lines : (form : Form) (audit : HandAudit) (lines : List (List ℕ)) (states : List StreetState) (items : List ℕ) →
+    states ≡ streets_of audit lines → items ++ street_blocks form audit states ≡ items ++ street_blocks form audit (states_in lines)
+told_by_lines form audit lines states items same =
+    ap (λ each. items ++ street_blocks form audit each) same ∙ ap (λ blocks. items ++ blocks) (streets_by_lines form audit lines)

@@ -1,14 +1,17 @@
-pub mod ReadFacts
 pub mod WriteFacts
 pub mod RunEnds
 pub mod RunFacts
 pub mod InputPieces
 pub mod AskedUnits
+pub mod CuttingFacts
 pub mod UnitFacts
 pub mod HandFacts
 pub mod RangeFacts
 pub mod WritingFacts
-pub mod SumFacts
+pub mod OrderFacts
+pub mod UsageOrder
+pub mod OrderTells
+pub mod SumOrder
 pub mod TotalsFacts
 pub mod HandNumbers
 mod LineRows

@@ -1,10 +1,9 @@
 -- What is known of a line with ranges by what is read and counted of it.
-use Rattle.std.proofs.Common.{◌≡◌, ℕ, Bool, true, false, ◌&&◌, not, List, Result, Ok, Err, refl, sym, ap, ◌∙◌}
+use Rattle.std.proofs.Common.{◌≡◌, ℕ, false, ◌&&◌, not, List, Result, Ok, Err, sym, ap, ◌∙◌}
 use Rattle.std.specs.Prelude.{IfOk}
 use mathlib.Core.Bool.{true≢false}
-use Rattle.equity_job.specs.declared.limits.TheConstants.{RUNOUT_MAX}
 use Rattle.hand_ranges.specs.Blocks.{seen_ranges}
-use Rattle.hand_ranges.specs.Choices.{are_above, has_no_choice}
+use Rattle.hand_ranges.specs.Choices.{has_no_choice}
 use Rattle.hand_ranges.specs.Counted.{IsCountOf}
 use Rattle.hand_ranges.specs.Sound.{IsSound}
 use Rattle.hand_ranges.specs.RangeSpot.{IsFaultOf, Ranges, ranges_in, ranges_of}

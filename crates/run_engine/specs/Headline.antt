@@ -1,4 +1,5 @@
--- What a run of the program does: its status, and what it reads and writes.
+-- What a run of the program does: its status, and what it reads and writes. In which order is in `Order`, and all that stands here
+-- follows from that.
 use Rattle.std.specs.Prelude.{◌≡◌, ℕ, ◌<◌, ◌≤◌, ◌==◌, true, false, if◌then◌else◌, List, length, take, Option, IfSome, IfNone, IsNone, IsSomeAnd, ◌⊎◌}
 use Rattle.std.specs.List.{concat}
 use Rattle.byte_ends.specs.Ends.{Rises, WritesAll, WritesFront}
@@ -41,7 +42,7 @@ pub record IsReadFault (limit : ℕ) (command : Command) (old new : Ends) : Type
   pub written : WritesAll old.taken new.taken (report command (closed command.mode bytes))
 
 -- a write failed: a front of the report is written, that of all that was taken where the source was read to its end, and that
--- of its closed part where a read failed, there was more than the limit, or the reading goes on. Which of the four it was, the ends tell
+-- of its closed part where a read failed, there was more than the limit, or the reading goes on
 pub record IsWriteFault (limit : ℕ) (command : Command) (old new : Ends) : Type 0 where
   pub rises : Rises old.write_faults new.write_faults
   pub bytes : List ℕ

@@ -1,9 +1,10 @@
 -- The block of a hand in the report.
-use Rattle.std.specs.Prelude.{ℕ, Bool, true, false, List, [], ◌∷◌, ◌++◌, Option, Some, None}
+use Rattle.std.specs.Prelude.{◌≡◌, ℕ, Bool, true, false, List, [], ◌∷◌, ◌++◌, Option, Some, None}
 use Rattle.std.specs.List.{slice_range}
 use Rattle.hand_cuts.specs.Units.{UnitLines}
 use Rattle.history_text.specs.Headers.{hand_number}
-use Rattle.hand_audit.specs.Streets.{states_in}
+use Rattle.hand_audit.specs.Streets.{states_in, streets_of}
+use Rattle.hand_audit.specs.declared.streets.StreetState.{StreetState}
 use Rattle.hand_audit.specs.Verdict.{audit_of}
 use Rattle.hand_audit.specs.declared.verdicts.HandAudit.{HandAudit}
 use Rattle.hand_audit.specs.declared.verdicts.HandAudit.TheVariants.{Rejected, Accepted}
@@ -33,6 +34,12 @@ abbrev pub streets_told : Form → Told → UnitLines → HandAudit → List ℕ
 streets_told form Verdict hand audit = []
 streets_told form AllIn hand audit = []
 streets_told form LaterStreets hand audit = street_blocks form audit (states_in hand.lines)
+
+-- these are the later streets of a hand of this verdict, where they are told
+abbrev pub HasStreets : Told → List (List ℕ) → HandAudit → List StreetState → Type 0
+HasStreets Verdict lines audit states = Unit {0}
+HasStreets AllIn lines audit states = Unit {0}
+HasStreets LaterStreets lines audit states = states ≡ streets_of audit lines
 
 -- the block of a hand, by its verdict
 abbrev pub block_by : Form → Told → UnitLines → Option HandAudit → List ℕ

@@ -31,3 +31,6 @@ pub mod Units
 pub mod UnitBlocks
 pub mod UnitSums
 pub mod Reporting
+pub mod Order
+pub mod Cutting
+pub mod TextReads

@@ -1,5 +1,5 @@
 -- The report of a command on some bytes: a block for each spot or hand, or one block for all of them.
-use Rattle.std.specs.Prelude.{ℕ, ◌+◌, ◌-◌, Bool, true, false, ◌&&◌, not, if◌then◌else◌, List, [], ◌∷◌, map, count_by}
+use Rattle.std.specs.Prelude.{ℕ, ◌+◌, ◌-◌, Bool, ◌&&◌, not, if◌then◌else◌, List, [], ◌∷◌, map, count_by}
 use Rattle.std.specs.List.{concat, filter_map}
 use Rattle.std.specs.Result.{is_err}
 use Rattle.hand_audit.specs.declared.verdicts.HandAudit.{HandAudit}

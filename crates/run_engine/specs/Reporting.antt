@@ -1,29 +1,28 @@
--- What becomes of a report that is written while its input is read.
-use Rattle.std.specs.Prelude.{◌≡◌, ℕ, List, Result, Ok, Err}
-use Rattle.byte_ends.specs.Ends.{WritesAll}
-use Rattle.run_engine.specs.Headline.{Ends, IsMemoryShort, IsWriteFault}
-use Rattle.run_engine.specs.Reading.{Counted, EndsSo, reported}
-use Rattle.run_engine.specs.Report.{report, rejects}
-use Rattle.run_engine.specs.declared.command.Command.{Command}
+-- What becomes of a report and of the usage line.
+use Rattle.std.specs.Prelude.{◌≡◌, ℕ, List, Option, Result, Ok, Err, ◌⊎◌}
+use Rattle.byte_ends.specs.Ends.{WritesOut}
+use Rattle.byte_ends.specs.declared.Failed.{Failed as Fault}
+use Rattle.run_engine.specs.Command.{usage_line}
+use Rattle.run_engine.specs.Headline.{written_status}
 use Rattle.run_engine.specs.declared.reading.Ending.{Ending}
-use Rattle.run_engine.specs.declared.reading.Ending.TheVariants.{Open}
 use Rattle.run_engine.specs.declared.write_fault.WriteFault.{WriteFault}
 use Rattle.run_engine.specs.declared.write_fault.WriteFault.TheVariants.{Failed, Memory}
 
--- the reading has ended, and the report of what was read is written
-pub record IsWritten (limit : ℕ) (command : Command) (ending : Ending) (rejected : ℕ)
-    (old new : Ends) : Type 0 where
-  pub ended : ending ≡ Open → ⊥
-  pub bytes : List ℕ
-  pub counted : Counted limit old.left new.left bytes
-  pub ends : EndsSo limit old.left new.left old.read_faults new.read_faults bytes ending
-  pub written : WritesAll old.taken new.taken (report command (reported command.mode ending bytes))
-  pub count : rejected ≡ rejects command (reported command.mode ending bytes)
-  pub fine : new.write_faults ≡ old.write_faults
+-- the status that a report ends with
+abbrev pub told_status : Ending → Result ℕ WriteFault → ℕ
+told_status ending (Ok rejected) = written_status ending rejected
+told_status ending (Err Failed) = 4
+told_status ending (Err Memory) = 6
 
--- all is written, a write failed, or memory ran out and no write failed
-abbrev pub Reports : ℕ → Command → Ending → Ends → Ends → Result ℕ WriteFault → Type 0
-Reports limit command ending old new (Ok rejected) = IsWritten limit command ending rejected old new
-Reports limit command ending old new (Err Failed) = IsWriteFault limit command old new
-Reports limit command ending old new (Err Memory) =
-    IsMemoryShort limit command old new × (new.write_faults ≡ old.write_faults)
+-- what becomes of one block of all hands, and how many are rejected: it is written, a write of it fails, or for want of memory
+-- nothing is written
+abbrev pub WritesMade : {K : Type 0} → (K → K → Option (List ℕ) → Type 0) → K → K → List ℕ → ℕ → Result ℕ WriteFault → Type 0
+WritesMade writes old new block count (Ok rejected) = WritesOut writes old new block (Ok tt) × (rejected ≡ count)
+WritesMade writes old new block count (Err Failed) = (fault : Fault) × WritesOut writes old new block (Err fault)
+WritesMade writes old new block count (Err Memory) = new ≡ old
+
+-- what becomes of the usage line, and the status: it is written, or a write of it fails
+abbrev pub WritesUsage : {K : Type 0} → (K → K → Option (List ℕ) → Type 0) → K → K → ℕ → Type 0
+WritesUsage writes old new status =
+    (status ≡ 2) × WritesOut writes old new usage_line (Ok tt)
+    ⊎ (status ≡ 4) × (fault : Fault) × WritesOut writes old new usage_line (Err fault)

@@ -1,24 +1,28 @@
 -- The sums over the hands of an input.
-use Rattle.std.specs.Prelude.{◌≡◌, ℕ, List, Result, Ok, Err}
+use Rattle.std.specs.Prelude.{◌≡◌, ℕ, List, [], Option, Result, Ok, Err, ⊤}
 use Rattle.std.specs.List.{filter_map}
 use Rattle.card_sets.specs.declared.Memory.{Memory}
 use Rattle.hand_audit.specs.declared.verdicts.HandAudit.{HandAudit}
-use Rattle.hand_cuts.specs.Units.{UnitLines}
+use Rattle.hand_cuts.specs.Units.{units_in}
 use Rattle.hand_cuts.specs.declared.units.CutKind.TheVariants.{Hands}
 use Rattle.run_engine.specs.Histories.{verdict_of}
-use Rattle.run_engine.specs.Units.{IsBegun, IsEnded, Reader}
+use Rattle.run_engine.specs.Cutting.{ReadsAll}
+use Rattle.run_engine.specs.Units.{is_whole}
 use Rattle.run_engine.specs.declared.reading.Ending.{Ending}
+use Rattle.run_engine.specs.declared.reading.Ending.TheVariants.{Open}
 
--- the reading has ended, and the sums are those of the verdicts on all hands of what is reported
-pub record IsSummed {Sums : Type 0} (sums_of : List HandAudit → Sums) (limit : ℕ)
-    (old now : Reader) (ending : Ending) (sums : Sums) : Type 0 where
-  pub hands : List UnitLines
-  pub ended : IsEnded limit old now Hands ending hands
-  pub summed : sums ≡ sums_of (filter_map verdict_of hands)
+-- the sums are those of the verdicts on all hands of the bytes that count, when the reading has ended
+abbrev pub SumsOf : {Sums : Type 0} → (List HandAudit → Sums) → Ending → Ending → List ℕ → Sums → Result (Unit {0}) Memory → Type 0
+SumsOf sums_of ending behind bytes sums (Ok _) =
+    (ending ≡ behind) × (behind ≡ Open → ⊥)
+    × (sums ≡ sums_of (filter_map verdict_of (units_in Hands (is_whole behind) 1 bytes)))
+SumsOf sums_of ending behind bytes sums (Err _) = ⊤
 
--- or memory ran out, behind some first hands
-abbrev pub SumsUp : {Sums : Type 0} → (List HandAudit → Sums) → ℕ → Reader → Reader → Ending →
-    Sums → Result (Unit {0}) Memory → Type 0
-SumsUp sums_of limit old now ending sums (Ok _) = IsSummed sums_of limit old now ending sums
-SumsUp sums_of limit old now ending sums (Err _) =
-    (how : Ending) × (hands : List UnitLines) × IsBegun limit old now Hands how hands
+-- the reads that were made for them
+pub record SumsInOrder {S Sums : Type 0} (reads : S → S → Option (List ℕ) → Type 0) (sums_of : List HandAudit → Sums) (limit : ℕ)
+    (old new : S) (ending : Ending) (sums : Sums) (result : Result (Unit {0}) Memory) : Type 0 where
+  pub made : List (Option (List ℕ))
+  pub behind : Ending
+  pub bytes : List ℕ
+  pub order : ReadsAll reads limit old Open [] made new behind bytes
+  pub summed : SumsOf sums_of ending behind bytes sums result

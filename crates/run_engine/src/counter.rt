@@ -1,6 +1,6 @@
 //! Who counts equities, and the last one that was asked for.
 
-ghost use Rattle.std.specs.Prelude.{◌≡◌, ⊤, OnOk, true};
+ghost use Rattle.std.specs.Prelude.{◌≡◌, ◌<◌, ⊤, OnOk, true};
 ghost use Rattle.card_sets.specs.State.{state_of};
 ghost use Rattle.hand_ranges.specs.Counted.{IsCountOf};
 ghost use Rattle.hand_ranges.specs.Sound.{IsSound};
@@ -11,11 +11,16 @@ ghost use Rattle.showdown_tally.specs.Deals.{deal_of};
 ghost use Rattle.showdown_tally.specs.Tallies.{Counts, runouts_after};
 
 use card_sets::Memory;
-use equity_job::{Job, Scratch, count_job};
+use equity_job::{Job, Scratch};
 use hand_audit::{AllIn, HandAudit, StreetState};
 use hand_ranges::{RangeJobFault, RangeSpot, RangeTally, count_ranges};
 use report_table::Equity;
 use showdown_tally::{Table, Tally};
+use std::alloc::Global;
+use std::marker::Brand;
+use std::sync::ledger::Blank;
+use steal_pool::count_alone;
+use tally_book::{Book, Naming};
 
 /// Counts jobs, and spots with ranges.
 pub(crate) trait Counter {
@@ -34,36 +39,81 @@ pub(crate) trait Counter {
         ensures { IsCountOf (ranges_in spot.now) result };
 }
 
-/// Counts on the thread that asks, in a room that is made for the first count. It takes no memory.
+/// Counts on the thread that asks, in a room that is made for the first count. It takes memory for the marks of
+/// a book alone.
 #[derive(Drop)]
 pub(crate) struct Alone {
-    pub(crate) scratch: Option<Scratch>,
+    alloc: Global,
+    scratch: Option<Scratch>,
 }
 
 impl Alone {
+    /// Nothing was counted.
+    pub(crate) fn new(alloc: Global) -> Alone {
+        Alone {
+            alloc,
+            scratch: None,
+        }
+    }
+
     /// Makes a tally that of all runouts of a job, whatever it held.
-    pub(crate) fn count_here(&mut self, job: &Job, tally: &mut Tally)
-        ensures { Counts (deal_of job.now.table)
-            (runouts_after (state_of job.now.table.known)) tally.new }
+    pub(crate) fn count_here(&mut self, job: &Job, tally: &mut Tally) -> Result<(), Memory>
+        ensures { OnOk result (Counts (deal_of job.now.table)
+            (runouts_after (state_of job.now.table.known)) tally.new) }
     {
         if let Some(scratch) = &mut self.scratch {
-            count_job(job, scratch, tally);
-            return;
+            return count_booked(self.alloc, job, scratch, tally);
         }
-        self.count_first(job, tally);
+        self.count_first(job, tally)
     }
 
     /// The same where the room is still to be made. It has a frame of its own, so that no other call touches the
-    /// megabyte of stack that this takes.
+    /// stack through which the room goes, two to three megabytes.
     #[inline(never)]
-    fn count_first(&mut self, job: &Job, tally: &mut Tally)
-        ensures { Counts (deal_of job.now.table)
-            (runouts_after (state_of job.now.table.known)) tally.new }
+    fn count_first(&mut self, job: &Job, tally: &mut Tally) -> Result<(), Memory>
+        ensures { OnOk result (Counts (deal_of job.now.table)
+            (runouts_after (state_of job.now.table.known)) tally.new) }
     {
         let mut scratch = Scratch::new();
-        count_job(job, &mut scratch, tally);
+        let counted = count_booked(self.alloc, job, &mut scratch, tally);
         self.scratch = Some(scratch);
+        counted
     }
+}
+
+/// Makes a tally that of all runouts of a job, by a book of its own, whatever it held.
+fn count_booked(
+    alloc: Global,
+    job: &Job,
+    scratch: &mut Scratch,
+    tally: &mut Tally,
+) -> Result<(), Memory>
+    ensures { OnOk result (Counts (deal_of job.now.table)
+        (runouts_after (state_of job.now.table.known)) tally.new) }
+{
+    count_named::<Brand>(alloc, job, Blank::new(1), scratch, tally)
+}
+
+/// The same with the ledger that `N` names.
+fn count_named<N: Naming>(
+    alloc: Global,
+    job: &Job,
+    blank: Blank,
+    scratch: &mut Scratch,
+    tally: &mut Tally,
+) -> Result<(), Memory>
+    // `N` names the deal of the job, and a ledger of which no part was split off.
+    requires named { deal_of job.now.table ≡ N.deal }
+    requires name { blank.name ≡ N.name }
+    requires parts { blank.parts ≡ N.parts }
+    requires some { 0 < blank.parts }
+
+    // The tally is that of all runouts.
+    ensures { OnOk result (Counts N.deal (runouts_after N.deal.state) tally.new) }
+{
+    let (book, whole) = Book::<N>::start(alloc, job, blank)?;
+    *tally = count_alone(job, book, whole, scratch).total;
+    Ok(())
 }
 
 impl Alone {
@@ -93,8 +143,7 @@ impl Alone {
 
 impl Counter for Alone {
     fn count(&mut self, job: &Job, _workers: u32, tally: &mut Tally) -> Result<(), Memory> {
-        self.count_here(job, tally);
-        Ok(())
+        self.count_here(job, tally)
     }
 
     fn count_ranges(&mut self, spot: &RangeSpot) -> Result<RangeTally, RangeJobFault> {

@@ -2,19 +2,18 @@
 
 ghost use Rattle.std.specs.Prelude.{◌≡◌, ◌<◌, ◌≤◌, ◌+◌, ◌^◌, [], ◌++◌, IfOk, OnOk, IsTrue, Some, true, length, drop, slice_range};
 ghost use Rattle.std.specs.List.{flat_map};
-ghost use Rattle.hand_audit.specs.Streets.{states_in};
 ghost use Rattle.hand_audit.specs.Verdict.{audit_of};
 ghost use Rattle.report_table.specs.Equities.{IsOfHand, is_asked};
 ghost use Rattle.report_table.specs.Streets.{street_block, street_blocks};
 ghost use Rattle.hand_audit.specs.Departs.{begins_hand};
 ghost use Rattle.line_text.specs.Lines.{lines};
 ghost use Rattle.hand_cuts.specs.Units.{UnitLines};
-ghost use Rattle.run_engine.specs.Histories.{hand_block, is_rejected_hand, is_rejection, number_text, streets_told, tells_all_in};
+ghost use Rattle.run_engine.specs.Histories.{hand_block, is_rejected_hand, is_rejection, number_text, streets_told, tells_all_in, HasStreets};
 
 use crate::counter::{Counter, Desk};
 use crate::listed::Told;
 use card_sets::Memory;
-use hand_audit::{HandAudit, StreetState, audit_hand, later_streets};
+use hand_audit::{AuditedStreets, HandAudit, StreetState, audit_hand, audit_with_streets};
 use history_text::hand_number;
 use line_text::next_line;
 use report_table::{Form, has_counted, write_hand, write_street};
@@ -68,65 +67,70 @@ fn write_states<C: Counter>(
     Ok(())
 }
 
-/// Appends the blocks of the streets of a hand behind its all-in, where that is counted. The desk has the
+/// Appends the blocks of some streets of a hand behind its all-in, where that is counted. The desk has the
 /// equity of the hand.
 fn write_streets<C: Counter>(
-    alloc: Global,
     form: Form,
-    bytes: &[u8],
-    first: u32,
     audit: &HandAudit,
+    states: &[StreetState],
     desk: &mut Desk<C>,
     block: &mut Vec<u8>,
 ) -> Result<(), Memory>
-    // The bytes are a hand, and the verdict is that on it.
     requires ready { C.ready }
-    requires header { IsTrue (begins_hand (lines bytes.now)) }
-    requires audit { audit_of first (lines bytes.now) ≡ Some audit.now }
-
-    // The equity was asked for, and is that of the hand.
     requires asked { is_asked desk.old.equity ≡ true }
     requires equity { IsOfHand audit.now desk.old.equity }
-
-    // The blocks of its later streets stand behind what there was.
     ensures { OnOk result (block.new.items
-        ≡ block.old.items ++ street_blocks form audit.now (states_in (lines bytes.now))) }
+        ≡ block.old.items ++ street_blocks form audit.now states.now) }
 {
     if !has_counted(audit, &desk.equity) {
         return Ok(());
     }
-    let states = later_streets(alloc, bytes, first)?;
-    write_states(form, audit, &states, desk, block)
+    write_states(form, audit, states, desk, block)
+}
+
+/// The verdict on a hand, with its later streets where they are told: one reading gives both.
+fn read_hand(alloc: Global, told: Told, bytes: &[u8], first: u32) -> Result<AuditedStreets, Memory>
+    requires header { IsTrue (begins_hand (lines bytes.now)) }
+    requires numbers { first + length (lines bytes.now) < 2 ^ 32 }
+    ensures verdict { IfOk result (λ both.
+        audit_of first (lines bytes.now) ≡ Some both.audit) }
+    ensures streets { IfOk result (λ both.
+        HasStreets told (lines bytes.now) both.audit both.streets.items) }
+{
+    match told {
+        Told::Verdict | Told::AllIn => {
+            let audit = audit_hand(alloc, bytes, first)?;
+            Ok(AuditedStreets {
+                audit,
+                streets: Vec::new(alloc),
+            })
+        }
+        Told::LaterStreets => audit_with_streets(alloc, bytes, first),
+    }
 }
 
 /// Appends what is told of a hand behind the block of its verdict and its all-in. The desk has the equity of
 /// the hand.
 fn write_told<C: Counter>(
-    alloc: Global,
     form: Form,
     told: Told,
-    bytes: &[u8],
-    first: u32,
-    audit: &HandAudit,
+    hand: &AuditedStreets,
     desk: &mut Desk<C>,
     block: &mut Vec<u8>,
 ) -> Result<(), Memory>
-    // The bytes are a hand, and the verdict is that on it.
-    requires ready { C.ready }
-    requires header { IsTrue (begins_hand (lines bytes.now)) }
-    requires audit { audit_of first (lines bytes.now) ≡ Some audit.now }
-
     // The equity was asked for where it is told, and is that of the hand.
+    requires ready { C.ready }
     requires asked { is_asked desk.old.equity ≡ tells_all_in told }
-    requires equity { IsOfHand audit.now desk.old.equity }
+    requires equity { IsOfHand hand.now.audit desk.old.equity }
 
     // What is told of its streets stands behind what there was.
-    ensures { OnOk result (block.new.items ≡ block.old.items
-        ++ streets_told form told (record { first = first; lines = lines bytes.now }) audit.now) }
+    ensures { (unit : UnitLines) → HasStreets told unit.lines hand.now.audit hand.now.streets.items
+        → OnOk result (block.new.items
+        ≡ block.old.items ++ streets_told form told unit hand.now.audit) }
 {
     match told {
         Told::Verdict | Told::AllIn => Ok(()),
-        Told::LaterStreets => write_streets(alloc, form, bytes, first, audit, desk, block),
+        Told::LaterStreets => write_streets(form, &hand.audit, &hand.streets, desk, block),
     }
 }
 
@@ -149,9 +153,9 @@ pub(crate) fn write_lines<C: Counter>(
     ensures rejected { IfOk result (λ rejected. rejected
         ≡ is_rejected_hand (record { first = first; lines = lines bytes.now })) }
 {
-    let audit = audit_hand(alloc, bytes, first)?;
-    desk.ask_hand(told.tells_all_in(), &audit)?;
-    write_hand(block, number_text(bytes), &audit, &desk.equity, form)?;
-    write_told(alloc, form, told, bytes, first, &audit, desk, block)?;
-    Ok(is_rejection(&audit))
+    let hand = read_hand(alloc, told, bytes, first)?;
+    desk.ask_hand(told.tells_all_in(), &hand.audit)?;
+    write_hand(block, number_text(bytes), &hand.audit, &desk.equity, form)?;
+    write_told(form, told, &hand, desk, block)?;
+    Ok(is_rejection(&hand.audit))
 }

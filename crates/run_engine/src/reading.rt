@@ -3,7 +3,7 @@
 ghost use Rattle.std.specs.Prelude.{◌≡◌, ◌≤◌, ◌<◌, ℕ, List, IfOk, false};
 ghost use Rattle.hand_cuts.specs.Units.{UnitLines};
 ghost use Rattle.hand_cuts.specs.declared.units.CutKind.{CutKind};
-ghost use Rattle.run_engine.specs.Units.{Pulls, Reader, ReadsPiece, Stands};
+ghost use Rattle.run_engine.specs.Cutting.{Cuts, PullsOne, ReadsOne};
 ghost use Rattle.run_engine.specs.declared.reading.Ending.TheVariants.{Open};
 
 use byte_ends::Source;
@@ -52,12 +52,10 @@ impl Input {
 /// Reads one piece, and answers how the reading ended, or that it goes on.
 fn read_piece<S: Source>(source: &mut S, cutter: &mut Cutter) -> Result<Ending, Memory>
     requires { cutter.old.closed ≡ false }
-    ensures told { (old : Reader) (kind : CutKind) (done : List UnitLines)
-        → Stands INPUT_MAX old (record { left = S.left source.old; faults = S.faults source.old })
-        kind (record { cutter = cutter.old; ending = Open }) done
-        → ReadsPiece INPUT_MAX old
-        (record { left = S.left source.new; faults = S.faults source.new })
-        kind cutter.old cutter.new done result }
+    ensures order { (kind : CutKind) (bytes : List ℕ) (done : List UnitLines)
+        → Cuts INPUT_MAX kind (record { cutter = cutter.old; ending = Open }) bytes done
+        → ReadsOne S.reads INPUT_MAX source.old source.new kind cutter.old cutter.new bytes
+        done result }
     ensures onward { IfOk result (λ ending. ending ≡ Open
         → (cutter.old.given < cutter.new.given) × (cutter.new.given ≤ INPUT_MAX)) }
     ensures closed { IfOk result (λ ending. ending ≡ Open → cutter.new.closed ≡ false) }
@@ -90,11 +88,9 @@ pub(crate) fn next_unit<S: Source>(
     input: &mut Input,
 ) -> Result<Option<Unit>, Memory>
     requires { input.old.ending ≡ Open → input.old.cutter.closed ≡ false }
-    ensures { (old : Reader) (kind : CutKind) (done : List UnitLines)
-        → Stands INPUT_MAX old (record { left = S.left source.old; faults = S.faults source.old })
-        kind input.old done
-        → Pulls INPUT_MAX old (record { left = S.left source.new; faults = S.faults source.new })
-        kind input.old input.new done result }
+    ensures { (kind : CutKind) (bytes : List ℕ) (done : List UnitLines)
+        → Cuts INPUT_MAX kind input.old bytes done
+        → PullsOne S.reads INPUT_MAX source.old source.new kind input.old input.new bytes done result }
 {
     'pieces: loop {
         if let Some(unit) = input.cutter.next_unit() {

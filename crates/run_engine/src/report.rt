@@ -5,9 +5,11 @@ ghost use Rattle.hand_audit.specs.Departs.{begins_hand};
 ghost use Rattle.hand_cuts.specs.declared.units.CutKind.TheVariants.{Hands};
 ghost use Rattle.line_text.specs.Lines.{lines};
 ghost use Rattle.run_engine.specs.Command.{reads_input};
-ghost use Rattle.run_engine.specs.Reporting.{Reports};
+ghost use Rattle.run_engine.specs.Order.{GoesOn};
+ghost use Rattle.run_engine.specs.Reporting.{told_status};
 ghost use Rattle.run_engine.specs.UnitBlocks.{MakesBlock, listed_in, listed_kind};
 ghost use Rattle.run_engine.specs.Units.{started, unit_kind};
+ghost use Rattle.run_engine.specs.declared.reading.Ending.TheVariants.{Open};
 
 use crate::command::Command;
 use crate::counter::{Counter, Desk};
@@ -66,19 +68,8 @@ fn write_blocks<C: Counter, S: Source, K: Sink>(
     requires ready { C.ready }
     requires listed { listed_in asked.mode ≡ Some listed }
     requires start { input.old ≡ started (listed_kind listed) }
-    ensures { Reports INPUT_MAX asked input.new.ending
-        (record {
-          left = S.left source.old;
-          read_faults = S.faults source.old;
-          taken = K.taken sink.old;
-          write_faults = K.faults sink.old;
-        })
-        (record {
-          left = S.left source.new;
-          read_faults = S.faults source.new;
-          taken = K.taken sink.new;
-          write_faults = K.faults sink.new;
-        }) result }
+    ensures { GoesOn S.reads K.writes INPUT_MAX asked Open [] [] source.old sink.old
+        (told_status input.new.ending result) source.new sink.new }
 {
     let mut block = Vec::new(alloc);
     let mut place = 1;
@@ -125,19 +116,8 @@ pub(crate) fn write_report<C: Counter, S: Source, K: Sink>(
     requires ready { C.ready }
     requires reads { reads_input asked.mode ≡ true }
     requires start { input.old ≡ started (unit_kind asked.mode) }
-    ensures { Reports INPUT_MAX asked input.new.ending
-        (record {
-          left = S.left source.old;
-          read_faults = S.faults source.old;
-          taken = K.taken sink.old;
-          write_faults = K.faults sink.old;
-        })
-        (record {
-          left = S.left source.new;
-          read_faults = S.faults source.new;
-          taken = K.taken sink.new;
-          write_faults = K.faults sink.new;
-        }) result }
+    ensures { GoesOn S.reads K.writes INPUT_MAX asked Open [] [] source.old sink.old
+        (told_status input.new.ending result) source.new sink.new }
 {
     let Some(listed) = listed_in(asked.mode) else {
         return write_totals(alloc, asked, source, input, desk, sink);

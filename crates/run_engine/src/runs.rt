@@ -1,14 +1,16 @@
 //! The top call.
 
-ghost use Rattle.std.specs.Prelude.{◌≡◌, ◌≢◌, ◌≤◌, ◌⊎◌, ℕ, IfOk, List, Option, Some, false, true, map, string_bytes};
-ghost use Rattle.byte_ends.specs.Ends.{Rises, WritesAll, WritesFront};
+ghost use Rattle.std.specs.Prelude.{◌≡◌, ◌≤◌, [], ℕ, IfOk, Result, Some, false, true, map, string_bytes};
 ghost use Rattle.card_sets.specs.State.{state_of};
 ghost use Rattle.showdown_tally.specs.Deals.{deal_of};
 ghost use Rattle.showdown_tally.specs.Tallies.{Counts, runouts_after};
-ghost use Rattle.run_engine.specs.Command.{command, reads_input, usage_line};
+ghost use Rattle.run_engine.specs.Command.{command, reads_input};
 ghost use Rattle.run_engine.specs.Headline.{IsRun, written_status};
+ghost use Rattle.run_engine.specs.Order.{IsInOrder};
+ghost use Rattle.run_engine.specs.Report.{report, rejects};
+ghost use Rattle.run_engine.specs.Reporting.{WritesMade, WritesUsage, told_status};
 ghost use Rattle.run_engine.specs.Units.{unit_kind};
-ghost use Rattle.run_engine.specs.declared.reading.Ending.TheVariants.{Open};
+ghost use Rattle.run_engine.specs.declared.reading.Ending.TheVariants.{Whole};
 
 use crate::command::{Command, Mode};
 use crate::counter::{Alone, Counter, Desk};
@@ -43,7 +45,7 @@ pub fn run_alone<S: Source, K: Sink>(
     source: &mut S,
     sink: &mut K,
 ) -> u8
-    ensures { IsRun INPUT_MAX (command (map string_bytes words.now)) result
+    ensures told { IsRun INPUT_MAX (command (map string_bytes words.now)) result
         (record {
           left = S.left source.old;
           read_faults = S.faults source.old;
@@ -56,9 +58,11 @@ pub fn run_alone<S: Source, K: Sink>(
           taken = K.taken sink.new;
           write_faults = K.faults sink.new;
         }) }
+    ensures order { IsInOrder S.reads K.writes INPUT_MAX (command (map string_bytes words.now)) result
+        source.old sink.old source.new sink.new }
 {
     let mut desk = Desk {
-        counter: Alone { scratch: None },
+        counter: Alone::new(alloc),
         workers: 1,
         equity: Equity::NotAsked,
     };
@@ -76,7 +80,7 @@ pub fn run<R: Threads + Wait + Sync, S: Source, K: Sink, G: Gate + Sync>(
     sink: &mut K,
     gate: &G,
 ) -> u8
-    ensures { IsRun INPUT_MAX (command (map string_bytes words.now)) result
+    ensures told { IsRun INPUT_MAX (command (map string_bytes words.now)) result
         (record {
           left = S.left source.old;
           read_faults = S.faults source.old;
@@ -89,12 +93,14 @@ pub fn run<R: Threads + Wait + Sync, S: Source, K: Sink, G: Gate + Sync>(
           taken = K.taken sink.new;
           write_faults = K.faults sink.new;
         }) }
+    ensures order { IsInOrder S.reads K.writes INPUT_MAX (command (map string_bytes words.now)) result
+        source.old sink.old source.new sink.new }
 {
     let by_workers = |job: &Job, workers: u32| -> Result<Tally, Memory>
         ensures { IfOk result (λ tally. Counts (deal_of job.entry.now.table)
             (runouts_after (state_of job.entry.now.table.known)) tally) }
     { count_shared(rt, alloc, job, workers, gate) };
-    let mut alone = Alone { scratch: None };
+    let mut alone = Alone::new(alloc);
     let mut desk = Desk {
         counter: Shared {
             by_workers,
@@ -115,19 +121,8 @@ fn run_at<C: Counter, S: Source, K: Sink>(
     sink: &mut K,
 ) -> u8
     requires ready { C.ready }
-    ensures { IsRun INPUT_MAX (command (map string_bytes words.now)) result
-        (record {
-          left = S.left source.old;
-          read_faults = S.faults source.old;
-          taken = K.taken sink.old;
-          write_faults = K.faults sink.old;
-        })
-        (record {
-          left = S.left source.new;
-          read_faults = S.faults source.new;
-          taken = K.taken sink.new;
-          write_faults = K.faults sink.new;
-        }) }
+    ensures { IsInOrder S.reads K.writes INPUT_MAX (command (map string_bytes words.now)) result
+        source.old sink.old source.new sink.new }
 {
     let asked = match read_words(alloc, words) {
         Ok(asked) => asked,
@@ -153,19 +148,8 @@ fn run_reading<C: Counter, S: Source, K: Sink>(
     requires ready { C.ready }
     requires reads { reads_input asked.mode ≡ true }
     requires few { asked.hands ≤ 10000 }
-    ensures { IsRun INPUT_MAX (Some asked) result
-        (record {
-          left = S.left source.old;
-          read_faults = S.faults source.old;
-          taken = K.taken sink.old;
-          write_faults = K.faults sink.old;
-        })
-        (record {
-          left = S.left source.new;
-          read_faults = S.faults source.new;
-          taken = K.taken sink.new;
-          write_faults = K.faults sink.new;
-        }) }
+    ensures { IsInOrder S.reads K.writes INPUT_MAX (Some asked) result
+        source.old sink.old source.new sink.new }
 {
     let mut input = Input::start(alloc, unit_kind(asked.mode));
     match write_report(alloc, asked, source, &mut input, desk, sink) {
@@ -195,19 +179,8 @@ fn run_made<C: Counter, K: Sink>(
     requires ready { C.ready }
     requires makes { reads_input asked.mode ≡ false }
     requires few { asked.hands ≤ 10000 }
-    ensures { (left : Option (List ℕ)) (faults : ℕ) → IsRun INPUT_MAX (Some asked) result
-        (record {
-          left = left;
-          read_faults = faults;
-          taken = K.taken sink.old;
-          write_faults = K.faults sink.old;
-        })
-        (record {
-          left = left;
-          read_faults = faults;
-          taken = K.taken sink.new;
-          write_faults = K.faults sink.new;
-        }) }
+    ensures { (outcome : Result ℕ WriteFault) × (result ≡ told_status Whole outcome)
+        × WritesMade K.writes sink.old sink.new (report asked []) (rejects asked []) outcome }
 {
     match write_made(alloc, asked, desk, sink) {
         Ok(rejected) => status_of(Ending::Whole, rejected),
@@ -218,11 +191,7 @@ fn run_made<C: Counter, K: Sink>(
 
 /// Writes the usage line, and answers the status of a run whose words are in no form.
 fn write_usage<K: Sink>(sink: &mut K) -> u8
-    ensures fine { result ≡ 2 → WritesAll (K.taken sink.old) (K.taken sink.new) usage_line
-        × (K.faults sink.new ≡ K.faults sink.old) }
-    ensures fault { result ≡ 4 → Rises (K.faults sink.old) (K.faults sink.new)
-        × WritesFront (K.taken sink.old) (K.taken sink.new) usage_line }
-    ensures known { (result ≡ 2) ⊎ (result ≡ 4) }
+    ensures { WritesUsage K.writes sink.old sink.new result }
 {
     match write_all(sink, USAGE_LINE) {
         Ok(()) => 2,
@@ -232,7 +201,6 @@ fn write_usage<K: Sink>(sink: &mut K) -> u8
 
 /// The status of a run whose report was written, after its reading had ended.
 fn status_of(ending: Ending, rejected: u64) -> u8
-    requires { ending ≢ Open }
     ensures { result ≡ written_status ending rejected }
 {
     match ending {

@@ -19,7 +19,7 @@ use steal_pool::{Gate, count_with_workers};
 const WORKERS_MAX: u32 = 16;
 
 /// A job of fewer blocks is counted on the thread that asks: to start workers would take longer.
-const BLOCKS_MIN: u32 = 27;
+const BLOCKS_MIN: u32 = 25;
 
 /// Counts with several workers where a job has many blocks, and else on the thread that asks.
 ///
@@ -41,8 +41,7 @@ impl<'a, F: Fn(&Job, u32) -> Result<Tally, Memory>> Counter for Shared<'a, F> {
 
     fn count(&mut self, job: &Job, workers: u32, tally: &mut Tally) -> Result<(), Memory> {
         if workers < 2 || job.blocks() < BLOCKS_MIN {
-            self.alone.count_here(job, tally);
-            return Ok(());
+            return self.alone.count_here(job, tally);
         }
         match (self.by_workers)(job, workers) {
             Ok(total) => {
@@ -58,7 +57,9 @@ impl<'a, F: Fn(&Job, u32) -> Result<Tally, Memory>> Counter for Shared<'a, F> {
     }
 }
 
-/// The tally of a job by so many workers, 1 to 16 of them.
+/// The tally of a job by so many workers, 1 to 16 of them. It has a frame of its own, since the room of each worker
+/// goes through the stack.
+#[inline(never)]
 pub(crate) fn count_shared<R: Threads + Wait + Sync, G: Gate + Sync>(
     rt: &R,
     alloc: Global,

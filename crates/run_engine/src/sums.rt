@@ -10,7 +10,7 @@ ghost use Rattle.report_table.specs.Totals.{totals_of};
 ghost use Rattle.run_engine.specs.Histories.{verdict_of};
 ghost use Rattle.hand_cuts.specs.declared.units.CutKind.TheVariants.{Hands as HandUnits};
 ghost use Rattle.run_engine.specs.Report.{verdicts};
-ghost use Rattle.run_engine.specs.UnitSums.{SumsUp};
+ghost use Rattle.run_engine.specs.UnitSums.{SumsInOrder};
 ghost use Rattle.run_engine.specs.Units.{started};
 
 use crate::counter::{Counter, Desk};
@@ -99,9 +99,7 @@ pub(crate) fn add_units<C: Counter, S: Source, H: HandSums>(
     requires ready { C.ready }
     requires start { input.old ≡ started HandUnits }
     requires none { sums.old ≡ H.sums_of [] }
-    ensures { SumsUp H.sums_of INPUT_MAX
-        (record { left = S.left source.old; faults = S.faults source.old })
-        (record { left = S.left source.new; faults = S.faults source.new })
+    ensures { SumsInOrder S.reads H.sums_of INPUT_MAX source.old source.new
         input.new.ending sums.new result }
 {
     'hands: loop {

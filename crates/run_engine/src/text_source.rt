@@ -1,6 +1,7 @@
 //! A text in memory, read as an input is.
 
 ghost use Rattle.std.specs.Prelude.{Some};
+ghost use Rattle.run_engine.specs.TextReads.{ReadsText, text_tells};
 
 use byte_ends::{Failed, Source};
 
@@ -15,6 +16,8 @@ impl<'a> Source for TextSource<'a> {
 
     ghost faults = { λ _. 0 };
 
+    ghost reads = { λ old new read. ReadsText old.left.now new.left.now read };
+
     fn read(&mut self, piece: &mut [u8]) -> Result<usize, Failed> {
         let count = piece.len().min(self.left.len());
         let (front, rest) = self.left.split_at(count);
@@ -22,4 +25,6 @@ impl<'a> Source for TextSource<'a> {
         self.left = rest;
         Ok(count)
     }
+
+    ghost tells = { λ old new read given. text_tells old.left.now new.left.now read given };
 }

@@ -1,8 +1,10 @@
 //! The totals over all hands of the input.
 
-ghost use Rattle.std.specs.Prelude.{◌≡◌};
+ghost use Rattle.std.specs.Prelude.{◌≡◌, []};
 ghost use Rattle.hand_cuts.specs.declared.units.CutKind.TheVariants.{Hands};
-ghost use Rattle.run_engine.specs.Reporting.{Reports};
+ghost use Rattle.run_engine.specs.Reporting.{told_status};
+ghost use Rattle.run_engine.specs.Order.{GoesOn};
+ghost use Rattle.run_engine.specs.declared.reading.Ending.TheVariants.{Open};
 ghost use Rattle.run_engine.specs.Units.{started};
 ghost use Rattle.run_engine.specs.declared.command.Mode.TheVariants.{Totals as TotalsMode};
 
@@ -30,19 +32,8 @@ pub(crate) fn write_totals<C: Counter, S: Source, K: Sink>(
     requires ready { C.ready }
     requires mode { asked.mode ≡ TotalsMode }
     requires start { input.old ≡ started Hands }
-    ensures { Reports INPUT_MAX asked input.new.ending
-        (record {
-          left = S.left source.old;
-          read_faults = S.faults source.old;
-          taken = K.taken sink.old;
-          write_faults = K.faults sink.old;
-        })
-        (record {
-          left = S.left source.new;
-          read_faults = S.faults source.new;
-          taken = K.taken sink.new;
-          write_faults = K.faults sink.new;
-        }) result }
+    ensures { GoesOn S.reads K.writes INPUT_MAX asked Open [] [] source.old sink.old
+        (told_status input.new.ending result) source.new sink.new }
 {
     let mut totals = Totals::new(alloc);
     match add_units(alloc, source, input, desk, &mut totals) {

@@ -19,7 +19,7 @@ mod put;
 use itoa::Buffer;
 use put::{put_byte, put_bytes};
 
-/// The most bytes that the text of a `Fixed` has.
+/// The room that is asked for the text of a `Fixed`, in bytes: no text has as many.
 pub const LONGEST_TEXT: usize = 44;
 
 /// A number as a count of units of its last decimal place: 9545 with 2 places is 95.45.

@@ -12,7 +12,7 @@
 //! taken from the deques, by one worker, is a clause of `laws::Seats`, which carries a rule over
 //! each deque: `claims` has it.
 //!
-//! All memory is taken before the first worker starts. Where a thread can't be started, the caller
+//! All memory whose refusal is answered is taken before the first worker starts. Where a thread can't be started, the caller
 //! does that worker's work itself.
 #![tactic(auto)]
 

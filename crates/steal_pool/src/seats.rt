@@ -52,7 +52,7 @@ impl<N: Naming> Model for Seats<N> {
 impl<N: Naming> Seats<N> {
     /// Seats for 1 to 16 workers, of a blank with a part for each and one more. Each block is pushed
     /// to the deque of its number modulo the workers, in rising order, and then one end mark for each
-    /// worker to each deque. It takes all memory that the count needs.
+    /// worker to each deque. It takes all memory whose refusal is answered.
     pub fn start(alloc: Global, job: &Job, blank: Blank, workers: u32) -> Result<Seats<N>, Memory>
         requires named { deal_of job.now.table ≡ N.deal }
         requires name { blank.name ≡ N.name }

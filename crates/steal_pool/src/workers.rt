@@ -18,8 +18,9 @@ use std::thread::Threads;
 use tally_book::{Closed, Naming};
 
 /// Counts a job by 1 to 16 workers. The total is that of all runouts, and `by_workers` is how many
-/// blocks the workers posted: the caller posts what they leave. It takes all memory before the first
-/// worker starts, a megabyte for each and some more.
+/// blocks the workers posted: the caller posts what they leave. It takes all memory whose refusal
+/// is answered before the first worker starts, a megabyte for each and some more; a thread that can't be started
+/// is none.
 pub fn count_with_workers<R: Threads + Wait + Sync, G: Gate + Sync>(
     rt: &R,
     alloc: Global,

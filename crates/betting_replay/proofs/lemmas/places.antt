@@ -1,4 +1,5 @@
 -- For `law_places_of_cards`, `law_places_are_apart` and `law_cards_belong`: where cards belong, and which are dead.
+pub mod CardSets
 pub mod CardsBelong
 pub mod DeadCards
 pub mod NextPlaces

@@ -2,3 +2,4 @@
 pub mod ChangedFronts
 pub mod SeatCounts
 pub mod SeatLists
+pub mod SeatStates

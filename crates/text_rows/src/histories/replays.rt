@@ -171,14 +171,12 @@ const REST: [&[u8]; 9] = [
 
 /// Whether this is the state of the hand before its flop.
 fn is_before_the_flop(replay: &Replay) -> bool {
-    replay.next_to_act().is_none() && replay.button() == 1
+    replay.owes().is_none() && replay.button() == 1
 }
 
 /// Whether this is the state of the hand behind its flop.
 fn is_behind_the_flop(replay: &Replay) -> bool {
-    replay.next_to_act() == Some(1)
-        && replay.street() == Some(Street::Turn)
-        && replay.stack(1) == 4700
+    replay.owes() == Some(1) && replay.street() == Some(Street::Turn) && replay.stack(1) == 4700
 }
 
 /// Whether the board has this many cards on its streets.

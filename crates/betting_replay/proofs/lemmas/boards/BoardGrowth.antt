@@ -18,7 +18,8 @@ use Rattle.betting_replay.specs.TableAfter.{point}
 use Rattle.card_sets.proofs.CallerLemmas.{union-nil, union-front, in_where, where_in, or_either, length-with_card}
 use Rattle.std.proofs.lemmas.Bool.{or_left, or_right}
 use Rattle.betting_replay.proofs.lemmas.steps.NextTable.{cards_free, seat_below}
-use Rattle.betting_replay.proofs.lemmas.places.CardsBelong.{own_step, board_among, second_set}
+use Rattle.betting_replay.proofs.lemmas.places.CardsBelong.{own_step, board_among}
+use Rattle.betting_replay.proofs.lemmas.places.CardSets.{second_set}
 use Rattle.betting_replay.proofs.lemmas.places.NextPlaces.{place_seat, nothing_given}
 use Rattle.card_sets.specs.declared.games.Game.{Game}
 

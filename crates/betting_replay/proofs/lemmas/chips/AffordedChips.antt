@@ -9,7 +9,7 @@ use Rattle.history_text.specs.declared.events.PostKind.TheVariants.{Small, Big, 
 use Rattle.betting_replay.specs.declared.faults.BetFault.{BetFault}
 use Rattle.betting_replay.specs.Events.{seat_of, live_part, dead_part, ante_part, act_chips}
 use Rattle.betting_replay.specs.Limits.{InLimits, Affords, AmountsFit}
-use Rattle.betting_replay.specs.TableAfter.{Table, chips_at}
+use Rattle.betting_replay.specs.TableAfter.{ReplayState, chips_at}
 use Rattle.betting_replay.specs.Returns.{return_fits}
 use Rattle.betting_replay.specs.Faults.{fault_at, fault_if, above_stack, seat_twice, uncalled_amiss}
 use Rattle.betting_replay.proofs.lemmas.steps.PassedTests.{Passed, passed, not_failed}
@@ -31,7 +31,7 @@ pub not_not : (b : Bool) → not b ≡ false → b ≡ true
 not_not true h = refl
 not_not false h = cc
 
-affords_at : (t : Table) (e : Event) → AmountsFit e → InLimits (chips_at t (seat_of e)) → Passed t e → Affords t.header.big t.small_posted e (chips_at t (seat_of e))
+affords_at : (t : ReplayState) (e : Event) → AmountsFit e → InLimits (chips_at t (seat_of e)) → Passed t e → Affords t.header.big t.course.small_posted e (chips_at t (seat_of e))
 unfolding above_stack seat_twice uncalled_amiss
 affords_at t (Seat seat units first end) a h p =
     let free : (chips_at t seat).seated ≡ false = not_failed _ _ p.seat in
@@ -39,7 +39,7 @@ affords_at t (Seat seat units first end) a h p =
     record { stack = omega arith; back = omega arith; room = omega (arith, none, a) }
 affords_at t (Post seat kind units all_in) a h p =
     let low : units ≤ (chips_at t seat).stack = within _ _ _ p.stack in
-    let part : ante_part kind units + live_part t.header.big t.small_posted kind units + dead_part t.header.big t.small_posted kind units ≤ units = parts t.header.big t.small_posted kind units in
+    let part : ante_part kind units + live_part t.header.big t.course.small_posted kind units + dead_part t.header.big t.course.small_posted kind units ≤ units = parts t.header.big t.course.small_posted kind units in
     record { stack = omega (arith, low, part); back = omega arith; room = omega (arith, h.sum) }
 affords_at t (Act seat act all_in shown) a h p =
     let low : act_chips act (chips_at t seat).live ≤ (chips_at t seat).stack = within _ _ _ p.stack in
@@ -50,5 +50,5 @@ affords_at t (Uncalled seat units) a h p =
     record { stack = omega arith; back = low; room = omega (arith, h.sum) }
 affords_at t _ a h p = record { stack = omega arith; back = omega arith; room = omega (arith, h.sum) }
 
-pub affords : (t : Table) (e : Event) → AmountsFit e → InLimits (chips_at t (seat_of e)) → fault_at t e ≡ None → Affords t.header.big t.small_posted e (chips_at t (seat_of e))
+pub affords : (t : ReplayState) (e : Event) → AmountsFit e → InLimits (chips_at t (seat_of e)) → fault_at t e ≡ None → Affords t.header.big t.course.small_posted e (chips_at t (seat_of e))
 affords t e a h f = affords_at t e a h (passed t e f)

@@ -9,12 +9,12 @@ use Rattle.betting_replay.specs.Events.{seat_of, bought, returned, ante_in, live
 use Rattle.betting_replay.specs.Limits.{InLimits, Affords, Fits}
 use Rattle.betting_replay.specs.Counting.{chips_after, cleared_chips}
 use Rattle.betting_replay.specs.Sums.{small_posted, is_later_by, stack, paid, dead}
-use Rattle.betting_replay.specs.TableAfter.{table_of, chips_of, chips_at, no_chips}
+use Rattle.betting_replay.specs.TableAfter.{table_of, point, chips_of, chips_at}
 use Rattle.betting_replay.specs.Faults.{legal, seat_twice}
 use Rattle.betting_replay.specs.Accepted.{IsAccepted, opening}
 use Rattle.betting_replay.proofs.lemmas.steps.PassedTests.{passed, not_failed}
 use Rattle.betting_replay.proofs.lemmas.chips.AffordedChips.{affords}
-use Rattle.betting_replay.proofs.lemmas.seats.SeatLists.{at_by_seat}
+use Rattle.betting_replay.proofs.lemmas.seats.SeatStates.{chips_are}
 use Rattle.betting_replay.proofs.lemmas.steps.NextTable.{seat_below, chips_case, cleared_where}
 
 -- all that a seat has before it and has put in
@@ -80,7 +80,7 @@ next_kept : (header : Header) (players : ℕ) (h : List Event) (e : Event) (p : 
 next_kept header players h e p fits ok false is k = k
 next_kept header players h e p fits ok true is k =
     let same : seat_of e ≡ p = grind arith in
-    let at : chips_at (table_of header players h) (seat_of e) ≡ chips_of header h (seat_of e) = at_by_seat (chips_of header h) (seat_of e) no_chips (seat_below e fits.seats) in
+    let at : chips_at (table_of header players h) (seat_of e) ≡ chips_of header h (seat_of e) = chips_are header players h (point header players h) (seat_of e) (seat_below e fits.seats) in
     let at_p : chips_at (table_of header players h) (seat_of e) ≡ chips_of header h p = at ∙ ap (chips_of header h) same in
     let limits : InLimits (chips_at (table_of header players h) (seat_of e)) = subst InLimits (sym at_p) k.limits in
     let affordable : Affords header.big (small_posted h) e (chips_of header h p) = subst (λ (c : Chips). Affords header.big (small_posted h) e c) at_p (affords (table_of header players h) e fits.amounts limits ok) in

@@ -6,7 +6,7 @@ use Rattle.pot_layers.specs.Uncalled.{rival, alone_in, uncalled}
 use Rattle.betting_replay.specs.Accounts.{paid_by}
 use Rattle.betting_replay.specs.Returns.{live_by, hand_sums, street_sums, is_return, return_fits}
 use Rattle.betting_replay.specs.Seats.{places_from}
-use Rattle.betting_replay.specs.Table.{Table, chips_at}
+use Rattle.betting_replay.specs.Table.{ReplayState, chips_at}
 
 -- where each place has its own number as its seat, no more is uncalled of a seat than it has put in
 alone_within : (f : ℕ → Paid) → ((p : ℕ) → (f p).seat ≡ p) → (all : List Paid) (a n : ℕ) (back : ℕ × ℕ) → alone_in all (places_from f a n) ≡ Some back → back.1 ≤ (f back.0).live
@@ -34,7 +34,7 @@ fits_within f own (Some back) is seat units h = by (back.0 == seat) refl (back.1
     by false e c d h low = cc
 
 -- a return is within what its seat has paid
-pub return_within : (t : Table) (seat units : ℕ) → return_fits t seat units ≡ true → (chips_at t seat).live ≤ (chips_at t seat).paid → units ≤ (chips_at t seat).paid
+pub return_within : (t : ReplayState) (seat units : ℕ) → return_fits t seat units ≡ true → (chips_at t seat).live ≤ (chips_at t seat).paid → units ≤ (chips_at t seat).paid
 unfolding return_fits hand_sums street_sums live_by paid_by
 return_within t seat units fits low = by (is_return (uncalled (hand_sums t)) seat units) refl (is_return (uncalled (street_sums t)) seat units) refl fits
   where

@@ -2,7 +2,7 @@
 use Rattle.std.proofs.Common.{◌≡◌, ℕ, ◌<◌, List, [], ◌∷◌, refl, sym, ap, ◌∙◌, Bool, true, false, not, ◌&&◌, ◌==◌, inl, inr}
 use Rattle.std.specs.Prelude.{if◌then◌else◌}
 use mathlib.Core.Bool.{true≢false}
-use Rattle.card_sets.specs.Cards.{has_card, union, minus, IsCardSet}
+use Rattle.card_sets.specs.Cards.{has_card, union, minus}
 use Rattle.card_sets.specs.Bits.{IsCardSet-cards_where}
 use Rattle.history_text.specs.declared.events.Header.{Header}
 use Rattle.history_text.specs.declared.events.Event.{Event}
@@ -13,23 +13,9 @@ use Rattle.betting_replay.specs.Dealing.{is_late, held_before, thrown_late}
 use Rattle.betting_replay.specs.Events.{seat_of}
 use Rattle.betting_replay.specs.Hands.{dealt_by, held, held_after, is_discard}
 use Rattle.betting_replay.specs.Places.{place_of, owned, thrown_by}
-use Rattle.card_sets.proofs.CallerLemmas.{in_union, in_minus, union_left, union_right, no_cards, of_deck}
+use Rattle.card_sets.proofs.CallerLemmas.{in_union, in_minus, union_left, union_right, of_deck}
 use Rattle.betting_replay.proofs.lemmas.places.CardsBelong.{IsLeft, kept_left, own_more, own_here, dealt_named, no_card}
-
-after_set : (e : Event) (cards : List ℕ) → IsCardSet (held_after e cards)
-after_set e cards = IsCardSet-cards_where (λ k. has_card (union cards (dealt_by e)) k && not (has_card (thrown_by e) k))
-
-set_if : (b : Bool) (now before : List ℕ) → IsCardSet now → IsCardSet before → IsCardSet (if b then now else before)
-set_if true now before x y = x
-set_if false now before x y = y
-
-held_set : (h : List Event) (p : ℕ) → IsCardSet (held h p)
-held_set [] p = no_cards
-held_set (e ∷ h) p = set_if (seat_of e == p) (held_after e (held h p)) (held h p) (after_set e (held h p)) (held_set h p)
-
-pub before_set : (g : Header) (h : List Event) (p : ℕ) → IsCardSet (held_before g h p)
-before_set g [] p = no_cards
-before_set g (e ∷ h) p = set_if ((seat_of e == p) && not (is_late g h e)) (held_after e (held_before g h p)) (held_before g h p) (after_set e (held_before g h p)) (before_set g h p)
+use Rattle.betting_replay.proofs.lemmas.places.CardSets.{held_set, before_set}
 
 -- who throws a card away does so at his seat
 thrown_place : (e : Event) (k : ℕ) → has_card (thrown_by e) k ≡ true → place_of e ≡ seat_of e

@@ -24,7 +24,8 @@ use Rattle.betting_replay.proofs.lemmas.streets.GameFamilies.{seven_own, five_ow
 use Rattle.card_sets.proofs.CallerLemmas.{in_union, in_minus, no_cards, length-minus, or_either}
 use Rattle.std.proofs.lemmas.Bool.{or_left, or_right, and_parts}
 use Rattle.betting_replay.proofs.lemmas.places.CardsBelong.{IsLeft, kept_left, stays_left, own_more, own_here, dealt_among, then_among, given_among, union_among, shown_named, no_card}
-use Rattle.betting_replay.proofs.lemmas.known.HeldByText.{held_among, before_set, left_among, other_left, only_discards}
+use Rattle.betting_replay.proofs.lemmas.known.HeldByText.{held_among, left_among, other_left, only_discards}
+use Rattle.betting_replay.proofs.lemmas.places.CardSets.{before_set}
 
 -- cards of a seat, so many of them
 pub record Holds (n : ℕ) (cards own : List ℕ) : Type 0 where

@@ -2,7 +2,7 @@
 use Rattle.std.proofs.Common.{◌≡◌, ℕ, ◌<◌, ◌≤◌, List, [], ◌∷◌, refl, sym, ap, ◌∙◌, Bool, true, false, ◌||◌, ◌==◌, ◌⊎◌, inl, inr, arith, length}
 use Rattle.std.specs.Prelude.{Option, Some, None, if◌then◌else◌}
 use mathlib.Core.Bool.{true≢false}
-use Rattle.card_sets.specs.Cards.{has_card, union, IsCardSet}
+use Rattle.card_sets.specs.Cards.{has_card, union}
 use Rattle.card_sets.specs.Bits.{IsCardSet-cards_where}
 use Rattle.card_sets.specs.Disjoint.{apart}
 use Rattle.history_text.specs.declared.events.Header.{Header}
@@ -27,6 +27,7 @@ use Rattle.betting_replay.specs.Sums.{street, twice_from}
 use Rattle.betting_replay.specs.TableAfter.{point}
 use Rattle.card_sets.proofs.CallerLemmas.{in_where, in_union, in_rest, union_left, union_right, no_cards, apart-Apart}
 use Rattle.betting_replay.proofs.lemmas.steps.NextTable.{seat_below, cards_free, own_case}
+use Rattle.betting_replay.proofs.lemmas.places.CardSets.{dealt_set, then_set, gathered_set, board_set, second_set}
 
 pub no_card : (k : ℕ) → has_card [] k ≡ true → ⊥
 no_card k h = true≢false (sym h)
@@ -140,27 +141,6 @@ up_named e k h = one (length (dealt_by e) == 1) h
     one true h = dealt_named e k h
     one false h = absurd (no_card k h)
 
--- a set that grows by unions is a set
-set_by : (old by : List ℕ) (b : Bool) → IsCardSet old → IsCardSet (if b then union old by else old)
-set_by old by true set = IsCardSet-cards_where (λ k. has_card old k || has_card by k)
-set_by old by false set = set
-
-dealt_set : (h : List Event) (p : ℕ) → IsCardSet (dealt h p)
-dealt_set [] p = no_cards
-dealt_set (e ∷ h) p = set_by (dealt h p) (dealt_by e) (seat_of e == p) (dealt_set h p)
-
-then_set : (g : Header) (s : StreetName) (h : List Event) (p : ℕ) → IsCardSet (dealt_then g s h p)
-then_set g s [] p = no_cards
-then_set g s (e ∷ h) p = set_by (dealt_then g s h p) (dealt_on s (street g h) e) (seat_of e == p) (then_set g s h p)
-
-gathered_set : (by : Event → List ℕ) (h : List Event) (p : ℕ) → IsCardSet (gathered by h p)
-gathered_set by [] p = no_cards
-gathered_set by (e ∷ h) p = set_by (gathered by h p) (by e) (seat_of e == p) (gathered_set by h p)
-
-board_set : (s : StreetName) (h : List Event) → IsCardSet (board_on s h)
-board_set s [] = no_cards
-board_set s (e ∷ h) = set_by (board_on s h) (named_on s e) true (board_set s h)
-
 -- what was dealt to a seat belongs to it
 pub dealt_among : (g : Header) (players : ℕ) (h : List Event) (p : ℕ) → may_come_again g.game ≡ false → IsAccepted g players h → Among (dealt h p) (owned g.game h p)
 dealt_among g players h p stays ok = record {
@@ -243,10 +223,6 @@ shared_among g players h ok = by (twice_from h)
     by (Some s) = before_among g players s h ok
 
 -- and what came to the second alone to that
-pub second_set : (s : StreetName) (h : List Event) → IsCardSet (second_on s h)
-second_set s [] = no_cards
-second_set s (e ∷ h) = set_by (second_on s h) (named_second s e) true (second_set s h)
-
 second_there : (s : StreetName) (e : Event) (k : ℕ) → has_card (named_second s e) k ≡ true → ((place_of e == 11) ≡ true) × (has_card (cards_named e) k ≡ true)
 second_there s (Street marker board.Only cards) k h = absurd (no_card k h)
 second_there s (Street marker board.First cards) k h = absurd (no_card k h)

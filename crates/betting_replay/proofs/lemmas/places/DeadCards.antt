@@ -31,7 +31,7 @@ use Rattle.betting_replay.specs.Seats.{or_else}
 use Rattle.card_sets.specs.Streets.{is_street, is_draw_street, next_street}
 use Rattle.betting_replay.specs.Streets.{begun_by_drawing, same_street, is_drawing, is_number, is_end}
 use Rattle.betting_replay.specs.Sums.{street, is_last_of, twice_from}
-use Rattle.betting_replay.specs.TableAfter.{Table, table_of, point, dead_cards}
+use Rattle.betting_replay.specs.TableAfter.{ReplayState, table_of, point, dead_cards}
 use Rattle.betting_replay.proofs.lemmas.chips.AffordedChips.{not_not}
 use Rattle.betting_replay.proofs.lemmas.streets.GameFamilies.{never_next, none_begun}
 use Rattle.betting_replay.proofs.lemmas.steps.PassedTests.{passed, not_failed}
@@ -137,23 +137,23 @@ unfolding street_order
 marker_of g players s number cards h ok = not_not _ (not_failed _ _ (order_of g players (Street s number cards) h ok))
 
 -- no marker comes of a street that is neither the next of the game nor the one from which on there are two boards
-pub never_on : (s : StreetName) (t : Table) (number : BoardNumber) → same_street s None ≡ false → same_street s (next_street t.header.game t.street) ≡ false → same_street s t.twice ≡ false → same_street s (next_on t number) ≡ false
-never_on s t board.Only none next from = by t.twice
+pub never_on : (s : StreetName) (t : ReplayState) (number : BoardNumber) → same_street s None ≡ false → same_street s (next_street t.header.game t.course.street) ≡ false → same_street s t.course.split_from ≡ false → same_street s (next_on t number) ≡ false
+never_on s t board.Only none next from = by t.course.split_from
   where
-    by : (o : Option StreetName) → same_street s (next_only o (next_street t.header.game t.street)) ≡ false
+    by : (o : Option StreetName) → same_street s (next_only o (next_street t.header.game t.course.street)) ≡ false
     by None = next
     by (Some other) = none
-never_on s t board.First none next from = by (may_part t) t.twice t.marker
+never_on s t board.First none next from = by (may_part t) t.course.split_from t.course.marker
   where
-    by : (b : Bool) (o : Option StreetName) (n : BoardNumber) → same_street s (next_first b o n (next_street t.header.game t.street)) ≡ false
+    by : (b : Bool) (o : Option StreetName) (n : BoardNumber) → same_street s (next_first b o n (next_street t.header.game t.course.street)) ≡ false
     by true None n = next
     by false None n = none
     by b (Some other) board.Only = none
     by b (Some other) board.First = next
     by b (Some other) board.Second = none
-never_on s t board.Second none next from = by t.twice t.marker (is_last_of t.header.game t.street) from
+never_on s t board.Second none next from = by t.course.split_from t.course.marker (is_last_of t.header.game t.course.street) from
   where
-    by : (o : Option StreetName) (n : BoardNumber) (b : Bool) → same_street s o ≡ false → same_street s (next_second o n b (next_street t.header.game t.street)) ≡ false
+    by : (o : Option StreetName) (n : BoardNumber) (b : Bool) → same_street s o ≡ false → same_street s (next_second o n b (next_street t.header.game t.course.street)) ≡ false
     by None n b other = none
     by (Some other) board.Only b f = none
     by (Some other) board.First true f = f

@@ -54,7 +54,7 @@ thrown_none : (e : Event) → cards_named e ≡ [] → thrown_by e ≡ []
 thrown_none (Discard seat count cards) none = none
 thrown_none _ none = refl
 
-lost_none : (game : Game) (e : Event) → thrown_by e ≡ [] → lost_by game e ≡ []
+pub lost_none : (game : Game) (e : Event) → thrown_by e ≡ [] → lost_by game e ≡ []
 lost_none game e none = by (may_come_again game)
   where
     by : (b : Bool) → (if b then thrown_by e else []) ≡ []

@@ -1,8 +1,8 @@
 -- Places by the events behind the last that threw a card away, and cards that stay thrown away.
-use Rattle.std.proofs.Common.{◌≡◌, ℕ, List, [], ◌∷◌, refl, ap, ◌∙◌, Bool, true, false, not, ◌||◌, ◌&&◌}
+use Rattle.std.proofs.Common.{◌≡◌, ℕ, List, [], ◌∷◌, refl, ap, ◌∙◌, Bool, true, false, not, ◌&&◌}
 use Rattle.std.specs.Prelude.{Option, Some, None, if◌then◌else◌}
-use Rattle.card_sets.specs.Cards.{has_card, union, minus, IsCardSet}
-use Rattle.card_sets.specs.Bits.{cards_where_same, IsCardSet-cards_where}
+use Rattle.card_sets.specs.Cards.{has_card, union, minus}
+use Rattle.card_sets.specs.Bits.{cards_where_same}
 use Rattle.card_sets.specs.Games.{may_come_again}
 use Rattle.history_text.specs.declared.events.Header.{Header}
 use Rattle.history_text.specs.declared.events.Event.{Event}
@@ -12,8 +12,8 @@ use Rattle.betting_replay.specs.PlaceLaws.{first_place, ever_thrown, since}
 use Rattle.betting_replay.specs.Places.{place_of, place, thrown, thrown_by, lost_by}
 use Rattle.betting_replay.specs.Seats.{or_else}
 use Rattle.betting_replay.proofs.lemmas.places.DeadCards.{named_new}
-use Rattle.card_sets.proofs.CallerLemmas.{no_cards}
 use Rattle.betting_replay.proofs.lemmas.places.NextPlaces.{nothing_lost}
+use Rattle.betting_replay.proofs.lemmas.places.CardSets.{thrown_set}
 
 pub since_is : (g : Header) (h : List Event) (card : ℕ) → place g.game h card ≡ first_place (since g h card) card
 since_is g [] card = refl
@@ -30,10 +30,6 @@ since_is g (e ∷ h) card = by (has_card (lost_by g.game e) card) (since_is g h 
 pub first_is : (g : Header) (h : List Event) (card : ℕ) → may_come_again g.game ≡ false → place g.game h card ≡ first_place h card
 first_is g [] card stays = refl
 first_is g (e ∷ h) card stays = rw (nothing_lost g.game e stays, first_is g h card stays) refl
-
-thrown_set : (h : List Event) → IsCardSet (thrown h)
-thrown_set [] = no_cards
-thrown_set (e ∷ h) = IsCardSet-cards_where (λ k. has_card (minus (thrown h) (cards_named e)) k || has_card (thrown_by e) k)
 
 -- no accepted event names a card that was thrown away
 stays_so : (g : Header) (players : ℕ) (e : Event) (h : List Event) → may_come_again g.game ≡ false → IsAccepted g players (e ∷ h) → minus (thrown h) (cards_named e) ≡ thrown h

@@ -6,7 +6,7 @@ use Rattle.betting_replay.specs.Accounts.{contenders}
 use Rattle.betting_replay.specs.AllIn.{funded_count, is_point, point_on, point_now}
 use Rattle.betting_replay.specs.Counting.{pointed}
 use Rattle.betting_replay.specs.Seats.{or_else}
-use Rattle.betting_replay.specs.Table.{Table}
+use Rattle.betting_replay.specs.Table.{ReplayState}
 use Rattle.betting_replay.specs.Turns.{contender_count, next_to_act}
 
 none_last : (a b c d : Bool) → (a && b && c && d && not true) ≡ false
@@ -16,17 +16,17 @@ none_last true true false d = refl
 none_last true true true false = refl
 none_last true true true true = refl
 
-none_now : (t : Table) → t.last_begun ≡ true → point_now t ≡ None
+none_now : (t : ReplayState) → t.course.last_begun ≡ true → point_now t ≡ None
 unfolding point_now is_point
 none_now t over =
-    ap (λ last. if t.opened && nat_le 2 (contender_count t) && nat_le (funded_count t) 1 && is_none (next_to_act t) && not last then point_on t.street (contenders t) else None) over
-    ∙ ap (λ b. if b then point_on t.street (contenders t) else None) (none_last t.opened (nat_le 2 (contender_count t)) (nat_le (funded_count t) 1) (is_none (next_to_act t)))
+    ap (λ last. if t.course.opened && nat_le 2 (contender_count t) && nat_le (funded_count t) 1 && is_none (next_to_act t) && not last then point_on t.course.street (contenders t) else None) over
+    ∙ ap (λ b. if b then point_on t.course.street (contenders t) else None) (none_last t.course.opened (nat_le 2 (contender_count t)) (nat_le (funded_count t) 1) (is_none (next_to_act t)))
 
 same_or : (o p : Option Point) (last : Bool) → (is_none o && not last) ≡ false → (last ≡ true → p ≡ None) → o ≡ or_else o p
 same_or (Some point) p last is none = refl
 same_or None p true is none = sym (none refl)
 same_or None p false is none = cc
 
-pub point_stays : (t : Table) → (is_none t.point && not t.last_begun) ≡ false → t ≡ pointed t
+pub point_stays : (t : ReplayState) → (is_none t.point && not t.course.last_begun) ≡ false → t ≡ pointed t
 unfolding pointed
-point_stays t is = ap (λ o. record t { point = o }) (same_or t.point (point_now t) t.last_begun is (none_now t))
+point_stays t is = ap (λ o. record t { point = o }) (same_or t.point (point_now t) t.course.last_begun is (none_now t))

@@ -16,27 +16,27 @@ use Rattle.card_sets.specs.PlayerSets.{has_player}
 use Rattle.card_sets.specs.PlayerSetLaws.{players_where-small, has_player-where, has_player-above}
 use Rattle.betting_replay.specs.Seats.{count_seats, or_else}
 use Rattle.betting_replay.specs.Sums.{street, folded}
-use Rattle.betting_replay.specs.TableAfter.{Table, table_with, point}
+use Rattle.betting_replay.specs.TableAfter.{ReplayState, table_with, point}
 use Rattle.betting_replay.specs.Turns.{is_contender, contender_count}
 use Rattle.betting_replay.proofs.lemmas.streets.EndedHands.{contender_is, still_in}
 use Rattle.betting_replay.proofs.lemmas.seats.SeatCounts.{same_count}
 
 -- the set of the contenders at a table
-contender_bit : (t : Table) (p : ℕ) → p < 11 → has_player (contenders t) p ≡ is_contender t p
+contender_bit : (t : ReplayState) (p : ℕ) → p < 11 → has_player (contenders t) p ≡ is_contender t p
 unfolding contenders
 contender_bit t p small = has_player-where (is_contender t) 11 p small
 
-contenders_small : (t : Table) → contenders t < 2 ^ 11
+contenders_small : (t : ReplayState) → contenders t < 2 ^ 11
 unfolding contenders
 contenders_small t = players_where-small (is_contender t) 11
 
-only_small : (t : Table) (p : ℕ) → has_player (contenders t) p ≡ true → p < 11
+only_small : (t : ReplayState) (p : ℕ) → has_player (contenders t) p ≡ true → p < 11
 only_small t p has = elim (cases_lt p 11) [
   | inl l ↦ l
   | inr ge ↦ absurd (true≢false (sym has ∙ has_player-above (contenders t) 11 p (contenders_small t) ge))
 ]
 
-count_is : (t : Table) → count_seats (has_player (contenders t)) ≡ contender_count t
+count_is : (t : ReplayState) → count_seats (has_player (contenders t)) ≡ contender_count t
 unfolding contender_count
 count_is t = same_count (has_player (contenders t)) (is_contender t) 11 (λ p l. contender_bit t p l)
 
@@ -59,11 +59,11 @@ at_now g players h x found is = one (is_point (table_with g players h x)) refl i
 at_least : (n : ℕ) → nat_le 2 n ≡ true → 2 ≤ n
 at_least n h = grind (arith, nat_tests)
 
-two_of : (t : Table) → is_point t ≡ true → nat_le 2 (contender_count t) ≡ true
+two_of : (t : ReplayState) → is_point t ≡ true → nat_le 2 (contender_count t) ≡ true
 unfolding is_point
 two_of t p = (and_parts _ _ (and_parts _ _ (and_parts _ _ (and_parts _ _ p).0).0).0).1
 
-two_there : (t : Table) → is_point t ≡ true → 2 ≤ contender_count t
+two_there : (t : ReplayState) → is_point t ≡ true → 2 ≤ contender_count t
 two_there t p = at_least (contender_count t) (two_of t p)
 
 -- who is one now was one a moment before
@@ -76,7 +76,7 @@ same_one g players h x y p small is = contender_is g players h y p small ∙ sym
 found_now : (g : Header) (players : ℕ) (h : List Event) (found : Point) → point_now (table_with g players h None) ≡ Some found → HasContenders g players h found
 found_now g players h found is =
     let w = at_now g players h None found is in
-    let t : Table = table_with g players h None in
+    let t : ReplayState = table_with g players h None in
     let bits : (p : ℕ) → has_player found.contenders p ≡ has_player (contenders t) p = (λ p. ap (λ n. has_player n p) w.1) in
     record {
       two = (let many : count_seats (has_player found.contenders) ≡ contender_count t = ap (λ n. count_seats (has_player n)) w.1 ∙ count_is t in let two : 2 ≤ contender_count t = two_there t w.0 in omega (arith, many, two));

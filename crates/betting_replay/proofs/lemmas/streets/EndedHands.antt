@@ -21,9 +21,10 @@ use Rattle.card_sets.specs.Streets.{next_street}
 use Rattle.betting_replay.specs.Streets.{same_street, begun_by_drawing, begins_on, is_number}
 use Rattle.betting_replay.specs.Faults.{may_part, next_only, next_first, next_second, next_on, all_begun, may_end}
 use Rattle.betting_replay.specs.Sums.{street, is_last_of, last_begun, twice_from, second_street, folded}
-use Rattle.betting_replay.specs.TableAfter.{Table, table_with, table_of, point, acts_of, no_acts}
+use Rattle.betting_replay.specs.TableAfter.{ReplayState, table_with, table_of, point}
 use Rattle.betting_replay.specs.Turns.{is_contender, contender_count}
-use Rattle.betting_replay.proofs.lemmas.seats.SeatLists.{at_by_seat}
+use Rattle.betting_replay.proofs.lemmas.seats.SeatStates.{acts_are}
+use Rattle.betting_replay.specs.declared.seats.Acts.{Acts}
 use Rattle.card_sets.proofs.CallerLemmas.{or_either}
 use Rattle.std.proofs.lemmas.Bool.{and_parts, or_left, or_right}
 use Rattle.betting_replay.proofs.lemmas.streets.GameFamilies.{none_after_end, no_last_end}
@@ -46,7 +47,7 @@ fewer_pass p q (suc n) h =
 -- an event makes nobody a contender
 pub contender_is : (g : Header) (players : ℕ) (h : List Event) (x : Option Point) (p : ℕ) → p < 11 → is_contender (table_with g players h x) p ≡ (has_player players p && not (folded h p))
 unfolding is_contender
-contender_is g players h x p small = rw (at_by_seat (acts_of g h) p no_acts small) refl
+contender_is g players h x p small = ap (λ (a : Acts). has_player players p && not a.folded) (acts_are g players h x p small)
 
 pub still_in : (a b f : Bool) → (a && not (b || f)) ≡ true → (a && not f) ≡ true
 still_in true true f h = absurd (true≢false (sym h))
@@ -116,23 +117,23 @@ marked_end g (Pat seat ∷ h) is = marked_end g h (from_before (begun_by_drawing
 marked_end g (e ∷ h) is = marked_end g h is
 
 -- behind it no street comes on any board
-none_on_any : (t : Table) (number : BoardNumber) → next_street t.header.game t.street ≡ None → is_last_of t.header.game t.street ≡ false → next_on t number ≡ None
-none_on_any t board.Only none last = by t.twice
+none_on_any : (t : ReplayState) (number : BoardNumber) → next_street t.header.game t.course.street ≡ None → is_last_of t.header.game t.course.street ≡ false → next_on t number ≡ None
+none_on_any t board.Only none last = by t.course.split_from
   where
-    by : (o : Option StreetName) → next_only o (next_street t.header.game t.street) ≡ None
+    by : (o : Option StreetName) → next_only o (next_street t.header.game t.course.street) ≡ None
     by None = none
     by (Some from) = refl
-none_on_any t board.First none last = by (may_part t) t.twice t.marker
+none_on_any t board.First none last = by (may_part t) t.course.split_from t.course.marker
   where
-    by : (b : Bool) (o : Option StreetName) (n : BoardNumber) → next_first b o n (next_street t.header.game t.street) ≡ None
+    by : (b : Bool) (o : Option StreetName) (n : BoardNumber) → next_first b o n (next_street t.header.game t.course.street) ≡ None
     by true None n = none
     by false None n = refl
     by b (Some from) board.Only = refl
     by b (Some from) board.First = none
     by b (Some from) board.Second = refl
-none_on_any t board.Second none last = by t.twice t.marker (is_last_of t.header.game t.street) last
+none_on_any t board.Second none last = by t.course.split_from t.course.marker (is_last_of t.header.game t.course.street) last
   where
-    by : (o : Option StreetName) (n : BoardNumber) (b : Bool) → b ≡ false → next_second o n b (next_street t.header.game t.street) ≡ None
+    by : (o : Option StreetName) (n : BoardNumber) (b : Bool) → b ≡ false → next_second o n b (next_street t.header.game t.course.street) ≡ None
     by None n b off = refl
     by (Some from) board.Only b off = refl
     by (Some from) board.First true off = cc

@@ -4,7 +4,7 @@ use Rattle.std.specs.Option.{option_or}
 use Rattle.std.proofs.lemmas.Bool.Decides.{nat_tests}
 use Rattle.std.proofs.Common.{◌≡◌, ℕ, zero, suc, ◌+◌, ◌-◌, ◌<◌, ◌≤◌, ◌==◌, refl, sym, ap, ◌∙◌, Bool, true, false, arith}
 use Rattle.betting_replay.specs.Seats.{first_from, first_after, or_else}
-use Rattle.betting_replay.specs.Table.{Table}
+use Rattle.betting_replay.specs.Table.{ReplayState}
 use Rattle.betting_replay.specs.Turns.{contender_count, is_open, is_played, owes}
 
 -- the first of the seats from one that doesn't pass is the first of those behind it
@@ -77,7 +77,7 @@ somebody_after test last None is = tt
 somebody_after test last (Some s) is = some_after test last s (sym is)
 
 -- where betting is closed, or one is left, nobody owes an act
-none_owes : (t : Table) (p : ℕ) → is_played t ≡ false → owes t p ≡ false
+none_owes : (t : ReplayState) (p : ℕ) → is_played t ≡ false → owes t p ≡ false
 unfolding owes
 none_owes t p closed = by (is_open t) (nat_le 2 (contender_count t)) refl refl
   where
@@ -86,6 +86,6 @@ none_owes t p closed = by (is_open t) (nat_le 2 (contender_count t)) refl refl
     by true false free few = rw (free, few) refl
     by true true free many = (let played : is_played t ≡ true = rw (free, many) refl in cc)
 
-pub nobody_owes : (t : Table) (from n : ℕ) → is_played t ≡ false → first_from (owes t) from n ≡ None
+pub nobody_owes : (t : ReplayState) (from n : ℕ) → is_played t ≡ false → first_from (owes t) from n ≡ None
 nobody_owes t from zero closed = refl
 nobody_owes t from (suc n) closed = rw (none_owes t from closed) (nobody_owes t (from + 1) n closed)

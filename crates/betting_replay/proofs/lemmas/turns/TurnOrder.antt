@@ -16,7 +16,7 @@ use Rattle.betting_replay.specs.Faults.{legal, fault_at, first_fault, fault_if, 
 use Rattle.betting_replay.specs.Limits.{Fits}
 use Rattle.betting_replay.specs.Seats.{first_from, first_between, or_else}
 use Rattle.betting_replay.specs.Sums.{last_actor, is_later_by}
-use Rattle.betting_replay.specs.TableAfter.{Table, table_of}
+use Rattle.betting_replay.specs.TableAfter.{ReplayState, table_of}
 use Rattle.betting_replay.specs.TurnLaws.{way, IsBetween, IsNearest, PassesOver}
 use Rattle.betting_replay.specs.Turns.{owes, owes_before, owes_before_by}
 use Rattle.betting_replay.proofs.lemmas.turns.SeatWalk.{none_from}
@@ -163,7 +163,7 @@ pub nobody_passed : (header : Header) (players : ℕ) (h : List Event) (to : ℕ
     → (seat : ℕ) → IsBetween from seat to → owes (table_of header players h) seat ≡ false
 unfolding out_of_turn
 nobody_passed header players h to act all_in shown ok from last seat is =
-    let t : Table = table_of header players h in
+    let t : ReplayState = table_of header players h in
     let free : fault_with OutOfTurn (owes_before t to) ≡ None = (passed t (Act to act all_in shown) ok.1).in_turn in
     none_between (owes t) from to (actor_small (last_actor header h) from (actor_in header players h ok.2) last) ok.0.seats.0 ok.0.seats.1 (nobody (last_actor header h) last (owes_before t to) refl free) seat is
   where
@@ -183,7 +183,7 @@ calm true f h = h
 calm false f h = refl
 
 -- no other test of an act does
-calm_amount : (t : Table) (seat : ℕ) (act : Deed) → turns (act_amiss t seat act) ≡ false
+calm_amount : (t : ReplayState) (seat : ℕ) (act : Deed) → turns (act_amiss t seat act) ≡ false
 unfolding act_amiss
 calm_amount t seat Fold = refl
 calm_amount t seat Check = calm _ _ refl
@@ -213,7 +213,7 @@ second_test None None os seat first rest h = absurd (true≢false (ap turns (sym
 second_test None (Some f) os seat first rest h = h
 second_test (Some f) b os seat first rest h = absurd (true≢false (ap turns (sym h) ∙ first))
 
-turn_told : (t : Table) (to : ℕ) (act : Deed) (all_in : Bool) (shown : List ℕ) (seat : ℕ) → fault_at t (Act to act all_in shown) ≡ Some (OutOfTurn seat) → fault_with OutOfTurn (owes_before t to) ≡ Some (OutOfTurn seat)
+turn_told : (t : ReplayState) (to : ℕ) (act : Deed) (all_in : Bool) (shown : List ℕ) (seat : ℕ) → fault_at t (Act to act all_in shown) ≡ Some (OutOfTurn seat) → fault_with OutOfTurn (owes_before t to) ≡ Some (OutOfTurn seat)
 unfolding fault_at not_in_hand out_of_turn nothing_owed amount_amiss above_stack all_in_word street_early street_order uncalled_amiss card_twice post_late seat_twice too_many_cards
 turn_told t to act all_in shown seat h = second_test _ _ _ seat (calm _ NotInHand refl)
     (calm _ NothingOwed refl, (calm_amount t to act, (calm _ (AboveStack _) refl, (calm _ AllInWord refl, (refl, (refl, (refl, (calm_with CardTwice _ (λ n. refl), (refl, (refl, (calm_if _ _ (TooManyCards _) refl, tt))))))))))) h

@@ -1,7 +1,7 @@
 use Rattle.std.proofs.Common.{◌≡◌, ℕ, List, sym, ap, ◌∙◌, refl}
 use Rattle.pot_layers.specs.declared.paid.Paid.{Paid}
 use Rattle.pot_layers.specs.Pots.{pots}
-use Rattle.betting_replay.specs.Table.{Table, is_twice}
+use Rattle.betting_replay.specs.Table.{ReplayState, is_twice}
 use Rattle.hand_audit.specs.declared.verdicts.AllIn.{AllIn}
 use Rattle.hand_audit.specs.declared.verdicts.HandAudit.TheVariants.{Accepted}
 use Rattle.hand_audit.specs.declared.settlement.Settlement.{Settlement}
@@ -21,10 +21,10 @@ returns c so_far k made =
     let g = c.args.header.now in
     let h = so_far.events in
     let s = showing_of g c.args.players h in
-    let pots_same : eligible_of c.items.result.now ≡ eligible_in (pots (paid_in c.args.hand.replay))
+    let pots_same : eligible_of c.items.result.now ≡ eligible_in (pots (paid_in c.args.state.replay))
     = ap eligible_of c.items.ensures ∙ ap (λ (x : Settled). eligible_of x.pots) made.settled ∙ settled_same s ∙ ap (λ (ps : List Paid). eligible_in (pots ps)) (paid_shown g c.args.players h)
-    ∙ ap (λ (t : Table). eligible_in (pots (paid_in t))) (sym k.stands.is) in
+    ∙ ap (λ (t : ReplayState). eligible_in (pots (paid_in t))) (sym k.stands.is) in
     same_accepted _ _ _ _ _ _ c.args.players
-    (ap (λ (x : Settled). settlement_by g c.args.hand.rake c.is_twice.result x) made.settled ∙ ap (λ stated. settlement_by g stated c.is_twice.result (settled s)) k.rake
+    (ap (λ (x : Settled). settlement_by g c.args.state.rake c.is_twice.result x) made.settled ∙ ap (λ stated. settlement_by g stated c.is_twice.result (settled s)) k.rake
     ∙ ap (λ twice. settlement_by g (rake h) twice (settled s)) (c.is_twice.ensures ∙ ap is_twice k.stands.is))
     (c.all_in_by-all_in.ensures pots_same ∙ ap (all_in_by g.game) k.stands.is) k.names

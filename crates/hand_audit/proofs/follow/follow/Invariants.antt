@@ -7,10 +7,11 @@ use Rattle.hand_audit.proofs.follow.follow.Given as goal
 abbrev pub invariant-lines : goal.invariant-lines
 invariant-lines l = record {
   within : l.at ≤ length l.bytes;
-  numbers : l.number + length (lines (drop l.at l.bytes)) ≡ l.fn.first + length (lines (drop l.fn.start l.bytes));
-  sound : IsSound l.hand;
-  going : Going l.hand l.header l.players l.fn.first (lines (drop l.fn.start l.bytes)) (lines (drop l.at l.bytes)) l.number;
-  ahead : AreReads l.header l.hand.names l.hand.part l.left (lines (drop l.at l.bytes));
+  few : l.count ≤ l.at;
+  counted : l.count + length (lines (drop l.at l.bytes)) ≡ length (lines (drop l.fn.start l.bytes));
+  sound : IsSound l.state;
+  going : Going l.state l.header l.players (lines (drop l.fn.start l.bytes)) (lines (drop l.at l.bytes)) l.count;
+  ahead : AreReads l.header l.state.names l.state.part l.left (lines (drop l.at l.bytes));
 }
 
 abbrev pub decreases-lines : goal.decreases-lines

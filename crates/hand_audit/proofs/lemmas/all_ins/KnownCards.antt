@@ -19,7 +19,7 @@ use Rattle.betting_replay.specs.CardLaws.{PlacesAreApart, CardsBelongAfter}
 use Rattle.betting_replay.specs.Known.{cards_at}
 use Rattle.betting_replay.specs.Places.{owned}
 use Rattle.betting_replay.specs.Seats.{by_seat}
-use Rattle.betting_replay.specs.Table.{Table as Replayed, known_at}
+use Rattle.betting_replay.specs.Table.{ReplayState, known_at}
 use Rattle.betting_replay.specs.TableAfter.{table_of, dead_cards}
 use Rattle.betting_replay.proofs.CallerLemmas.{at_by_seat}
 use Rattle.card_sets.proofs.CallerLemmas.{from_apart}
@@ -76,11 +76,11 @@ made_of point all street seats table is = by (list_all (λ p. is_some (slice_ind
     by true k h = from (table_from (bare_of point all)) refl k h
     by false k h = cc
 
-street_there : (game : Game) (t : Replayed) (found street : Street) → (known_there game t found).street ≡ street → found ≡ street
+street_there : (game : Game) (t : ReplayState) (found street : Street) → (known_there game t found).street ≡ street → found ≡ street
 unfolding known_there
 street_there game t found street is = is
 
-pub made_at : (game : Game) (t : Replayed) (o : Option Street) (street : Street) (seats : List ℕ) (table : Table) → all_in_on game t o ≡ Known street seats table → IsMade (known_there game t street) (eligible_in (pots (paid_in t))) street seats table
+pub made_at : (game : Game) (t : ReplayState) (o : Option Street) (street : Street) (seats : List ℕ) (table : Table) → all_in_on game t o ≡ Known street seats table → IsMade (known_there game t street) (eligible_in (pots (paid_in t))) street seats table
 made_at game t None street seats table is = cc
 made_at game t (Some found) street seats table is =
     let m = made_of (known_there game t found) (eligible_in (pots (paid_in t))) street seats table is in
@@ -117,7 +117,7 @@ unfolding known_there bare_of
 known_made apart belong shows shows_dead g players h street seats table ok made =
     record { hands = hands; board = board; dead = dead_is; later = later; second = other }
   where
-    t : Replayed
+    t : ReplayState
     t = table_of g players h
 
     xs : List ℕ

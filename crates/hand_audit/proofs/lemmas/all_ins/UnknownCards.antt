@@ -18,7 +18,7 @@ use Rattle.betting_replay.specs.Boards.{board_up_to}
 use Rattle.betting_replay.specs.CardLaws.{PlacesAreApart, CardsBelongAfter, WholeBoards, MarkersFit}
 use Rattle.betting_replay.specs.Known.{cards_at}
 use Rattle.betting_replay.specs.Seats.{by_seat}
-use Rattle.betting_replay.specs.Table.{Table as Replayed, known_at}
+use Rattle.betting_replay.specs.Table.{ReplayState, known_at}
 use Rattle.betting_replay.specs.TableAfter.{table_of, point, dead_cards}
 use Rattle.betting_replay.proofs.CallerLemmas.{at_by_seat}
 use Rattle.showdown_tally.specs.declared.table.Table.{Table}
@@ -93,7 +93,7 @@ unknown_on apart belong boards shows shows_dead g players h ok markers found e s
     ∙ ap (λ n. list_all (λ q. is_some (slice_index_or cards q None)) (seats_in n)) (sym (ap point_contenders e))
     ∙ unknown_at (known_there g.game t street) all_pots few together made
   where
-    t : Replayed
+    t : ReplayState
     t = table_of g players h
 
     all_pots : List ℕ

@@ -10,7 +10,7 @@ use Rattle.pot_layers.specs.Pots.{put_in_all}
 use Rattle.betting_replay.specs.Accepted.{opening}
 use Rattle.betting_replay.specs.Accounts.{paid_by}
 use Rattle.betting_replay.specs.Sums.{paid, dead}
-use Rattle.betting_replay.specs.TableAfter.{Table, table_of}
+use Rattle.betting_replay.specs.TableAfter.{ReplayState, table_of}
 use Rattle.hand_audit.specs.Chips.{sum_from, over_seats, closing, collected_at}
 use Rattle.hand_audit.specs.Departs.{put_in_by}
 use Rattle.hand_audit.specs.Showings.{paid_from, paid_in}
@@ -24,7 +24,7 @@ put_from : (g : Header) (players : ℕ) (h : List Event) → Idle g players h �
 put_from g players h others p zero l = refl
 put_from g players h others p (suc n) l = by (has_player players p) refl (put_from g players h others (p + 1) n (omega arith))
   where
-    t : Table
+    t : ReplayState
     t = table_of g players h
 
     by : (b : Bool) → has_player players p ≡ b → put_in_all (paid_from t (p + 1) n) ≡ sum_from (λ q. paid g h q + dead g h q) (p + 1) n

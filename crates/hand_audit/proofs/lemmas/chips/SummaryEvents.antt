@@ -9,9 +9,9 @@ use Rattle.history_text.specs.declared.events.Part.TheVariants.{Summary as Summa
 use Rattle.history_text.specs.Within.{stands_in}
 use Rattle.betting_replay.specs.Accounts.{paid_by}
 use Rattle.betting_replay.specs.Sums.{paid, dead, folded}
-use Rattle.betting_replay.specs.TableAfter.{table_of, chips_of, acts_of, no_chips, no_acts}
+use Rattle.betting_replay.specs.TableAfter.{table_of, point, chips_of, acts_of, chips_at, acts_at}
 use Rattle.betting_replay.specs.Turns.{is_contender}
-use Rattle.betting_replay.proofs.CallerLemmas.{at_by_seat}
+use Rattle.betting_replay.proofs.CallerLemmas.{chips_are, acts_are}
 use Rattle.hand_audit.specs.Collections.{collections}
 use Rattle.hand_audit.specs.Showings.{paid_from, paid_in}
 
@@ -43,7 +43,10 @@ quiet g h _ is = cc
 -- what a seat of the table has put in, by the events
 pub paid_is : (g : Header) (players : ℕ) (h : List Event) (p : ℕ) → p < 11 → paid_by (table_of g players h) p ≡ record { seat = p; live = paid g h p; dead = dead g h p; contender = has_player players p && not (folded h p) }
 unfolding paid_by is_contender
-paid_is g players h p small = rw (at_by_seat (chips_of g h) p no_chips small, at_by_seat (acts_of g h) p no_acts small) refl
+paid_is g players h p small =
+    let chips : chips_at (table_of g players h) p ≡ chips_of g h p = chips_are g players h (point g players h) p small in
+    let acts : acts_at (table_of g players h) p ≡ acts_of g h p = acts_are g players h (point g players h) p small in
+    rw (chips, acts) refl
 
 -- so what all players have put in stays the same
 same_from : (g : Header) (players : ℕ) (h : List Event) (e : Event) (p n : ℕ) → IsQuiet g h e → p + n ≤ 11 → paid_from (table_of g players (e ∷ h)) p n ≡ paid_from (table_of g players h) p n

@@ -17,7 +17,7 @@ use Rattle.history_text.specs.declared.events.TextFault.{TextFault}
 use Rattle.history_text.specs.Lines.{line_event}
 use Rattle.betting_replay.specs.Events.{SeatFits}
 use Rattle.betting_replay.specs.Places.{is_at}
-use Rattle.hand_audit.specs.declared.first_pass.Pass.{Pass}
+use Rattle.hand_audit.specs.declared.first_pass.PlayerScan.{PlayerScan}
 use Rattle.hand_audit.specs.Lines.{SoFar, nothing, part_of, part_after, read_at, named_by, with_event, with_line, with_line_by, seat_at, is_again, with_seat, player_of, plays, players_in, players_of, read_events}
 use Rattle.hand_audit.specs.Passing.{HasNumbers, Passes, Took, digits_text}
 use Rattle.hand_audit.proofs.lemmas.lines.LineSteps.{seats_more}
@@ -80,20 +80,20 @@ noted_of old new before text (Some n) e updates has =
     has_more old new before n (subst (λ t. UpdatesBy (λ x y. slice_cmp nat_cmp x.now y.now) (λ k. slice_cmp nat_cmp t k.now) old new true) same updates) has
 
 -- what a line makes of the pass
-read_is : (pass : Pass) (g : Header) (so_far : SoFar) (seats : List ℕ) (line : List ℕ) → Passes pass so_far seats → line_event pass.names g pass.part line ≡ read_at g so_far line
+read_is : (pass : PlayerScan) (g : Header) (so_far : SoFar) (seats : List ℕ) (line : List ℕ) → Passes pass so_far seats → line_event pass.names g pass.part line ≡ read_at g so_far line
 unfolding read_at
 read_is pass g so_far seats line k = rw (k.names, k.part) refl
 
-again_is : (pass : Pass) (so_far : SoFar) (seats : List ℕ) (line : List ℕ) (b : Bool) → Passes pass so_far seats → is_again seats (seat_at pass.part line) ≡ b → is_again seats (seat_at (part_of so_far.events) line) ≡ b
+again_is : (pass : PlayerScan) (so_far : SoFar) (seats : List ℕ) (line : List ℕ) (b : Bool) → Passes pass so_far seats → is_again seats (seat_at pass.part line) ≡ b → is_again seats (seat_at (part_of so_far.events) line) ≡ b
 again_is pass so_far seats line b k is = rw (← k.part) is
 
-seats_are : (pass new : Pass) (so_far : SoFar) (seats : List ℕ) (line : List ℕ) → Passes pass so_far seats → HasNumbers new.seats (with_seat seats (seat_at pass.part line)) → HasNumbers new.seats (with_seat seats (seat_at (part_of so_far.events) line))
+seats_are : (pass new : PlayerScan) (so_far : SoFar) (seats : List ℕ) (line : List ℕ) → Passes pass so_far seats → HasNumbers new.seats (with_seat seats (seat_at pass.part line)) → HasNumbers new.seats (with_seat seats (seat_at (part_of so_far.events) line))
 seats_are pass new so_far seats line k is = subst (λ (p : Part). HasNumbers new.seats (with_seat seats (seat_at p line))) k.part is
 
-pub took_again : (pass : Pass) (g : Header) (so_far : SoFar) (seats : List ℕ) (line : List ℕ) → Passes pass so_far seats → is_again seats (seat_at pass.part line) ≡ true → Took pass g so_far seats line true
+pub took_again : (pass : PlayerScan) (g : Header) (so_far : SoFar) (seats : List ℕ) (line : List ℕ) → Passes pass so_far seats → is_again seats (seat_at pass.part line) ≡ true → Took pass g so_far seats line true
 took_again pass g so_far seats line k is = (again_is pass so_far seats line true k is, k)
 
-pub took_fault : (pass new : Pass) (g : Header) (so_far : SoFar) (seats : List ℕ) (line : List ℕ) (f : TextFault) → Passes pass so_far seats → is_again seats (seat_at pass.part line) ≡ false
+pub took_fault : (pass new : PlayerScan) (g : Header) (so_far : SoFar) (seats : List ℕ) (line : List ℕ) (f : TextFault) → Passes pass so_far seats → is_again seats (seat_at pass.part line) ≡ false
     → HasNumbers new.seats (with_seat seats (seat_at pass.part line)) → new.names ≡ pass.names → new.part ≡ pass.part → new.players ≡ pass.players
     → line_event pass.names g pass.part line ≡ Err f → Took new g so_far seats line false
 took_fault pass new g so_far seats line f k again more names part players is =
@@ -103,7 +103,7 @@ took_fault pass new g so_far seats line f k again more names part players is =
           (record { names = names ∙ k.names; part = part ∙ k.part; players = players ∙ k.players; seats = seats_are pass new so_far seats line k more; seated = k.seated }),
     )
 
-pub took_event : (pass new : Pass) (g : Header) (so_far : SoFar) (seats : List ℕ) (line : List ℕ) (e : Event) → Passes pass so_far seats → is_again seats (seat_at pass.part line) ≡ false
+pub took_event : (pass new : PlayerScan) (g : Header) (so_far : SoFar) (seats : List ℕ) (line : List ℕ) (e : Event) → Passes pass so_far seats → is_again seats (seat_at pass.part line) ≡ false
     → HasNumbers new.seats (with_seat seats (seat_at pass.part line)) → new.names ≡ named_by e line pass.names → new.part ≡ part_after e pass.part
     → ((h : List Event) → pass.players ≡ players_in h → new.players ≡ players_in (e ∷ h)) → SeatFits e
     → line_event pass.names g pass.part line ≡ Ok e → Took new g so_far seats line false
@@ -121,13 +121,13 @@ took_event pass new g so_far seats line e k again more names part players fits i
     )
 
 -- after some of the lines, with those that are left
-pub record Passing (pass : Pass) (g : Header) (all left : List (List ℕ)) : Type 0 where
+pub record Passing (pass : PlayerScan) (g : Header) (all left : List (List ℕ)) : Type 0 where
   pub so_far : SoFar
   pub seats : List ℕ
   pub keeps : Passes pass so_far seats
   pub same : read_events g nothing [] all ≡ read_events g so_far seats left
 
-pub passing_more : (pass new : Pass) (g : Header) (all : List (List ℕ)) (line : List ℕ) (left left' : List (List ℕ)) (r : Passing pass g all left') → left' ≡ line ∷ left → Took new g r.so_far r.seats line false → Passing new g all left
+pub passing_more : (pass new : PlayerScan) (g : Header) (all : List (List ℕ)) (line : List ℕ) (left left' : List (List ℕ)) (r : Passing pass g all left') → left' ≡ line ∷ left → Took new g r.so_far r.seats line false → Passing new g all left
 passing_more pass new g all line left left' r is took =
     let here : read_events g r.so_far r.seats (line ∷ left) ≡ read_events g (with_line g r.so_far line) (with_seat r.seats (seat_at (part_of r.so_far.events) line)) left = rw took.0 refl in
     record { so_far = with_line g r.so_far line; seats = with_seat r.seats (seat_at (part_of r.so_far.events) line); keeps = took.1; same = r.same ∙ ap (read_events g r.so_far r.seats) is ∙ here }
@@ -136,11 +136,11 @@ are_players : (g : Header) (all : List (List ℕ)) (players : ℕ) (h : List Eve
 unfolding players_of
 are_players g all players h n is are n_is = n_is ∙ are ∙ ap players_in (sym is)
 
-pub passing_again : (pass new : Pass) (g : Header) (all : List (List ℕ)) (line : List ℕ) (left left' : List (List ℕ)) (n : ℕ) (r : Passing pass g all left') → left' ≡ line ∷ left → Took new g r.so_far r.seats line true
+pub passing_again : (pass new : PlayerScan) (g : Header) (all : List (List ℕ)) (line : List ℕ) (left left' : List (List ℕ)) (n : ℕ) (r : Passing pass g all left') → left' ≡ line ∷ left → Took new g r.so_far r.seats line true
     → n ≡ new.players → n ≡ players_of g all
 passing_again pass new g all line left left' n r is took n_is =
     let here : read_events g r.so_far r.seats (line ∷ left) ≡ r.so_far.events = rw took.0 refl in
     are_players g all new.players r.so_far.events n (r.same ∙ ap (read_events g r.so_far r.seats) is ∙ here) took.1.players n_is
 
-pub passing_end : (pass : Pass) (g : Header) (all left : List (List ℕ)) (n : ℕ) (r : Passing pass g all left) → left ≡ [] → n ≡ pass.players → n ≡ players_of g all
+pub passing_end : (pass : PlayerScan) (g : Header) (all left : List (List ℕ)) (n : ℕ) (r : Passing pass g all left) → left ≡ [] → n ≡ pass.players → n ≡ players_of g all
 passing_end pass g all left n r is n_is = are_players g all pass.players r.so_far.events n (r.same ∙ ap (read_events g r.so_far r.seats) is) r.keeps.players n_is

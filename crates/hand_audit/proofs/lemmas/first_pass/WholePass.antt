@@ -19,10 +19,10 @@ use Rattle.history_text.specs.Seats.{seat_digits, seat_opening, seat_line, seat_
 use Rattle.history_text.specs.Texts.{behind, cut_last}
 use Rattle.betting_replay.specs.Events.{seat_of, SeatFits, is_seat_line, ante_in, live_in, dead_in, returned}
 use Rattle.betting_replay.specs.Sums.{seated, paid, dead, live, small_posted}
-use Rattle.betting_replay.specs.TableAfter.{table_of, chips_at, chips_of, no_chips}
+use Rattle.betting_replay.specs.TableAfter.{table_of, point, chips_at, chips_of}
 use Rattle.betting_replay.specs.Faults.{legal, seat_twice}
 use Rattle.betting_replay.specs.declared.faults.BetFault.TheVariants.{SeatTwice}
-use Rattle.betting_replay.proofs.CallerLemmas.{passed, not_failed, at_by_seat, seat_below}
+use Rattle.betting_replay.proofs.CallerLemmas.{passed, not_failed, chips_are, seat_below}
 use Rattle.hand_audit.specs.Departs.{departs_from, departs_by, event_cause}
 use Rattle.hand_audit.specs.Lines.{SoFar, nothing, read_at, part_of, with_event, with_line, with_line_by, seat_number, seat_at, is_again, with_seat, makes_player, plays, players_in, players_of, read_events}
 use Rattle.hand_audit.specs.Verdict.{read_all, events_of}
@@ -111,7 +111,7 @@ unfolding seat_twice
 seat_first g players h (Seat seat units first end) fits none is =
     let t = table_of g players h in
     let p = passed t (Seat seat units first end) none in
-    let at : chips_at t seat ≡ chips_of g h seat = at_by_seat (chips_of g h) seat no_chips (seat_below (Seat seat units first end) fits) in
+    let at : chips_at t seat ≡ chips_of g h seat = chips_are g players h (point g players h) seat (seat_below (Seat seat units first end) fits) in
     sym (ap (λ c. c.seated) at) ∙ not_failed ((chips_at t seat).seated) SeatTwice p.seat
 seat_first g players h _ fits none is = cc
 

@@ -27,7 +27,7 @@ use Rattle.betting_replay.specs.Later.{is_of_second, if_later, later_by, later_b
 use Rattle.betting_replay.specs.Seats.{or_else}
 use Rattle.betting_replay.specs.Streets.{same_street, is_later, is_end, begun_by_drawing, begins, begins_on, shows_on}
 use Rattle.betting_replay.specs.Sums.{street, is_last_of, twice_from, marker_board, shown_on, showdowns_of}
-use Rattle.betting_replay.specs.Table.{Table}
+use Rattle.betting_replay.specs.Table.{ReplayState}
 use Rattle.betting_replay.specs.TableAfter.{table_of, table_with, point}
 use Rattle.betting_replay.specs.Turns.{any_shown}
 use Rattle.betting_replay.proofs.CallerLemmas.{marker_of, no_draw, none_begun, none_after_end, stands_on, never_none, second_needs, twice_board, point_kept}
@@ -206,10 +206,10 @@ begun_next g players (Pat seat) h s ok first begun later = draw_next g players h
 begun_next g players _ h s ok first begun later = absurd (none_some s begun)
 
 -- what it says that a later street begins
-record HasBegun (t : Table) (e : Event) (s : StreetName) : Type 0 where
-  quiet : any_shown t.showdowns ≡ false
+record HasBegun (t : ReplayState) (e : Event) (s : StreetName) : Type 0 where
+  quiet : any_shown t.course.showdowns ≡ false
   first : is_of_second e ≡ false
-  begun : begins t.header.game t.street e ≡ Some s
+  begun : begins t.header.game t.course.street e ≡ Some s
   later : is_later s ≡ true
 
 if_later_is : (o : Option StreetName) (s : StreetName) → if_later o ≡ Some s → (o ≡ Some s) × (is_later s ≡ true)
@@ -220,20 +220,20 @@ if_later_is (Some m) s is = by (is_later m) refl is
     by true later same = (same, ap is_later (sym (one_street m s same)) ∙ later)
     by false early same = absurd (none_some s same)
 
-has_begun : (t : Table) (e : Event) (s : StreetName) → later_begun t e ≡ Some s → HasBegun t e s
-has_begun t e s is = by (is_some t.point) (any_shown t.showdowns) refl (is_of_second e) refl is
+has_begun : (t : ReplayState) (e : Event) (s : StreetName) → later_begun t e ≡ Some s → HasBegun t e s
+has_begun t e s is = by (is_some t.point) (any_shown t.course.showdowns) refl (is_of_second e) refl is
   where
-    by : (a b : Bool) → any_shown t.showdowns ≡ b → (c : Bool) → is_of_second e ≡ c → (if a && not b then (if c then None else if_later (begins t.header.game t.street e)) else None) ≡ Some s → HasBegun t e s
-    by true false quiet false first h = (let l = if_later_is (begins t.header.game t.street e) s h in record { quiet = quiet; first = first; begun = l.0; later = l.1 })
+    by : (a b : Bool) → any_shown t.course.showdowns ≡ b → (c : Bool) → is_of_second e ≡ c → (if a && not b then (if c then None else if_later (begins t.header.game t.course.street e)) else None) ≡ Some s → HasBegun t e s
+    by true false quiet false first h = (let l = if_later_is (begins t.header.game t.course.street e) s h in record { quiet = quiet; first = first; begun = l.0; later = l.1 })
     by true false quiet true second h = absurd (none_some s h)
     by true true shown c first h = absurd (none_some s h)
     by false b shown c first h = absurd (none_some s h)
 
 -- and that none does, where one might
-later_is : (t : Table) (e : Event) → is_some t.point ≡ true → any_shown t.showdowns ≡ false → later_begun t e ≡ later_by t.header.game t.street e
+later_is : (t : ReplayState) (e : Event) → is_some t.point ≡ true → any_shown t.course.showdowns ≡ false → later_begun t e ≡ later_by t.header.game t.course.street e
 later_is t e some quiet =
-    ap (λ a. if a && not (any_shown t.showdowns) then later_by t.header.game t.street e else None) some
-    ∙ ap (λ b. if true && not b then later_by t.header.game t.street e else None) quiet
+    ap (λ a. if a && not (any_shown t.course.showdowns) then later_by t.header.game t.course.street e else None) some
+    ∙ ap (λ b. if true && not b then later_by t.header.game t.course.street e else None) quiet
 
 none_later : (o : Option StreetName) (s : StreetName) → o ≡ Some s → if_later o ≡ None → is_later s ≡ false
 none_later o s is none = by (is_later s) refl (ap if_later (sym is) ∙ none)
@@ -251,8 +251,8 @@ point_none : (g : Header) (players : ℕ) (e : Event) (h : List Event) → point
 unfolding point
 point_none g players e h none = or_none (point g players h) (point_now (table_with g players (e ∷ h) None)) none
 
-none_before : (t : Table) (e : Event) → t.point ≡ None → later_begun t e ≡ None
-none_before t e none = ap (λ (o : Option Point). if is_some o && not (any_shown t.showdowns) then later_by t.header.game t.street e else None) none
+none_before : (t : ReplayState) (e : Event) → t.point ≡ None → later_begun t e ≡ None
+none_before t e none = ap (λ (o : Option Point). if is_some o && not (any_shown t.course.showdowns) then later_by t.header.game t.course.street e else None) none
 
 no_streets : (g : Header) (players : ℕ) (h : List Event) → point g players h ≡ None → later_streets g players h ≡ []
 no_streets g players [] none = refl
@@ -265,12 +265,12 @@ street_on : (o : Option StreetName) (seats : ℕ) → point_street (point_on o s
 street_on None seats = refl
 street_on (Some s) seats = refl
 
-point_at : (t : Table) (found : Point) → point_now t ≡ Some found → t.street ≡ Some found.street
+point_at : (t : ReplayState) (found : Point) → point_now t ≡ Some found → t.course.street ≡ Some found.street
 unfolding point_now
 point_at t found is = by (is_point t) is
   where
-    by : (b : Bool) → (if b then point_on t.street (contenders t) else None) ≡ Some found → t.street ≡ Some found.street
-    by true h = sym (street_on t.street (contenders t)) ∙ ap point_street h
+    by : (b : Bool) → (if b then point_on t.course.street (contenders t) else None) ≡ Some found → t.course.street ≡ Some found.street
+    by true h = sym (street_on t.course.street (contenders t)) ∙ ap point_street h
     by false h = cc
 
 point_begins : (g : Header) (players : ℕ) (e : Event) (h : List Event) (found : Point) → point g players h ≡ None → point g players (e ∷ h) ≡ Some found → street g (e ∷ h) ≡ Some found.street
@@ -384,11 +384,11 @@ in_order g players (e ∷ h) ok found is = by (point g players h) refl (λ befor
         one_more g players e h found ok known (before (sym (point_kept g players e h known) ∙ is))
 
 -- the streets of what is known on some streets
-same_streets : (game : Game) (t : Table) (eligible : List ℕ) (streets : List StreetName) → map (λ (state : StreetState). state.street) (map (state_on game t eligible) streets) ≡ streets
+same_streets : (game : Game) (t : ReplayState) (eligible : List ℕ) (streets : List StreetName) → map (λ (state : StreetState). state.street) (map (state_on game t eligible) streets) ≡ streets
 same_streets game t eligible [] = refl
 same_streets game t eligible (s ∷ rest) = ap (λ (l : List StreetName). s ∷ l) (same_streets game t eligible rest)
 
-pub states_in_order : (g : Header) (players : ℕ) (h : List Event) (t : Table) (eligible : List ℕ) → IsAccepted g players h → (found : Point) → point g players h ≡ Some found
+pub states_in_order : (g : Header) (players : ℕ) (h : List Event) (t : ReplayState) (eligible : List ℕ) → IsAccepted g players h → (found : Point) → point g players h ≡ Some found
     → ComeInOrder g.game found.street (map (λ (state : StreetState). state.street) (map (state_on g.game t eligible) (later_streets g players h)))
 states_in_order g players h t eligible ok found is = subst (ComeInOrder g.game found.street) (sym (same_streets g.game t eligible (later_streets g players h))) (in_order g players h ok found is).order
 

@@ -8,7 +8,7 @@ use Rattle.history_text.specs.declared.events.Part.TheVariants.{Summary as Summa
 use Rattle.history_text.specs.Within.{stands_in}
 use Rattle.betting_replay.specs.Events.{button_after}
 use Rattle.betting_replay.specs.Limits.{Fits}
-use Rattle.hand_audit.specs.declared.hand.Hand.{Hand}
+use Rattle.hand_audit.specs.declared.hand.AuditState.{AuditState}
 use Rattle.hand_audit.specs.Lines.{part_after}
 use Rattle.hand_audit.specs.Collections.{collected_by, taken}
 use Rattle.hand_audit.specs.Departs.{is_total, total_cause}
@@ -30,20 +30,19 @@ total_small : (e : Event) (p c : ℕ) → Fits e → is_total e ≡ true → tot
 total_small (Total units rake) p c fits is none = let small : units < 10 ^ 15 = fits.amounts.0 in let even : units ≡ c + rake = total_even p c units rake none in omega (arith, small, even)
 total_small _ p c fits is none = cc
 
-in_summary : (hand : Hand) (e : Event) → IsSound hand → stands_in hand.part e ≡ true → (a b : Bool) → is_total e ≡ a → hand.total ≡ b → (a || b) ≡ true → hand.part ≡ SummaryPart
+in_summary : (hand : AuditState) (e : Event) → IsSound hand → stands_in hand.part e ≡ true → (a b : Bool) → is_total e ≡ a → hand.total ≡ b → (a || b) ≡ true → hand.part ≡ SummaryPart
 in_summary hand e s is true b ea eb h = total_part hand.part e is ea
 in_summary hand e s is false true ea eb h = s.part eb
 in_summary hand e s is false false ea eb h = cc
 
-small_more : (hand : Hand) (e : Event) (p : ℕ) → IsSound hand → Fits e → total_cause p (taken hand.collections.items) e ≡ None → (a b : Bool) → is_total e ≡ a → hand.total ≡ b → (a || b) ≡ true → taken hand.collections.items < 10 ^ 15
+small_more : (hand : AuditState) (e : Event) (p : ℕ) → IsSound hand → Fits e → total_cause p (taken hand.collections.items) e ≡ None → (a b : Bool) → is_total e ≡ a → hand.total ≡ b → (a || b) ≡ true → taken hand.collections.items < 10 ^ 15
 small_more hand e p s fits none true b ea eb h = total_small e p (taken hand.collections.items) fits ea none
 small_more hand e p s fits none false true ea eb h = s.room eb
 small_more hand e p s fits none false false ea eb h = cc
 
-pub sound_more : (new hand : Hand) (e : Event) (p : ℕ) → IsSound hand → stands_in hand.part e ≡ true → Fits e → total_cause p (taken hand.collections.items) e ≡ None
-    → new.button ≡ button_after e hand.button → new.part ≡ part_after e hand.part → new.collections.items ≡ hand.collections.items ++ collected_by e → new.total ≡ (is_total e || hand.total) → IsSound new
-sound_more new hand e p s is fits none button' part' all' total' = record {
-  button = (let few : button_after e hand.button ≤ 10 = button_few e hand.button fits s.button in rw button' few);
+pub sound_more : (new hand : AuditState) (e : Event) (p : ℕ) → IsSound hand → stands_in hand.part e ≡ true → Fits e → total_cause p (taken hand.collections.items) e ≡ None
+    → new.part ≡ part_after e hand.part → new.collections.items ≡ hand.collections.items ++ collected_by e → new.total ≡ (is_total e || hand.total) → IsSound new
+sound_more new hand e p s is fits none part' all' total' = record {
   part = λ some.
       let summary : hand.part ≡ SummaryPart = in_summary hand e s is (is_total e) hand.total refl refl (sym total' ∙ some) in
       let kind : stands_in SummaryPart e ≡ true = subst (λ (q : Part). stands_in q e ≡ true) summary is in part' ∙ ap (part_after e) summary ∙ stays e kind;

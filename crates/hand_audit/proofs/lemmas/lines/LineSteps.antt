@@ -9,26 +9,28 @@ use Rattle.history_text.specs.declared.events.Event.TheVariants.{Seat}
 use Rattle.history_text.specs.declared.events.TextFault.{TextFault}
 use Rattle.history_text.specs.Lines.{line_event}
 use Rattle.betting_replay.specs.declared.faults.BetFault.{BetFault}
-use Rattle.betting_replay.specs.Events.{SeatFits, button_after}
+use Rattle.betting_replay.specs.Events.{SeatFits}
 use Rattle.betting_replay.specs.CardLaws.{MarkerFits, MarkersFit}
+use Rattle.betting_replay.specs.Later.{listed, later_begun}
 use Rattle.betting_replay.specs.Limits.{Fits}
 use Rattle.betting_replay.specs.TableAfter.{StandsFor, table_of}
 use Rattle.betting_replay.specs.Faults.{legal, verdict}
 use Rattle.betting_replay.proofs.CallerLemmas.{no_fault}
 use Rattle.history_text.specs.declared.events.Part.TheVariants.{Summary as SummaryPart}
 use Rattle.betting_replay.specs.Accepted.{IsAccepted}
-use Rattle.betting_replay.specs.Table.{Table}
+use Rattle.betting_replay.specs.Table.{ReplayState}
 use Rattle.pot_layers.specs.Pots.{pots, put_in_all}
 use Rattle.hand_audit.specs.Winning.{AreDecided}
 use Rattle.hand_audit.specs.declared.cause.Cause.{Cause}
 use Rattle.hand_audit.specs.declared.cause.Cause.TheVariants.{Text, Bet, Split, Unfinished}
-use Rattle.hand_audit.specs.declared.hand.Hand.{Hand}
+use Rattle.hand_audit.specs.declared.hand.AuditState.{AuditState}
 use Rattle.hand_audit.specs.Lines.{SoFar, part_after, part_of, read_at, named_by}
-use Rattle.hand_audit.specs.Collections.{collected_by, collections, taken}
+use Rattle.hand_audit.specs.Collections.{collected_by, taken}
 use Rattle.hand_audit.specs.Showings.{paid_in, rake_by, showing_at, showing_of}
 use Rattle.hand_audit.specs.Departs.{is_total, total_cause, event_cause, end_cause, split_cause, put_in_by, collected}
 use Rattle.hand_audit.specs.Settle.{Showing, beyond}
 use Rattle.card_sets.specs.declared.games.Game.{Game}
+use Rattle.card_sets.specs.declared.streets.Street.{Street}
 use Rattle.hand_audit.specs.declared.settlement.Payment.{Payment}
 use Rattle.hand_audit.specs.declared.settling.HandSettled.{HandSettled}
 use Rattle.hand_audit.specs.SettlementAnswers.{IsOfHand}
@@ -36,12 +38,12 @@ use Rattle.hand_audit.specs.Keeping.{Keeps, Goes, EndsAs}
 use Rattle.history_text.specs.Within.{IsSeated}
 
 -- the line is read by what is kept as it is by the lines so far
-pub read_is : (hand : Hand) (g : Header) (players : ℕ) (so_far : SoFar) (line : List ℕ) → Keeps hand g players so_far → line_event hand.names g hand.part line ≡ read_at g so_far line
+pub read_is : (hand : AuditState) (g : Header) (players : ℕ) (so_far : SoFar) (line : List ℕ) → Keeps hand g players so_far → line_event hand.names g hand.part line ≡ read_at g so_far line
 unfolding read_at
 read_is hand g players so_far line k = rw (k.names, k.part) refl
 
 -- so are the counts
-counts_is : (hand : Hand) (g : Header) (players : ℕ) (so_far : SoFar) (e : Event) → Keeps hand g players so_far
+counts_is : (hand : AuditState) (g : Header) (players : ℕ) (so_far : SoFar) (e : Event) → Keeps hand g players so_far
     → total_cause (put_in_all (paid_in hand.replay)) (taken hand.collections.items) e ≡ total_cause (put_in_by g players so_far.events) (collected so_far.events) e
 unfolding put_in_by collected
 counts_is hand g players so_far e k = rw (k.stands.is, k.collections) refl
@@ -59,18 +61,18 @@ unfolding event_cause
 event_total g players h e u o is total = let l : legal g players h e ≡ None = no_fault (legal g players h e) u is in rw (l, total) refl
 
 -- a line that can't be read
-pub goes_text : (new hand : Hand) (g : Header) (players : ℕ) (so_far : SoFar) (line : List ℕ) (f : TextFault) → Keeps hand g players so_far
+pub goes_text : (new hand : AuditState) (g : Header) (players : ℕ) (so_far : SoFar) (line : List ℕ) (f : TextFault) → Keeps hand g players so_far
     → line_event hand.names g hand.part line ≡ Err f → Goes new g players so_far line (read_at g so_far line) (Some (Text f))
 goes_text new hand g players so_far line f k is = subst (λ (r : Result Event TextFault). Goes new g players so_far line r (Some (Text f))) (sym is ∙ read_is hand g players so_far line k) refl
 
 -- a line whose event may not stand
-pub goes_bet : (new hand : Hand) (g : Header) (players : ℕ) (so_far : SoFar) (line : List ℕ) (e : Event) (f : BetFault) → Keeps hand g players so_far
+pub goes_bet : (new hand : AuditState) (g : Header) (players : ℕ) (so_far : SoFar) (line : List ℕ) (e : Event) (f : BetFault) → Keeps hand g players so_far
     → line_event hand.names g hand.part line ≡ Ok e → verdict (legal g players so_far.events e) ≡ Err f → Goes new g players so_far line (read_at g so_far line) (Some (Bet f))
 goes_bet new hand g players so_far line e f k is bet =
     subst (λ (r : Result Event TextFault). Goes new g players so_far line r (Some (Bet f))) (sym is ∙ read_is hand g players so_far line k) (event_bet g players so_far.events e f bet)
 
 -- a total line that is wrong
-pub goes_total : (new hand : Hand) (g : Header) (players : ℕ) (so_far : SoFar) (line : List ℕ) (e : Event) (u : Unit {0}) (c : Cause) → Keeps hand g players so_far
+pub goes_total : (new hand : AuditState) (g : Header) (players : ℕ) (so_far : SoFar) (line : List ℕ) (e : Event) (u : Unit {0}) (c : Cause) → Keeps hand g players so_far
     → line_event hand.names g hand.part line ≡ Ok e → verdict (legal g players so_far.events e) ≡ Ok u
     → total_cause (put_in_all (paid_in hand.replay)) (taken hand.collections.items) e ≡ Some c → Goes new g players so_far line (read_at g so_far line) (Some c)
 goes_total new hand g players so_far line e u c k is bet total =
@@ -82,14 +84,14 @@ seats_more (Seat seat units first end) line names fits all = All-push IsSeated n
 seats_more _ line names fits all = all
 
 -- a line that may stand
-pub goes_on : (new hand : Hand) (g : Header) (players : ℕ) (so_far : SoFar) (line : List ℕ) (e : Event) (u : Unit {0}) → Keeps hand g players so_far
+pub goes_on : (new hand : AuditState) (g : Header) (players : ℕ) (so_far : SoFar) (line : List ℕ) (e : Event) (u : Unit {0}) → Keeps hand g players so_far
     → line_event hand.names g hand.part line ≡ Ok e → verdict (legal g players so_far.events e) ≡ Ok u
     → total_cause (put_in_all (paid_in hand.replay)) (taken hand.collections.items) e ≡ None
     → Fits e → MarkerFits g.game e → StandsFor new.replay g players (e ∷ so_far.events) → new.names ≡ named_by e line hand.names → new.part ≡ part_after e hand.part
-    → new.collections.items ≡ hand.collections.items ++ collected_by e → new.button ≡ button_after e hand.button → new.rake ≡ rake_by e hand.rake
+    → new.collections.items ≡ hand.collections.items ++ collected_by e → new.streets.items ≡ hand.streets.items ++ listed (later_begun hand.replay e) → new.rake ≡ rake_by e hand.rake
     → new.total ≡ (is_total e || hand.total)
     → Goes new g players so_far line (read_at g so_far line) None
-goes_on new hand g players so_far line e u k is bet total fits marker stands names part all button' rake' total' =
+goes_on new hand g players so_far line e u k is bet total fits marker stands names part all noted rake' total' =
     subst (λ (r : Result Event TextFault). Goes new g players so_far line r None) (sym is ∙ read_is hand g players so_far line k) (
       event_total g players so_far.events e u None bet (sym (counts_is hand g players so_far e k) ∙ total),
       record {
@@ -97,7 +99,8 @@ goes_on new hand g players so_far line e u k is bet total fits marker stands nam
         names = names ∙ ap (named_by e line) k.names;
         part = part ∙ ap (part_after e) k.part;
         collections = all ∙ ap (λ xs. xs ++ collected_by e) k.collections;
-        button = button' ∙ ap (button_after e) k.button;
+        streets = noted ∙ ap (λ (t : ReplayState). hand.streets.items ++ listed (later_begun t e)) k.stands.is
+            ∙ ap (λ (xs : List Street). xs ++ listed (later_begun (table_of g players so_far.events) e)) k.streets;
         rake = rake' ∙ ap (rake_by e) k.rake;
         total = total' ∙ ap (λ b. is_total e || b) k.total;
         seats = seats_more e line so_far.names fits.seats k.seats;
@@ -107,17 +110,17 @@ goes_on new hand g players so_far line e u k is bet total fits marker stands nam
     )
 
 -- the end of a hand without a total line, and with one
-pub unfinished : (hand : Hand) (g : Header) (players : ℕ) (so_far : SoFar) → Keeps hand g players so_far → hand.total ≡ false → end_cause g players so_far.events ≡ Some Unfinished
+pub unfinished : (hand : AuditState) (g : Header) (players : ℕ) (so_far : SoFar) → Keeps hand g players so_far → hand.total ≡ false → end_cause g players so_far.events ≡ Some Unfinished
 unfolding end_cause
 unfinished hand g players so_far k none = let t : list_any is_total so_far.events ≡ false = sym k.total ∙ none in rw t refl
 
-showing_kept : (hand : Hand) (g : Header) (players : ℕ) (so_far : SoFar) (game : Game) → Keeps hand g players so_far → g.game ≡ game → showing_at game hand.replay hand.collections.items hand.button ≡ showing_of g players so_far.events
+showing_kept : (hand : AuditState) (g : Header) (players : ℕ) (so_far : SoFar) (game : Game) → Keeps hand g players so_far → g.game ≡ game → showing_at game hand.replay hand.collections.items ≡ showing_of g players so_far.events
 unfolding showing_of
 showing_kept hand g players so_far game k same =
-    ap (λ x. showing_at x hand.replay hand.collections.items hand.button) (sym same) ∙ ap (λ t. showing_at g.game t hand.collections.items hand.button) k.stands.is
-    ∙ ap (λ xs. showing_at g.game (table_of g players so_far.events) xs hand.button) k.collections ∙ ap (showing_at g.game (table_of g players so_far.events) (collections so_far.events)) k.button
+    ap (λ x. showing_at x hand.replay hand.collections.items) (sym same) ∙ ap (λ t. showing_at g.game t hand.collections.items) k.stands.is
+    ∙ ap (showing_at g.game (table_of g players so_far.events)) k.collections
 
-split_is : (hand : Hand) (g : Header) (players : ℕ) (so_far : SoFar) (first : Option Payment) → Keeps hand g players so_far → hand.total ≡ true → beyond (showing_of g players so_far.events) ≡ first → end_cause g players so_far.events ≡ split_cause first
+split_is : (hand : AuditState) (g : Header) (players : ℕ) (so_far : SoFar) (first : Option Payment) → Keeps hand g players so_far → hand.total ≡ true → beyond (showing_of g players so_far.events) ≡ first → end_cause g players so_far.events ≡ split_cause first
 unfolding end_cause
 split_is hand g players so_far first k some is = let t : list_any is_total so_far.events ≡ true = sym k.total ∙ some in rw (t, is) refl
 
@@ -125,20 +128,20 @@ split_is hand g players so_far first k some is = let t : list_any is_total so_fa
 abbrev pub DecidesPots : Type 0
 DecidesPots = (g : Header) (players : ℕ) (h : List Event) → IsAccepted g players h → MarkersFit g.game h → part_of h ≡ SummaryPart → AreDecided (showing_of g players h) (pots (paid_in (table_of g players h)))
 
-decided_kept : (hand : Hand) (g : Header) (players : ℕ) (so_far : SoFar) (game : Game) → Keeps hand g players so_far → g.game ≡ game → DecidesPots → hand.part ≡ SummaryPart
-    → AreDecided (showing_at game hand.replay hand.collections.items hand.button) (pots (paid_in hand.replay))
+decided_kept : (hand : AuditState) (g : Header) (players : ℕ) (so_far : SoFar) (game : Game) → Keeps hand g players so_far → g.game ≡ game → DecidesPots → hand.part ≡ SummaryPart
+    → AreDecided (showing_at game hand.replay hand.collections.items) (pots (paid_in hand.replay))
 decided_kept hand g players so_far game k same decides ended =
-    subst (λ (t : Table). AreDecided (showing_at game hand.replay hand.collections.items hand.button) (pots (paid_in t))) (sym k.stands.is)
+    subst (λ (t : ReplayState). AreDecided (showing_at game hand.replay hand.collections.items) (pots (paid_in t))) (sym k.stands.is)
     (subst (λ (s : Showing). AreDecided s (pots (paid_in (table_of g players so_far.events)))) (sym (showing_kept hand g players so_far game k same)) (decides g players so_far.events k.accepted k.markers (sym k.part ∙ ended)))
 
-pub settles : (hand : Hand) (g : Header) (players : ℕ) (so_far : SoFar) (game : Game) (settled : HandSettled) → Keeps hand g players so_far → g.game ≡ game → hand.total ≡ true
-    → DecidesPots → hand.part ≡ SummaryPart → (AreDecided (showing_at game hand.replay hand.collections.items hand.button) (pots (paid_in hand.replay)) → IsOfHand (showing_at game hand.replay hand.collections.items hand.button) settled) → settled.beyond ≡ None → EndsAs g players so_far.events (Ok settled)
+pub settles : (hand : AuditState) (g : Header) (players : ℕ) (so_far : SoFar) (game : Game) (settled : HandSettled) → Keeps hand g players so_far → g.game ≡ game → hand.total ≡ true
+    → DecidesPots → hand.part ≡ SummaryPart → (AreDecided (showing_at game hand.replay hand.collections.items) (pots (paid_in hand.replay)) → IsOfHand (showing_at game hand.replay hand.collections.items) settled) → settled.beyond ≡ None → EndsAs g players so_far.events (Ok settled)
 settles hand g players so_far game settled k same some decides ended is none =
     let s : IsOfHand (showing_of g players so_far.events) settled = subst (λ (x : Showing). IsOfHand x settled) (showing_kept hand g players so_far game k same) (is (decided_kept hand g players so_far game k same decides ended)) in
     (split_is hand g players so_far None k some (sym s.beyond ∙ none), s)
 
-pub splits : (hand : Hand) (g : Header) (players : ℕ) (so_far : SoFar) (game : Game) (settled : HandSettled) (pay : Payment) → Keeps hand g players so_far → g.game ≡ game → hand.total ≡ true
-    → DecidesPots → hand.part ≡ SummaryPart → (AreDecided (showing_at game hand.replay hand.collections.items hand.button) (pots (paid_in hand.replay)) → IsOfHand (showing_at game hand.replay hand.collections.items hand.button) settled) → settled.beyond ≡ Some pay → EndsAs g players so_far.events (Err (Split pay.seat pay.due pay.got))
+pub splits : (hand : AuditState) (g : Header) (players : ℕ) (so_far : SoFar) (game : Game) (settled : HandSettled) (pay : Payment) → Keeps hand g players so_far → g.game ≡ game → hand.total ≡ true
+    → DecidesPots → hand.part ≡ SummaryPart → (AreDecided (showing_at game hand.replay hand.collections.items) (pots (paid_in hand.replay)) → IsOfHand (showing_at game hand.replay hand.collections.items) settled) → settled.beyond ≡ Some pay → EndsAs g players so_far.events (Err (Split pay.seat pay.due pay.got))
 splits hand g players so_far game settled pay k same some decides ended is one =
     let s : IsOfHand (showing_of g players so_far.events) settled = subst (λ (x : Showing). IsOfHand x settled) (showing_kept hand g players so_far game k same) (is (decided_kept hand g players so_far game k same decides ended)) in
     split_is hand g players so_far (Some pay) k some (sym s.beyond ∙ one)

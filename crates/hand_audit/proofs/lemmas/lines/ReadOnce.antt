@@ -7,8 +7,8 @@ use Rattle.history_text.specs.declared.events.Event.{Event}
 use Rattle.history_text.specs.declared.events.Part.{Part}
 use Rattle.history_text.specs.declared.events.Part.TheVariants.{Preamble}
 use Rattle.history_text.specs.declared.events.TextFault.{TextFault}
-use Rattle.hand_audit.specs.declared.first_pass.Pass.{Pass}
-use Rattle.hand_audit.specs.declared.hand.Hand.{Hand}
+use Rattle.hand_audit.specs.declared.first_pass.PlayerScan.{PlayerScan}
+use Rattle.hand_audit.specs.declared.hand.AuditState.{AuditState}
 use Rattle.hand_audit.specs.Lines.{SoFar, read_at}
 use Rattle.hand_audit.specs.Keeping.{Keeps, Goes, IsRead, AreReads, IsCut, names_by, part_by}
 use Rattle.hand_audit.specs.Passing.{HasReads, Notes, READS_MAX, with_read}
@@ -29,13 +29,13 @@ first_read g names part reads others (Some r) line left left' is cut are =
     (subst (λ (xs : List (Result Event TextFault)). AreReads g names part xs (line ∷ left)) cut (subst (AreReads g names part reads) is are)).0
 
 -- what a line that goes on makes of the names and of the part
-goes_by : (hand new : Hand) (g : Header) (players : ℕ) (so_far : SoFar) (line : List ℕ) (said : Result Event TextFault) → Keeps hand g players so_far → Goes new g players so_far line said None
+goes_by : (hand new : AuditState) (g : Header) (players : ℕ) (so_far : SoFar) (line : List ℕ) (said : Result Event TextFault) → Keeps hand g players so_far → Goes new g players so_far line said None
     → (new.names ≡ names_by said line hand.names) × (new.part ≡ part_by said hand.part)
 goes_by hand new g players so_far line (Err f) k goes = cc
 goes_by hand new g players so_far line (Ok e) k goes = (goes.1.names ∙ ap (λ names. names_by (Ok e) line names) (sym k.names), goes.1.part ∙ ap (λ part. part_by (Ok e) part) (sym k.part))
 
 -- behind a line the others are left
-pub others_left : (hand new : Hand) (g : Header) (players : ℕ) (so_far : SoFar) (reads others : List (Result Event TextFault)) (said : Option (Result Event TextFault)) (line : List ℕ) (left left' : List (List ℕ))
+pub others_left : (hand new : AuditState) (g : Header) (players : ℕ) (so_far : SoFar) (reads others : List (Result Event TextFault)) (said : Option (Result Event TextFault)) (line : List ℕ) (left left' : List (List ℕ))
     → left' ≡ line ∷ left → IsCut reads said others → AreReads g hand.names hand.part reads left' → Keeps hand g players so_far → Goes new g players so_far line (read_at g so_far line) None
     → AreReads g new.names new.part others left
 others_left hand new g players so_far reads others None line left left' is cut are k goes = rw cut.1 _
@@ -46,7 +46,7 @@ others_left hand new g players so_far reads others (Some r) line left left' is c
     rw (moved.0, moved.1) here.1
 
 -- before the first line nothing was read
-pub no_reads : (pass : Pass) (g : Header) (left : List (List ℕ)) → pass.names ≡ [] → pass.part ≡ Preamble → pass.reads.items ≡ [] → HasReads pass g left left
+pub no_reads : (pass : PlayerScan) (g : Header) (left : List (List ℕ)) → pass.names ≡ [] → pass.part ≡ Preamble → pass.reads.items ≡ [] → HasReads pass g left left
 no_reads pass g left names part none = record {
   reads = rw none _;
   more = λ few others are. rw (none, ← names, ← part) are;
@@ -56,7 +56,7 @@ no_reads pass g left names part none = record {
 with_one : (reads : List (Result Event TextFault)) (said : Result Event TextFault) (b : Bool) → nat_lt (length reads) READS_MAX ≡ b → with_read reads said ≡ (if b then reads ++ said ∷ [] else reads)
 with_one reads said b is = rw is refl
 
-pub reads_more : (old new : Pass) (g : Header) (all : List (List ℕ)) (line : List ℕ) (left left' : List (List ℕ)) → left' ≡ line ∷ left → HasReads old g all left' → Notes old new g line false → HasReads new g all left
+pub reads_more : (old new : PlayerScan) (g : Header) (all : List (List ℕ)) (line : List ℕ) (left left' : List (List ℕ)) → left' ≡ line ∷ left → HasReads old g all left' → Notes old new g line false → HasReads new g all left
 reads_more old new g all line left left' is has noted = by (nat_lt (length old.reads.items) READS_MAX) refl
   where
     here : (others : List (Result Event TextFault)) → AreReads g new.names new.part others left → AreReads g old.names old.part (noted.said ∷ others) left'
@@ -77,5 +77,5 @@ reads_more old new g all line left left' is has noted = by (nat_lt (length old.r
           more = λ few others are. (let none : nat_lt (length new.reads.items) READS_MAX ≡ false = ap (λ xs. nat_lt (length xs) READS_MAX) kept ∙ full in absurd (grind (arith, none, few)));
         }
 
-pub reads_end : (old new : Pass) (g : Header) (all left : List (List ℕ)) (line : List ℕ) → HasReads old g all left → Notes old new g line true → AreReads g [] Preamble new.reads.items all
+pub reads_end : (old new : PlayerScan) (g : Header) (all left : List (List ℕ)) (line : List ℕ) → HasReads old g all left → Notes old new g line true → AreReads g [] Preamble new.reads.items all
 reads_end old new g all left line has same = rw same has.reads

@@ -6,7 +6,7 @@ use Rattle.std.specs.List.{list_any}
 use Rattle.card_sets.specs.PlayerSetLaws.{has_player-where}
 use Rattle.card_sets.specs.PlayerSets.{has_player, seats_in}
 use Rattle.betting_replay.specs.Accounts.{paid_by}
-use Rattle.betting_replay.specs.Table.{Table}
+use Rattle.betting_replay.specs.Table.{ReplayState}
 use Rattle.pot_layers.specs.declared.paid.Paid.{Paid}
 use Rattle.pot_layers.specs.declared.paid.Pot.{Pot}
 use Rattle.pot_layers.specs.Pots.{with_level, levels, reaches, reaching, pots_from, more_first, more_last, all_dead, above, highest, any_contender, or_one, pots}
@@ -119,7 +119,7 @@ open_pots : (ps : List Paid) → AtTable ps → AreOpen (pots ps)
 unfolding pots
 open_pots ps t = open_first (all_dead ps) _ (open_last (above ps (highest ps)) _ (open_one ps (pots_from ps 0 (levels ps)) t (open_from ps 0 (levels ps) (reached ps t))))
 
-at_table : (t : Table) (p n : ℕ) → 1 ≤ p → p + n ≤ 11 → AtTable (paid_from t p n)
+at_table : (t : ReplayState) (p n : ℕ) → 1 ≤ p → p + n ≤ 11 → AtTable (paid_from t p n)
 unfolding paid_by
 at_table t p zero l h = tt
 at_table t p (suc n) l h = by (has_player t.players p) (at_table t (p + 1) n (omega arith) (omega arith))
@@ -128,7 +128,7 @@ at_table t p (suc n) l h = by (has_player t.players p) (at_table t (p + 1) n (om
     by true rest = (l, omega arith, rest)
     by false rest = rest
 
-pub pots_open : (t : Table) → AreOpen (pots (paid_in t))
+pub pots_open : (t : ReplayState) → AreOpen (pots (paid_in t))
 unfolding paid_in
 pots_open t = open_pots (paid_from t 1 10) (at_table t 1 10 (omega arith) (omega arith))
 

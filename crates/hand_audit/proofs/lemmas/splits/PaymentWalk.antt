@@ -1,6 +1,7 @@
--- The walk over the seats that lists the payments of a pot, and finds the first beyond its tolerance.
-use Rattle.std.proofs.Common.{◌≡◌, ℕ, suc, ◌+◌, ◌-◌, ◌<◌, ◌≤◌, List, [], ◌∷◌, ◌++◌, refl, sym, ap, ◌∙◌, Bool, true, false, ◌==◌, ◌&&◌, arith, append_assoc}
-use Rattle.std.specs.Prelude.{Option, Some, nat_lt, if◌then◌else◌}
+-- The walk over the seats that lists the payments of a pot, and the first of these beyond its tolerance.
+use Rattle.std.proofs.Common.{◌≡◌, ℕ, zero, suc, ◌+◌, ◌-◌, ◌<◌, ◌≤◌, List, [], ◌∷◌, ◌++◌, refl, sym, ap, ◌∙◌, Bool, true, false, ◌==◌, ◌&&◌, ◌||◌, arith, append_assoc}
+use Rattle.std.specs.Prelude.{nat_lt, if◌then◌else◌}
+use Rattle.std.proofs.lemmas.Bool.Decides.{nat_tests}
 use Rattle.std.proofs.lemmas.List.Sums.{sum_by-cons}
 use Rattle.history_text.specs.declared.events.PotName.{PotName}
 use Rattle.hand_audit.specs.declared.collections.Collection.{Collection}
@@ -8,7 +9,7 @@ use Rattle.hand_audit.specs.declared.settlement.Payment.{Payment}
 use Rattle.hand_audit.specs.Collections.{taken_from, got_from}
 use Rattle.pot_layers.specs.declared.paid.Share.{Share}
 use Rattle.pot_layers.specs.Split.{given_in_all}
-use Rattle.hand_audit.specs.Settle.{due_of_seat, payments_from, beyond_from, is_payment, distance}
+use Rattle.hand_audit.specs.Settle.{due_of_seat, payments_from, beyond_among, beyond_from, is_payment, distance}
 
 -- a seat has no more than was taken from the pot
 pub got_within : (test : PotName → Bool) (seat : ℕ) (all : List Collection) → got_from test seat all ≤ taken_from test all
@@ -47,19 +48,26 @@ some_more f p old new all pay is some h push so_far =
     let rest : List Payment = payments_from f (p + 1) (11 - (p + 1)) in
     ap (λ xs. xs ++ rest) push ∙ append_assoc old (pay ∷ []) rest ∙ ap (λ x. old ++ x ∷ rest) is ∙ ap (λ xs. old ++ xs) (sym (pays_some f p (ap is_payment (sym is) ∙ some) h)) ∙ so_far
 
--- the first that is beyond its tolerance
-pub beyond_none : (f : ℕ → Payment) (t : ℕ → ℕ) (p : ℕ) (all : Option Payment) (pay : Payment) (n : ℕ) → pay ≡ f p → n ≡ t p → nat_lt n (distance pay.got pay.due) ≡ false → p < 11
-    → beyond_from f t p (11 - p) ≡ all → beyond_from f t (p + 1) (11 - (p + 1)) ≡ all
-beyond_none f t p all pay n is tol none h so_far =
-    let more : 11 - p ≡ suc (11 - (p + 1)) = omega arith in
-    let no : nat_lt (t p) (distance (f p).got (f p).due) ≡ false = rw (← is, ← tol) none in
-    let here : beyond_from f t p (11 - p) ≡ beyond_from f t (p + 1) (11 - (p + 1)) = rw (more, no) refl in
-    sym here ∙ so_far
+-- whoever got nothing and is due nothing isn't beyond his tolerance: the first that is, is among the payments
+nothing_paid : (n got due : ℕ) → (nat_lt 0 got || nat_lt 0 due) ≡ false → nat_lt n (distance got due) ≡ false
+nothing_paid n got due none =
+    let parts : (nat_lt 0 got ≡ false) × (nat_lt 0 due ≡ false) = neither (nat_lt 0 got) (nat_lt 0 due) none in
+    let no_got : got ≡ 0 = (let a : nat_lt 0 got ≡ false = parts.0 in grind (arith, nat_tests)) in
+    let no_due : due ≡ 0 = (let b : nat_lt 0 due ≡ false = parts.1 in grind (arith, nat_tests)) in
+    rw (no_got, no_due) (above n)
+  where
+    neither : (a b : Bool) → (a || b) ≡ false → (a ≡ false) × (b ≡ false)
+    neither false false h = (refl, refl)
+    neither true b h = cc
+    neither false true h = cc
 
-pub beyond_some : (f : ℕ → Payment) (t : ℕ → ℕ) (p : ℕ) (all : Option Payment) (pay : Payment) (n : ℕ) → pay ≡ f p → n ≡ t p → nat_lt n (distance pay.got pay.due) ≡ true → p < 11
-    → beyond_from f t p (11 - p) ≡ all → Some pay ≡ all
-beyond_some f t p all pay n is tol some h so_far =
-    let more : 11 - p ≡ suc (11 - (p + 1)) = omega arith in
-    let yes : nat_lt (t p) (distance (f p).got (f p).due) ≡ true = rw (← is, ← tol) some in
-    let here : beyond_from f t p (11 - p) ≡ Some (f p) = rw (more, yes) refl in
-    ap Some is ∙ sym here ∙ so_far
+    above : (n : ℕ) → nat_lt n 0 ≡ false
+    above n = grind (arith, nat_tests)
+
+pub first_among : (f : ℕ → Payment) (t : ℕ → ℕ) (p n : ℕ) → ((q : ℕ) → (f q).seat ≡ q) → beyond_among t (payments_from f p n) ≡ beyond_from f t p n
+first_among f t p zero seats = refl
+first_among f t p (suc n) seats = by (is_payment (f p)) refl (first_among f t (p + 1) n seats)
+  where
+    by : (b : Bool) → is_payment (f p) ≡ b → beyond_among t (payments_from f (p + 1) n) ≡ beyond_from f t (p + 1) n → beyond_among t (payments_from f p (suc n)) ≡ beyond_from f t p (suc n)
+    by true is rest = rw (is, seats p, rest) refl
+    by false is rest = rw (is, nothing_paid (t p) (f p).got (f p).due is) rest

@@ -17,7 +17,7 @@ use Rattle.hand_audit.specs.declared.worths.OnBoard.{OnBoard}
 use Rattle.hand_audit.specs.declared.worths.OnSide.{OnSide}
 use Rattle.card_sets.specs.declared.games.Game.{Game}
 use Rattle.betting_replay.specs.Seats.{by_seat}
-use Rattle.betting_replay.specs.TableAfter.{Table, own_at, final_at}
+use Rattle.betting_replay.specs.TableAfter.{ReplayState, own_at, final_at}
 use Rattle.betting_replay.proofs.CallerLemmas.{at_by_seat}
 use Rattle.hand_audit.specs.declared.collections.Collection.{Collection}
 use Rattle.hand_audit.specs.Showings.{showing_at, second_at}
@@ -149,7 +149,7 @@ same_board w game board hands others same t = record {
 }
 
 -- what is kept of the hands that can be shown down on a board is what is kept of all, where all can
-pub tells_hands : (w : OnBoard) (game : Game) (t : Table) (board : List ℕ) (hands : List (Option (List ℕ)))
+pub tells_hands : (w : OnBoard) (game : Game) (t : ReplayState) (board : List ℕ) (hands : List (Option (List ℕ)))
     → ((p : ℕ) → p < 11 → slice_index_or hands p None ≡ full_with game board (final_at t p))
     → TellsBoard w game board hands → TellsHands w game board (by_seat (final_at t))
 unfolding AreSame
@@ -159,12 +159,12 @@ tells_hands w game t board hands are tells full =
     (λ p l. are p l ∙ ap (full_with game board) (sym (at p l)) ∙ same_full game board (slice_index_or (by_seat (final_at t)) p None) (full p l)) tells
 
 -- what is kept of a hand so far tells who wins
-pub tells : (w : Standings) (game : Game) (t : Table) (all : List Collection) (button : ℕ)
+pub tells : (w : Standings) (game : Game) (t : ReplayState) (all : List Collection)
     → ((p : ℕ) → p < 11 → has_player w.known p ≡ is_some (final_at t p))
     → TellsHands w.board game (own_at t 0) (by_seat (final_at t)) → TellsSecond w.second game (second_at t) (by_seat (final_at t))
-    → w.game ≡ game → w.button ≡ button → Tells w (showing_at game t all button)
+    → w.game ≡ game → w.button ≡ t.button → Tells w (showing_at game t all)
 unfolding showing_at
-tells w game t all button known board other g b =
+tells w game t all known board other g b =
     let at : (p : ℕ) → p < 11 → slice_index_or (by_seat (final_at t)) p None ≡ final_at t p = (λ p l. at_by_seat (final_at t) p None l) in
     record { game = g; known = λ p l. known p l ∙ ap is_some (sym (at p l)); board = board; second = other; button = b }
 

@@ -3,7 +3,7 @@ use Rattle.std.proofs.Common.{◌≡◌, ℕ, zero, suc, ◌+◌, ◌≤◌, Lis
 use Rattle.std.specs.Prelude.{nat_lt, if◌then◌else◌}
 use Rattle.card_sets.specs.PlayerSets.{has_player}
 use Rattle.betting_replay.specs.Accounts.{paid_by}
-use Rattle.betting_replay.specs.Table.{Table}
+use Rattle.betting_replay.specs.Table.{ReplayState}
 use Rattle.pot_layers.specs.declared.paid.Paid.{Paid}
 use Rattle.pot_layers.specs.declared.paid.Pot.{Pot}
 use Rattle.pot_layers.specs.Pots.{with_level, is_in, levels, pots_from, more_first, more_last, all_dead, above, highest, any_contender, reaching, or_one, pots}
@@ -47,7 +47,7 @@ one_length ps [] l = by (any_contender ps)
     by false = omega arith
 one_length ps (pot ∷ xs) l = l
 
-paid_length : (t : Table) (p n : ℕ) → length (paid_from t p n) ≤ n
+paid_length : (t : ReplayState) (p n : ℕ) → length (paid_from t p n) ≤ n
 paid_length t p zero = omega arith
 paid_length t p (suc n) = by (has_player t.players p) (paid_length t (p + 1) n)
   where
@@ -64,6 +64,6 @@ pots_length ps few =
     let whole = first_length (all_dead ps) (more_last (above ps (highest ps)) (or_one ps (pots_from ps 0 (levels ps)))) in
     omega (arith, one, more, whole)
 
-pub few_pots : (t : Table) → length (pots (paid_in t)) ≤ 10
+pub few_pots : (t : ReplayState) → length (pots (paid_in t)) ≤ 10
 unfolding paid_in
 few_pots t = pots_length (paid_from t 1 10) (paid_length t 1 10)

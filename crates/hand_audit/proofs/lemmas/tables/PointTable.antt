@@ -8,7 +8,7 @@ use Rattle.card_sets.specs.declared.games.Game.{Game}
 use Rattle.card_sets.specs.declared.streets.Street.{Street}
 use Rattle.pot_layers.specs.Pots.{pots}
 use Rattle.betting_replay.specs.AllIn.{point_street}
-use Rattle.betting_replay.specs.Table.{Table as Replayed}
+use Rattle.betting_replay.specs.Table.{ReplayState}
 use Rattle.hand_audit.specs.Showings.{paid_in}
 use Rattle.hand_audit.specs.declared.settlement.PotLine.{PotLine}
 use Rattle.hand_audit.specs.KnownTables.{ten, places_in, Bare, table_from}
@@ -47,10 +47,10 @@ pub known_at : (point : AtPoint) (pots : List ℕ) → list_all (λ p. is_some (
 unfolding all_in_at
 known_at point pots all = rw all refl
 
-pub all_in_point : (game : Game) (t : Replayed) (street : Street) (lines : List PotLine) → point_street t.point ≡ Some street → eligible_of lines ≡ eligible_in (pots (paid_in t)) → all_in_at (known_there game t street) (eligible_of lines) ≡ all_in_by game t
+pub all_in_point : (game : Game) (t : ReplayState) (street : Street) (lines : List PotLine) → point_street t.point ≡ Some street → eligible_of lines ≡ eligible_in (pots (paid_in t)) → all_in_at (known_there game t street) (eligible_of lines) ≡ all_in_by game t
 unfolding all_in_by
 all_in_point game t street lines is same = ap (all_in_at (known_there game t street)) same ∙ ap (all_in_on game t) (sym is)
 
-pub no_point : (game : Game) (t : Replayed) → point_street t.point ≡ None → NoAllIn ≡ all_in_by game t
+pub no_point : (game : Game) (t : ReplayState) → point_street t.point ≡ None → NoAllIn ≡ all_in_by game t
 unfolding all_in_by
 no_point game t is = ap (all_in_on game t) (sym is)

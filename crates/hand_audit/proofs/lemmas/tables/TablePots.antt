@@ -11,7 +11,7 @@ use Rattle.history_text.specs.declared.events.Event.{Event}
 use Rattle.history_text.specs.Headers.{header_of}
 use Rattle.pot_layers.specs.Pots.{pots}
 use Rattle.betting_replay.specs.AllIn.{point_street, point_contenders}
-use Rattle.betting_replay.specs.Table.{Table as Replayed}
+use Rattle.betting_replay.specs.Table.{ReplayState}
 use Rattle.betting_replay.specs.TableAfter.{table_of}
 use Rattle.showdown_tally.specs.Deals.{deal_of}
 use Rattle.showdown_tally.specs.declared.table.Table.{Table}
@@ -56,7 +56,7 @@ pub table_pots : (g : Header) (players : ℕ) (h : List Event) (street : Street)
 unfolding all_in_by known_there bare_of
 table_pots g players h street seats table is = record { many = many; few = few; eligible = eligible }
   where
-    t : Replayed
+    t : ReplayState
     t = table_of g players h
 
     xs : List ℕ

@@ -31,7 +31,7 @@ use Rattle.betting_replay.specs.Dealing.{marked, hides}
 use Rattle.betting_replay.specs.Places.{owned, is_at, place, thrown, thrown_by}
 use Rattle.betting_replay.specs.Seats.{by_seat, count_below, or_else}
 use Rattle.betting_replay.specs.Sums.{last_begun, is_last_of, runs_twice, second_street, second_begun}
-use Rattle.betting_replay.specs.Table.{Table, final_at}
+use Rattle.betting_replay.specs.Table.{ReplayState, final_at}
 use Rattle.betting_replay.specs.TableAfter.{table_of}
 use Rattle.betting_replay.specs.Turns.{is_contender, contender_count}
 use Rattle.betting_replay.proofs.CallerLemmas.{at_by_seat, apart_among}
@@ -232,7 +232,7 @@ all_full apart shows g players h ok belong board size has other (inr is) =
     (λ p l. each_hand g players h other p ok size (λ seat. second_hand g players h p (final_cards g h p) other belong (second_is g h other has second) (second_long g players h other board has second) seat l refl))
 
 -- who may win a pot is a contender
-contender_from : (t : Table) (p n seat : ℕ) → list_any (λ x. (x.seat == seat) && x.contender) (paid_from t p n) ≡ true → is_contender t seat ≡ true
+contender_from : (t : ReplayState) (p n seat : ℕ) → list_any (λ x. (x.seat == seat) && x.contender) (paid_from t p n) ≡ true → is_contender t seat ≡ true
 unfolding paid_by
 contender_from t p zero seat has = cc
 contender_from t p (suc n) seat has = by (has_player t.players p) has (contender_from t (p + 1) n seat)
@@ -248,7 +248,7 @@ contender_from t p (suc n) seat has = by (has_player t.players p) has (contender
     by true h later = here (p == seat) (is_contender t p) refl refl h later
     by false h later = later h
 
-contends_is : (t : Table) (seat : ℕ) → contends (paid_in t) seat ≡ true → is_contender t seat ≡ true
+contends_is : (t : ReplayState) (seat : ℕ) → contends (paid_in t) seat ≡ true → is_contender t seat ≡ true
 unfolding paid_in
 contends_is t seat has = contender_from t 1 10 seat has
 
@@ -273,20 +273,20 @@ no_more_than f w (suc n) h =
     let more = one_more (bit_at w (suc n) == 1) (f (suc n)) (length (players_from w 1 n)) (count_below f (suc n)) (no_more_than f w n h) (h (suc n)) in
     rw long more
 
-few_contenders : (t : Table) (w : ℕ) → ((p : ℕ) → (bit_at w p == 1) ≡ true → is_contender t p ≡ true) → length (seats_in w) ≤ contender_count t
+few_contenders : (t : ReplayState) (w : ℕ) → ((p : ℕ) → (bit_at w p == 1) ≡ true → is_contender t p ≡ true) → length (seats_in w) ≤ contender_count t
 unfolding contender_count
 few_contenders t w h = no_more_than (is_contender t) w 10 h
 
 -- so each pot is decided
-abbrev OnlyContenders : Table → ℕ → Type 0
+abbrev OnlyContenders : ReplayState → ℕ → Type 0
 OnlyContenders t w = (p : ℕ) → (bit_at w p == 1) ≡ true → is_contender t p ≡ true
 
-in_order : (s : Showing) (t : Table) (xs : List Pot) → (2 ≤ contender_count t → AreFull s) → ((k : ℕ) (d : Pot) → k < length xs → OnlyContenders t (slice_index_or xs k d).eligible) → AreDecided s xs
+in_order : (s : Showing) (t : ReplayState) (xs : List Pot) → (2 ≤ contender_count t → AreFull s) → ((k : ℕ) (d : Pot) → k < length xs → OnlyContenders t (slice_index_or xs k d).eligible) → AreDecided s xs
 in_order s t [] full all = tt
 in_order s t (pot ∷ xs) full all =
     (λ many. full (let few = few_contenders t pot.eligible (all 0 pot (omega arith)) in omega (arith, few, many)), in_order s t xs full (λ k d l. all (suc k) d (omega (arith, l))))
 
-only_contenders : ExcludesFolded → (t : Table) (k : ℕ) (d : Pot) → k < length (pots (paid_in t)) → OnlyContenders t (slice_index_or (pots (paid_in t)) k d).eligible
+only_contenders : ExcludesFolded → (t : ReplayState) (k : ℕ) (d : Pot) → k < length (pots (paid_in t)) → OnlyContenders t (slice_index_or (pots (paid_in t)) k d).eligible
 only_contenders law t k d l p set = by (contends (paid_in t) p) refl
   where
     by : (b : Bool) → contends (paid_in t) p ≡ b → is_contender t p ≡ true

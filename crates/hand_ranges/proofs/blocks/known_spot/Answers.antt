@@ -3,9 +3,9 @@ use Rattle.std.proofs.lemmas.Result.{on_ok_weaker}
 use Rattle.report_table.specs.Sheets.{with_lines}
 use Rattle.hand_ranges.specs.declared.tally.RangeJobFault.{RangeJobFault}
 use Rattle.hand_ranges.specs.declared.tally.RangeTally.{RangeTally}
-use Rattle.hand_ranges.specs.Counted.{IsCountOf, IsSmall}
+use Rattle.hand_ranges.specs.Counted.{IsCountOf}
 use Rattle.hand_ranges.specs.RangeSpot.{ranges_in}
-use Rattle.hand_ranges.proofs.BlockFacts.{block_counted, small_less}
+use Rattle.hand_ranges.proofs.BlockFacts.{block_counted}
 use Rattle.hand_ranges.proofs.SmallTallies.{small_tally}
 use Rattle.hand_ranges.proofs.RangeWalks.{equal_runouts}
 use Rattle.hand_ranges.proofs.blocks.known_spot.Goals as goal

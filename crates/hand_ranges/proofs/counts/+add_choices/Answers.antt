@@ -1,14 +1,12 @@
-use Rattle.std.proofs.Common.{rules, ◌≡◌, ◌≤◌, ◌+◌, ◌-◌, ◌*◌, ◌^◌, ◌∙◌, ◌&&◌, ◌∷◌, ◌++◌, [], true, false, sym, ap, subst, length, take, drop, set, get_or, arith}
+use Rattle.std.proofs.Common.{rules, ◌≡◌, ◌≤◌, ◌+◌, ◌-◌, ◌*◌, ◌^◌, ◌∙◌, ◌&&◌, ◌∷◌, ◌++◌, [], true, false, sym, ap, subst, length, take, drop, get_or, arith}
 use Rattle.std.specs.List.{list_all}
 use Rattle.card_sets.specs.Disjoint.{apart}
 use Rattle.equity_job.specs.declared.limits.TheConstants.{RUNOUT_MAX}
 use Rattle.hand_ranges.specs.Choices.{is_disjoint, most_choices, walked}
 use Rattle.hand_ranges.specs.RangeSpot.{ranges_in}
-use Rattle.hand_ranges.specs.Sound.{IsHand}
-use Rattle.hand_ranges.specs.Taken.{AreValues, chosen}
+use Rattle.hand_ranges.specs.Taken.{chosen}
 use Rattle.hand_ranges.specs.Walks.{Choices, IsWalk, number_in, added_by}
-use Rattle.hand_ranges.proofs.FullBoards.{values_push}
-use Rattle.hand_ranges.proofs.RangeWalks.{split_first, walk_step, walk_hand, most_none}
+use Rattle.hand_ranges.proofs.RangeWalks.{split_first, walk_step, most_none}
 use Rattle.hand_ranges.proofs.TakenHands.{disjoint_push, and_true}
 use Rattle.hand_ranges.proofs.WalkSums.{first_all, room_left, few_next, few_skip, walk_more, walk_skip}
 use Rattle.hand_ranges.proofs.counts.+add_choices.Goals as goal
@@ -34,26 +32,7 @@ add_choices-requires t c =
     let more : taken ++ get_or hands i w ∷ [] ≡ chosen c.with-more.result = ap (λ v. taken ++ v ∷ []) (sym c.w-item.is) ∙ sym c.with-more.ensures.hands in
     let product : most_choices ranges ≡ length hands * most_choices others = ap most_choices split in
     let room : c.args.total.now.choices + length hands * most_choices others ≤ RUNOUT_MAX = omega (arith, product, c.requires.few) in
-    let worth : AreValues spot.board (taken ++ w ∷ []) (set c.args.taken.now.values (length taken) c.value_beside-value.result) =
-    values_push spot.board taken w c.args.taken.now.values c.value_beside-value.result (omega (arith, c.facts.ensures.count, c.facts.ensures.few, c.facts.ensures.values)) c.requires.values c.value_beside-value.ensures in
-    let place : set c.args.taken.now.values (length taken) c.value_beside-value.result ≡ c.with-more.result.values = ap (λ n. set c.args.taken.now.values n c.value_beside-value.result) c.facts.ensures.count ∙ sym c.with-more.ensures.values in
-    let values : AreValues spot.board (chosen c.with-more.result) c.with-more.result.values =
-    subst (λ t. AreValues spot.board t c.with-more.result.values) (sym c.with-more.ensures.hands) (subst (AreValues spot.board (taken ++ w ∷ [])) place worth) in
-    (search rules, (subst (IsWalk spot others) more step, (values, (room_left c.args.total.now.choices c.loop-w.total.choices i (length hands) (most_choices others) RUNOUT_MAX c.loop-w.invariant.few c.loop-w-test.true room, c.loop-w.invariant.within))))
-
-pub value_beside-value-requires : goal.value_beside-value-requires
-value_beside-value-requires t c =
-    let spot = ranges_in c.args.spot.now in
-    let ranges = c.args.ranges.now in
-    let hands = c.hands-hands.result.now in
-    let others = take (length ranges - 1) (drop 1 ranges) in
-    let taken = chosen c.args.taken.now in
-    let w = c.w-item.result in
-    let i = c.loop-w.w-index in
-    let split : ranges ≡ hands ∷ others = split_first ranges c.range-item.result hands (omega arith) c.range-item.is c.hands-hands.ensures in
-    let hand : IsHand spot.board spot.dead (get_or hands i w) = walk_hand spot hands others taken i w (subst (λ rs. IsWalk spot rs taken) split c.requires.walk) c.loop-w-test.true in
-    let here : IsHand spot.board spot.dead w = subst (IsHand spot.board spot.dead) (sym c.w-item.is) hand in
-    record { two = here.two; apart = here.off_board }
+    (search rules, (subst (IsWalk spot others) more step, (room_left c.args.total.now.choices c.loop-w.total.choices i (length hands) (most_choices others) RUNOUT_MAX c.loop-w.invariant.few c.loop-w-test.true room, c.loop-w.invariant.within)))
 
 pub loop-w-preserved : goal.loop-w-preserved
 loop-w-preserved t c =

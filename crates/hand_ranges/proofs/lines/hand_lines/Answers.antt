@@ -1,6 +1,5 @@
-use Rattle.std.proofs.Common.{◌≡◌, ap, ◌∙◌, arith}
+use Rattle.std.proofs.Common.{ap}
 use Rattle.std.proofs.lemmas.Result.{on_ok_weaker}
-use Rattle.hand_ranges.specs.Blocks.{no_cell}
 use Rattle.hand_ranges.proofs.BlockFacts.{then_hand}
 use Rattle.hand_ranges.proofs.lines.hand_lines.Goals as goal
 

@@ -1,4 +1,4 @@
-use Rattle.std.specs.Prelude.{◌≡◌, ◌++◌, take, drop}
+use Rattle.std.specs.Prelude.{◌≡◌, ◌++◌, drop}
 use Rattle.std.specs.List.{filter_map}
 use Rattle.hand_ranges.specs.Hands.{hand_of}
 use Rattle.hand_ranges.proofs.pairs.range_of.Given as goal

@@ -1,4 +1,4 @@
-use Rattle.std.proofs.Common.{◌≡◌, [], ◌∷◌, sym, ap, ◌∙◌, take, drop}
+use Rattle.std.proofs.Common.{◌∷◌, sym, ap, ◌∙◌, take, drop}
 use Rattle.hand_ranges.specs.Texts.{texts_of}
 use Rattle.hand_ranges.proofs.FirstComma.{cut_none, cut_some}
 use Rattle.hand_ranges.proofs.texts.cut.Goals as goal

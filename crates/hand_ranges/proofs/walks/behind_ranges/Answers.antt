@@ -1,9 +1,7 @@
-use Rattle.std.proofs.Common.{◌≡◌, [], ◌∷◌, length, true, false, not, cond, sym, ap, refl, ◌∙◌}
-use Rattle.std.specs.List.{list_all}
+use Rattle.std.proofs.Common.{◌≡◌, false, sym, ap, ◌∙◌}
 use Rattle.spot_text.specs.Words.{words_left}
 use Rattle.spot_text.specs.Parts.{hand_words, board_words, dead_words}
 use Rattle.spot_text.proofs.CallerLemmas.{none_first, some_hand, hands_end}
-use Rattle.hand_ranges.specs.RangeSpot.{is_one_word}
 use Rattle.hand_ranges.proofs.OneWord.{one_from, one_all, one_end, one_none, one_step, one_not, table_later}
 use Rattle.hand_ranges.proofs.CopiedWords.{step_same, are_same, are_other}
 use Rattle.hand_ranges.proofs.walks.behind_ranges.Goals as goal

@@ -1,4 +1,4 @@
-use Rattle.std.proofs.Common.{◌≡◌, sym, ap, ◌∙◌, true, false, ◌&&◌, [], ◌∷◌, ◌++◌, map, append_assoc, append-nil, rules}
+use Rattle.std.proofs.Common.{◌≡◌, sym, ap, ◌∙◌, true, false, [], ◌∷◌, ◌++◌, map, append_assoc, append-nil, rules}
 use Rattle.std.specs.List.{list_all, filter_map}
 use Rattle.card_sets.proofs.CallerLemmas.{and_first, and_second}
 use Rattle.spot_text.specs.Parts.{is_dash}

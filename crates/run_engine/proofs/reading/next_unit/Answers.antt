@@ -1,16 +1,16 @@
-use Rattle.std.proofs.Common.{refl, arith}
+use Rattle.std.proofs.Common.{[], ◌∷◌, ◌++◌, refl, arith}
 use Rattle.hand_cuts.specs.declared.limits.TheConstants.{INPUT_MAX}
+use Rattle.run_engine.specs.Order.{with_read}
 use Rattle.run_engine.proofs.InputPieces.{fewer_left}
-use Rattle.run_engine.proofs.AskedUnits.{all_handed_out, given_same, hands_over, less_again, stands_again}
+use Rattle.run_engine.proofs.AskedUnits.{given_same, hands_over, less_again}
+use Rattle.run_engine.proofs.CuttingFacts.{all_cut, all_cut_open, cuts_again, reads_one_more}
 use Rattle.run_engine.proofs.reading.next_unit.Goals as goal
 
 pub pieces-init : goal.pieces-init
-pieces-init g c = record { stands = λ old kind done s. (s, omega arith); going = c.requires }
-
-pub returns-in-Some : goal.returns-in-Some
-returns-in-Some g c old kind done s =
-    let now = c.pieces.invariant.stands old kind done s in
-    hands_over INPUT_MAX old _ kind c.args.input.now c.pieces.input.cutter c.next_unit.new.self c.pieces.input.ending c.in-Some.unit done now.0 now.1 c.in-Some.ensures.some c.in-Some.ensures.few
+pieces-init g c = record {
+  going = c.requires;
+  order = λ kind bytes done s. ([], bytes, (refl, refl, refl), s, omega arith);
+}
 
 pub pieces-smaller : goal.pieces-smaller
 pieces-smaller g c =
@@ -19,24 +19,51 @@ pieces-smaller g c =
 
 pub pieces-preserved : goal.pieces-preserved
 pieces-preserved g c = record {
-  stands = λ old kind done s.
-      let now = c.pieces.invariant.stands old kind done s in
-      let again = stands_again INPUT_MAX old _ kind c.pieces.input c.next_unit.new.self c.forget.new.self done now.0 c.in-Open.is (c.in_default.ensures.same refl) c.forget.ensures in
-      let less = less_again INPUT_MAX c.pieces.input c.next_unit.new.self c.forget.new.self c.in-Open.is (c.in_default.ensures.same refl) c.forget.ensures in
-      let more = c.in-Ok.ensures.told old kind done again in
-      let onward = now.1 in
-      let given = more.1 in
-      (more.0, omega arith);
   going = c.in-Ok.ensures.closed;
+  order = λ kind bytes done s.
+      let now = c.pieces.invariant.order kind bytes done s in
+      let cutter_same = c.in_default.ensures.same refl in
+      let again = cuts_again INPUT_MAX kind c.pieces.input c.next_unit.new.self c.forget.new.self now.1 done now.3 c.in-Open.is cutter_same c.forget.ensures in
+      let less = less_again INPUT_MAX c.pieces.input c.next_unit.new.self c.forget.new.self c.in-Open.is cutter_same c.forget.ensures in
+      let one = c.in-Ok.ensures.order kind now.1 done again in
+      let all = all_cut_open INPUT_MAX kind c.pieces.input now.1 done now.3 (c.in_default.ensures.none.0 refl) c.in-Open.is in
+      let onward = now.4 in
+      let given = one.4 in
+      (now.0 ++ one.0 ∷ [], with_read INPUT_MAX now.1 one.0, reads_one_more g.S.Source.reads INPUT_MAX kind done _ _ bytes now.0 _ _ now.1 one.0 _ _ now.2 c.in-Open.is all one.1 one.2, one.3, omega arith);
 }
 
+pub returns-in-Some : goal.returns-in-Some
+returns-in-Some g c kind bytes done s =
+    let now = c.pieces.invariant.order kind bytes done s in
+    record {
+      made = now.0;
+      ending = c.pieces.input.ending;
+      behind = now.1;
+      order = now.2;
+      hands = (refl, hands_over INPUT_MAX kind c.args.input.now c.pieces.input.cutter c.next_unit.new.self c.pieces.input.ending c.in-Some.unit now.1 done now.3 now.4 c.in-Some.ensures.some c.in-Some.ensures.few);
+    }
+
 pub returns-in-Err : goal.returns-in-Err
-returns-in-Err g c old kind done s =
-    let now = c.pieces.invariant.stands old kind done s in
-    c.in-Err.ensures.told old kind done
-    (stands_again INPUT_MAX old _ kind c.pieces.input c.next_unit.new.self c.forget.new.self done now.0 c.in-Open.is (c.in_default.ensures.same refl) c.forget.ensures)
+returns-in-Err g c kind bytes done s =
+    let now = c.pieces.invariant.order kind bytes done s in
+    let again = cuts_again INPUT_MAX kind c.pieces.input c.next_unit.new.self c.forget.new.self now.1 done now.3 c.in-Open.is (c.in_default.ensures.same refl) c.forget.ensures in
+    let one = c.in-Err.ensures.order kind now.1 done again in
+    let all = all_cut_open INPUT_MAX kind c.pieces.input now.1 done now.3 (c.in_default.ensures.none.0 refl) c.in-Open.is in
+    record {
+      made = now.0 ++ one.0 ∷ [];
+      ending = one.1;
+      behind = with_read INPUT_MAX now.1 one.0;
+      order = reads_one_more g.S.Source.reads INPUT_MAX kind done _ _ bytes now.0 _ _ now.1 one.0 _ _ now.2 c.in-Open.is all one.2 one.3;
+      hands = one.4;
+    }
 
 pub returns-in_default-ending : goal.returns-in_default-ending
-returns-in_default-ending g c old kind done s =
-    let now = c.pieces.invariant.stands old kind done s in
-    all_handed_out INPUT_MAX old _ kind c.pieces.input done now.0 (c.in_default.ensures.none.0 refl) c.in_default-ending.not-Open
+returns-in_default-ending g c kind bytes done s =
+    let now = c.pieces.invariant.order kind bytes done s in
+    record {
+      made = now.0;
+      ending = c.pieces.input.ending;
+      behind = now.1;
+      order = now.2;
+      hands = (refl, c.in_default-ending.not-Open, all_cut INPUT_MAX kind c.pieces.input now.1 done now.3 (c.in_default.ensures.none.0 refl));
+    }

@@ -1,45 +1,72 @@
-use Rattle.std.proofs.Common.{◌≡◌, ◌+◌, ◌-◌, ◌≤◌, ◌<◌, ℕ, take, ap, ◌∙◌, arith, length, rules}
-use Rattle.std.proofs.lemmas.List.{length-replicate}
+use Rattle.std.proofs.Common.{◌≡◌, ◌+◌, ◌-◌, ◌≤◌, ◌<◌, ℕ, List, [], Some, None, take, ap, subst, refl, ◌∙◌, arith, length, rules}
+use Rattle.std.proofs.lemmas.List.{length-replicate, length-take-le}
 use Rattle.hand_cuts.specs.declared.limits.TheConstants.{INPUT_MAX}
 use Rattle.run_engine.specs.declared.reading.Ending.TheVariants.{TooLong, Open}
-use Rattle.run_engine.proofs.InputPieces.{begun_cut, begun_more, over_given, stands_cut, stands_failed, stands_more, stands_whole, with_piece}
+use Rattle.run_engine.proofs.CuttingFacts.{begins_cut, begins_more, comes_cut, comes_more, cuts_cut, cuts_failed, cuts_more, cuts_whole}
+use Rattle.run_engine.proofs.InputPieces.{over_given, with_piece}
 use Rattle.run_engine.proofs.reading.read_piece.Goals as goal
 
-pub returns-in_default-clause-told : goal.returns-in_default-clause-told
-returns-in_default-clause-told g c old kind done s = (stands_failed INPUT_MAX old _ _ kind c.args.cutter.now done s c.in_default.ensures.same c.in_default.ensures.fault, omega arith)
+pub returns-in_default-clause-order : goal.returns-in_default-clause-order
+returns-in_default-clause-order g c kind bytes done s = (None, c.in_default.ensures.one (omega (arith, length-replicate {A = ℕ})), refl, cuts_failed INPUT_MAX kind c.args.cutter.now bytes done s, omega arith)
 
-pub returns-then-count-eq0-clause-told : goal.returns-then-count-eq0-clause-told
-returns-then-count-eq0-clause-told g c old kind done s =
-    rw c.close.ensures (stands_whole INPUT_MAX c.in-Ok.count old _ _ kind c.args.cutter.now done _ _ s c.in-Ok.ensures.bytes c.if-count-eq0.true (omega (arith, length-replicate {A = ℕ})) c.in-Ok.ensures.fine, omega arith)
+pub returns-then-count-eq0-clause-order : goal.returns-then-count-eq0-clause-order
+returns-then-count-eq0-clause-order g c kind bytes done s =
+    let none : take c.in-Ok.count c.read.new.piece ≡ [] = ap (λ n. take n c.read.new.piece) c.if-count-eq0.true in
+    rw c.close.ensures (Some [], subst (λ (p : List ℕ). g.S.Source.reads c.args.source.now c.read.new.self (Some p)) none (c.in-Ok.ensures.one (omega (arith, length-replicate {A = ℕ}))), refl, cuts_whole INPUT_MAX kind c.args.cutter.now bytes done s, omega arith)
 
-pub returns-in_default-give-clause-told : goal.returns-in_default-give-clause-told
-returns-in_default-give-clause-told g c old kind done s =
-    let sized : length c.read.new.piece ≡ 16384 = search rules in
+pub returns-in_default-give-clause-order : goal.returns-in_default-give-clause-order
+returns-in_default-give-clause-order g c kind bytes done s =
     let given : c.given-room.result ≡ c.args.cutter.now.given = c.given-room.ensures.value in
-    (TooLong, begun_cut INPUT_MAX c.in-Ok.count old _ _ kind c.args.cutter.now done _ c.read.new.piece s c.in-Ok.ensures.bytes c.in-Ok.ensures.within sized c.in-Ok.ensures.fine (let more = c.if-count-room.true in omega arith))
-
-pub returns-then-count-room-clause-told : goal.returns-then-count-room-clause-told
-returns-then-count-room-clause-told g c old kind done s =
     let sized : length c.read.new.piece ≡ 16384 = search rules in
+    let short : c.in-Ok.count ≤ 16384 = (let w = c.in-Ok.ensures.within in omega arith) in
+    let more : INPUT_MAX - c.args.cutter.now.given < c.in-Ok.count = (let m = c.if-count-room.true in omega arith) in (
+      Some (take c.in-Ok.count c.read.new.piece),
+      TooLong,
+      c.in-Ok.ensures.one (omega (arith, length-replicate {A = ℕ})),
+      comes_cut INPUT_MAX c.in-Ok.count kind c.args.cutter.now bytes c.read.new.piece done s c.in-Ok.ensures.within short more,
+      begins_cut INPUT_MAX c.in-Ok.count kind c.args.cutter.now bytes c.read.new.piece done s c.in-Ok.ensures.within more,
+    )
+
+pub returns-then-count-room-clause-order : goal.returns-then-count-room-clause-order
+returns-then-count-room-clause-order g c kind bytes done s =
     let given : c.given-room.result ≡ c.args.cutter.now.given = c.given-room.ensures.value in
-    let few : c.given-room.result ≤ INPUT_MAX = c.given-room.ensures.few in
-    let within : c.in-Ok.count ≤ length c.read.new.piece = c.in-Ok.ensures.within in
+    let sized : length c.read.new.piece ≡ 16384 = search rules in
+    let short : c.in-Ok.count ≤ 16384 = (let w = c.in-Ok.ensures.within in omega arith) in
     let more : INPUT_MAX - c.args.cutter.now.given < c.in-Ok.count = (let m = c.if-count-room.true in omega arith) in
     let same : c.give.new.self ≡ with_piece c.args.cutter.now (take (INPUT_MAX - c.args.cutter.now.given) c.read.new.piece) =
     c.in-Ok-give.ensures.given ∙ ap (λ n. with_piece c.args.cutter.now (take (INPUT_MAX - n) c.read.new.piece)) given in (
-      stands_cut INPUT_MAX c.in-Ok.count old _ _ kind c.args.cutter.now c.give.new.self done _ c.read.new.piece s c.in-Ok.ensures.bytes within sized c.in-Ok.ensures.fine more same,
-      over_given INPUT_MAX (INPUT_MAX - c.args.cutter.now.given) c.args.cutter.now c.give.new.self c.read.new.piece TooLong s.inside (omega arith) (omega arith) same,
+      Some (take c.in-Ok.count c.read.new.piece),
+      c.in-Ok.ensures.one (omega (arith, length-replicate {A = ℕ})),
+      comes_cut INPUT_MAX c.in-Ok.count kind c.args.cutter.now bytes c.read.new.piece done s c.in-Ok.ensures.within short more,
+      cuts_cut INPUT_MAX c.in-Ok.count kind c.args.cutter.now c.give.new.self bytes c.read.new.piece done s c.in-Ok.ensures.within more same,
+      over_given INPUT_MAX (INPUT_MAX - c.args.cutter.now.given) c.args.cutter.now c.give.new.self c.read.new.piece TooLong s.inside (let w = c.in-Ok.ensures.within in omega arith) (let few = s.few in omega arith) same,
     )
 
-pub returns-in_default-give-2-clause-told : goal.returns-in_default-give-2-clause-told
-returns-in_default-give-2-clause-told g c old kind done s =
+pub returns-in_default-give-2-clause-order : goal.returns-in_default-give-2-clause-order
+returns-in_default-give-2-clause-order g c kind bytes done s =
     let given : c.given-room.result ≡ c.args.cutter.now.given = c.given-room.ensures.value in
-    (Open, begun_more INPUT_MAX c.in-Ok.count old _ _ kind c.args.cutter.now done _ c.read.new.piece s c.in-Ok.ensures.bytes c.in-Ok.ensures.within c.in-Ok.ensures.fine (let less = c.if-count-room.false in let few = c.given-room.ensures.few in omega arith))
+    let fits : c.args.cutter.now.given + c.in-Ok.count ≤ INPUT_MAX = (let less = c.if-count-room.false in let few = c.given-room.ensures.few in omega arith) in
+    let sized : length c.read.new.piece ≡ 16384 = search rules in
+    let short : c.in-Ok.count ≤ 16384 = (let w = c.in-Ok.ensures.within in omega arith) in
+    let some : 0 < c.in-Ok.count = (let z = c.if-count-eq0.false in omega arith) in (
+      Some (take c.in-Ok.count c.read.new.piece),
+      Open,
+      c.in-Ok.ensures.one (omega (arith, length-replicate {A = ℕ})),
+      comes_more INPUT_MAX c.in-Ok.count kind c.args.cutter.now bytes c.read.new.piece done s c.in-Ok.ensures.within short fits some,
+      begins_more INPUT_MAX c.in-Ok.count kind c.args.cutter.now bytes c.read.new.piece done s c.in-Ok.ensures.within fits,
+    )
 
-pub returns-clause-told : goal.returns-clause-told
-returns-clause-told g c old kind done s =
+pub returns-clause-order : goal.returns-clause-order
+returns-clause-order g c kind bytes done s =
     let given : c.given-room.result ≡ c.args.cutter.now.given = c.given-room.ensures.value in
-    let fits : c.args.cutter.now.given + c.in-Ok.count ≤ INPUT_MAX = (let less = c.if-count-room.false in let few = c.given-room.ensures.few in omega arith) in (
-      stands_more INPUT_MAX c.in-Ok.count old _ _ kind c.args.cutter.now c.give-2.new.self done _ c.read.new.piece s c.in-Ok.ensures.bytes c.in-Ok.ensures.within c.in-Ok.ensures.fine fits c.in-Ok-give-2.ensures.given,
+    let fits : c.args.cutter.now.given + c.in-Ok.count ≤ INPUT_MAX = (let less = c.if-count-room.false in let few = c.given-room.ensures.few in omega arith) in
+    let sized : length c.read.new.piece ≡ 16384 = search rules in
+    let short : c.in-Ok.count ≤ 16384 = (let w = c.in-Ok.ensures.within in omega arith) in
+    let some : 0 < c.in-Ok.count = (let z = c.if-count-eq0.false in omega arith) in
+    let size : length (take c.in-Ok.count c.read.new.piece) ≡ c.in-Ok.count = length-take-le c.in-Ok.count c.read.new.piece c.in-Ok.ensures.within in (
+      Some (take c.in-Ok.count c.read.new.piece),
+      c.in-Ok.ensures.one (omega (arith, length-replicate {A = ℕ})),
+      comes_more INPUT_MAX c.in-Ok.count kind c.args.cutter.now bytes c.read.new.piece done s c.in-Ok.ensures.within short fits some,
+      cuts_more INPUT_MAX kind c.args.cutter.now c.give-2.new.self bytes (take c.in-Ok.count c.read.new.piece) done s (omega arith) c.in-Ok-give-2.ensures.given,
       over_given INPUT_MAX c.in-Ok.count c.args.cutter.now c.give-2.new.self c.read.new.piece Open s.inside c.in-Ok.ensures.within fits c.in-Ok-give-2.ensures.given,
     )

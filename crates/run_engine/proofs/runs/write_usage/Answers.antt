@@ -1,10 +1,11 @@
+use Rattle.std.proofs.Common.{inl, inr, refl}
 use Rattle.run_engine.specs.Command.{usage_line}
 use Rattle.run_engine.proofs.runs.write_usage.Goals as goal
 
-pub returns-in-Ok-clause-fine : goal.returns-in-Ok-clause-fine
+pub returns-in-Ok : goal.returns-in-Ok
 unfolding usage_line
-returns-in-Ok-clause-fine g c = λ _. (c.in-Ok.ensures.ok, c.in-Ok.ensures.fine)
+returns-in-Ok g c = inl (refl, c.in-Ok.ensures.order)
 
-pub returns-in-Err-clause-fault : goal.returns-in-Err-clause-fault
+pub returns-in-Err : goal.returns-in-Err
 unfolding usage_line
-returns-in-Err-clause-fault g c = λ _. (c.in-Err.ensures.fault, c.in-Err.ensures.front)
+returns-in-Err g c = inr (refl, _, c.in-Err.ensures.order)

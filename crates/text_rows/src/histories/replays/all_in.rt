@@ -61,16 +61,14 @@ const AFTER_CALL: [&[u8]; 7] = [
 
 /// Whether no all-in point is known.
 fn has_no_point(replay: &Replay) -> bool {
-    replay.all_in_point().is_none()
-        && replay.all_in_contenders() == 0
-        && replay.dead_cards().count() == 0
+    replay.all_in_point().is_none() && replay.all_in_contenders() == 0 && replay.dead().count() == 0
 }
 
 /// Whether the point is before the flop, with the cards of the folded first seat and of the third.
 fn has_first_point(replay: &Replay) -> bool {
     replay.all_in_point() == Some(Street::First)
         && replay.all_in_contenders() == 12
-        && is_known(Some(replay.dead_cards()), &[*b"As", *b"Ks"])
+        && is_known(Some(replay.dead()), &[*b"As", *b"Ks"])
         && is_known(replay.cards_at(3, Street::First), &[*b"Qs", *b"Qh"])
         && replay.cards_at(2, Street::First).is_none()
 }
@@ -157,7 +155,7 @@ fn has_shown_hand(replay: &Replay) -> bool {
         replay.cards_at(2, Street::Fifth),
         &[*b"8c", *b"8d", *b"Kc", *b"Kd", *b"Qc"],
     ) && is_known(replay.cards_at(2, Street::First), &[*b"8c", *b"8d", *b"Kc"])
-        && replay.dead_cards().count() == 0
+        && replay.dead().count() == 0
         && replay.final_cards(2).is_some()
         && replay.final_cards(1).is_none()
 }
@@ -202,7 +200,7 @@ fn is_kept(names: &Names, header: &Header, lines: &[&[u8]], at: Street, drawn: &
         && count(replay.cards_at(1, at)) == drawn.1
         && count(replay.cards_at(2, at)) == drawn.2
         && count(replay.final_cards(2)) == Some(5)
-        && replay.dead_cards().count() == drawn.3
+        && replay.dead().count() == drawn.3
 }
 
 /// Whether this is so of each of these draws in a game.

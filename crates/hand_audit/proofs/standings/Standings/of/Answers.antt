@@ -10,8 +10,8 @@ pub returns-clause-tells : goal.returns-clause-tells
 returns-clause-tells c all =
     let game = c.args.game in
     let hands = by_seat (final_at c.args.replay.now) in
-    tells _ game c.args.replay.now all c.args.button c.known.ensures
-    (subst (λ (board : List ℕ). TellsHands c.on_board.result game board hands) c.board.ensures c.on_board.ensures.tells) (subst (λ (o : Option (List ℕ)). TellsSecond c.on_second.result game o hands) c.second_of.ensures c.on_second.ensures.tells) refl refl
+    tells _ game c.args.replay.now all c.known.ensures
+    (subst (λ (board : List ℕ). TellsHands c.on_board.result game board hands) c.board.ensures c.on_board.ensures.tells) (subst (λ (o : Option (List ℕ)). TellsSecond c.on_second.result game o hands) c.second_of.ensures c.on_second.ensures.tells) refl c.button.ensures.value
 
 pub returns-clause-ready : goal.returns-clause-ready
-returns-clause-ready c = record { button = c.requires; board = c.on_board.ensures.marks; second = c.on_second.ensures.marks }
+returns-clause-ready c = record { button = c.button.ensures.few; board = c.on_board.ensures.marks; second = c.on_second.ensures.marks }

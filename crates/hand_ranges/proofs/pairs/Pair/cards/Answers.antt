@@ -1,4 +1,4 @@
-use Rattle.std.proofs.Common.{◌≡◌, [], ap, ◌∙◌}
+use Rattle.std.proofs.Common.{ap, ◌∙◌}
 use Rattle.card_sets.specs.Cards.{with_card}
 use Rattle.hand_ranges.proofs.TwoCards.{two_cards}
 use Rattle.hand_ranges.proofs.pairs.Pair.cards.Goals as goal

@@ -1,0 +1,95 @@
+//! How far a hand has come.
+
+ghost use Rattle.std.specs.Prelude.{◌≡◌, ◌≤◌, IfSome};
+ghost use Rattle.betting_replay.specs.Events.{SeatFits};
+ghost use Rattle.betting_replay.specs.Table.{no_course};
+ghost use Rattle.betting_replay.specs.Counting.{course_after, showdowns_after};
+
+use crate::points::Showdowns;
+use crate::streets::{begins_on, shows_on};
+use history_text::{BoardNumber, Event, PostKind, Street};
+
+/// How far a hand has come: its street, its markers, and who acted last.
+#[derive(Clone, Copy)]
+pub struct Course {
+    /// The street that the hand is on: that of the last marker, a showdown's and the summary's too, or the
+    /// draw that a discard or a stand-pat began. None exactly before the first marker.
+    pub street: Option<Street>,
+    /// Whether the first street has begun. It stays so.
+    pub opened: bool,
+    /// Whether the last street has begun, on the first board where there are two. It stays so.
+    pub last_begun: bool,
+    /// Whether a small blind was posted. A later one is dead.
+    pub small_posted: bool,
+    /// The seat of the last actor of the street, 1 to 10. None before its first act.
+    pub last_actor: Option<u8>,
+    /// The board of the last marker; the only one before any.
+    pub marker: BoardNumber,
+    /// Which showdown markers stood.
+    pub showdowns: Showdowns,
+    /// The street from which on there are two boards. None where the hand isn't run twice.
+    pub split_from: Option<Street>,
+    /// The street that the second board has come to. None where no marker stood for a second board.
+    pub second_street: Option<Street>,
+}
+
+impl Course {
+    /// Before the first event.
+    pub(crate) fn new() -> Course
+        ensures { result ≡ no_course }
+    {
+        Course {
+            street: None,
+            opened: false,
+            last_begun: false,
+            small_posted: false,
+            last_actor: None,
+            marker: BoardNumber::Only,
+            showdowns: Showdowns {
+                plain: false,
+                first: false,
+                second: false,
+            },
+            split_from: None,
+            second_street: None,
+        }
+    }
+}
+
+/// The showdown markers that stood, after an event.
+fn showdowns_after(e: &Event, before: Showdowns) -> Showdowns
+    ensures { result ≡ showdowns_after e.now before }
+{
+    Showdowns {
+        plain: shows_on(BoardNumber::Only, e) || before.plain,
+        first: shows_on(BoardNumber::First, e) || before.first,
+        second: shows_on(BoardNumber::Second, e) || before.second,
+    }
+}
+
+/// How far the hand has come after an event, but for the street that it begins.
+pub(crate) fn course_after(e: &Event, course: Course) -> Course
+    requires seat { SeatFits e.now }
+    requires few { IfSome course.last_actor (λ seat. seat ≤ 10) }
+    ensures value { result ≡ course_after e.now course }
+    ensures few { IfSome result.last_actor (λ seat. seat ≤ 10) }
+{
+    match *e {
+        Event::Street { board, .. } => Course {
+            marker: board,
+            showdowns: showdowns_after(e, course.showdowns),
+            split_from: course.split_from.or(begins_on(BoardNumber::First, e)),
+            second_street: begins_on(BoardNumber::Second, e).or(course.second_street),
+            ..course
+        },
+        Event::Post { kind, .. } => Course {
+            small_posted: kind == PostKind::Small || course.small_posted,
+            ..course
+        },
+        Event::Act { seat, .. } => Course {
+            last_actor: Some(seat),
+            ..course
+        },
+        _ => course,
+    }
+}

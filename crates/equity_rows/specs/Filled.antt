@@ -1,0 +1,11 @@
+-- What one read of a source does that tells no bytes and never fails.
+use Rattle.std.proofs.Common.{◌≡◌, ℕ, List, Option, Some, None, refl}
+use Rattle.byte_ends.specs.Ends.{CountsFault, GivesFirst}
+
+abbrev pub ReadsFilled : Option (List ℕ) → Type 0
+ReadsFilled None = ⊥
+ReadsFilled (Some bytes) = Unit {0}
+
+pub filled_tells : (read : Option (List ℕ)) → ReadsFilled read → GivesFirst None None read × CountsFault 0 0 read
+filled_tells None given = absurd given
+filled_tells (Some bytes) given = (refl, refl)

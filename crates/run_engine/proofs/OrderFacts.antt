@@ -1,0 +1,389 @@
+-- What is written before what is read.
+use Rattle.std.proofs.Common.{◌≡◌, ℕ, ◌+◌, ◌<◌, ◌≤◌, Bool, true, false, List, [], ◌∷◌, ◌++◌, length, take, drop, Option, Some, None, Result, Ok, Err, inl, inr, refl, sym, ap, subst, ◌∙◌, arith, append_assoc, append-nil, length-append}
+use Rattle.std.specs.List.{concat, filter_map}
+use Rattle.std.specs.Prelude.{count_by, not}
+use Rattle.card_sets.specs.declared.Memory.{Memory}
+use Rattle.hand_audit.specs.declared.verdicts.HandAudit.{HandAudit}
+use Rattle.hand_cuts.specs.declared.units.CutKind.TheVariants.{Hands}
+use Rattle.report_table.specs.Totals.{is_accepted, totals_block}
+use Rattle.run_engine.specs.Histories.{verdict_of}
+use Rattle.run_engine.specs.UnitSums.{SumsInOrder}
+use Rattle.run_engine.proofs.TotalsFacts.{its_rejects, one_block}
+use Rattle.std.proofs.Math.Seq.{take-append_seam}
+use Rattle.byte_ends.specs.Ends.{WritesOn, WritesOut}
+use Rattle.byte_ends.specs.declared.Failed.{Failed as Fault}
+use Rattle.hand_cuts.specs.Units.{UnitLines, units_in}
+use Rattle.hand_cuts.specs.Cutters.{seen}
+use Rattle.hand_cuts.specs.declared.units.CutKind.{CutKind}
+use Rattle.hand_cuts.specs.declared.units.Unit.{Unit as UnitPlace}
+use Rattle.run_engine.specs.Cutting.{Begins, Cuts, PullsOne, ReadsAll, ReadsOn}
+use Rattle.run_engine.specs.Headline.{written_status}
+use Rattle.run_engine.specs.Laws.{has_blocks}
+use Rattle.run_engine.specs.Order.{Comes, GoesOn, IsFront, IsInOrder, begun, due, with_read}
+use Rattle.run_engine.specs.Reporting.{WritesMade, told_status}
+use Rattle.run_engine.specs.declared.write_fault.WriteFault.{WriteFault}
+use Rattle.run_engine.specs.declared.write_fault.WriteFault.TheVariants as fault
+use Rattle.run_engine.specs.Order.Event.{Reading, Writing}
+use Rattle.run_engine.specs.Reading.{reported}
+use Rattle.run_engine.specs.Report.{blocks, report, rejects}
+use Rattle.run_engine.specs.UnitBlocks.{before, is_rejected_unit, listed_in, listed_kind, place_after, place_behind, rejected_units, unit_block, unit_blocks}
+use Rattle.run_engine.specs.Units.{is_whole, left_over, started}
+use Rattle.run_engine.specs.Writing.{one_if}
+use Rattle.run_engine.specs.Command.{reads_input}
+use Rattle.run_engine.specs.declared.command.Command.{Command}
+use Rattle.run_engine.specs.declared.command.Mode.TheVariants as mode
+use Rattle.run_engine.specs.declared.listed.Listed.{Listed}
+use Rattle.run_engine.specs.declared.reading.Ending.{Ending}
+use Rattle.run_engine.specs.declared.reading.Ending.TheVariants.{Whole, Failed, TooLong, Open}
+use Rattle.run_engine.specs.declared.reading.Input.{Input}
+use Rattle.run_engine.proofs.CuttingFacts.{cuts_start}
+use Rattle.run_engine.proofs.UnitFacts.{blocks-append, blocks_by_units, listed_blocks, place-more, rejected-more, rejects_by_units}
+use Rattle.run_engine.proofs.WriteFacts.{concat-append, one_small}
+use Rattle.run_engine.proofs.WritingFacts.{blocks_begun, blocks_more}
+
+-- the text of the blocks of some units
+abbrev pub text : Command → Listed → List UnitLines → List ℕ
+text asked listed done = concat (unit_blocks asked.form listed 1 done)
+
+-- where each hand has a block what is due is always the report of what counts
+due_all : (asked : Command) (ending : Ending) (bytes : List ℕ) → has_blocks asked.mode ≡ true → due asked ending bytes ≡ report asked (reported asked.mode ending bytes)
+due_all asked Whole bytes has = refl
+due_all asked Failed bytes has = refl
+due_all asked TooLong bytes has = refl
+due_all asked Open bytes has = rw has refl
+
+-- so it is the text of the units
+due_units : (asked : Command) (listed : Listed) (ending : Ending) (bytes : List ℕ) → listed_in asked.mode ≡ Some listed → due asked ending bytes ≡ text asked listed (units_in (listed_kind listed) (is_whole ending) 1 bytes)
+unfolding report
+due_units asked listed ending bytes is =
+    due_all asked ending bytes (listed_blocks asked.mode listed is) ∙ ap concat (blocks_by_units asked asked.mode listed ending bytes is)
+
+-- all is written of what is closed
+written_all : (asked : Command) (listed : Listed) (ending : Ending) (bytes : List ℕ) (done : List UnitLines) → listed_in asked.mode ≡ Some listed → units_in (listed_kind listed) (is_whole ending) 1 bytes ≡ done → text asked listed done ≡ due asked ending bytes
+written_all asked listed ending bytes done is all = ap (text asked listed) (sym all) ∙ sym (due_units asked listed ending bytes is)
+
+-- what is written of some first units is a front of what is due
+front_of : (asked : Command) (listed : Listed) (ending : Ending) (bytes : List ℕ) (done : List UnitLines) → listed_in asked.mode ≡ Some listed → Begins (listed_kind listed) ending bytes done → IsFront (text asked listed done) (due asked ending bytes)
+front_of asked listed ending bytes done is b =
+    let later = unit_blocks asked.form listed (place_after asked.form listed 1 done) b.0 in
+    (concat later, due_units asked listed ending bytes is ∙ ap (text asked listed) b.1 ∙ ap concat (blocks-append asked.form listed 1 done b.0) ∙ concat-append (unit_blocks asked.form listed 1 done) later)
+
+begins_so_far : (limit : ℕ) (kind : CutKind) (input : Input) (bytes : List ℕ) (done : List UnitLines) → Cuts limit kind input bytes done → Begins kind input.ending bytes done
+begins_so_far limit kind input bytes done s =
+    let whole = is_whole input.ending in
+    (units_in kind whole input.cutter.line (drop input.cutter.at input.cutter.held ++ []), ap (units_in kind whole 1) (sym (append-nil bytes)) ∙ s.split whole [] (λ e. (sym s.closed_is ∙ e, refl)))
+
+begins_before : (kind : CutKind) (ending : Ending) (bytes : List ℕ) (done : List UnitLines) (u : UnitLines) → Begins kind ending bytes (done ++ u ∷ []) → Begins kind ending bytes done
+begins_before kind ending bytes done u b = (u ∷ b.0, b.1 ∙ append_assoc done (u ∷ []) b.0)
+
+-- what a run that has to do all that is left does in all
+abbrev pub Leads : {S K : Type 0} → (S → S → Option (List ℕ) → Type 0) → (K → K → Option (List ℕ) → Type 0) → ℕ → Command → S → K → Ending → List ℕ → List ℕ → S → K → Type 0
+Leads {S} {K} reads writes limit asked s0 k0 ending bytes wrote s k =
+    (status : ℕ) (s' : S) (k' : K) → GoesOn reads writes limit asked ending bytes wrote s k status s' k'
+    → GoesOn reads writes limit asked Open [] [] s0 k0 status s' k'
+
+-- the units that were handed out are written, and what was done so far is in order
+pub record Ordered {S K : Type 0} (reads : S → S → Option (List ℕ) → Type 0) (writes : K → K → Option (List ℕ) → Type 0)
+    (limit : ℕ) (asked : Command) (listed : Listed) (s0 : S) (k0 : K) (s : S) (k : K) (input : Input) (place rejected : ℕ) : Type 0 where
+  pub bytes : List ℕ
+  pub done : List UnitLines
+  pub cuts : Cuts limit (listed_kind listed) input bytes done
+  pub place_is : place ≡ place_after asked.form listed 1 done
+  pub count : rejected ≡ rejected_units listed done
+  pub room : place + left_over limit input ≤ limit + 1
+  pub fewer : rejected < place
+  pub leads : Leads reads writes limit asked s0 k0 input.ending bytes (text asked listed done) s k
+
+pub ordered_start : {S K : Type 0} (reads : S → S → Option (List ℕ) → Type 0) (writes : K → K → Option (List ℕ) → Type 0) (limit : ℕ) (asked : Command) (listed : Listed) (s : S) (k : K)
+    → Ordered reads writes limit asked listed s k s k (started (listed_kind listed)) 1 0
+ordered_start reads writes limit asked listed s k = record {
+  bytes = [];
+  done = [];
+  cuts = cuts_start limit (listed_kind listed);
+  place_is = refl;
+  count = refl;
+  room = omega arith;
+  fewer = omega arith;
+  leads = λ status s' k' g. g;
+}
+
+-- what is read while no more is closed goes before
+reads_before : {S K : Type 0} (reads : S → S → Option (List ℕ) → Type 0) (writes : K → K → Option (List ℕ) → Type 0) (limit : ℕ) (asked : Command) (listed : Listed) (done : List UnitLines) (is : listed_in asked.mode ≡ Some listed)
+    (s : S) (ending : Ending) (bytes : List ℕ) (made : List (Option (List ℕ))) (mid : S) (ending' : Ending) (bytes' : List ℕ) (k : K) (status : ℕ) (s' : S) (k' : K)
+    → ReadsOn reads limit (listed_kind listed) done s ending bytes made mid ending' bytes' → GoesOn reads writes limit asked ending' bytes' (text asked listed done) mid k status s' k'
+    → GoesOn reads writes limit asked ending bytes (text asked listed done) s k status s' k'
+reads_before {S} {K} reads writes limit asked listed done is s ending bytes [] mid ending' bytes' k status s' k' r g =
+    let a = subst (λ (m : S). GoesOn reads writes limit asked ending' bytes' (text asked listed done) m k status s' k') r.0 g in
+    let b = subst (λ (e : Ending). GoesOn reads writes limit asked e bytes' (text asked listed done) s k status s' k') r.1 a in
+    subst (λ (bs : List ℕ). GoesOn reads writes limit asked ending bs (text asked listed done) s k status s' k') r.2 b
+reads_before {S} {K} reads writes limit asked listed done is s ending bytes (read ∷ later) mid ending' bytes' k status s' k' r g =
+    let rest = reads_before reads writes limit asked listed done is r.0 r.1 (with_read limit bytes read) later mid ending' bytes' k status s' k' r.6 g in
+    record {
+      events = Reading read ∷ rest.events;
+      went = (r.0, r.4, rest.went);
+      follows = (r.2, written_all asked listed Open bytes done is r.3, r.1, r.5, rest.follows);
+    }
+
+-- what is written of what is due goes before
+writes_before : {S K : Type 0} (reads : S → S → Option (List ℕ) → Type 0) (writes : K → K → Option (List ℕ) → Type 0) (limit : ℕ) (asked : Command) (ending : Ending) (bytes wrote : List ℕ) (s : S) (k : K) (parts : List (List ℕ)) (mid : K) (status : ℕ) (s' : S) (k' : K)
+    → IsFront (wrote ++ concat parts) (due asked ending bytes) → WritesOn writes k parts mid → GoesOn reads writes limit asked ending bytes (wrote ++ concat parts) s mid status s' k'
+    → GoesOn reads writes limit asked ending bytes wrote s k status s' k'
+writes_before {S} {K} reads writes limit asked ending bytes wrote s k [] mid status s' k' front w g =
+    let a = subst (λ (m : K). GoesOn reads writes limit asked ending bytes (wrote ++ []) s m status s' k') w g in
+    subst (λ (xs : List ℕ). GoesOn reads writes limit asked ending bytes xs s k status s' k') (append-nil wrote) a
+writes_before {S} {K} reads writes limit asked ending bytes wrote s k (part ∷ later) mid status s' k' front w g =
+    let joined : wrote ++ (part ++ concat later) ≡ (wrote ++ part) ++ concat later = sym (append_assoc wrote part (concat later)) in
+    let whole : due asked ending bytes ≡ ((wrote ++ part) ++ concat later) ++ front.0 = front.1 ∙ ap (λ xs. xs ++ front.0) joined in
+    let rest = writes_before reads writes limit asked ending bytes (wrote ++ part) s w.0 later mid status s' k' (front.0, whole) w.3
+    (subst (λ (xs : List ℕ). GoesOn reads writes limit asked ending bytes xs s mid status s' k') joined g) in
+    record {
+      events = Writing (Some part) ∷ rest.events;
+      went = (w.0, w.2, rest.went);
+      follows = (w.1, (concat later ++ front.0, whole ∙ append_assoc (wrote ++ part) (concat later) front.0), rest.follows);
+    }
+
+-- a block that is due is written
+block_before : {S K : Type 0} (reads : S → S → Option (List ℕ) → Type 0) (writes : K → K → Option (List ℕ) → Type 0) (limit : ℕ) (asked : Command) (ending : Ending) (bytes wrote block : List ℕ) (s : S) (k now : K) (status : ℕ) (s' : S) (k' : K)
+    → IsFront (wrote ++ block) (due asked ending bytes) → WritesOut writes k now block (Ok tt) → GoesOn reads writes limit asked ending bytes (wrote ++ block) s now status s' k'
+    → GoesOn reads writes limit asked ending bytes wrote s k status s' k'
+block_before reads writes limit asked ending bytes wrote block s k now status s' k' front w g =
+    let whole : wrote ++ block ≡ wrote ++ concat w.0 = ap (λ xs. wrote ++ xs) (sym w.1) in
+    writes_before reads writes limit asked ending bytes wrote s k w.0 now status s' k' (subst (λ (xs : List ℕ). IsFront xs (due asked ending bytes)) whole front) w.2
+    (subst (λ (xs : List ℕ). GoesOn reads writes limit asked ending bytes xs s now status s' k') whole g)
+
+-- or a write of it fails, and is the last
+block_fails : {S K : Type 0} (reads : S → S → Option (List ℕ) → Type 0) (writes : K → K → Option (List ℕ) → Type 0) (limit : ℕ) (asked : Command) (ending : Ending) (bytes wrote block : List ℕ) (s : S) (k now : K) (fault : Fault)
+    → IsFront (wrote ++ block) (due asked ending bytes) → WritesOut writes k now block (Err fault) → GoesOn reads writes limit asked ending bytes wrote s k 4 s now
+block_fails reads writes limit asked ending bytes wrote block s k now fault front w =
+    let part = concat w.0 in
+    let whole : due asked ending bytes ≡ (wrote ++ part) ++ (w.1 ++ front.0) =
+    front.1 ∙ ap (λ b. (wrote ++ b) ++ front.0) (sym w.4) ∙ ap (λ xs. xs ++ front.0) (sym (append_assoc wrote part w.1)) ∙ append_assoc (wrote ++ part) w.1 front.0 in
+    let some : 0 < length (w.1 ++ front.0) = (let more = w.3 in omega (arith, length-append w.1 front.0)) in
+    writes_before reads writes limit asked ending bytes wrote s k w.0 w.2 4 s now (w.1 ++ front.0, whole) w.5 (record {
+      events = Writing None ∷ [];
+      went = (now, w.6, (refl, refl));
+      follows = ((w.1 ++ front.0, some, whole), refl, refl);
+    })
+
+-- a unit without a block is handed out
+pub ordered_passed : {S K : Type 0} (reads : S → S → Option (List ℕ) → Type 0) (writes : K → K → Option (List ℕ) → Type 0) (limit : ℕ) (asked : Command) (listed : Listed) (s0 : S) (k0 : K) (s new : S) (k : K) (input input' : Input) (place rejected : ℕ)
+    (unit : UnitPlace) → listed_in asked.mode ≡ Some listed → (o : Ordered reads writes limit asked listed s0 k0 s k input place rejected)
+    → (p : PullsOne reads limit s new (listed_kind listed) input input' o.bytes o.done (Ok (Some unit)))
+    → unit_block asked.form listed place (seen input'.cutter.held unit) ≡ None → is_rejected_unit listed (seen input'.cutter.held unit) ≡ false
+    → Ordered reads writes limit asked listed s0 k0 new k input' place rejected
+ordered_passed {S} {K} reads writes limit asked listed s0 k0 s new k input input' place rejected unit is o p made fine =
+    let u = seen input'.cutter.held unit in
+    let form = asked.form in
+    let none : unit_blocks form listed 1 (o.done ++ u ∷ []) ≡ unit_blocks form listed 1 o.done =
+    blocks-append form listed 1 o.done (u ∷ []) ∙ ap (λ n. unit_blocks form listed 1 o.done ++ before (unit_block form listed n u) []) (sym o.place_is) ∙ ap (λ b. unit_blocks form listed 1 o.done ++ before b []) made ∙ append-nil (unit_blocks form listed 1 o.done) in
+    record {
+      bytes = p.behind;
+      done = o.done ++ u ∷ [];
+      cuts = p.hands.1.cuts;
+      place_is = sym (place-more form listed 1 o.done u ∙ ap (λ n. place_behind n (unit_block form listed n u)) (sym o.place_is) ∙ ap (place_behind place) made);
+      count = o.count ∙ sym (rejected-more listed o.done u ∙ ap (λ b. rejected_units listed o.done + one_if b) fine ∙ (let e : rejected_units listed o.done + 0 ≡ rejected_units listed o.done = omega arith in e));
+      room = (let r = o.room in let f = p.hands.1.fewer in omega arith);
+      fewer = o.fewer;
+      leads = λ status s' k' g.
+          let a = subst (λ (e : Ending). GoesOn reads writes limit asked e p.behind (text asked listed (o.done ++ u ∷ [])) new k status s' k') p.hands.0 g in
+          let b = subst (λ (bs : List (List ℕ)). GoesOn reads writes limit asked p.ending p.behind (concat bs) new k status s' k') none a in
+          o.leads status s' k' (reads_before reads writes limit asked listed o.done is s input.ending o.bytes p.made new p.ending p.behind k status s' k' p.order b);
+    }
+
+-- the text of one unit more
+text_more : (asked : Command) (listed : Listed) (done : List UnitLines) (u : UnitLines) (place : ℕ) (block : List ℕ) → place ≡ place_after asked.form listed 1 done → unit_block asked.form listed place u ≡ Some block
+    → text asked listed (done ++ u ∷ []) ≡ text asked listed done ++ block
+text_more asked listed done u place block is made =
+    ap concat (blocks_more asked.form listed done u place block is made) ∙ concat-append (unit_blocks asked.form listed 1 done) (block ∷ []) ∙ ap (λ z. text asked listed done ++ z) (append-nil block)
+
+front_more : (limit : ℕ) (asked : Command) (listed : Listed) (input : Input) (ending : Ending) (bytes : List ℕ) (done : List UnitLines) (u : UnitLines) (place : ℕ) (block : List ℕ) → listed_in asked.mode ≡ Some listed → input.ending ≡ ending
+    → Cuts limit (listed_kind listed) input bytes (done ++ u ∷ []) → place ≡ place_after asked.form listed 1 done → unit_block asked.form listed place u ≡ Some block → IsFront (text asked listed done ++ block) (due asked ending bytes)
+front_more limit asked listed input ending bytes done u place block is same cuts at made =
+    let b : Begins (listed_kind listed) ending bytes (done ++ u ∷ []) = subst (λ (e : Ending). Begins (listed_kind listed) e bytes (done ++ u ∷ [])) same (begins_so_far limit (listed_kind listed) input bytes (done ++ u ∷ []) cuts) in
+    subst (λ (xs : List ℕ). IsFront xs (due asked ending bytes)) (text_more asked listed done u place block at made) (front_of asked listed ending bytes (done ++ u ∷ []) is b)
+
+-- a unit with a block is handed out, and the block is written
+pub ordered_more : {S K : Type 0} (reads : S → S → Option (List ℕ) → Type 0) (writes : K → K → Option (List ℕ) → Type 0) (limit : ℕ) (asked : Command) (listed : Listed) (s0 : S) (k0 : K) (s new : S) (k now : K) (input input' : Input) (place rejected : ℕ)
+    (unit : UnitPlace) (block : List ℕ) (told : Bool) → listed_in asked.mode ≡ Some listed → (o : Ordered reads writes limit asked listed s0 k0 s k input place rejected)
+    → (p : PullsOne reads limit s new (listed_kind listed) input input' o.bytes o.done (Ok (Some unit)))
+    → unit_block asked.form listed place (seen input'.cutter.held unit) ≡ Some block → is_rejected_unit listed (seen input'.cutter.held unit) ≡ told
+    → WritesOut writes k now block (Ok tt)
+    → Ordered reads writes limit asked listed s0 k0 new now input' (place + 1) (rejected + one_if told)
+ordered_more {S} {K} reads writes limit asked listed s0 k0 s new k now input input' place rejected unit block told is o p made is_told written =
+    let u = seen input'.cutter.held unit in
+    let form = asked.form in
+    record {
+      bytes = p.behind;
+      done = o.done ++ u ∷ [];
+      cuts = p.hands.1.cuts;
+      place_is = sym (place-more form listed 1 o.done u ∙ ap (λ n. place_behind n (unit_block form listed n u)) (sym o.place_is) ∙ ap (place_behind place) made);
+      count = ap (λ n. n + one_if told) o.count ∙ sym (rejected-more listed o.done u ∙ ap (λ b. rejected_units listed o.done + one_if b) is_told);
+      room = (let r = o.room in let f = p.hands.1.fewer in omega arith);
+      fewer = (let small : one_if told ≤ 1 = one_small told in let f = o.fewer in omega arith);
+      leads = λ status s' k' g.
+          let a = subst (λ (e : Ending). GoesOn reads writes limit asked e p.behind (text asked listed (o.done ++ u ∷ [])) new now status s' k') p.hands.0 g in
+          let b = subst (λ (xs : List ℕ). GoesOn reads writes limit asked p.ending p.behind xs new now status s' k') (text_more asked listed o.done u place block o.place_is made) a in
+          let front = front_more limit asked listed input' p.ending p.behind o.done u place block is p.hands.0 p.hands.1.cuts o.place_is made in
+          let c = block_before reads writes limit asked p.ending p.behind (text asked listed o.done) block new k now status s' k' front written b in
+          o.leads status s' k' (reads_before reads writes limit asked listed o.done is s input.ending o.bytes p.made new p.ending p.behind k status s' k' p.order c);
+    }
+
+-- or the write fails
+pub ordered_failed : {S K : Type 0} (reads : S → S → Option (List ℕ) → Type 0) (writes : K → K → Option (List ℕ) → Type 0) (limit : ℕ) (asked : Command) (listed : Listed) (s0 : S) (k0 : K) (s new : S) (k now : K) (input input' : Input) (place rejected : ℕ)
+    (unit : UnitPlace) (block : List ℕ) (fault : Fault) → listed_in asked.mode ≡ Some listed → (o : Ordered reads writes limit asked listed s0 k0 s k input place rejected)
+    → (p : PullsOne reads limit s new (listed_kind listed) input input' o.bytes o.done (Ok (Some unit)))
+    → unit_block asked.form listed place (seen input'.cutter.held unit) ≡ Some block → WritesOut writes k now block (Err fault)
+    → GoesOn reads writes limit asked Open [] [] s0 k0 4 new now
+ordered_failed reads writes limit asked listed s0 k0 s new k now input input' place rejected unit block fault is o p made written =
+    let u = seen input'.cutter.held unit in
+    let front = front_more limit asked listed input' p.ending p.behind o.done u place block is p.hands.0 p.hands.1.cuts o.place_is made in
+    let c = block_fails reads writes limit asked p.ending p.behind (text asked listed o.done) block new k now fault front written in
+    o.leads 4 new now (reads_before reads writes limit asked listed o.done is s input.ending o.bytes p.made new p.ending p.behind k 4 new now p.order c)
+
+-- no unit is left, and the reading has ended
+pub ordered_ended : {S K : Type 0} (reads : S → S → Option (List ℕ) → Type 0) (writes : K → K → Option (List ℕ) → Type 0) (limit : ℕ) (asked : Command) (listed : Listed) (s0 : S) (k0 : K) (s new : S) (k : K) (input input' : Input) (place rejected : ℕ)
+    → listed_in asked.mode ≡ Some listed → (o : Ordered reads writes limit asked listed s0 k0 s k input place rejected)
+    → (p : PullsOne reads limit s new (listed_kind listed) input input' o.bytes o.done (Ok None))
+    → GoesOn reads writes limit asked Open [] [] s0 k0 (written_status input'.ending rejected) new k
+unfolding rejects
+ordered_ended {S} {K} reads writes limit asked listed s0 k0 s new k input input' place rejected is o p =
+    let status = written_status input'.ending rejected in
+    let all : rejects asked (reported asked.mode p.ending p.behind) ≡ rejected = rejects_by_units asked asked.mode listed p.ending p.behind is ∙ ap (rejected_units listed) p.hands.2 ∙ sym o.count in
+    let same : status ≡ written_status p.ending (rejects asked (reported asked.mode p.ending p.behind)) = ap (λ (e : Ending). written_status e rejected) p.hands.0 ∙ ap (written_status p.ending) (sym all) in
+    let c : GoesOn reads writes limit asked p.ending p.behind (text asked listed o.done) new k status new k = record {
+      events = [];
+      went = (refl, refl);
+      follows = inl (p.hands.1, written_all asked listed p.ending p.behind o.done is p.hands.2, same);
+    } in
+    o.leads status new k (reads_before reads writes limit asked listed o.done is s input.ending o.bytes p.made new p.ending p.behind k status new k p.order c)
+
+-- memory ran out, when some first units were written
+short_of : {S K : Type 0} (reads : S → S → Option (List ℕ) → Type 0) (writes : K → K → Option (List ℕ) → Type 0) (limit : ℕ) (asked : Command) (listed : Listed) (new : S) (k : K) (ending : Ending) (bytes : List ℕ) (done : List UnitLines)
+    → listed_in asked.mode ≡ Some listed → Begins (listed_kind listed) ending bytes done → GoesOn reads writes limit asked ending bytes (text asked listed done) new k 6 new k
+short_of reads writes limit asked listed new k ending bytes done is b =
+    let first = unit_blocks asked.form listed 1 done in
+    let later = unit_blocks asked.form listed (place_after asked.form listed 1 done) b.0 in
+    let all : blocks asked (reported asked.mode ending bytes) ≡ first ++ later = blocks_begun asked listed ending bytes done b.0 is b.1 in
+    let front : take (length first) (blocks asked (reported asked.mode ending bytes)) ≡ first = ap (take (length first)) all ∙ take-append_seam first later in
+    record {
+      events = [];
+      went = (refl, refl);
+      follows = inr (refl, length first, ap concat (sym front));
+    }
+
+pub ordered_short : {S K : Type 0} (reads : S → S → Option (List ℕ) → Type 0) (writes : K → K → Option (List ℕ) → Type 0) (limit : ℕ) (asked : Command) (listed : Listed) (s0 : S) (k0 : K) (s new : S) (k : K) (input input' : Input) (place rejected : ℕ)
+    → listed_in asked.mode ≡ Some listed → (o : Ordered reads writes limit asked listed s0 k0 s k input place rejected) → (made : List (Option (List ℕ))) (ending : Ending) (behind : List ℕ)
+    → ReadsOn reads limit (listed_kind listed) o.done s input.ending o.bytes made new ending behind → Begins (listed_kind listed) ending behind o.done
+    → GoesOn reads writes limit asked Open [] [] s0 k0 6 new k
+ordered_short {S} {K} reads writes limit asked listed s0 k0 s new k input input' place rejected is o made ending behind order begun =
+    o.leads 6 new k (reads_before reads writes limit asked listed o.done is s input.ending o.bytes made new ending behind k 6 new k order (short_of reads writes limit asked listed new k ending behind o.done is begun))
+
+-- memory ran out for the block of a unit that was handed out
+pub ordered_short_block : {S K : Type 0} (reads : S → S → Option (List ℕ) → Type 0) (writes : K → K → Option (List ℕ) → Type 0) (limit : ℕ) (asked : Command) (listed : Listed) (s0 : S) (k0 : K) (s new : S) (k : K) (input input' : Input) (place rejected : ℕ)
+    (unit : UnitPlace) → listed_in asked.mode ≡ Some listed → (o : Ordered reads writes limit asked listed s0 k0 s k input place rejected)
+    → (p : PullsOne reads limit s new (listed_kind listed) input input' o.bytes o.done (Ok (Some unit)))
+    → GoesOn reads writes limit asked Open [] [] s0 k0 6 new k
+ordered_short_block {S} {K} reads writes limit asked listed s0 k0 s new k input input' place rejected unit is o p =
+    let u = seen input'.cutter.held unit in
+    let b : Begins (listed_kind listed) p.ending p.behind (o.done ++ u ∷ []) = subst (λ (e : Ending). Begins (listed_kind listed) e p.behind (o.done ++ u ∷ [])) p.hands.0 (begins_so_far limit (listed_kind listed) input' p.behind (o.done ++ u ∷ []) p.hands.1.cuts) in
+    ordered_short reads writes limit asked listed s0 k0 s new k input input' place rejected is o p.made p.ending p.behind p.order (begins_before (listed_kind listed) p.ending p.behind o.done u b)
+
+-- what is in order for the command that the words name is so for the words
+pub in_order_asked : {S K : Type 0} (reads : S → S → Option (List ℕ) → Type 0) (writes : K → K → Option (List ℕ) → Type 0) (limit : ℕ) (words : Option Command) (asked : Command) (status : ℕ) (s : S) (k : K) (s' : S) (k' : K)
+    → words ≡ Some asked → IsInOrder reads writes limit (Some asked) status s k s' k' → IsInOrder reads writes limit words status s k s' k'
+in_order_asked reads writes limit words asked status s k s' k' is o = rw is o
+
+-- a command that reads its input
+pub in_order_reading : {S K : Type 0} (reads : S → S → Option (List ℕ) → Type 0) (writes : K → K → Option (List ℕ) → Type 0) (limit : ℕ) (asked : Command) (status : ℕ) (s : S) (k : K) (s' : S) (k' : K)
+    → reads_input asked.mode ≡ true → GoesOn reads writes limit asked Open [] [] s k status s' k' → IsInOrder reads writes limit (Some asked) status s k s' k'
+in_order_reading reads writes limit asked status s k s' k' has g = rw has g
+
+-- one that reads nothing, whose report is one block
+pub in_order_made : {S K : Type 0} (reads : S → S → Option (List ℕ) → Type 0) (writes : K → K → Option (List ℕ) → Type 0) (limit : ℕ) (asked : Command) (outcome : Result ℕ WriteFault) (s : S) (k k' : K)
+    → reads_input asked.mode ≡ false → WritesMade writes k k' (report asked []) (rejects asked []) outcome → IsInOrder reads writes limit (Some asked) (told_status Whole outcome) s k s k'
+in_order_made reads writes limit asked (Ok rejected) s k k' none w =
+    rw none (block_before reads writes limit asked Whole [] [] (report asked []) s k k' (written_status Whole rejected) s k' ([], sym (append-nil (report asked []))) w.0
+    (record { events = []; went = (refl, refl); follows = inl ((λ e. absurd (cc)), refl, ap (written_status Whole) w.1) }))
+in_order_made reads writes limit asked (Err fault.Failed) s k k' none w =
+    rw none (block_fails reads writes limit asked Whole [] [] (report asked []) s k k' w.0 ([], sym (append-nil (report asked []))) w.1)
+in_order_made reads writes limit asked (Err fault.Memory) s k k' none w =
+    rw none (record { events = []; went = (refl, w); follows = inr (refl, 0, refl) })
+
+-- memory ran out before anything was done
+pub in_order_short : {S K : Type 0} (reads : S → S → Option (List ℕ) → Type 0) (writes : K → K → Option (List ℕ) → Type 0) (limit : ℕ) (words : Option Command) (s : S) (k : K)
+    → IsInOrder reads writes limit words 6 s k s k
+in_order_short reads writes limit None s k = ([], (refl, refl), inr (refl, refl))
+in_order_short reads writes limit (Some asked) s k = record { events = []; went = (refl, refl); follows = inr (refl, 0, refl) }
+
+-- one read after the other
+pub reads_all : {S : Type 0} (reads : S → S → Option (List ℕ) → Type 0) (limit : ℕ) (kind : CutKind) (done : List UnitLines) (s0 : S) (ending0 : Ending) (bytes0 : List ℕ) (first : List (Option (List ℕ))) (old : S) (ending : Ending) (bytes : List ℕ) (made : List (Option (List ℕ))) (new : S) (ending' : Ending) (bytes' : List ℕ)
+    → ReadsAll reads limit s0 ending0 bytes0 first old ending bytes → ReadsOn reads limit kind done old ending bytes made new ending' bytes' → ReadsAll reads limit s0 ending0 bytes0 (first ++ made) new ending' bytes'
+reads_all reads limit kind done s0 ending0 bytes0 [] old ending bytes [] new ending' bytes' f r = (r.0 ∙ f.0, r.1 ∙ f.1, r.2 ∙ f.2)
+reads_all {S} reads limit kind done s0 ending0 bytes0 [] old ending bytes (read ∷ later) new ending' bytes' f r =
+    let step = subst (λ (m : S). reads m r.0 read) f.0 r.4 in
+    let comes = subst (λ (bs : List ℕ). Comes limit bs read r.1) f.2 r.5 in
+    let here : with_read limit bytes read ≡ with_read limit bytes0 read = ap (λ bs. with_read limit bs read) f.2 in
+    (r.0, r.1, sym f.1 ∙ r.2, step, comes, reads_all reads limit kind done r.0 r.1 (with_read limit bytes0 read) [] r.0 r.1 (with_read limit bytes read) later new ending' bytes' (refl, refl, here) r.6)
+reads_all reads limit kind done s0 ending0 bytes0 (read ∷ first) old ending bytes made new ending' bytes' f r =
+    (f.0, f.1, f.2, f.3, f.4, reads_all reads limit kind done f.0 f.1 (with_read limit bytes0 read) first old ending bytes made new ending' bytes' f.5 r)
+
+-- what is read while nothing is due goes before
+all_before : {S K : Type 0} (reads : S → S → Option (List ℕ) → Type 0) (writes : K → K → Option (List ℕ) → Type 0) (limit : ℕ) (asked : Command) (is : asked.mode ≡ mode.Totals)
+    (s : S) (ending : Ending) (bytes : List ℕ) (made : List (Option (List ℕ))) (mid : S) (ending' : Ending) (bytes' : List ℕ) (k : K) (status : ℕ) (s' : S) (k' : K)
+    → ReadsAll reads limit s ending bytes made mid ending' bytes' → GoesOn reads writes limit asked ending' bytes' [] mid k status s' k'
+    → GoesOn reads writes limit asked ending bytes [] s k status s' k'
+all_before {S} {K} reads writes limit asked is s ending bytes [] mid ending' bytes' k status s' k' r g =
+    let a = subst (λ (m : S). GoesOn reads writes limit asked ending' bytes' [] m k status s' k') r.0 g in
+    let b = subst (λ (e : Ending). GoesOn reads writes limit asked e bytes' [] s k status s' k') r.1 a in
+    subst (λ (bs : List ℕ). GoesOn reads writes limit asked ending bs [] s k status s' k') r.2 b
+all_before {S} {K} reads writes limit asked is s ending bytes (read ∷ later) mid ending' bytes' k status s' k' r g =
+    let rest = all_before reads writes limit asked is r.0 r.1 (with_read limit bytes read) later mid ending' bytes' k status s' k' r.5 g in
+    let nothing : [] ≡ due asked Open bytes = rw is refl in
+    record {
+      events = Reading read ∷ rest.events;
+      went = (r.0, r.3, rest.went);
+      follows = (r.2, nothing, r.1, r.4, rest.follows);
+    }
+
+due_ended : (asked : Command) (ending : Ending) (bytes : List ℕ) → (ending ≡ Open → ⊥) → due asked ending bytes ≡ report asked (reported asked.mode ending bytes)
+due_ended asked Whole bytes e = refl
+due_ended asked Failed bytes e = refl
+due_ended asked TooLong bytes e = refl
+due_ended asked Open bytes e = absurd (e refl)
+
+totals_due : (asked : Command) (ending : Ending) (bytes block : List ℕ) → asked.mode ≡ mode.Totals → (ending ≡ Open → ⊥) → block ≡ totals_block asked.form (filter_map verdict_of (units_in Hands (is_whole ending) 1 bytes)) → block ≡ due asked ending bytes
+unfolding report
+totals_due asked ending bytes block is ended made =
+    made ∙ sym (append-nil (totals_block asked.form (filter_map verdict_of (units_in Hands (is_whole ending) 1 bytes))))
+    ∙ sym (due_ended asked ending bytes ended ∙ ap concat (one_block asked ending bytes (units_in Hands (is_whole ending) 1 bytes) is refl))
+
+-- the totals are written
+pub totals_ordered : {S K Sums : Type 0} (reads : S → S → Option (List ℕ) → Type 0) (writes : K → K → Option (List ℕ) → Type 0) (sums_of : List HandAudit → Sums) (limit : ℕ) (asked : Command) (s new : S) (k now : K) (ending : Ending) (sums : Sums) (rejected : ℕ) (block : List ℕ)
+    → asked.mode ≡ mode.Totals → (o : SumsInOrder reads sums_of limit s new ending sums (Ok tt))
+    → block ≡ totals_block asked.form (filter_map verdict_of (units_in Hands (is_whole o.behind) 1 o.bytes)) → rejected ≡ count_by (λ hand. not (is_accepted hand)) (filter_map verdict_of (units_in Hands (is_whole o.behind) 1 o.bytes))
+    → WritesOut writes k now block (Ok tt) → GoesOn reads writes limit asked Open [] [] s k (written_status ending rejected) new now
+unfolding rejects
+totals_ordered {S} {K} {Sums} reads writes sums_of limit asked s new k now ending sums rejected block is o made count written =
+    let status = written_status ending rejected in
+    let due_is = totals_due asked o.behind o.bytes block is o.summed.1 made in
+    let all : rejects asked (reported asked.mode o.behind o.bytes) ≡ rejected = its_rejects asked o.behind o.bytes (units_in Hands (is_whole o.behind) 1 o.bytes) is refl ∙ sym count in
+    let same : status ≡ written_status o.behind (rejects asked (reported asked.mode o.behind o.bytes)) = ap (λ (e : Ending). written_status e rejected) o.summed.0 ∙ ap (written_status o.behind) (sym all) in
+    all_before reads writes limit asked is s Open [] o.made new o.behind o.bytes k status new now o.order
+    (block_before reads writes limit asked o.behind o.bytes [] block new k now status new now ([], sym due_is ∙ sym (append-nil block)) written
+    (record { events = []; went = (refl, refl); follows = inl (o.summed.1, due_is, same) }))
+
+-- or their write fails
+pub totals_stuck : {S K Sums : Type 0} (reads : S → S → Option (List ℕ) → Type 0) (writes : K → K → Option (List ℕ) → Type 0) (sums_of : List HandAudit → Sums) (limit : ℕ) (asked : Command) (s new : S) (k now : K) (ending : Ending) (sums : Sums) (block : List ℕ) (fault : Fault)
+    → asked.mode ≡ mode.Totals → (o : SumsInOrder reads sums_of limit s new ending sums (Ok tt))
+    → block ≡ totals_block asked.form (filter_map verdict_of (units_in Hands (is_whole o.behind) 1 o.bytes))
+    → WritesOut writes k now block (Err fault) → GoesOn reads writes limit asked Open [] [] s k 4 new now
+totals_stuck reads writes sums_of limit asked s new k now ending sums block fault is o made written =
+    let due_is = totals_due asked o.behind o.bytes block is o.summed.1 made in
+    all_before reads writes limit asked is s Open [] o.made new o.behind o.bytes k 4 new now o.order
+    (block_fails reads writes limit asked o.behind o.bytes [] block new k now fault ([], sym due_is ∙ sym (append-nil block)) written)
+
+-- or memory runs out before
+pub totals_unmade : {S K Sums : Type 0} (reads : S → S → Option (List ℕ) → Type 0) (writes : K → K → Option (List ℕ) → Type 0) (sums_of : List HandAudit → Sums) (limit : ℕ) (asked : Command) (s new : S) (k : K) (ending : Ending) (sums : Sums) (result : Result (Unit {0}) Memory)
+    → asked.mode ≡ mode.Totals → SumsInOrder reads sums_of limit s new ending sums result → GoesOn reads writes limit asked Open [] [] s k 6 new k
+totals_unmade {S} {K} {Sums} reads writes sums_of limit asked s new k ending sums result is o =
+    all_before reads writes limit asked is s Open [] o.made new o.behind o.bytes k 6 new k o.order (record { events = []; went = (refl, refl); follows = inr (refl, 0, refl) })
