@@ -123,6 +123,43 @@ fn dead_and_folded_chips_are_in_the_pots(rt: HostRuntime) {
     assert!(rt; uncalled(&FOLDED) == Some((2, 100)));
 }
 
+/// What a lone player put in, and one who put in dead chips alone, by himself and beside another.
+const LONE: [Paid; 1] = [Paid {
+    seat: 4,
+    live: 100,
+    dead: 10,
+    contender: true,
+}];
+
+const LONE_WITHOUT_LIVE: [Paid; 1] = [Paid {
+    seat: 4,
+    live: 0,
+    dead: 10,
+    contender: true,
+}];
+
+const TWO_WITHOUT_LIVE: [Paid; 2] = [
+    Paid {
+        seat: 4,
+        live: 0,
+        dead: 10,
+        contender: true,
+    },
+    Paid {
+        seat: 5,
+        live: 0,
+        dead: 10,
+        contender: true,
+    },
+];
+
+#[test]
+fn all_of_a_lone_player_is_uncalled(rt: HostRuntime) {
+    assert!(rt; uncalled(&LONE) == Some((4, 100)));
+    assert!(rt; uncalled(&LONE_WITHOUT_LIVE) == Some((4, 0)));
+    assert!(rt; uncalled(&TWO_WITHOUT_LIVE).is_none());
+}
+
 /// Whether so many units are shared so.
 fn has_shares(
     alloc: Global,

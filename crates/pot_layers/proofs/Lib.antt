@@ -1,4 +1,5 @@
 pub mod CallerLemmas
+pub mod RivalSums
 pub mod LevelWalk
 pub mod WinnerWalk
 pub mod WholeSides

@@ -2,7 +2,7 @@
 use Rattle.std.proofs.Common.{◌≡◌, ℕ, zero, suc, ◌+◌, ◌-◌, ◌≤◌, List, refl, sym, ap, Bool, true, false, ◌==◌, ◌&&◌, ◌||◌, arith, subst}
 use Rattle.std.specs.Prelude.{Option, Some, None, nat_lt, if◌then◌else◌}
 use Rattle.pot_layers.specs.declared.paid.Paid.{Paid}
-use Rattle.pot_layers.specs.Uncalled.{rival, alone_in, uncalled}
+use Rattle.pot_layers.specs.Uncalled.{is_reached, rival, alone_in, uncalled}
 use Rattle.betting_replay.specs.Accounts.{paid_by}
 use Rattle.betting_replay.specs.Returns.{live_by, hand_sums, street_sums, is_return, return_fits}
 use Rattle.betting_replay.specs.Seats.{places_from}
@@ -11,15 +11,15 @@ use Rattle.betting_replay.specs.Table.{ReplayState, chips_at}
 -- where each place has its own number as its seat, no more is uncalled of a seat than it has put in
 alone_within : (f : ℕ → Paid) → ((p : ℕ) → (f p).seat ≡ p) → (all : List Paid) (a n : ℕ) (back : ℕ × ℕ) → alone_in all (places_from f a n) ≡ Some back → back.1 ≤ (f back.0).live
 alone_within f own all a zero back h = cc
-alone_within f own all a (suc n) back h = by (nat_lt (rival all (f a).seat) (f a).live) h (alone_within f own all (a + 1) n back)
+alone_within f own all a (suc n) back h = by (is_reached all (f a).seat (f a).live) h (alone_within f own all (a + 1) n back)
   where
-    by : (b : Bool) → (if b then Some ((f a).seat, (f a).live - rival all (f a).seat) else alone_in all (places_from f (a + 1) n)) ≡ Some back → (alone_in all (places_from f (a + 1) n) ≡ Some back → back.1 ≤ (f back.0).live) → back.1 ≤ (f back.0).live
-    by true h go =
+    by : (b : Bool) → (if b then alone_in all (places_from f (a + 1) n) else Some ((f a).seat, (f a).live - rival all (f a).seat)) ≡ Some back → (alone_in all (places_from f (a + 1) n) ≡ Some back → back.1 ≤ (f back.0).live) → back.1 ≤ (f back.0).live
+    by false h go =
         let is : ((f a).seat, (f a).live - rival all (f a).seat) ≡ back = cc in
         let P : ℕ × ℕ → Type 0 = λ b. b.1 ≤ (f b.0).live in
         let same : (f (f a).seat).live ≡ (f a).live = ap (λ q. (f q).live) (own a) in
         subst P is (omega (arith, same))
-    by false h go = go h
+    by true h go = go h
 
 equal : (a b : ℕ) → (a == b) ≡ true → a ≡ b
 equal a b e = grind arith
