@@ -31,13 +31,6 @@ pub cleared_all : map cleared all_pairs ≡ all_pairs
 unfolding all_pairs
 cleared_all = cleared_flat deck
 
-cleared_weighed : (entries : List Entry) (ps : List Pair) → map cleared (map (weighed entries) ps) ≡ map cleared ps
-cleared_weighed entries [] = refl
-cleared_weighed entries (p ∷ ps) = ap (λ qs. cleared p ∷ qs) (cleared_weighed entries ps)
-
-pub weighed_kept : (entries : List Entry) (pairs : List Pair) → pairs ≡ map (weighed entries) all_pairs → map cleared pairs ≡ all_pairs
-weighed_kept entries pairs is = ap (map cleared) is ∙ cleared_weighed entries all_pairs ∙ cleared_all
-
 -- no item gives no weight
 unweighed : (ps : List Pair) → map (weighed []) ps ≡ map cleared ps
 unweighed [] = refl
@@ -107,9 +100,6 @@ weighing_none word before pairs left all is first = record {
   entries = ap (filter_map entry_of) (sym first);
   items = ap (list_all (λ text. is_some (entry_of text))) (sym first);
 }
-
-pub weighing_kept : (word : List ℕ) (pairs : List Pair) (left : List (List ℕ)) → Weighing word pairs left → map cleared pairs ≡ all_pairs
-weighing_kept word pairs left w = weighed_kept w.done pairs w.so_far
 
 -- a text that is no item
 pub weighing_bad : (word : List ℕ) (pairs : List Pair) (left rest : List (List ℕ)) (text : List ℕ) → Weighing word pairs left → left ≡ text ∷ rest → entry_of text ≡ None → false ≡ is_range word

@@ -1,4 +1,3 @@
-pub mod ChangedFront
 pub mod RankLetters
 pub mod FirstComma
 pub mod TwoCards
@@ -8,6 +7,7 @@ pub mod ApartChoices
 pub mod ItemWeights
 pub mod RangeWords
 pub mod PairOrder
+pub mod WeightTables
 pub mod SetsOfCards
 pub mod SoundLines
 pub mod LineTests

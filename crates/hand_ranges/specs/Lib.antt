@@ -5,6 +5,7 @@ pub use Rattle.spot_text.specs.Parts
 pub mod Texts
 pub mod Items
 pub mod Hands
+pub mod Weights
 pub mod ItemHands
 pub mod RangeSpot
 pub mod Sound

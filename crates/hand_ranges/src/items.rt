@@ -3,6 +3,7 @@
 ghost use Rattle.std.specs.Prelude.{◌≡◌, ◌<◌, ◌≤◌, IfSome, position};
 ghost use Rattle.hand_ranges.specs.Items.{rank_named, names, suits_fit, ranks_item, plain_item, suits_named, suited_item, cards_item, item_of, weight_named, is_colon, entry_of};
 ghost use Rattle.hand_ranges.specs.Hands.{amount};
+ghost use Rattle.hand_ranges.specs.Weights.{has_low, rank_beside};
 
 use card_sets::Card;
 use line_text::{digit_count, number_of};
@@ -211,6 +212,37 @@ impl Item {
     }
 }
 
+impl Item {
+    /// Whether a card is the lower card of a hand that it may name.
+    fn has_low(&self, low: Card) -> bool
+        ensures { result ≡ has_low self.now low }
+    {
+        match *self {
+            Item::Pairs { from, to } | Item::Ranks { from, to, .. } => {
+                from <= low.rank() && low.rank() <= to
+            }
+            Item::Cards { first, second } => low == first || low == second,
+        }
+    }
+
+    /// The rank of the higher card of each hand that it names with a lower card.
+    fn rank_beside(&self, low: Card) -> u8
+        ensures { result ≡ rank_beside self.now low }
+    {
+        match *self {
+            Item::Pairs { .. } => low.rank(),
+            Item::Ranks { top, .. } => top,
+            Item::Cards { first, second } => {
+                if low == first {
+                    second.rank()
+                } else {
+                    first.rank()
+                }
+            }
+        }
+    }
+}
+
 impl Suits {
     /// Whether two cards are of such suits.
     fn fit(self, low: Card, high: Card) -> bool
@@ -225,6 +257,20 @@ impl Suits {
 }
 
 impl Entry {
+    /// Whether a card is the lower card of a hand to which it may add.
+    pub(crate) fn has_low(&self, low: Card) -> bool
+        ensures { result ≡ has_low self.now.item low }
+    {
+        self.item.has_low(low)
+    }
+
+    /// The rank of the higher card of each hand with a lower card to which it adds.
+    pub(crate) fn rank_beside(&self, low: Card) -> u8
+        ensures { result ≡ rank_beside self.now.item low }
+    {
+        self.item.rank_beside(low)
+    }
+
     /// How much it adds to the weight of a hand.
     pub(crate) fn amount(&self, low: Card, high: Card) -> u8
         ensures value { result ≡ amount self.now low high }

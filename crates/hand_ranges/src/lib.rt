@@ -14,9 +14,8 @@
 //! Behind an item may stand a colon and its weight, 1 to 100, and else it is 1. The weight of a hand
 //! is what its items add up to.
 //!
-//! 1. *Reading* (`read_ranges`). All 1,326 hands are listed once, and each item of a word adds its weight to
-//!    those that it names. The hands with a weight that meet neither the board nor the dead cards are the
-//!    range.
+//! 1. *Reading* (`read_ranges`). A table has the weight of each hand, and each item of a word adds its weight to
+//!    the hands that it names. Those with a weight that meet neither the board nor the dead cards are the range.
 //! 2. *Limit* (`count_ranges`). The sizes of the ranges and the runouts of a choice are multiplied, and more
 //!    than `RUNOUT_MAX` of them aren't counted.
 //! 3. *Boards* (`boards`, `beside`). From the flop on each board that can come is taken in turn, and each hand
@@ -53,6 +52,7 @@ mod tally;
 mod texts;
 mod versus;
 mod walks;
+mod weights;
 mod winners;
 
 pub use blocks::write_ranges;

@@ -4,9 +4,9 @@ ghost use Rattle.std.specs.Prelude.{◌≡◌, ◌≤◌, Ok, MatchResult};
 ghost use Rattle.hand_ranges.specs.RangeSpot.{ranges_of, ranges_in, is_dealt_out, IsFaultOf};
 
 use crate::RangeFault;
-use crate::pairs::all_pairs;
 use crate::spot::RangeSpot;
 use crate::walks::{are_ranges, behind_ranges, ranges_of};
+use crate::weights::CELLS;
 use card_sets::Game;
 use spot_text::{Words, board_cards, board_fits, dead_cards, in_form, player_count, repeated_card};
 use std::alloc::Global;
@@ -42,8 +42,8 @@ pub fn read_ranges(alloc: Global, line: &[u8]) -> Result<RangeSpot, RangeFault>
     if !in_form(table) {
         return Err(RangeFault::BadCard);
     }
-    let mut pairs = all_pairs(alloc)?;
-    if !are_ranges(&mut pairs, words) {
+    let mut cells = [0; CELLS];
+    if !are_ranges(&mut cells, words) {
         return Err(RangeFault::BadRange);
     }
     if let Some(card) = repeated_card(table) {
@@ -60,7 +60,7 @@ pub fn read_ranges(alloc: Global, line: &[u8]) -> Result<RangeSpot, RangeFault>
     if is_dealt_out(board.count(), dead.count(), count) {
         return Err(RangeFault::DeckShort);
     }
-    let ranges = ranges_of(alloc, &mut pairs, words, board, dead)?;
+    let ranges = ranges_of(alloc, &mut cells, words, board, dead)?;
     Ok(RangeSpot {
         board,
         dead,

@@ -1,14 +1,14 @@
 //! The words of a line with ranges, part by part.
 
-ghost use Rattle.std.specs.Prelude.{◌≡◌, [], ◌∷◌, map, true, IfSome, IfOk, IsTrue, is_some};
+ghost use Rattle.std.specs.Prelude.{◌≡◌, ◌*◌, [], ◌∷◌, map, length, true, IfSome, IfOk, IsTrue, is_some};
 ghost use Rattle.std.specs.List.{list_all};
 ghost use Rattle.spot_text.specs.Words.{words_left};
 ghost use Rattle.spot_text.specs.Parts.{hand_words, board_words, dead_words};
-ghost use Rattle.hand_ranges.specs.Hands.{all_pairs, cleared, is_range, hands_of};
+ghost use Rattle.hand_ranges.specs.Hands.{is_range, hands_of};
 ghost use Rattle.hand_ranges.specs.RangeSpot.{is_one_word, range_words};
 
-use crate::pairs::{Pair, range_of, weigh};
 use crate::spot::Range;
+use crate::weights::{range_of, weigh};
 use card_sets::CardSet;
 use spot_text::{Words, ends_hands, is_dash};
 use std::alloc::{AllocError, Global};
@@ -37,32 +37,32 @@ pub(crate) fn behind_ranges(words: Words) -> Option<Words>
     if full { Some(table) } else { None }
 }
 
-/// Whether the words of the ranges are ranges.
-pub(crate) fn are_ranges(pairs: &mut [Pair], words: Words) -> bool
-    requires all { map cleared pairs.old ≡ all_pairs }
-    ensures kept { map cleared pairs.new ≡ all_pairs }
+/// Whether the words of the ranges are ranges. Each is weighed in the table that is lent.
+pub(crate) fn are_ranges(cells: &mut [u8], words: Words) -> bool
+    requires room { length cells.old ≡ 52 * 52 }
+    ensures room { length cells.new ≡ 52 * 52 }
     ensures value { result ≡ list_all is_range (range_words (words_left words.entry)) }
 {
     for word in words {
         if ends_hands(word) {
             return true;
         }
-        if !is_dash(word) && !weigh(pairs, word) {
+        if !is_dash(word) && !weigh(cells, word) {
             return false;
         }
     }
     true
 }
 
-/// The ranges of the players.
+/// The ranges of the players, each weighed in the table that is lent.
 pub(crate) fn ranges_of(
     alloc: Global,
-    pairs: &mut [Pair],
+    cells: &mut [u8],
     words: Words,
     board: CardSet,
     dead: CardSet,
 ) -> Result<Vec<Range>, AllocError>
-    requires all { map cleared pairs.old ≡ all_pairs }
+    requires room { length cells.old ≡ 52 * 52 }
     requires ranges { IsTrue (list_all is_range (range_words (words_left words))) }
     ensures { IfOk result (λ ranges. ranges.items
         ≡ map (hands_of board dead) (range_words (words_left words.entry))) }
@@ -72,8 +72,8 @@ pub(crate) fn ranges_of(
         if ends_hands(word) {
             return Ok(ranges);
         }
-        if !is_dash(word) && weigh(pairs, word) {
-            ranges.push(range_of(alloc, pairs, board, dead)?)?;
+        if !is_dash(word) && weigh(cells, word) {
+            ranges.push(range_of(alloc, cells, board, dead)?)?;
         }
     }
     Ok(ranges)

@@ -1,17 +1,9 @@
-use Rattle.std.proofs.Common.{◌≡◌, sym, ap, ◌∙◌, length, map, true, false, rules}
+use Rattle.std.proofs.Common.{◌≡◌, sym, ap, ◌∙◌, length, true, false, rules}
 use Rattle.std.proofs.lemmas.Result.{err_from_is_err_and}
 use Rattle.spot_text.specs.Words.{words_left}
-use Rattle.hand_ranges.specs.Hands.{cleared}
 use Rattle.hand_ranges.specs.RangeSpot.{is_dealt_out}
-use Rattle.hand_ranges.proofs.ItemWeights.{cleared_all}
 use Rattle.hand_ranges.proofs.LineTests.{Passed, Sized, passed_twice, passed_board, passed_count, sized_short, sized_ok}
 use Rattle.hand_ranges.proofs.read.read_ranges.Goals as goal
-
-pub returns-in_err-pairs : goal.returns-in_err-pairs
-returns-in_err-pairs c = let p = err_from_is_err_and c.from_residual.result c.from_residual.ensures.1 in rw (p.1, p.2) tt
-
-pub are_ranges-requires : goal.are_ranges-requires
-are_ranges-requires c = record { all = ap (map cleared) (c.deref_mut.ensures.value ∙ c.in_ok-pairs.ensures) ∙ cleared_all }
 
 pub returns-in-Some-repeated_card : goal.returns-in-Some-repeated_card
 returns-in-Some-repeated_card c =
@@ -81,7 +73,7 @@ returns-then-is_dealt_out c =
     sized_short _ _ _ _ _ _ _ sized short
 
 pub returns-in_err-ranges : goal.returns-in_err-ranges
-returns-in_err-ranges c = let p = err_from_is_err_and c.from_residual-in_err-ranges.result c.from_residual-in_err-ranges.ensures.1 in rw (p.1, p.2) tt
+returns-in_err-ranges c = let p = err_from_is_err_and c.from_residual.result c.from_residual.ensures.1 in rw (p.1, p.2) tt
 
 pub returns : goal.returns
 returns c =

@@ -1,8 +1,8 @@
-use Rattle.std.proofs.Common.{◌≡◌, sym, ap, ◌∙◌, true, false, ◌&&◌, map, rules}
+use Rattle.std.proofs.Common.{◌≡◌, sym, ap, ◌∙◌, true, false, ◌&&◌, length, rules}
 use Rattle.std.specs.List.{list_all}
 use Rattle.spot_text.specs.Parts.{is_dash}
 use Rattle.spot_text.specs.Words.{words_left}
-use Rattle.hand_ranges.specs.Hands.{cleared, is_range}
+use Rattle.hand_ranges.specs.Hands.{is_range}
 use Rattle.hand_ranges.specs.RangeSpot.{range_words}
 use Rattle.hand_ranges.proofs.RangeWords.{ranges_end, ranges_all, ranges_dash, ranges_word}
 use Rattle.hand_ranges.proofs.walks.are_ranges.Goals as goal
@@ -27,7 +27,7 @@ loop-word-preserved c = elim c.else-not-is_dash.branch [
       record {
         more = tt;
         ends = tt;
-        kept = ap (map cleared) w.pairs-is ∙ w.weigh.ensures.kept;
+        room = ap length w.cells-is ∙ w.weigh.ensures.room;
         ranges = sym (ap (λ b. b && list_all is_range (range_words (words_left c.next.new.self))) good)
             ∙ sym (ap (list_all is_range) (ranges_word _ _ _ c.in-Some.ensures.steps (sym c.ends_hands.ensures ∙ c.if-ends_hands.false) dash)) ∙ c.loop-word.invariant.ranges;
       }
@@ -36,7 +36,7 @@ loop-word-preserved c = elim c.else-not-is_dash.branch [
       record {
         more = tt;
         ends = tt;
-        kept = ap (map cleared) w.pairs-is ∙ c.loop-word.invariant.kept;
+        room = ap length w.cells-is ∙ c.loop-word.invariant.room;
         ranges = sym (ap (list_all is_range) (ranges_dash _ _ _ c.in-Some.ensures.steps (sym c.ends_hands.ensures ∙ c.if-ends_hands.false) dash)) ∙ c.loop-word.invariant.ranges;
       }
 ]

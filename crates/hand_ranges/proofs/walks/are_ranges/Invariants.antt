@@ -1,7 +1,7 @@
-use Rattle.std.specs.Prelude.{◌≡◌, map}
+use Rattle.std.specs.Prelude.{◌≡◌, ◌*◌, length}
 use Rattle.std.specs.List.{list_all}
 use Rattle.spot_text.specs.Words.{words_left}
-use Rattle.hand_ranges.specs.Hands.{all_pairs, cleared, is_range}
+use Rattle.hand_ranges.specs.Hands.{is_range}
 use Rattle.hand_ranges.specs.RangeSpot.{range_words}
 use Rattle.hand_ranges.proofs.walks.are_ranges.Given as goal
 
@@ -9,6 +9,6 @@ abbrev pub invariant-loop-word : goal.invariant-loop-word
 invariant-loop-word l = record {
   more : (goal.iterator-loop-word).can_next l.word-iterator;
   ends : (goal.iterator-loop-word).is_finite l.word-iterator;
-  kept : map cleared l.pairs ≡ all_pairs;
+  room : length l.cells ≡ 52 * 52;
   ranges : list_all is_range (range_words (words_left l.word-iterator)) ≡ list_all is_range (range_words (words_left l.fn.words));
 }

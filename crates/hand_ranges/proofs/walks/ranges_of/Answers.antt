@@ -1,9 +1,9 @@
-use Rattle.std.proofs.Common.{◌≡◌, sym, ap, ◌∙◌, true, false, [], ◌∷◌, ◌++◌, map, append_assoc, append-nil, rules}
+use Rattle.std.proofs.Common.{◌≡◌, sym, ap, ◌∙◌, true, false, [], ◌∷◌, ◌++◌, length, map, append_assoc, append-nil, rules}
 use Rattle.std.specs.List.{list_all, filter_map}
 use Rattle.card_sets.proofs.CallerLemmas.{and_first, and_second}
 use Rattle.spot_text.specs.Parts.{is_dash}
 use Rattle.spot_text.specs.Words.{words_left}
-use Rattle.hand_ranges.specs.Hands.{cleared, is_range, hand_of, hands_of}
+use Rattle.hand_ranges.specs.Hands.{is_range, hand_of, hands_of}
 use Rattle.hand_ranges.specs.RangeSpot.{range_words}
 use Rattle.hand_ranges.proofs.RangeWords.{ranges_end, ranges_all, ranges_dash, ranges_word}
 use Rattle.hand_ranges.proofs.walks.ranges_of.Goals as goal
@@ -25,7 +25,7 @@ loop-word-preserved-then-weigh c =
     record {
       more = tt;
       ends = tt;
-      kept = c.weigh.ensures.kept;
+      room = c.weigh.ensures.room;
       all = and_second (is_range word) (list_all is_range rest) (sym (ap (list_all is_range) step) ∙ c.loop-word.invariant.all);
       made = ap (λ l. l ++ map hands rest) c.in_ok-push.ensures.items ∙ append_assoc c.loop-word.ranges.items (c.in_ok-range_of.field-0 ∷ []) (map hands rest)
           ∙ ap (λ h. c.loop-word.ranges.items ++ h ∷ map hands rest) here ∙ sym (ap (λ ws. c.loop-word.ranges.items ++ map hands ws) step) ∙ c.loop-word.invariant.made;
@@ -49,7 +49,7 @@ loop-word-preserved c =
           record {
             more = tt;
             ends = tt;
-            kept = ap (map cleared) w.pairs-is ∙ c.loop-word.invariant.kept;
+            room = ap length w.cells-is ∙ c.loop-word.invariant.room;
             all = sym (ap (list_all is_range) step) ∙ c.loop-word.invariant.all;
             made = sym (ap (λ ws. c.loop-word.ranges.items ++ map hands ws) step) ∙ c.loop-word.invariant.made;
           }

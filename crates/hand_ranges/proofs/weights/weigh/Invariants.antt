@@ -1,10 +1,12 @@
 use Rattle.hand_ranges.specs.Texts.{texts_left}
+use Rattle.hand_ranges.specs.Weights.{pairs_in, IsTable}
 use Rattle.hand_ranges.proofs.ItemWeights.{Weighing}
-use Rattle.hand_ranges.proofs.pairs.weigh.Given as goal
+use Rattle.hand_ranges.proofs.weights.weigh.Given as goal
 
 abbrev pub invariant-loop-text : goal.invariant-loop-text
 invariant-loop-text l = record {
   more : (goal.iterator-loop-text).can_next l.text-iterator;
   ends : (goal.iterator-loop-text).is_finite l.text-iterator;
-  state : Weighing l.fn.word l.pairs (texts_left l.text-iterator);
+  table : IsTable l.cells;
+  state : Weighing l.fn.word (pairs_in l.cells) (texts_left l.text-iterator);
 }
