@@ -8,6 +8,7 @@ pub mod EquityFacts
 pub mod SumFacts
 pub mod PlayerFacts
 pub mod NameFacts
+pub mod IndexFacts
 pub mod LineupFacts
 pub mod MadeFacts
 pub mod RunFacts

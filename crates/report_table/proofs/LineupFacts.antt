@@ -20,7 +20,7 @@ use Rattle.report_table.specs.Totals.{Player, no_sums, playing, same_player, sea
 use Rattle.report_table.proofs.NameFacts.{names_congr, same_name}
 use Rattle.report_table.specs.TotalsSeen.{AllAreOfHands, AreOfHands, first_at, has_name, named_player, player_at, player_of, plus, with_given, with_more, with_player, with_players}
 use Rattle.report_table.specs.declared.player_sums.PlayerSums.{PlayerSums}
-use Rattle.report_table.specs.declared.players.PlayerKey.{PlayerKey}
+use Rattle.report_table.specs.declared.player_rows.PlayerKey.{PlayerKey}
 
 -- one element more
 pub taken : {A : Type 0} (xs : List A) (i : ℕ) (x : A) → slice_get xs i ≡ Some x → take (suc i) xs ≡ take i xs ++ x ∷ []

@@ -21,22 +21,10 @@ use Rattle.hand_audit.specs.declared.settlement.Settlement.{Settlement}
 use Rattle.history_text.specs.Names.{seat_named}
 use Rattle.report_table.specs.Hands.{Seated}
 use Rattle.report_table.specs.Totals.{Player, RunTotals, each_once, is_accepted, no_sums, players_in, playing, same_player, seat_sums, seated_sums, sums_in, sums_over, totals_of}
-use Rattle.report_table.proofs.NameFacts.{names_congr}
+use Rattle.report_table.proofs.NameFacts.{same_congr, same_symm}
 use Rattle.report_table.specs.TotalsSeen.{named_player, plus, with_given, with_player, with_players}
 use Rattle.report_table.specs.declared.player_sums.PlayerSums.{PlayerSums}
 use Rattle.report_table.proofs.LineupFacts.{given_none}
-
-beq_symm : (a b : Bool) → beq a b ≡ beq b a
-beq_symm true true = refl
-beq_symm true false = refl
-beq_symm false true = refl
-beq_symm false false = refl
-
-same_symm : (a b : Player) → same_player a b ≡ same_player b a
-same_symm a b = λ i. beq_symm a.hundredths b.hundredths i && nat_list_eq_equiv.symm a.name b.name i
-
-same_congr : (a b c : Player) → same_player a b ≡ true → same_player a c ≡ same_player b c
-same_congr a b c = names_congr a.hundredths b.hundredths c.hundredths a.name b.name c.name
 
 -- a player stands among some exactly where he stands among them once each
 any_once : (player : Player) (players : List Player) → list_any (same_player player) (each_once players) ≡ list_any (same_player player) players

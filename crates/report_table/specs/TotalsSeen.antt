@@ -1,22 +1,41 @@
 -- How clauses see the totals that the code keeps, how a hand changes them, and what keeps their sums small.
-use Rattle.std.specs.Prelude.{ℕ, ◌+◌, ◌*◌, ◌^◌, ◌≤◌, ◌==◌, Bool, false, if◌then◌else◌, List, [], ◌∷◌, ◌++◌, map, take, Option, None, Some, is_none, option_and_then, slice_get}
+use Rattle.std.specs.Prelude.{ℕ, ◌≡◌, suc, ◌+◌, ◌*◌, ◌^◌, ◌≤◌, ◌==◌, Bool, false, if◌then◌else◌, List, [], ◌∷◌, ◌++◌, map, take, Option, None, Some, is_none, option_and_then, option_map, slice_get}
+use Rattle.std.specs.BTreeMap.{BTreeMap, get}
 use Rattle.std.specs.Int.{bit_at}
 use Rattle.std.specs.List.{AllByRecursion, list_any}
 use Rattle.std.specs.Option.{option_map_or}
 use Rattle.std.specs.Str.{bytes_eq}
+use Rattle.std.specs.declared.cmp.Ordering.{Ordering}
 use Rattle.history_text.specs.Names.{seat_named}
 use Rattle.report_table.specs.Hands.{Seated}
 use Rattle.report_table.specs.Totals.{Player, no_sums, playing, same_player}
 use Rattle.report_table.specs.declared.player_sums.PlayerSums.{PlayerSums}
-use Rattle.report_table.specs.declared.players.PlayerKey.{PlayerKey}
+use Rattle.report_table.specs.declared.player_rows.PlayerKey.{PlayerKey}
+use Rattle.report_table.specs.declared.player_rows.PlayerRow.{PlayerRow}
+use Rattle.report_table.specs.contracts.player_rows.PlayerKeyOrd.TheImpl as key_ord
 
 -- a name with its unit
 abbrev pub player_of : PlayerKey → Player
 player_of key = record { hundredths = key.hundredths; name = key.name.items }
 
 -- the players with their sums
-abbrev pub seen_entries : List (PlayerKey × PlayerSums) → List (Player × PlayerSums)
-seen_entries entries = map (λ entry. (player_of entry.0, entry.1)) entries
+abbrev pub seen_rows : List PlayerRow → List (Player × PlayerSums)
+seen_rows rows = map (λ row. (player_of row.key, row.sums)) rows
+
+-- the order of the keys
+abbrev pub key_cmp : PlayerKey → PlayerKey → Ordering
+key_cmp = (key_ord.ghosts).cmp
+
+-- the place of a player among some
+abbrev pub place_of : Player → List Player → Option ℕ
+place_of player [] = None
+place_of player (first ∷ later) =
+    if same_player player first then Some 0 else option_map suc (place_of player later)
+
+-- an index has just these players, each at its place
+abbrev pub IsIndexOf : List Player → BTreeMap PlayerKey ℕ → Type 0
+IsIndexOf players places =
+    (key : PlayerKey) → get key_cmp places key ≡ place_of (player_of key) players
 
 -- a player of a hand in a unit
 abbrev pub named_player : Bool → List ℕ → Player

@@ -10,10 +10,11 @@
 //!    no line is written twice in the code.
 //! 3. *A number is rounded once.* What a hand may expect is added up in 1/5040 of a unit over all pots, and
 //!    then divided.
-//! 4. *Totals* (`players`). A map from a name and a unit of money to its sums, in the order in which names
-//!    were added. For a hand all that takes memory is done first, the keys and then the new names, which are
-//!    taken back where memory is wanting. Then the sums are added, which takes none. That is a few look-ups
-//!    for each seat line, however many hands there were.
+//! 4. *Totals* (`player_rows`, `players`). A row for each name and unit of money with its sums, in the order in
+//!    which names were added, and beside the rows an ordered map from a name to its place, so that no choice of
+//!    names makes a look-up long. For a hand all that takes memory is done first, the keys and then the new
+//!    names, which are taken back when out of memory. Then the sums are added, which takes none. That is a
+//!    few look-ups for each seat line, however many hands there were.
 #![tactic(auto)]
 
 mod alone;
@@ -25,6 +26,7 @@ mod hands;
 mod laws;
 mod made_sums;
 mod numbers;
+mod player_rows;
 mod player_sums;
 mod players;
 mod sheet;

@@ -1,31 +1,19 @@
-//! The sums of the players, by their names and the unit of their hands.
+//! What a hand adds to the sums of the players, by their names and the unit of their hands.
 
-ghost use Rattle.std.specs.Prelude.{◌≡◌, ℕ, ◌+◌, ◌^◌, ◌≤◌, ◌==◌, [], ◌∷◌, ◌++◌, true, false, length, map, take, is_some, option_map, IfOk, OnOk, OnErr};
+ghost use Rattle.std.specs.Prelude.{◌≡◌, ℕ, ◌+◌, ◌^◌, ◌≤◌, ◌==◌, true, length, map, take, is_some, option_map, IfOk, OnOk, OnErr};
 ghost use Rattle.std.specs.Int.{bit_at};
-ghost use Rattle.std.specs.List.{IsDistinct, list_any};
-ghost use Rattle.std.specs.Map.{keys_of};
 ghost use Rattle.history_text.specs.Names.{seat_named};
 ghost use Rattle.report_table.specs.Equities.{IsOfAllIn, is_asked};
-ghost use Rattle.report_table.specs.Totals.{no_sums, playing, same_player, seated_sums};
-ghost use Rattle.report_table.specs.TotalsSeen.{AllAreOfHands, AreOfHands, first_at, has_name, named_player, player_at, player_of, seen_entries, with_given, with_more, with_player, with_players};
+ghost use Rattle.report_table.specs.Totals.{playing, seated_sums};
+ghost use Rattle.report_table.specs.TotalsSeen.{AllAreOfHands, AreOfHands, first_at, has_name, named_player, player_at, player_of, with_given, with_player, with_players};
 
 use crate::equity::Equity;
-use crate::player_sums::{PlayerSums, seat_sums};
+use crate::player_rows::{PlayerKey, Players};
+use crate::player_sums::seat_sums;
 use card_sets::{Memory, PlayerSet};
 use hand_audit::{AllIn, Settlement};
 use history_text::Names;
-use indexmap::IndexMap;
 use std::alloc::{AllocError, Global};
-
-/// A name, and the unit of the hands that it is summed over: hundredths, or else chips.
-#[derive(PartialEq, Eq, Hash, Drop)]
-pub(crate) struct PlayerKey {
-    pub(crate) hundredths: bool,
-    pub(crate) name: Vec<u8>,
-}
-
-/// The sums of each player, in the order in which the players were added.
-pub(crate) type Players = IndexMap<PlayerKey, PlayerSums>;
 
 /// The key of a name in a unit.
 fn key_of(alloc: Global, hundredths: bool, name: &[u8]) -> Result<PlayerKey, AllocError>
@@ -113,39 +101,27 @@ impl<'a> Lineup<'a> {
     }
 }
 
-/// Puts a player who has no sums yet at the end, with those of no hand.
-fn push_player(players: &mut Players, key: PlayerKey) -> Result<(), AllocError>
-    requires { list_any (λ entry. same_player (player_of key) entry.0)
-        (seen_entries players.old.entries) ≡ false }
-    ensures added { OnOk result (seen_entries players.new.entries
-        ≡ seen_entries players.old.entries ++ (player_of key, no_sums) ∷ []) }
-    ensures kept { take (length players.old.entries) players.new.entries ≡ players.old.entries }
-{
-    players.insert(key, PlayerSums::NONE)?;
-    Ok(())
-}
-
 /// Gives a player sums of no hand, at the end, where he has none yet.
 fn add_player(players: &mut Players, hundredths: bool, name: &[u8]) -> Result<(), AllocError>
-    ensures added { OnOk result (seen_entries players.new.entries
-        ≡ with_player (seen_entries players.old.entries) (named_player hundredths name.now)) }
-    ensures kept { take (length players.old.entries) players.new.entries ≡ players.old.entries }
+    ensures added { OnOk result (players.new
+        ≡ with_player players.old (named_player hundredths name.now)) }
+    ensures kept { take (length players.old) players.new ≡ players.old }
 {
-    let key = key_of(*players.allocator(), hundredths, name)?;
-    if players.contains_key(&key) {
+    let key = key_of(players.allocator(), hundredths, name)?;
+    if players.has(&key) {
         return Ok(());
     }
-    push_player(players, key)
+    players.push(key)
 }
 
 /// Gives each player of a hand sums of no hand, where he has none yet. For want of memory some first of
 /// them have got theirs.
 fn add_each_player(players: &mut Players, lineup: &Lineup) -> Result<(), AllocError>
-    ensures added { OnOk result (seen_entries players.new.entries
-        ≡ with_players (seen_entries players.old.entries)
+    ensures added { OnOk result (players.new
+        ≡ with_players players.old
         (map (λ who. named_player lineup.now.hundredths who.1)
         (playing lineup.now.names.now lineup.now.players))) }
-    ensures kept { take (length players.old.entries) players.new.entries ≡ players.old.entries }
+    ensures kept { take (length players.old) players.new ≡ players.old }
 {
     for place in 0..lineup.names.count() {
         if let Some((_, name)) = lineup.player_at(place) {
@@ -157,11 +133,11 @@ fn add_each_player(players: &mut Players, lineup: &Lineup) -> Result<(), AllocEr
 
 /// The same, and want of memory changes nothing.
 pub(crate) fn add_players(players: &mut Players, lineup: &Lineup) -> Result<(), Memory>
-    ensures added { OnOk result (seen_entries players.new.entries
-        ≡ with_players (seen_entries players.old.entries)
+    ensures added { OnOk result (players.new
+        ≡ with_players players.old
         (map (λ who. named_player lineup.now.hundredths who.1)
         (playing lineup.now.names.now lineup.now.players))) }
-    ensures memory { OnErr result (players.new.entries ≡ players.old.entries) }
+    ensures memory { OnErr result (players.new ≡ players.old) }
 {
     let before = players.len();
     match add_each_player(players, lineup) {
@@ -170,19 +146,6 @@ pub(crate) fn add_players(players: &mut Players, lineup: &Lineup) -> Result<(), 
             players.truncate(before);
             Err(Memory::from(error))
         }
-    }
-}
-
-/// Adds to the sums of a player, where he has some.
-fn add_to(players: &mut Players, key: &PlayerKey, more: &PlayerSums)
-    requires sums { AllAreOfHands (2 ^ 32 + 1) (seen_entries players.old.entries) }
-    requires more { AreOfHands 1 more.now }
-    ensures added { seen_entries players.new.entries
-        ≡ with_more (seen_entries players.old.entries) (player_of key.now) more.now }
-    ensures distinct { IsDistinct same_player (keys_of (seen_entries players.old.entries)) }
-{
-    if let Some(sums) = players.get_mut(key) {
-        *sums = sums.plus(more);
     }
 }
 
@@ -206,17 +169,17 @@ pub(crate) fn add_sums(
         ≡ map (λ who. named_player lineup.now.hundredths who.1) lineup.now.names.now }
 
     // The sums have room for one hand more, and each player gets what the hand gives him.
-    requires sums { AllAreOfHands (2 ^ 32) (seen_entries players.old.entries) }
-    ensures added { seen_entries players.new.entries
+    requires sums { AllAreOfHands (2 ^ 32) players.old }
+    ensures added { players.new
         ≡ with_given (seated_sums settlement.now all_in.now
-        (playing lineup.now.names.now lineup.now.players)) (seen_entries players.old.entries) }
-    ensures small { (count : ℕ) → AllAreOfHands count (seen_entries players.old.entries)
-        → AllAreOfHands (count + 1) (seen_entries players.new.entries) }
+        (playing lineup.now.names.now lineup.now.players)) players.old }
+    ensures small { (count : ℕ) → AllAreOfHands count players.old
+        → AllAreOfHands (count + 1) players.new }
 {
     for place in 0..lineup.names.count() {
         if let Some((seat, _)) = lineup.first_at(place) {
             let more = seat_sums(settlement, all_in, equity, seat);
-            add_to(players, &keys[place], &more);
+            players.add(&keys[place], &more);
         }
     }
 }

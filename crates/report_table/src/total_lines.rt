@@ -3,10 +3,10 @@
 ghost use Rattle.std.specs.Prelude.{◌≡◌, ◌+◌, ◌^◌, ◌≤◌, OnOk};
 ghost use Rattle.report_table.specs.Sheets.{IsBetweenLines, with_line, with_lines, with_words};
 ghost use Rattle.report_table.specs.Totals.{player_lines, total_line, total_title, totals_line, unit_word};
-ghost use Rattle.report_table.specs.TotalsSeen.{player_of, seen_entries};
+ghost use Rattle.report_table.specs.TotalsSeen.{player_of};
 
+use crate::player_rows::{PlayerKey, Players};
 use crate::player_sums::PlayerSums;
-use crate::players::{PlayerKey, Players};
 use crate::sheet::Sheet;
 use std::alloc::AllocError;
 
@@ -68,11 +68,11 @@ impl Sheet {
     pub(crate) fn player_lines(&mut self, players: &Players) -> Result<(), AllocError>
         requires { IsBetweenLines self.old }
         ensures { OnOk result (self.new
-            ≡ with_lines self.old (player_lines self.old.form (seen_entries players.now.entries))) }
+            ≡ with_lines self.old (player_lines self.old.form players.now)) }
     {
         for place in 0..players.len() {
-            if let Some((key, sums)) = players.get_index(place) {
-                self.total_line(key, sums)?;
+            if let Some(row) = players.at(place) {
+                self.total_line(&row.key, &row.sums)?;
             }
         }
         Ok(())

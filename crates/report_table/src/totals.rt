@@ -6,7 +6,8 @@ ghost use Rattle.report_table.specs.Equities.{IsOfHand, is_asked};
 ghost use Rattle.report_table.specs.Totals.{run_block, totals_of};
 
 use crate::equity::{Equity, Form};
-use crate::players::{Lineup, Players, add_players, add_sums};
+use crate::player_rows::Players;
+use crate::players::{Lineup, add_players, add_sums};
 use crate::sheet::Sheet;
 use card_sets::Memory;
 use hand_audit::HandAudit;
@@ -28,17 +29,17 @@ impl Model for Totals {
 
     ghost Value = { RunTotals };
 
-    ghost use Rattle.report_table.specs.TotalsSeen.{AllAreOfHands, seen_entries};
+    ghost use Rattle.report_table.specs.TotalsSeen.{AllAreOfHands};
 
     ghost view = { λ t. record {
       hands = t.accepted + t.rejected;
       accepted = t.accepted;
       rejected = t.rejected;
-      players = seen_entries t.players.entries;
+      players = t.players;
     } };
 
     ghost invariant = { λ t. (t.accepted + t.rejected ≤ 2 ^ 32)
-        × AllAreOfHands t.accepted (seen_entries t.players.entries) };
+        × AllAreOfHands t.accepted t.players };
 }
 
 impl Totals {
@@ -93,7 +94,7 @@ impl Totals {
             players: *players,
         };
         // Before anything is changed: want of memory for the keys then leaves the totals as they were.
-        let keys = lineup.keys(*self.players.allocator())?;
+        let keys = lineup.keys(self.players.allocator())?;
         add_players(&mut self.players, &lineup)?;
         add_sums(
             &mut self.players,

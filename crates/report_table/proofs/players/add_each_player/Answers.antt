@@ -1,5 +1,4 @@
 use Rattle.std.proofs.Common.{take, length, ap, sym, ◌∙◌}
-use Rattle.report_table.specs.TotalsSeen.{seen_entries}
 use Rattle.report_table.proofs.LineupFacts.{added_more, added_same, kept_both}
 use Rattle.report_table.proofs.players.add_each_player.Goals as goal
 use Rattle.report_table.proofs.players.add_each_player.Goals.{in-Some+in_ok-add_player, in_default}
@@ -7,18 +6,18 @@ use Rattle.report_table.proofs.players.add_each_player.Goals.{in-Some+in_ok-add_
 pub loop-place-preserved : goal.loop-place-preserved
 loop-place-preserved c =
     let lineup = c.args.lineup.now in
-    let before = c.args.players.now.entries in
+    let before = c.args.players.now in
     elim c.match-player_at.branch [
       | in-Some+in_ok-add_player w ↦ record {
-        added = added_more lineup.hundredths lineup.names.now lineup.players c.loop-place.place _ (seen_entries before) (seen_entries c.loop-place.players.entries) _
+        added = added_more lineup.hundredths lineup.names.now lineup.players c.loop-place.place _ before c.loop-place.players _
             (sym w.in-Some.ensures) c.loop-place.invariant.added
-            (ap (λ players. seen_entries players.entries) w.players-is ∙ w.in_ok-add_player.ensures.added);
-        kept = kept_both before c.loop-place.players.entries _ c.loop-place.invariant.kept
-            (ap (λ players. take (length c.loop-place.players.entries) players.entries) w.players-is ∙ w.add_player.ensures.kept);
+            (w.players-is ∙ w.in_ok-add_player.ensures.added);
+        kept = kept_both before c.loop-place.players _ c.loop-place.invariant.kept
+            (ap (λ players. take (length c.loop-place.players) players) w.players-is ∙ w.add_player.ensures.kept);
       }
       | in_default w ↦ record {
-        added = ap (λ players. seen_entries players.entries) w.players-is
-            ∙ added_same lineup.hundredths lineup.names.now lineup.players c.loop-place.place (seen_entries before) (seen_entries c.loop-place.players.entries) (sym w.in_default.ensures) c.loop-place.invariant.added;
-        kept = ap (λ players. take (length before) players.entries) w.players-is ∙ c.loop-place.invariant.kept;
+        added = w.players-is
+            ∙ added_same lineup.hundredths lineup.names.now lineup.players c.loop-place.place before c.loop-place.players (sym w.in_default.ensures) c.loop-place.invariant.added;
+        kept = ap (λ players. take (length before) players) w.players-is ∙ c.loop-place.invariant.kept;
       }
     ]
