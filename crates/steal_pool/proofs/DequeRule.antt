@@ -1,13 +1,13 @@
 -- Each step of a deque keeps its rule.
-use Rattle.std.proofs.Common.{◌≡◌, ◌≢◌, ◌+◌, ◌-◌, ◌<◌, ◌≤◌, ℕ, zero, suc, List, [], ◌∷◌, ◌++◌, length, length-append, set, sym, refl, ap, ◌∙◌, subst, ⊎_elim, append_assoc, arith}
+use Rattle.std.proofs.Common.{◌≡◌, ◌≢◌, ◌+◌, ◌-◌, ◌<◌, ◌≤◌, ℕ, zero, suc, List, [], ◌∷◌, ◌++◌, length, length-append, set, sym, refl, ap, ◌∙◌, subst, ⊎_elim, append_assoc, arith, min}
 use Rattle.std.specs.List.{sum_by}
 use Rattle.std.proofs.lemmas.List.Sums.{sum_by-append, sum_by-cons, sum_by_push}
 use mathlib.Core.Option.{some, some-ne-none, some-injective}
 use lib.ListN.{get_elem?}
-use Rattle.crossbeam_deque.specs.Tasks.{Pushes, Takes, Forks, Merges, Learns}
+use Rattle.crossbeam_deque.specs.Tasks.{Pushes, Takes, Finds, FindsFew, Forks, Merges, Learns}
 use Rattle.crossbeam_deque.proofs.Lists.{at_set, at_snoc, set_here}
 use Rattle.steal_pool.specs.declared.claims.Claim.{Claim}
-use Rattle.steal_pool.specs.Claims.{claim, IsFair, Took, Knows}
+use Rattle.steal_pool.specs.Claims.{claim, IsFair, Took, WasEmpty, Knows}
 
 -- what a sum over the views is after a change of one
 pub total_set : (f : Claim → ℕ) (views : List Claim) (port : ℕ) (v w : Claim) → get_elem? views port ≡ some v → sum_by f (set views port w) + f v ≡ sum_by f views + f w
@@ -156,6 +156,20 @@ takes workers port v part xs items views _ _ fair at =
             omega (arith, ones w.taken, ones (fair.got ++ xs)));
       },
     )
+
+-- a pop or a steal that found nothing
+pub finds : (workers port : ℕ) (v : Claim) → Finds (IsFair workers) port v (WasEmpty workers v)
+finds workers port v views fair at = record { views = views; port = port; among = at; fair = fair }
+
+pub finds_few : (workers flavor port : ℕ) (v : Claim) → flavor ≡ 0 → FindsFew (IsFair workers) (min flavor 1) port v (WasEmpty workers v)
+finds_few workers flavor port v front items views few fair at =
+    let most : min flavor 1 ≡ 0 = ap (λ k. min k 1) front in
+    let none : items ≡ [] = nothing_in items (omega arith) in
+    finds workers port v views (subst (λ l. IsFair workers l views) none fair) at
+  where
+    nothing_in : (xs : List ℕ) → length xs ≤ 0 → xs ≡ []
+    nothing_in [] few = refl
+    nothing_in (x ∷ xs) few = absurd (omega arith)
 
 -- the parts of a pass are cut in two
 pub forks : (workers port : ℕ) (v : Claim) → 1 < v.stands_for → Forks (IsFair workers) port v (claim (v.stands_for - 1) v.pushed v.taken) (claim 1 v.pushed [])

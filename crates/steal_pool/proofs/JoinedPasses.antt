@@ -233,7 +233,7 @@ module _ {N : Type 0} where
   -- a pass that may be joined
   pub may_join : (id : RowsId × Global) (r : Reach N) → IsOther id r → IsOpen r → MayJoin id r
   may_join id (Own owner) other way = absurd other
-  may_join id (Other thief pass) other way = subst (λ i. IsPassOf i pass) other way
+  may_join id (Other thief pass) other way = subst (λ i. IsPassOf i pass) other way.0
   may_join id Left other way = absurd other
 
   joined_other : (id : RowsId × Global) (v : Claim) (r : Reach N) → IsOther id r → joined_claim v r ≡ claim (v.stands_for + (claim_of r).stands_for) v.pushed (v.taken ++ (claim_of r).taken)

@@ -32,6 +32,13 @@ pub record Took (v : Claim) (xs : List ℕ) (w : Claim) : Type 0 where
   pub pushed : (h : ℕ → ℕ) → sum_by h xs ≤ sum_by h v.pushed
   pub room : length w.taken ≤ length v.pushed
 
+-- the deque was empty at one moment: what the passes had taken then, this one's among them, is all that was pushed
+pub record WasEmpty (workers : ℕ) (v : Claim) : Type 0 where
+  pub views : List Claim
+  pub port : ℕ
+  pub among : get_elem? views port ≡ some v
+  pub fair : IsFair workers [] views
+
 -- what a pass that stands for all workers knows
 pub record Knows (v : Claim) (items : List ℕ) : Type 0 where
   pub got : List ℕ

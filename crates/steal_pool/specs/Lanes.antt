@@ -1,6 +1,7 @@
 -- What a worker has taken from a deque.
 use Rattle.std.specs.Prelude.{◌≡◌, ℕ, ◌<◌, ◌≤◌, ◌%◌, ◌==◌, Bool, true, false, if◌then◌else◌, List, [], ◌∷◌, ◌++◌, filter, length, replicate, vec_capacity}
 use Rattle.std.specs.List.{range_with_len, list_any}
+use Rattle.steal_pool.specs.Claims.{WasEmpty}
 use Rattle.steal_pool.specs.Reaches.{claim_of, IsOpen}
 use Rattle.steal_pool.specs.declared.lanes.Lane.{Lane}
 use Rattle.steal_pool.specs.declared.lanes.Got.{Got}
@@ -39,8 +40,8 @@ module _ {N : Type 0} where
   abbrev pub StaysLane : ℕ → ℕ → Lane N → Lane N → Type 0
   StaysLane workers blocks old new = (deque : ℕ) → IsLane workers blocks deque old → IsLane workers blocks deque new
 
-  -- what a take changes
-  abbrev pub Gets : Got → ℕ → Lane N → Lane N → Type 0
-  Gets (Block x) blocks old new = (x < blocks) × (new.taken.items ≡ old.taken.items ++ x ∷ []) × (new.ended ≡ false)
-  Gets End blocks old new = (new.taken.items ≡ old.taken.items) × (new.ended ≡ true)
-  Gets Nothing blocks old new = (new.taken.items ≡ old.taken.items) × (new.ended ≡ false)
+  -- what a take changes; nothing is taken only where the deque was empty at one moment
+  abbrev pub Gets : Got → ℕ → ℕ → Lane N → Lane N → Type 0
+  Gets (Block x) workers blocks old new = (x < blocks) × (new.taken.items ≡ old.taken.items ++ x ∷ []) × (new.ended ≡ false)
+  Gets End workers blocks old new = (new.taken.items ≡ old.taken.items) × (new.ended ≡ true)
+  Gets Nothing workers blocks old new = (new.taken.items ≡ old.taken.items) × (new.ended ≡ false) × WasEmpty workers (claim_of old.reach)

@@ -2,7 +2,7 @@
 use Rattle.std.specs.Prelude.{◌≡◌, [], ⊤}
 use Rattle.std.specs.Global.{Global}
 use Rattle.atomic_blocks.specs.Lent.{RowsId}
-use Rattle.crossbeam_deque.specs.Handles.{view, IsPassOf, worker_deque, stealer_deque, worker_view, worker_flavor}
+use Rattle.crossbeam_deque.specs.Handles.{view, IsPassOf, worker_deque, stealer_deque, worker_view, worker_flavor, stealer_flavor}
 use Rattle.steal_pool.specs.Claims.{claim}
 use Rattle.steal_pool.specs.declared.claims.Claim.{Claim}
 use Rattle.steal_pool.specs.declared.reaches.Reach.{Reach}
@@ -34,5 +34,5 @@ module _ {N : Type 0} where
   -- tasks leave at the front, and a pass is one of this deque
   abbrev pub IsOpen : Reach N → Type 0
   IsOpen (Own owner) = worker_flavor owner ≡ 0
-  IsOpen (Other thief pass) = IsPassOf (stealer_deque thief) pass
+  IsOpen (Other thief pass) = IsPassOf (stealer_deque thief) pass × (stealer_flavor thief ≡ 0)
   IsOpen Left = ⊤

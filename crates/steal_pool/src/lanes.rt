@@ -26,7 +26,7 @@ pub enum Got {
     Block(u32),
     /// The worker's end mark of this deque.
     End,
-    /// Nothing, this time.
+    /// Nothing: the deque was empty at one moment.
     Nothing,
 }
 
@@ -54,11 +54,11 @@ impl<N: Naming> Lane<N> {
     }
 
     /// Takes from the deque. An end mark is a number that isn't below the number of blocks.
-    pub(crate) fn take(&mut self, blocks: u32) -> Got
+    pub(crate) fn take<R: Wait>(&mut self, rt: &R, blocks: u32) -> Got
         requires lane { IsALane (N.all - 1) blocks self.old }
         requires more { self.old.ended ≡ false }
         ensures lane { StaysLane (N.all - 1) blocks self.old self.new }
-        ensures got { Gets result blocks self.old self.new }
+        ensures got { Gets result (N.all - 1) blocks self.old self.new }
         ensures same { StaysOf self.old.reach self.new.reach }
     {
         let Lane {
@@ -66,7 +66,7 @@ impl<N: Naming> Lane<N> {
             taken,
             ended,
         } = self;
-        let Some(number) = reach.take() else {
+        let Some(number) = reach.take(rt) else {
             return Got::Nothing;
         };
         if number < blocks {
@@ -109,7 +109,7 @@ pub(crate) fn drain<N: Naming, R: Wait, G: Gate>(
 {
     let blocks = job.blocks();
     for _ in rt.forever() {
-        match lane.take(blocks) {
+        match lane.take(rt, blocks) {
             Got::Block(block) => desk.count(rt, worker, block, job, gate, book),
             Got::End => return,
             Got::Nothing => thread::yield_now(),

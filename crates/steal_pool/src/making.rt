@@ -113,6 +113,7 @@ fn add_other<N: Naming>(
 ) -> Result<(), Memory>
     requires lanes { length seat.old.lanes.items < vec_capacity seat.old.lanes }
     requires parts { 1 < (worker_view owner.old).stands_for }
+    requires front { worker_flavor owner.old ≡ 0 }
     ensures same { IfOk result
         (λ _. (worker_deque owner.new ≡ worker_deque owner.old)
         × (worker_flavor owner.new ≡ worker_flavor owner.old)) }
