@@ -6,6 +6,7 @@ pub mod chips
 pub mod splits
 pub mod won_pots
 pub mod pot_sums
+pub mod nets
 pub mod tables
 pub mod all_ins
 pub mod later_streets

@@ -14,10 +14,12 @@ pub mod KnownTables
 pub mod PotSeats
 pub mod AllIns
 pub mod Verdict
+pub mod SeatChips
 pub mod Keeping
 pub mod Chips
 pub mod Splits
 pub mod PotSums
+pub mod Nets
 pub mod Before
 pub mod Passing
 pub mod CardsKnown

@@ -1,6 +1,6 @@
 //! The verdict on a hand.
 
-ghost use Rattle.std.specs.Prelude.{◌≡◌, ℕ, ◌+◌, ◌<◌, ◌^◌, IfOk, IsTrue, Some, length, true};
+ghost use Rattle.std.specs.Prelude.{◌≡◌, ℕ, ◌+◌, ◌<◌, ◌^◌, IfOk, IsTrue, Some, length};
 ghost use Rattle.line_text.specs.Lines.{lines};
 ghost use Rattle.hand_audit.specs.Departs.{begins_hand};
 ghost use Rattle.hand_audit.specs.Verdict.{audit_of, accepted_by};
@@ -9,12 +9,15 @@ ghost use Rattle.hand_audit.specs.Showings.{showing_of};
 ghost use Rattle.hand_audit.specs.SettlementAnswers.{IsOfHand};
 ghost use Rattle.hand_audit.specs.Keeping.{Keeps};
 ghost use Rattle.hand_audit.specs.Streets.{states_of, streets_of};
+ghost use Rattle.hand_audit.specs.SeatChips.{AreWithin, all_chips_on, chips_of};
+ghost use Rattle.hand_audit.specs.declared.audit.Beside.TheVariants as beside;
 
 use crate::all_in::all_in_by;
 use crate::cause::Cause;
 use crate::first_pass::players_of;
 use crate::follow::{Followed, follow};
 use crate::hand::AuditState;
+use crate::seat_chips::{AuditedChips, SeatChips, all_chips_on, no_chips};
 use crate::settlement::Settlement;
 use crate::settling::HandSettled;
 use crate::streets::{AuditedStreets, StreetState, states_of};
@@ -23,6 +26,25 @@ use card_sets::Memory;
 use history_text::{Header, read_header};
 use line_text::next_line;
 use std::alloc::{AllocError, Global};
+
+/// What is asked for beside the verdict on a hand.
+#[derive(Clone, Copy)]
+enum Beside {
+    /// Nothing.
+    Nothing,
+    /// Its later streets.
+    Streets,
+    /// What each seat had and put in.
+    Chips,
+}
+
+/// A verdict on a hand, and what was asked for beside it.
+#[derive(Drop)]
+struct AuditedHand {
+    audit: HandAudit,
+    streets: Vec<StreetState>,
+    chips: [SeatChips; 11],
+}
 
 /// The verdict on a hand in which no line departs.
 fn accepted(header: &Header, players: u16, state: AuditState, settled: HandSettled) -> HandAudit
@@ -50,35 +72,49 @@ fn accepted(header: &Header, players: u16, state: AuditState, settled: HandSettl
 /// The later streets of a hand in which no line departs, where they are asked for.
 fn streets_if(
     alloc: Global,
-    asked: bool,
+    asked: Beside,
     header: &Header,
     state: &AuditState,
     settled: &HandSettled,
 ) -> Result<Vec<StreetState>, AllocError>
     ensures { IfOk result (λ states. (players : ℕ) (so_far : SoFar)
         → Keeps state.now header.now players so_far
-        → IsOfHand (showing_of header.now players so_far.events) settled.now → asked ≡ true
+        → IsOfHand (showing_of header.now players so_far.events) settled.now
+        → asked ≡ beside.Streets
         → states.items ≡ states_of header.now players so_far.events) }
 {
-    if !asked {
-        return Ok(Vec::new(alloc));
+    match asked {
+        Beside::Streets => states_of(alloc, header, state, settled),
+        Beside::Nothing | Beside::Chips => Ok(Vec::new(alloc)),
     }
-    states_of(alloc, header, state, settled)
 }
 
-/// The verdict on a hand, with its later streets where they are asked for.
+/// What each seat had and put in, where that is asked for.
+fn chips_if(asked: Beside, state: &AuditState) -> [SeatChips; 11]
+    requires within { AreWithin state.now.replay }
+    ensures { asked ≡ beside.Chips → result ≡ all_chips_on state.now.replay }
+{
+    match asked {
+        Beside::Chips => all_chips_on(&state.replay),
+        Beside::Nothing | Beside::Streets => no_chips(),
+    }
+}
+
+/// The verdict on a hand, with what is asked for beside it.
 fn audited(
     alloc: Global,
     bytes: &[u8],
     first_line: u32,
-    asked: bool,
-) -> Result<AuditedStreets, Memory>
+    asked: Beside,
+) -> Result<AuditedHand, Memory>
     requires header { IsTrue (begins_hand (lines bytes.now)) }
     requires numbers { first_line + length (lines bytes.now) < 2 ^ 32 }
-    ensures verdict { IfOk result (λ both.
-        audit_of first_line (lines bytes.now) ≡ Some both.audit) }
-    ensures streets { IfOk result (λ both. asked ≡ true
-        → both.streets.items ≡ streets_of both.audit (lines bytes.now)) }
+    ensures verdict { IfOk result (λ all.
+        audit_of first_line (lines bytes.now) ≡ Some all.audit) }
+    ensures streets { IfOk result (λ all. asked ≡ beside.Streets
+        → all.streets.items ≡ streets_of all.audit (lines bytes.now)) }
+    ensures chips { IfOk result (λ all. asked ≡ beside.Chips
+        → all.chips ≡ chips_of all.audit (lines bytes.now)) }
 {
     let Some(head) = next_line(bytes, 0) else {
         unreachable!();
@@ -86,32 +122,36 @@ fn audited(
     let header = match read_header(&bytes[head.first..head.end]) {
         Ok(header) => header,
         Err(fault) => {
-            return Ok(AuditedStreets {
+            return Ok(AuditedHand {
                 audit: HandAudit::Rejected {
                     line: first_line,
                     cause: Cause::Text(fault),
                     hundredths: false,
                 },
                 streets: Vec::new(alloc),
+                chips: no_chips(),
             });
         }
     };
     let found = players_of(alloc, &header, bytes, head.next)?;
     let players = found.players;
     match follow(alloc, &header, players, &found.reads, bytes, head.next)? {
-        Followed::Departs(count, cause) => Ok(AuditedStreets {
+        Followed::Departs(count, cause) => Ok(AuditedHand {
             audit: HandAudit::Rejected {
                 line: first_line + count as u32,
                 cause,
                 hundredths: header.hundredths,
             },
             streets: Vec::new(alloc),
+            chips: no_chips(),
         }),
         Followed::Ends(state, settled) => {
             let streets = streets_if(alloc, asked, &header, &state, &settled)?;
-            Ok(AuditedStreets {
+            let chips = chips_if(asked, &state);
+            Ok(AuditedHand {
                 audit: accepted(&header, players, state, settled),
                 streets,
+                chips,
             })
         }
     }
@@ -125,8 +165,8 @@ pub fn audit_hand(alloc: Global, bytes: &[u8], first_line: u32) -> Result<HandAu
     requires numbers { first_line + length (lines bytes.now) < 2 ^ 32 }
     ensures verdict { IfOk result (λ audit. audit_of first_line (lines bytes.now) ≡ Some audit) }
 {
-    let both = audited(alloc, bytes, first_line, false)?;
-    Ok(both.audit)
+    let all = audited(alloc, bytes, first_line, Beside::Nothing)?;
+    Ok(all.audit)
 }
 
 /// The same verdict, and the later streets of an accepted hand, by one reading: those that begin in the
@@ -144,5 +184,25 @@ pub fn audit_with_streets(
     ensures streets { IfOk result (λ both.
         both.streets.items ≡ streets_of both.audit (lines bytes.now)) }
 {
-    audited(alloc, bytes, first_line, true)
+    let AuditedHand { audit, streets, .. } = audited(alloc, bytes, first_line, Beside::Streets)?;
+    Ok(AuditedStreets { audit, streets })
+}
+
+/// The same verdict, and what each seat of an accepted hand had and put in, by one reading: the chips that
+/// its seat line gives, and its antes, posts, dead chips, calls and bets, less what came back to it. Nobody of
+/// a rejected hand had or put in anything.
+pub fn audit_with_chips(
+    alloc: Global,
+    bytes: &[u8],
+    first_line: u32,
+) -> Result<AuditedChips, Memory>
+    requires header { IsTrue (begins_hand (lines bytes.now)) }
+    requires numbers { first_line + length (lines bytes.now) < 2 ^ 32 }
+    ensures verdict { IfOk result (λ both.
+        audit_of first_line (lines bytes.now) ≡ Some both.audit) }
+    ensures chips { IfOk result (λ both.
+        both.chips ≡ chips_of both.audit (lines bytes.now)) }
+{
+    let AuditedHand { audit, chips, .. } = audited(alloc, bytes, first_line, Beside::Chips)?;
+    Ok(AuditedChips { audit, chips })
 }

@@ -19,7 +19,9 @@ ghost use Rattle.hand_audit.specs.Streets.{states_of};
 ghost use Rattle.hand_audit.specs.declared.streets.StreetState.{StreetState};
 ghost use Rattle.betting_replay.specs.declared.points.Point.{Point};
 ghost use Rattle.hand_audit.specs.MarkLaws.{MarksAreCards};
+ghost use Rattle.hand_audit.specs.Nets.{NetsAddUp};
 ghost use Rattle.hand_audit.specs.PotSums.{PotsAddUp};
+ghost use Rattle.hand_audit.specs.SeatChips.{chips_of};
 ghost use Rattle.hand_audit.specs.TablePots.{HasPotsOf};
 ghost use Rattle.betting_replay.specs.TableAfter.{point};
 ghost use Rattle.hand_audit.specs.declared.settlement.Settlement.{Settlement};
@@ -44,6 +46,19 @@ pub fn law_chips_are_kept()
         → (settlement : Settlement) (all_in : AllIn) (names : List (ℕ × List ℕ)) (players : ℕ)
         → audit_of number (line ∷ lines) ≡ Some (Accepted settlement all_in names players)
         → KeepsChips header (events_of header lines) settlement.rake }
+{}
+
+/// A law on nets. Of a hand that is accepted: what a seat got by the payments is what its lines say that it
+/// collected; no seat put in more than it had; what it had and got, less what it put in, is what it has after
+/// the hand; what the players put in is what they got and the stated rake, and, where there is a pot, what the
+/// pots hold.
+pub fn law_nets_add_up_to_the_rake()
+    ensures { (number : ℕ) (line : List ℕ) (lines : List (List ℕ)) (header : Header)
+        → header_of line ≡ Ok header
+        → (settlement : Settlement) (all_in : AllIn) (names : List (ℕ × List ℕ)) (players : ℕ)
+        → audit_of number (line ∷ lines) ≡ Some (Accepted settlement all_in names players)
+        → NetsAddUp header (events_of header lines) settlement players
+        (chips_of (Accepted settlement all_in names players) (line ∷ lines)) }
 {}
 
 /// A law on splits. Of a hand that is accepted and whose pot names fit: in each pot of which it is known

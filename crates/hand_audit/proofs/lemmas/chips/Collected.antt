@@ -21,7 +21,7 @@ seats_more (c ∷ all) more a b = (a.0, a.1, seats_more all more a.2 b)
 abbrev counted : (PotName → Bool) → Collection → ℕ
 counted test c = if test c.pot then c.units else 0
 
-both_tests : (a b : Bool) (n : ℕ) → (if a && b then n else 0) ≡ (if b then (if a then n else 0) else 0)
+pub both_tests : (a b : Bool) (n : ℕ) → (if a && b then n else 0) ≡ (if b then (if a then n else 0) else 0)
 both_tests true b n = refl
 both_tests false true n = refl
 both_tests false false n = refl

@@ -87,7 +87,7 @@ each_out s count k (pot ∷ all) each zero d l = let same : k + 0 ≡ k = omega 
 each_out s count k (pot ∷ all) each (suc i) d l =
     each_out s count (k + 1) all (λ j e m. let same : k + suc j ≡ (k + 1) + j = omega arith in subst (λ (n : ℕ). IsPaidOut (pot_line s (Numbered count n) (slice_index_or all j e))) same (each (suc j) e (omega (arith, m)))) i d (omega (arith, l))
 
-lines_long : (s : Showing) (count k : ℕ) (all : List Pot) → length (pot_lines s count k all) ≡ length all
+pub lines_long : (s : Showing) (count k : ℕ) (all : List Pot) → length (pot_lines s count k all) ≡ length all
 lines_long s count k [] = refl
 lines_long s count k (pot ∷ all) = ap suc (lines_long s count (k + 1) all)
 
@@ -100,11 +100,11 @@ button_shown : (g : Header) (players : ℕ) (h : List Event) → (showing_of g p
 unfolding showing_of showing_at
 button_shown g players h = refl
 
-all_shown : (g : Header) (players : ℕ) (h : List Event) → (showing_of g players h).collections ≡ collections h
+pub all_shown : (g : Header) (players : ℕ) (h : List Event) → (showing_of g players h).collections ≡ collections h
 unfolding showing_of showing_at
 all_shown g players h = refl
 
-put_shown : (g : Header) (players : ℕ) (h : List Event) → put_in_all (showing_of g players h).paid ≡ put_in_by g players h
+pub put_shown : (g : Header) (players : ℕ) (h : List Event) → put_in_all (showing_of g players h).paid ≡ put_in_by g players h
 unfolding put_in_by
 put_shown g players h = ap put_in_all (paid_shown g players h)
 

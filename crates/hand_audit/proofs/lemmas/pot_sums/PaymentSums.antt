@@ -11,11 +11,11 @@ use Rattle.hand_audit.specs.Settle.{due_of_seat, is_payment, payments_from}
 use Rattle.hand_audit.proofs.lemmas.seats.SeatSums.{sum_same, sum_plus, sum_at, at_seat, at_seat_is, no_sum}
 
 -- who is left out got nothing, and is due nothing
-record IsNothing (pay : Payment) : Type 0 where
-  got : pay.got ≡ 0
-  due : pay.due ≡ 0
+pub record IsNothing (pay : Payment) : Type 0 where
+  pub got : pay.got ≡ 0
+  pub due : pay.due ≡ 0
 
-nothing : (pay : Payment) → is_payment pay ≡ false → IsNothing pay
+pub nothing : (pay : Payment) → is_payment pay ≡ false → IsNothing pay
 nothing pay none = by (nat_lt 0 pay.got) (nat_lt 0 pay.due) refl refl none
   where
     by : (a b : Bool) → nat_lt 0 pay.got ≡ a → nat_lt 0 pay.due ≡ b → (a || b) ≡ false → IsNothing pay

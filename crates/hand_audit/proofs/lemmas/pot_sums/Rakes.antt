@@ -44,7 +44,7 @@ named_within count (SideNumber n) k is = by (nat_le 3 count) (nat_le 1 n) (nat_l
     by false b c e h = cc
 
 -- what was collected from the pots numbered from one on, of so many
-abbrev taken_by : ℕ → ℕ → ℕ → List Collection → ℕ
+abbrev pub taken_by : ℕ → ℕ → ℕ → List Collection → ℕ
 taken_by count k zero all = 0
 taken_by count k (suc n) all = taken_from (names_pot count k) all + taken_by count (k + 1) n all
 
@@ -80,7 +80,7 @@ nothing_taken count k zero = refl
 nothing_taken count k (suc n) = let rest : taken_by count (k + 1) n [] ≡ 0 = nothing_taken count (k + 1) n in omega (arith, rest)
 
 -- where each collection names a pot, what was collected from all pots is all that was collected
-taken_in_all : (count : ℕ) (all : List Collection) → list_all (λ c. is_some (pot_named count c.pot)) all ≡ true → taken_by count 0 count all ≡ taken all
+pub taken_in_all : (count : ℕ) (all : List Collection) → list_all (λ c. is_some (pot_named count c.pot)) all ≡ true → taken_by count 0 count all ≡ taken all
 taken_in_all count [] named = nothing_taken count 0 count
 taken_in_all count (c ∷ all) named = by (pot_named count c.pot) refl named (λ rest. taken_in_all count all rest)
   where
@@ -124,14 +124,14 @@ no_pots ps none =
     let empty : or_one ps (pots_from ps 0 (levels ps)) ≡ [] = ap (λ ls. or_one ps (pots_from ps 0 ls)) (no_levels ps none) ∙ rw none refl in
     ap (λ xs. more_first (all_dead ps) (more_last (above ps (highest ps)) xs)) empty
 
-contender_of : (ps : List Paid) → 0 < length (pots ps) → any_contender ps ≡ true
+pub contender_of : (ps : List Paid) → 0 < length (pots ps) → any_contender ps ≡ true
 contender_of ps some = by (any_contender ps) refl
   where
     by : (b : Bool) → any_contender ps ≡ b → b ≡ true
     by true e = refl
     by false e = let none : length (pots ps) ≡ 0 = ap length (no_pots ps e) in absurd (omega (arith, some, none))
 
-both_true : (a b : Bool) → (a && b) ≡ true → (a ≡ true) × (b ≡ true)
+pub both_true : (a b : Bool) → (a && b) ≡ true → (a ≡ true) × (b ≡ true)
 both_true true true h = (refl, refl)
 both_true true false h = cc
 both_true false b h = cc

@@ -1,0 +1,61 @@
+//! What each seat of a hand had, and what it put in.
+
+ghost use Rattle.std.specs.Prelude.{◌≡◌, ◌<◌};
+ghost use Rattle.hand_audit.specs.SeatChips.{AreWithin, all_chips_on, chips_on, nobodys_chips};
+
+use crate::verdicts::HandAudit;
+use betting_replay::Replay;
+
+/// What a seat had, and what it put in, in units.
+#[derive(Clone, Copy)]
+pub struct SeatChips {
+    /// The chips that its seat line gives; 0 where it has none.
+    pub had: u64,
+    /// What it put in: antes, posts, dead chips, calls and bets, less what came back to it.
+    pub put: u64,
+}
+
+/// A verdict on a hand, and the chips of its seats.
+#[derive(Drop)]
+pub struct AuditedChips {
+    /// The verdict.
+    pub audit: HandAudit,
+    /// What each seat had and put in, by its number, 0 being no seat. Of a rejected hand nothing.
+    pub chips: [SeatChips; 11],
+}
+
+/// The chips of no seat.
+const NONE: SeatChips = SeatChips { had: 0, put: 0 };
+
+/// The chips of the seats of no hand.
+pub(crate) fn no_chips() -> [SeatChips; 11]
+    ensures { result ≡ nobodys_chips }
+{
+    [NONE; 11]
+}
+
+/// What a seat had before it put anything in, and what it has put in.
+fn chips_on(replay: &Replay, seat: u8) -> SeatChips
+    requires seat { seat < 11 }
+    requires within { AreWithin replay.now }
+    ensures { result ≡ chips_on replay.now seat }
+{
+    let paid = replay.paid(seat);
+    let put = paid.live + paid.dead;
+    SeatChips {
+        had: replay.stack(seat) + put,
+        put,
+    }
+}
+
+/// The same of each seat, by its number.
+pub(crate) fn all_chips_on(replay: &Replay) -> [SeatChips; 11]
+    requires within { AreWithin replay.now }
+    ensures { result ≡ all_chips_on replay.now }
+{
+    let mut chips = no_chips();
+    for seat in 0..11u8 {
+        chips[seat as usize] = chips_on(replay, seat);
+    }
+    chips
+}
