@@ -53,9 +53,6 @@ is_unit limit kind cutter cutter' unit kind_is gives small =
       numbers = rw held (let n = gives.counted in omega arith);
     }
 
-pub given_same : (cutter cutter0 cutter' : CutterState) → cutter ≡ cutter0 → Forgets cutter cutter' → cutter'.given ≡ cutter0.given
-given_same cutter cutter0 cutter' same f = ap (λ (c : CutterState). c.given) f.after ∙ ap (λ (c : CutterState). c.given) same
-
 -- a unit takes a byte or more
 over_unit : (limit : ℕ) (cutter cutter' : CutterState) (ending : Ending) (unit : UnitPlace) → cutter.at ≤ length cutter.held → Gives cutter cutter' unit → left_over limit (with cutter' ending) < left_over limit (with cutter ending)
 over_unit limit cutter cutter' ending unit inside gives =
@@ -81,8 +78,6 @@ hands_over limit kind before cutter cutter' ending unit bytes done s less gives 
     let fewer = over_unit limit cutter cutter' ending unit s.inside gives in
     record { unit_is = is_unit limit kind cutter cutter' unit s.kind_is gives small; cuts = cuts_unit limit kind cutter cutter' ending unit bytes done s gives; fewer = omega arith }
 
-pub less_again : (limit : ℕ) (input : Input) (cutter cutter' : CutterState) → input.ending ≡ Open → cutter ≡ input.cutter → Forgets cutter cutter' → left_over limit (with cutter' Open) ≤ left_over limit input
-less_again limit input cutter cutter' is same f =
-    let o = over_forget limit cutter cutter' Open f in
-    let e : left_over limit (with cutter Open) ≡ left_over limit input = ap (λ (c : CutterState). left_over limit (with c Open)) same in
-    omega arith
+-- the cutter of an input whose reading goes on
+pub left_open : (limit : ℕ) (input : Input) (cutter : CutterState) → cutter ≡ input.cutter → left_over limit (with cutter Open) ≡ left_over limit input
+left_open limit input cutter same = ap (λ (c : CutterState). left_over limit (with c Open)) same

@@ -175,12 +175,16 @@ cuts_unit limit kind cutter cutter' ending unit bytes done s gives =
           ∙ ap (λ v. (done ++ v ∷ []) ++ units_in kind whole cutter'.line (rest cutter' ++ more)) (sym same);
     }
 
+-- the reading goes on
+pub cuts_open : (limit : ℕ) (kind : CutKind) (input : Input) (cutter : CutterState) (bytes : List ℕ) (done : List UnitLines) → Cuts limit kind input bytes done → input.ending ≡ Open → cutter ≡ input.cutter
+    → Cuts limit kind (with cutter Open) bytes done
+cuts_open limit kind input cutter bytes done s is same =
+    subst (λ (c : CutterState). Cuts limit kind (with c Open) bytes done) (sym same) (subst (λ (e : Ending). Cuts limit kind (with input.cutter e) bytes done) is s)
+
 -- what was handed out is forgotten
-pub cuts_again : (limit : ℕ) (kind : CutKind) (input : Input) (cutter cutter' : CutterState) (bytes : List ℕ) (done : List UnitLines) → Cuts limit kind input bytes done
-    → input.ending ≡ Open → cutter ≡ input.cutter → Forgets cutter cutter' → Cuts limit kind (with cutter' Open) bytes done
-cuts_again limit kind input cutter cutter' bytes done s0 is same f =
-    let s1 : Cuts limit kind (with input.cutter Open) bytes done = subst (λ (e : Ending). Cuts limit kind (with input.cutter e) bytes done) is s0 in
-    let s : Cuts limit kind (with cutter Open) bytes done = subst (λ (c : CutterState). Cuts limit kind (with c Open) bytes done) (sym same) s1 in
+pub cuts_again : (limit : ℕ) (kind : CutKind) (cutter cutter' : CutterState) (bytes : List ℕ) (done : List UnitLines) → Cuts limit kind (with cutter Open) bytes done → Forgets cutter cutter'
+    → Cuts limit kind (with cutter' Open) bytes done
+cuts_again limit kind cutter cutter' bytes done s f =
     let closed_same : cutter'.closed ≡ cutter.closed = ap (λ (c : CutterState). c.closed) f.after in
     let kind_same : cutter'.kind ≡ kind = ap (λ (c : CutterState). c.kind) f.after ∙ s.kind_is in
     let given_same : cutter'.given ≡ cutter.given = ap (λ (c : CutterState). c.given) f.after in

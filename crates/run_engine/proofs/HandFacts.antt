@@ -3,7 +3,6 @@ use Rattle.std.proofs.Common.{◌≡◌, ℕ, Bool, true, false, if◌then◌els
 use Rattle.std.specs.List.{flat_map}
 use Rattle.hand_audit.specs.Streets.{states_in, streets_of}
 use Rattle.hand_audit.specs.declared.streets.StreetState.{StreetState}
-use Rattle.hand_audit.specs.declared.verdicts.AllIn.TheVariants.{None as NoAllIn, Unknown, Known}
 use Rattle.hand_audit.specs.declared.verdicts.HandAudit.TheVariants.{Rejected, Accepted}
 use Rattle.hand_audit.specs.declared.verdicts.HandAudit.{HandAudit}
 use Rattle.hand_cuts.specs.Units.{UnitLines}

@@ -4,6 +4,7 @@ pub mod RunFacts
 pub mod InputPieces
 pub mod AskedUnits
 pub mod CuttingFacts
+pub mod HeldText
 pub mod UnitFacts
 pub mod HandFacts
 pub mod RangeFacts

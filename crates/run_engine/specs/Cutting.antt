@@ -1,9 +1,11 @@
--- How far the bytes that were read are cut into units, and what was read meanwhile.
-use Rattle.std.specs.Prelude.{◌≡◌, ℕ, ◌<◌, ◌≤◌, Bool, false, List, [], ◌∷◌, ◌++◌, length, Option, Some, None, Result, Ok, Err}
+-- How far the bytes that were read are cut into units, what was read meanwhile, and what is held of it.
+use Rattle.std.specs.Prelude.{◌≡◌, ℕ, ◌-◌, ◌<◌, ◌≤◌, Bool, false, List, [], ◌∷◌, ◌++◌, length, take, Option, Some, None, Result, Ok, Err}
 use Rattle.card_sets.specs.declared.Memory.{Memory}
+use Rattle.line_text.specs.Lines.{lines}
+use Rattle.line_text.specs.Laws.{EndsInNewline}
 use Rattle.hand_cuts.specs.Units.{UnitLines, units_in}
 use Rattle.hand_cuts.specs.CutterState.{CutterState}
-use Rattle.hand_cuts.specs.Cutters.{MayFollow, rest, seen}
+use Rattle.hand_cuts.specs.Cutters.{MayFollow, dropped_lines, rest, seen}
 use Rattle.hand_cuts.specs.declared.units.CutKind.{CutKind}
 use Rattle.hand_cuts.specs.declared.units.Unit.{Unit as UnitPlace}
 use Rattle.run_engine.specs.Order.{Comes, with_read}
@@ -28,16 +30,36 @@ pub record Cuts (limit : ℕ) (kind : CutKind) (input : Input) (bytes : List ℕ
 abbrev pub Begins : CutKind → Ending → List ℕ → List UnitLines → Type 0
 Begins kind ending bytes done = (more : List UnitLines) × (units_in kind (is_whole ending) 1 bytes ≡ done ++ more)
 
--- the outcome of one read, for which the cutter took no place: no more may be handed out than before
+-- what counts of one more read where so many bytes were given: of a piece no more than the limit, and nothing of a read that failed
+abbrev pub counted : ℕ → ℕ → Option (List ℕ) → List ℕ
+counted limit given None = []
+counted limit given (Some more) = take (limit - given) more
+
+-- the text of a cutter that is open: what wasn't handed out, and where hands are cut without the lines before the first header line
+pub record IsOpenText (cutter : CutterState) (text : List ℕ) : Type 0 where
+  pub dropped : List ℕ
+  pub split : rest cutter ≡ dropped ++ text
+  pub whole : EndsInNewline dropped
+  pub which : lines dropped ≡ dropped_lines cutter.kind (rest cutter)
+
+-- what is held after one more read: the text that was open, then what counts of the piece that was read, and nothing else
+abbrev pub Holds : ℕ → CutterState → CutterState → Option (List ℕ) → Type 0
+Holds limit before after read =
+    (text : List ℕ) × IsOpenText before text × (after.held ≡ text ++ counted limit before.given read) × (after.at ≡ 0)
+
+-- the outcome of one read, for which the cutter took no place: no more may be handed out than before. What is held is the open text
+-- and the piece; after a read that failed, and out of memory, the open text alone
 abbrev pub ReadsOne : {S : Type 0} → (S → S → Option (List ℕ) → Type 0) → ℕ → S → S → CutKind → CutterState → CutterState →
     List ℕ → List UnitLines → Result Ending Memory → Type 0
 ReadsOne reads limit old new kind before after bytes done (Ok ending) =
     (read : Option (List ℕ)) × reads old new read × Comes limit bytes read ending
     × Cuts limit kind (record { cutter = after; ending = ending }) (with_read limit bytes read) done
     × (left_over limit (record { cutter = after; ending = ending }) ≤ left_over limit (record { cutter = before; ending = Open }))
+    × Holds limit before after read
 ReadsOne reads limit old new kind before after bytes done (Err _) =
     (read : Option (List ℕ)) × (ending : Ending) × reads old new read × Comes limit bytes read ending
     × Begins kind ending (with_read limit bytes read) done
+    × Holds limit before after None
 
 -- some reads, one after the other, each at a moment when no more units were closed than these, and what counts behind them
 abbrev pub ReadsOn : {S : Type 0} → (S → S → Option (List ℕ) → Type 0) → ℕ → CutKind → List UnitLines → S → Ending → List ℕ →

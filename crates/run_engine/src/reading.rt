@@ -1,7 +1,8 @@
 //! The reading of the input, piece by piece, as far as its hands or lines are asked for.
 
-ghost use Rattle.std.specs.Prelude.{◌≡◌, ◌≤◌, ◌<◌, ℕ, List, IfOk, false};
+ghost use Rattle.std.specs.Prelude.{◌≡◌, ◌-◌, ◌≤◌, ◌<◌, ℕ, List, [], IfOk, false};
 ghost use Rattle.hand_cuts.specs.Units.{UnitLines};
+ghost use Rattle.hand_cuts.specs.Cutters.{Forgets, units_left};
 ghost use Rattle.hand_cuts.specs.declared.units.CutKind.{CutKind};
 ghost use Rattle.run_engine.specs.Cutting.{Cuts, PullsOne, ReadsOne};
 ghost use Rattle.run_engine.specs.declared.reading.Ending.TheVariants.{Open};
@@ -49,9 +50,23 @@ impl Input {
     }
 }
 
-/// Reads one piece, and answers how the reading ended, or that it goes on.
+/// Drops all that isn't open, and answers how many bytes may still be given.
+fn make_room(cutter: &mut Cutter) -> usize
+    ensures forgets { Forgets cutter.old cutter.new }
+    ensures room { result ≡ INPUT_MAX - cutter.new.given }
+    ensures few { cutter.new.given ≤ INPUT_MAX }
+{
+    cutter.forget();
+    INPUT_MAX - cutter.given()
+}
+
+/// Reads one piece, and answers how the reading ended, or that it goes on. What is held then is the text that was open and the piece:
+/// what was handed out is dropped first. After a failed read, and out of memory, it is the open text.
 fn read_piece<S: Source>(source: &mut S, cutter: &mut Cutter) -> Result<Ending, Memory>
-    requires { cutter.old.closed ≡ false }
+    requires open { cutter.old.closed ≡ false }
+
+    // All hands or lines that are closed were handed out.
+    requires none { units_left cutter.old ≡ [] }
     ensures order { (kind : CutKind) (bytes : List ℕ) (done : List UnitLines)
         → Cuts INPUT_MAX kind (record { cutter = cutter.old; ending = Open }) bytes done
         → ReadsOne S.reads INPUT_MAX source.old source.new kind cutter.old cutter.new bytes
@@ -60,6 +75,7 @@ fn read_piece<S: Source>(source: &mut S, cutter: &mut Cutter) -> Result<Ending, 
         → (cutter.old.given < cutter.new.given) × (cutter.new.given ≤ INPUT_MAX)) }
     ensures closed { IfOk result (λ ending. ending ≡ Open → cutter.new.closed ≡ false) }
 {
+    let room = make_room(cutter);
     let mut piece = [0u8; PIECE];
     let Ok(count) = source.read(&mut piece) else {
         return Ok(Ending::Failed);
@@ -68,7 +84,6 @@ fn read_piece<S: Source>(source: &mut S, cutter: &mut Cutter) -> Result<Ending, 
         cutter.close();
         return Ok(Ending::Whole);
     }
-    let room = INPUT_MAX - cutter.given();
     if count > room {
         let Ok(()) = cutter.give(&piece[..room]) else {
             return Err(Memory);
@@ -99,7 +114,6 @@ pub(crate) fn next_unit<S: Source>(
         let Ending::Open = input.ending else {
             return Ok(None);
         };
-        input.cutter.forget();
         match read_piece(source, &mut input.cutter) {
             Ok(ending) => input.ending = ending,
             Err(Memory) => return Err(Memory),

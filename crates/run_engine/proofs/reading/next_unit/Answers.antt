@@ -1,10 +1,17 @@
-use Rattle.std.proofs.Common.{[], ◌∷◌, ◌++◌, refl, arith}
+use Rattle.std.proofs.Common.{[], ◌∷◌, ◌++◌, refl, ap, ◌∙◌, arith}
+use Rattle.hand_cuts.specs.CutterState.{CutterState}
+use Rattle.hand_cuts.specs.Cutters.{units_left}
 use Rattle.hand_cuts.specs.declared.limits.TheConstants.{INPUT_MAX}
 use Rattle.run_engine.specs.Order.{with_read}
 use Rattle.run_engine.proofs.InputPieces.{fewer_left}
-use Rattle.run_engine.proofs.AskedUnits.{given_same, hands_over, less_again}
-use Rattle.run_engine.proofs.CuttingFacts.{all_cut, all_cut_open, cuts_again, reads_one_more}
+use Rattle.run_engine.proofs.AskedUnits.{hands_over, left_open}
+use Rattle.run_engine.proofs.CuttingFacts.{all_cut, all_cut_open, cuts_open, reads_one_more}
 use Rattle.run_engine.proofs.reading.next_unit.Goals as goal
+
+pub read_piece-requires-clause-none : goal.read_piece-requires-clause-none
+read_piece-requires-clause-none g c =
+    let same = c.in_default.ensures.same refl in
+    ap (λ (x : CutterState). units_left x) same ∙ c.in_default.ensures.none.0 refl
 
 pub pieces-init : goal.pieces-init
 pieces-init g c = record {
@@ -14,8 +21,8 @@ pieces-init g c = record {
 
 pub pieces-smaller : goal.pieces-smaller
 pieces-smaller g c =
-    fewer_left c.pieces.input.ending c.in-Ok.ending c.pieces.input.cutter.given c.forget.new.self.given c.read_piece.new.cutter.given c.in-Open.is
-    (given_same c.next_unit.new.self c.pieces.input.cutter c.forget.new.self (c.in_default.ensures.same refl) c.forget.ensures) c.in-Ok.ensures.onward
+    fewer_left c.pieces.input.ending c.in-Ok.ending c.pieces.input.cutter.given c.next_unit.new.self.given c.read_piece.new.cutter.given c.in-Open.is
+    (ap (λ (x : CutterState). x.given) (c.in_default.ensures.same refl)) c.in-Ok.ensures.onward
 
 pub pieces-preserved : goal.pieces-preserved
 pieces-preserved g c = record {
@@ -23,9 +30,8 @@ pieces-preserved g c = record {
   order = λ kind bytes done s.
       let now = c.pieces.invariant.order kind bytes done s in
       let cutter_same = c.in_default.ensures.same refl in
-      let again = cuts_again INPUT_MAX kind c.pieces.input c.next_unit.new.self c.forget.new.self now.1 done now.3 c.in-Open.is cutter_same c.forget.ensures in
-      let less = less_again INPUT_MAX c.pieces.input c.next_unit.new.self c.forget.new.self c.in-Open.is cutter_same c.forget.ensures in
-      let one = c.in-Ok.ensures.order kind now.1 done again in
+      let left = left_open INPUT_MAX c.pieces.input c.next_unit.new.self cutter_same in
+      let one = c.in-Ok.ensures.order kind now.1 done (cuts_open INPUT_MAX kind c.pieces.input c.next_unit.new.self now.1 done now.3 c.in-Open.is cutter_same) in
       let all = all_cut_open INPUT_MAX kind c.pieces.input now.1 done now.3 (c.in_default.ensures.none.0 refl) c.in-Open.is in
       let onward = now.4 in
       let given = one.4 in
@@ -46,8 +52,7 @@ returns-in-Some g c kind bytes done s =
 pub returns-in-Err : goal.returns-in-Err
 returns-in-Err g c kind bytes done s =
     let now = c.pieces.invariant.order kind bytes done s in
-    let again = cuts_again INPUT_MAX kind c.pieces.input c.next_unit.new.self c.forget.new.self now.1 done now.3 c.in-Open.is (c.in_default.ensures.same refl) c.forget.ensures in
-    let one = c.in-Err.ensures.order kind now.1 done again in
+    let one = c.in-Err.ensures.order kind now.1 done (cuts_open INPUT_MAX kind c.pieces.input c.next_unit.new.self now.1 done now.3 c.in-Open.is (c.in_default.ensures.same refl)) in
     let all = all_cut_open INPUT_MAX kind c.pieces.input now.1 done now.3 (c.in_default.ensures.none.0 refl) c.in-Open.is in
     record {
       made = now.0 ++ one.0 ∷ [];
