@@ -20,7 +20,7 @@ use Rattle.card_sets.specs.declared.streets.Street.{Street}
 use Rattle.runout_ranges.specs.Slots.{unseen, slots, counts_of}
 use Rattle.runout_ranges.specs.Ways.{ways}
 use Rattle.report_table.specs.Equities.{IsFull}
-use Rattle.report_table.specs.HandEquities.{Figures, above_line, counted_all_in, every_pot, full_figures, given_to, gross_of, hand_expect, known_all_in, player_lines, player_name, pot_equities, pot_equity, pot_hand_lines, short_line, tally_figures}
+use Rattle.report_table.specs.HandEquities.{Figures, above_line, counted_all_in, full_figures, given_to, gross_of, hand_expect, known_all_in, player_lines, player_name, pot_equities, pot_equity, pot_hand_lines, short_line, tally_figures}
 use Rattle.report_table.specs.Hands.{Seated}
 use Rattle.report_table.specs.Lines.{line_in}
 use Rattle.equity_job.specs.declared.limits.TheConstants.{RUNOUT_MAX}

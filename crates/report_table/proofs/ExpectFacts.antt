@@ -54,7 +54,7 @@ same_sums : {X : Type 0} (f g : X → ℕ) (xs : List X) → ((x : X) → f x �
 same_sums f g [] same = refl
 same_sums f g (x ∷ xs) same = omega (arith, sum_by-cons f x xs, sum_by-cons g x xs, same x, same_sums f g xs same)
 
-sum_swap : {X Y : Type 0} (f : X → Y → ℕ) (xs : List X) (ys : List Y) → sum_by (λ x. sum_by (λ y. f x y) ys) xs ≡ sum_by (λ y. sum_by (λ x. f x y) xs) ys
+pub sum_swap : {X Y : Type 0} (f : X → Y → ℕ) (xs : List X) (ys : List Y) → sum_by (λ x. sum_by (λ y. f x y) ys) xs ≡ sum_by (λ y. sum_by (λ x. f x y) xs) ys
 sum_swap f [] ys = sym (sum_zero ys)
 sum_swap f (x ∷ xs) ys = sum_by-cons (λ x. sum_by (λ y. f x y) ys) x xs ∙ ap (λ later. sum_by (λ y. f x y) ys + later) (sum_swap f xs ys) ∙ sym (sum_plus (λ y. f x y) (λ y. sum_by (λ z. f z y) xs) ys)
     ∙ sym (same_sums (λ y. sum_by (λ z. f z y) (x ∷ xs)) (λ y. f x y + sum_by (λ z. f z y) xs) ys (λ y. sum_by-cons (λ z. f z y) x xs))

@@ -14,4 +14,6 @@ pub mod MadeFacts
 pub mod RunFacts
 pub mod TotalLaws
 pub mod StreetFacts
+pub mod EvenFacts
+pub mod ResultFacts
 pub mod CallerLemmas

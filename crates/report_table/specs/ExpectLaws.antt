@@ -1,12 +1,15 @@
--- What the hands of an all-in could expect of all pots, before anything is rounded.
+-- What the hands of an all-in could expect of all pots, and what they would have got with even luck, before anything is rounded.
 use Rattle.std.specs.Prelude.{◌≡◌, ℕ, ◌*◌, ◌<◌, List, length, All}
 use Rattle.std.specs.List.{sum_by}
 use Rattle.card_sets.specs.declared.games.Side.TheVariants.{Low}
+use Rattle.hand_audit.specs.Nets.{got_by}
 use Rattle.hand_audit.specs.declared.settlement.PotLine.{PotLine}
 use Rattle.showdown_tally.specs.Showdown.{Showdown, eligible_in, winners}
 use Rattle.showdown_tally.specs.Tallies.{runouts_after}
 use Rattle.report_table.specs.HandEquities.{every_pot, full_figures, given_to, gross_of}
+use Rattle.report_table.specs.Results.{contenders, shared_pots}
 use Rattle.report_table.specs.Spots.{every_hand}
+use Rattle.report_table.specs.Totals.{paid_from}
 
 -- what all runouts together give all hands of a deal, of all its pots, in 1/5040 of a unit of money
 abbrev pub given_to_all : List PotLine → Showdown → ℕ
@@ -30,3 +33,14 @@ HasPlayers deal = (k : ℕ) → k < length deal.pots → 0 < length (eligible_in
 abbrev pub HasLows : Showdown → Type 0
 HasLows deal = (k : ℕ) → k < length deal.pots
     → All (λ runout. 0 < length (winners deal k Low runout)) (runouts_after deal.state)
+
+-- what a seat got out of the pots of a deal
+abbrev pub got_of_all : List PotLine → Showdown → ℕ → ℕ
+got_of_all pots deal seat = sum_by (λ k. got_by (paid_from pots k) seat) (every_pot (length deal.pots))
+
+-- what all hands would have got with even luck is, over all runouts, what the contenders got as often as there are runouts
+abbrev pub EvenAddsUp : List PotLine → List ℕ → Showdown → Type 0
+EvenAddsUp pots seats deal =
+    given_to_all (shared_pots (contenders seats deal) pots) deal
+    ≡ sum_by (λ seat. got_of_all pots deal seat) (contenders seats deal)
+    * (5040 * length (runouts_after deal.state))

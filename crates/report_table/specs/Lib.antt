@@ -18,4 +18,5 @@ pub mod Hands
 pub mod HandEquities
 pub mod Totals
 pub mod TotalsSeen
+pub mod Results
 pub mod Streets

@@ -1,6 +1,6 @@
 -- What all hands of a run come to: how many there are, and for each name in each unit in how many of them it plays, in how many
 -- it is in a counted all-in, and what it collected and could expect in those.
-use Rattle.std.specs.Prelude.{ℕ, ◌+◌, ◌==◌, ◌&&◌, not, nat_lt, Bool, true, false, if◌then◌else◌, List, [], ◌∷◌, ◌++◌, length, map, filter, find, position, count_by, sum, take, slice_get, codes, decimal, Option, None}
+use Rattle.std.specs.Prelude.{ℕ, ◌+◌, ◌==◌, ◌&&◌, not, nat_lt, Bool, true, false, if◌then◌else◌, List, [], ◌∷◌, ◌++◌, length, map, filter, position, count_by, sum, take, slice_get, codes, decimal, Option, None}
 use Rattle.std.specs.Bool.{beq}
 use Rattle.std.specs.Int.{bit_at}
 use Rattle.std.specs.List.{flat_map, sum_by}
@@ -13,6 +13,7 @@ use Rattle.hand_audit.specs.declared.verdicts.HandAudit.TheVariants.{Rejected, A
 use Rattle.hand_audit.specs.declared.settlement.Payment.{Payment}
 use Rattle.hand_audit.specs.declared.settlement.PotLine.{PotLine}
 use Rattle.hand_audit.specs.declared.settlement.Settlement.{Settlement}
+use Rattle.hand_audit.specs.Nets.{got_by}
 use Rattle.history_text.specs.Names.{seat_named}
 use Rattle.runout_ranges.specs.Slots.{unseen, slots, counts_of}
 use Rattle.showdown_tally.specs.Deals.{deal_of}
@@ -59,10 +60,6 @@ abbrev pub is_counted : Showdown → Bool
 is_counted deal =
     not (nat_lt (length (unseen deal.state)) (sum (counts_of (slots deal.state))))
     && not (nat_lt RUNOUT_MAX (length (runouts_after deal.state)))
-
--- what a seat got, by payments by rising seat, of which it has at most one
-abbrev pub got_by : List Payment → ℕ → ℕ
-got_by payments seat = option_map_or (λ pay. pay.got) (find (λ pay. pay.seat == seat) payments) 0
 
 -- the payments out of a pot, by its number; a pot that isn't there has none
 abbrev pub paid_from : List PotLine → ℕ → List Payment

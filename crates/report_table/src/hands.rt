@@ -79,7 +79,11 @@ impl Sheet {
     /// The first line of a hand in which no line departs, with its game and its rake, and whether it was
     /// run twice.
     #[tactic(auto, using(crate::proofs::SheetFacts::sheet_steps), unfolding(crate::specs::Hands::accepted_line))]
-    fn accepted_line(&mut self, number: &[u8], settlement: &Settlement) -> Result<(), AllocError>
+    pub(crate) fn accepted_line(
+        &mut self,
+        number: &[u8],
+        settlement: &Settlement,
+    ) -> Result<(), AllocError>
         requires { IsBetweenLines self.old }
         ensures { OnOk result (self.new
             ≡ with_line self.old (accepted_line number.now settlement.now)) }

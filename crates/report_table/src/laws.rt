@@ -5,7 +5,7 @@ ghost use Rattle.card_sets.specs.Games.{has_side};
 ghost use Rattle.card_sets.specs.declared.games.Side.{Side};
 ghost use Rattle.hand_audit.specs.declared.settlement.PotLine.{PotLine};
 ghost use Rattle.showdown_tally.specs.Deals.{deal_of};
-ghost use Rattle.report_table.specs.ExpectLaws.{GivesAll, HasLows, HasPlayers};
+ghost use Rattle.report_table.specs.ExpectLaws.{EvenAddsUp, GivesAll, HasLows, HasPlayers};
 ghost use Rattle.report_table.specs.Lines.{Line};
 ghost use Rattle.report_table.specs.ReadBack.{IsReadBack, HasThirteen};
 ghost use Rattle.report_table.specs.Words.{money};
@@ -48,4 +48,18 @@ pub fn law_expectations_add_up_to_the_pots(table: &Table)
 {
     ten_hands(&table.known);
     law_pots_are_given_out();
+}
+
+/// A law: what the contenders of a counted all-in would have got with even luck adds up, before anything is
+/// rounded, to what they got out of the pots: luck moves units between them alone. It is so where each pot has
+/// a hand that may win it, or, in a game with a low alone, where somebody wins each.
+pub fn law_even_luck_adds_up_to_what_was_got(table: &Table)
+    ensures high { (pots : List PotLine) (seats : List ℕ)
+        → has_side Side.High table.now.known.game ≡ true → HasPlayers (deal_of table.now)
+        → EvenAddsUp pots seats (deal_of table.now) }
+    ensures low { (pots : List PotLine) (seats : List ℕ)
+        → has_side Side.High table.now.known.game ≡ false → HasLows (deal_of table.now)
+        → EvenAddsUp pots seats (deal_of table.now) }
+{
+    law_expectations_add_up_to_the_pots(table);
 }

@@ -1,6 +1,6 @@
 //! The blocks of the report: what is printed of a spot and of a hand, and of all hands of a run together.
 //!
-//! `write_spot`, `write_hand`, `write_street` and `Totals::write` each append one block to the bytes that they are lent:
+//! `write_spot`, `write_hand`, `write_street`, `write_results` and `Totals::write` each append one block to the bytes that they are lent:
 //! all of it, or, for want of memory, nothing. The crate knows of no input and of no output, and it counts
 //! nothing: equities come with what it is to write.
 //!
@@ -20,6 +20,7 @@
 mod alone;
 mod causes;
 mod equity;
+mod even_luck;
 mod hand_blocks;
 mod hand_equities;
 mod hands;
@@ -29,6 +30,7 @@ mod numbers;
 mod player_rows;
 mod player_sums;
 mod players;
+mod results;
 mod sheet;
 mod spot_blocks;
 mod spots;
@@ -42,9 +44,11 @@ pub use alone::table_alone;
 pub use equity::{Equity, Form};
 pub use hand_blocks::write_hand;
 pub use laws::{
-    law_a_record_is_read_back, law_expectations_add_up_to_the_pots, law_money_is_written_whole,
+    law_a_record_is_read_back, law_even_luck_adds_up_to_what_was_got,
+    law_expectations_add_up_to_the_pots, law_money_is_written_whole,
 };
 pub use made_sums::{AllInSums, MadeSums};
+pub use results::write_results;
 pub use sheet::Sheet;
 pub use spot_blocks::write_spot;
 pub use streets::{has_counted, write_street};

@@ -1,6 +1,7 @@
 //! The numbers of the report, each as one word.
 
-ghost use Rattle.std.specs.Prelude.{◌≡◌, ◌*◌, ◌<◌, ◌≤◌, ◌^◌, [], ◌∷◌, OnOk, decimal};
+ghost use Rattle.std.specs.Prelude.{◌≡◌, ◌*◌, ◌<◌, ◌≤◌, ◌^◌, [], ◌∷◌, ◌++◌, OnOk, codes, decimal};
+ghost use Rattle.report_table.specs.Results.{difference};
 ghost use Rattle.report_table.specs.Sheets.{with_words};
 ghost use Rattle.report_table.specs.Spots.{expected, percent, share};
 ghost use Rattle.report_table.specs.Words.{money};
@@ -60,6 +61,39 @@ impl Sheet {
         }
         .write(&mut text);
         self.word(&text[..end])
+    }
+
+    /// An amount below 0, by how much it is below.
+    #[tactic(auto, unfolding(crate::specs::Words::money))]
+    fn below_zero(&mut self, hundredths: bool, units: u128) -> Result<(), AllocError>
+        ensures { OnOk result (self.new
+            ≡ with_words self.old ((codes "-" ++ money hundredths units) ∷ [])) }
+    {
+        let places = if hundredths { 2 } else { 0 };
+        let mut text = [b'-'; LONGEST_TEXT + 1];
+        let end = Fixed {
+            whole: units,
+            places,
+        }
+        .write(&mut text[1..]);
+        self.word(&text[..=end])
+    }
+
+    /// An amount less another, with a sign before it where that is below 0.
+    #[tactic(auto, unfolding(crate::specs::Results::difference))]
+    pub(crate) fn difference(
+        &mut self,
+        hundredths: bool,
+        amount: u128,
+        less: u128,
+    ) -> Result<(), AllocError>
+        ensures { OnOk result (self.new
+            ≡ with_words self.old (difference hundredths amount less ∷ [])) }
+    {
+        if amount < less {
+            return self.below_zero(hundredths, less - amount);
+        }
+        self.money(hundredths, amount - less)
     }
 
     /// So many of all runouts, in percent with two decimal places.

@@ -2,8 +2,9 @@
 
 ghost use Rattle.std.specs.Prelude.{◌≡◌, ◌+◌, ◌<◌, ◌≤◌, ◌^◌, ◌==◌, IfSome, find, length, position, true};
 ghost use Rattle.std.specs.Option.{option_copied};
+ghost use Rattle.hand_audit.specs.Nets.{got_by};
 ghost use Rattle.report_table.specs.Equities.{IsEquityOf, IsFull, IsOfAllIn, is_asked};
-ghost use Rattle.report_table.specs.Totals.{collected_by, got_by, hand_alone, hand_all_in, hand_at, known_sums, paid_from, seat_sums};
+ghost use Rattle.report_table.specs.Totals.{collected_by, hand_alone, hand_all_in, hand_at, known_sums, paid_from, seat_sums};
 ghost use Rattle.report_table.specs.TotalsSeen.{AreOfHands, plus};
 ghost use Rattle.showdown_tally.specs.Deals.{deal_of};
 
@@ -66,7 +67,7 @@ fn payment_of(payments: &[Payment], seat: u8) -> Option<&Payment>
 }
 
 /// What a seat got, by payments of which it has at most one.
-fn got_by(payments: &[Payment], seat: u8) -> u64
+pub(crate) fn got_by(payments: &[Payment], seat: u8) -> u64
     ensures { result ≡ got_by payments.now seat }
 {
     match payment_of(payments, seat) {
@@ -76,7 +77,7 @@ fn got_by(payments: &[Payment], seat: u8) -> u64
 }
 
 /// What a seat got out of a pot; nothing where the pot isn't there.
-fn got_from(pots: &[PotLine], k: u8, seat: u8) -> u64
+pub(crate) fn got_from(pots: &[PotLine], k: u8, seat: u8) -> u64
     ensures { result ≡ got_by (paid_from pots.now k) seat }
 {
     match pots.get(usize::from(k)) {

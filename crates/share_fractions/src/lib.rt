@@ -78,7 +78,7 @@ fn last_digit(number: u128) -> u8
 pub fn rounded(numerator: u128, denominator: u128, places: u32) -> Fixed
     // There is a denominator, and the sum that is divided fits 128 bits.
     requires some { 0 < denominator }
-    requires small { numerator ≤ 2 * 10 ^ 32 }
+    requires small { numerator ≤ 10 ^ 34 }
     requires small_too { denominator ≤ 10 ^ 32 }
     requires few { places ≤ 4 }
 

@@ -1,0 +1,11 @@
+use Rattle.std.proofs.Common.{◌≡◌, ◌*◌, ◌≤◌, ◌^◌, take}
+use Rattle.std.specs.List.{sum_by}
+use Rattle.hand_audit.specs.Nets.{got_by}
+use Rattle.report_table.specs.Totals.{paid_from}
+use Rattle.report_table.proofs.even_luck.got_together.Given as goal
+
+abbrev pub invariant-loop-seat : goal.invariant-loop-seat
+invariant-loop-seat l = record {
+  few : l.got ≤ l.seat-index * 2 ^ 64;
+  so_far : l.got ≡ sum_by (λ seat. got_by (paid_from l.pots l.k) seat) (take l.seat-index l.seats);
+}
