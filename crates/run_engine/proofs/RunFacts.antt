@@ -8,7 +8,7 @@ use Rattle.hand_cuts.specs.Units.{units_in}
 use Rattle.hand_cuts.proofs.CallerLemmas.{closed_units_stay}
 use Rattle.run_engine.specs.declared.command.Command.{Command}
 use Rattle.run_engine.specs.declared.command.Mode.{Mode}
-use Rattle.run_engine.specs.declared.command.Mode.TheVariants.{Spots, Ranges, Check, Audit, Streets, Totals, Made}
+use Rattle.run_engine.specs.declared.command.Mode.TheVariants.{Spots, Ranges, Check, Audit, Streets, Results, Totals, Made}
 use Rattle.run_engine.specs.declared.listed.Holding.TheVariants as held
 use Rattle.run_engine.specs.declared.listed.Told.TheVariants.{Verdict, AllIn, LaterStreets}
 use Rattle.run_engine.specs.declared.listed.Listed.{Listed}
@@ -35,6 +35,7 @@ listed_of Ranges has = (each.Spots held.Ranges, refl)
 listed_of Check has = (each.Hands Verdict, refl)
 listed_of Audit has = (each.Hands AllIn, refl)
 listed_of Streets has = (each.Hands LaterStreets, refl)
+listed_of Results has = (each.Results, refl)
 listed_of Totals has = absurd (true≢false (sym has))
 listed_of Made has = absurd (true≢false (sym has))
 
@@ -102,6 +103,7 @@ made_mode Ranges none = absurd (true≢false none)
 made_mode Check none = absurd (true≢false none)
 made_mode Audit none = absurd (true≢false none)
 made_mode Streets none = absurd (true≢false none)
+made_mode Results none = absurd (true≢false none)
 made_mode Totals none = absurd (true≢false none)
 made_mode Made none = refl
 

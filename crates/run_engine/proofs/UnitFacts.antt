@@ -10,7 +10,7 @@ use Rattle.line_text.specs.Lines.{lines, closed as closed_lines}
 use Rattle.report_table.specs.declared.equity.Form.{Form}
 use Rattle.run_engine.specs.Closed.{closed}
 use Rattle.run_engine.specs.Command.{reads_input}
-use Rattle.run_engine.specs.Histories.{hand_block, is_rejected_hand}
+use Rattle.run_engine.specs.Histories.{hand_block, hand_results, is_rejected_hand}
 use Rattle.run_engine.specs.Laws.{has_blocks}
 use Rattle.run_engine.specs.Reading.{reported}
 use Rattle.run_engine.specs.Report.{blocks_in, is_rejected_spot, line_block, rejects_in, spots_from}
@@ -25,7 +25,7 @@ use Rattle.run_engine.specs.declared.listed.Holding.TheVariants.{Cards, Ranges}
 use Rattle.run_engine.specs.declared.listed.Told.{Told}
 use Rattle.run_engine.specs.declared.listed.Told.TheVariants.{Verdict, AllIn, LaterStreets}
 use Rattle.run_engine.specs.declared.listed.Listed.{Listed}
-use Rattle.run_engine.specs.declared.listed.Listed.TheVariants.{Spots, Hands}
+use Rattle.run_engine.specs.declared.listed.Listed.TheVariants.{Spots, Hands, Results}
 use Rattle.run_engine.specs.declared.reading.Ending.{Ending}
 use Rattle.run_engine.specs.declared.reading.Ending.TheVariants.{Whole, Failed, TooLong, Open}
 use Rattle.spot_text.specs.Words.{is_blank}
@@ -77,6 +77,17 @@ hands_units : (form : Form) (told : Told) (place : ℕ) (us : List UnitLines) �
 hands_units form told place [] = refl
 hands_units form told place (u ∷ us) = ap (λ bs. hand_block form told u ∷ bs) (hands_units form told (place + 1) us)
 
+results_units : (form : Form) (place : ℕ) (us : List UnitLines) → unit_blocks form Results place us ≡ map (hand_results form) us
+results_units form place [] = refl
+results_units form place (u ∷ us) = ap (λ bs. hand_results form u ∷ bs) (results_units form (place + 1) us)
+
+rejected_results : (us : List UnitLines) → rejected_units Results us ≡ count_by is_rejected_hand us
+rejected_results [] = refl
+rejected_results (u ∷ us) =
+    sum_by-cons (λ v. cond (is_rejected_unit Results v) 1 0) u us
+    ∙ ap (λ n. cond (is_rejected_hand u) 1 0 + n) (rejected_results us)
+    ∙ sym (sum_by-cons (λ x. cond (is_rejected_hand x) 1 0) u us)
+
 rejected_all : (told : Told) (us : List UnitLines) → rejected_units (Hands told) us ≡ count_by is_rejected_hand us
 rejected_all told [] = refl
 rejected_all told (u ∷ us) =
@@ -123,6 +134,9 @@ blocks_by_units asked mode.Audit listed ending bytes e =
 blocks_by_units asked mode.Streets listed ending bytes e =
     subst (λ (l : Listed). blocks_in mode.Streets asked (reported mode.Streets ending bytes) ≡ unit_blocks asked.form l 1 (units_in (listed_kind l) (is_whole ending) 1 bytes)) (some_same (Hands LaterStreets) listed e)
     (sym (ap (unit_blocks asked.form (Hands LaterStreets) 1) (hands_reported mode.Streets ending bytes refl) ∙ hands_units asked.form LaterStreets 1 (hands_from 1 (lines (reported mode.Streets ending bytes)))))
+blocks_by_units asked mode.Results listed ending bytes e =
+    subst (λ (l : Listed). blocks_in mode.Results asked (reported mode.Results ending bytes) ≡ unit_blocks asked.form l 1 (units_in (listed_kind l) (is_whole ending) 1 bytes)) (some_same Results listed e)
+    (sym (ap (unit_blocks asked.form Results 1) (hands_reported mode.Results ending bytes refl) ∙ results_units asked.form 1 (hands_from 1 (lines (reported mode.Results ending bytes)))))
 blocks_by_units asked mode.Totals listed ending bytes e = none_some listed e
 blocks_by_units asked mode.Made listed ending bytes e = none_some listed e
 
@@ -143,6 +157,9 @@ rejects_by_units asked mode.Audit listed ending bytes e =
 rejects_by_units asked mode.Streets listed ending bytes e =
     subst (λ (l : Listed). rejects_in mode.Streets asked (reported mode.Streets ending bytes) ≡ rejected_units l (units_in (listed_kind l) (is_whole ending) 1 bytes)) (some_same (Hands LaterStreets) listed e)
     (sym (ap (rejected_units (Hands LaterStreets)) (hands_reported mode.Streets ending bytes refl) ∙ rejected_all LaterStreets (hands_from 1 (lines (reported mode.Streets ending bytes)))))
+rejects_by_units asked mode.Results listed ending bytes e =
+    subst (λ (l : Listed). rejects_in mode.Results asked (reported mode.Results ending bytes) ≡ rejected_units l (units_in (listed_kind l) (is_whole ending) 1 bytes)) (some_same Results listed e)
+    (sym (ap (rejected_units Results) (hands_reported mode.Results ending bytes refl) ∙ rejected_results (hands_from 1 (lines (reported mode.Results ending bytes)))))
 rejects_by_units asked mode.Totals listed ending bytes e = none_some listed e
 rejects_by_units asked mode.Made listed ending bytes e = none_some listed e
 
@@ -153,6 +170,7 @@ listed_blocks mode.Ranges listed e = refl
 listed_blocks mode.Check listed e = refl
 listed_blocks mode.Audit listed e = refl
 listed_blocks mode.Streets listed e = refl
+listed_blocks mode.Results listed e = refl
 listed_blocks mode.Totals listed e = none_some listed e
 listed_blocks mode.Made listed e = none_some listed e
 
@@ -162,6 +180,7 @@ listed_unit_kind mode.Ranges listed e = ap listed_kind (some_same (Spots Ranges)
 listed_unit_kind mode.Check listed e = ap listed_kind (some_same (Hands Verdict) listed e)
 listed_unit_kind mode.Audit listed e = ap listed_kind (some_same (Hands AllIn) listed e)
 listed_unit_kind mode.Streets listed e = ap listed_kind (some_same (Hands LaterStreets) listed e)
+listed_unit_kind mode.Results listed e = ap listed_kind (some_same Results listed e)
 listed_unit_kind mode.Totals listed e = none_some listed e
 listed_unit_kind mode.Made listed e = none_some listed e
 
@@ -172,5 +191,6 @@ only_totals mode.Ranges some none = absurd (cc)
 only_totals mode.Check some none = absurd (cc)
 only_totals mode.Audit some none = absurd (cc)
 only_totals mode.Streets some none = absurd (cc)
+only_totals mode.Results some none = absurd (cc)
 only_totals mode.Totals some none = refl
 only_totals mode.Made some none = absurd (cc)

@@ -3,12 +3,14 @@ use Rattle.std.specs.Prelude.{◌≡◌, ℕ, Bool, true, false, List, [], ◌�
 use Rattle.std.specs.List.{slice_range}
 use Rattle.hand_cuts.specs.Units.{UnitLines}
 use Rattle.history_text.specs.Headers.{hand_number}
+use Rattle.hand_audit.specs.SeatChips.{chips_of}
 use Rattle.hand_audit.specs.Streets.{states_in, streets_of}
 use Rattle.hand_audit.specs.declared.streets.StreetState.{StreetState}
 use Rattle.hand_audit.specs.Verdict.{audit_of}
 use Rattle.hand_audit.specs.declared.verdicts.HandAudit.{HandAudit}
 use Rattle.hand_audit.specs.declared.verdicts.HandAudit.TheVariants.{Rejected, Accepted}
 use Rattle.report_table.specs.HandEquities.{hand_block as audit_block}
+use Rattle.report_table.specs.Results.{results_block}
 use Rattle.report_table.specs.Streets.{street_blocks}
 use Rattle.report_table.specs.declared.equity.Form.{Form}
 use Rattle.run_engine.specs.declared.listed.Told.{Told}
@@ -51,6 +53,16 @@ block_by form told hand (Some audit) =
 -- the block of a hand in a form; given is how much of it is told
 unfoldable pub hand_block : Form → Told → UnitLines → List ℕ
 hand_block form told hand = block_by form told hand (verdict_of hand)
+
+-- the results of a hand, by its verdict
+abbrev pub results_by : Form → UnitLines → Option HandAudit → List ℕ
+results_by form hand None = []
+results_by form hand (Some audit) =
+    results_block form (number_text hand.lines) audit (chips_of audit hand.lines)
+
+-- the results of a hand in a form: what each player had, put in, got and netted
+unfoldable pub hand_results : Form → UnitLines → List ℕ
+hand_results form hand = results_by form hand (verdict_of hand)
 
 -- whether a line of the hand departs from the rules
 abbrev pub is_rejection : HandAudit → Bool

@@ -4,7 +4,7 @@ use Rattle.hand_cuts.specs.Units.{UnitLines}
 use Rattle.hand_cuts.specs.declared.units.CutKind.{CutKind}
 use Rattle.hand_cuts.specs.declared.units.CutKind.TheVariants as cut
 use Rattle.report_table.specs.declared.equity.Form.{Form}
-use Rattle.run_engine.specs.Histories.{hand_block, is_rejected_hand}
+use Rattle.run_engine.specs.Histories.{hand_block, hand_results, is_rejected_hand}
 use Rattle.run_engine.specs.Report.{is_rejected_spot, line_block}
 use Rattle.run_engine.specs.declared.command.Mode.{Mode}
 use Rattle.run_engine.specs.declared.command.Mode.TheVariants.{Check, Audit, Streets, Totals, Made}
@@ -13,7 +13,7 @@ use Rattle.run_engine.specs.declared.listed.Holding.{Holding}
 use Rattle.run_engine.specs.declared.listed.Holding.TheVariants.{Cards, Ranges}
 use Rattle.run_engine.specs.declared.listed.Told.TheVariants.{Verdict, AllIn, LaterStreets}
 use Rattle.run_engine.specs.declared.listed.Listed.{Listed}
-use Rattle.run_engine.specs.declared.listed.Listed.TheVariants.{Spots, Hands}
+use Rattle.run_engine.specs.declared.listed.Listed.TheVariants.{Spots, Hands, Results}
 use Rattle.spot_text.specs.Words.{is_blank}
 
 -- what has a block each in the report of a mode
@@ -23,6 +23,7 @@ listed_in mode.Ranges = Some (Spots Ranges)
 listed_in Check = Some (Hands Verdict)
 listed_in Audit = Some (Hands AllIn)
 listed_in Streets = Some (Hands LaterStreets)
+listed_in mode.Results = Some Results
 listed_in Totals = None
 listed_in Made = None
 
@@ -30,6 +31,7 @@ listed_in Made = None
 abbrev pub listed_kind : Listed → CutKind
 listed_kind (Spots holding) = cut.Lines
 listed_kind (Hands told) = cut.Hands
+listed_kind Results = cut.Hands
 
 -- the block of a line, the first of some; a line with no word has none
 abbrev pub first_block : Form → Holding → ℕ → ℕ → List (List ℕ) → Option (List ℕ)
@@ -45,10 +47,12 @@ is_rejected_first holding (line ∷ later) = is_rejected_spot holding line
 abbrev pub unit_block : Form → Listed → ℕ → UnitLines → Option (List ℕ)
 unit_block form (Spots holding) place unit = first_block form holding place unit.first unit.lines
 unit_block form (Hands told) place unit = Some (hand_block form told unit)
+unit_block form Results place unit = Some (hand_results form unit)
 
 abbrev pub is_rejected_unit : Listed → UnitLines → Bool
 is_rejected_unit (Spots holding) unit = is_rejected_first holding unit.lines
 is_rejected_unit (Hands told) unit = is_rejected_hand unit
+is_rejected_unit Results unit = is_rejected_hand unit
 
 -- the place behind a unit by its block, and the block in front of others
 abbrev pub place_behind : ℕ → Option (List ℕ) → ℕ

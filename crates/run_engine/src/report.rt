@@ -13,7 +13,7 @@ ghost use Rattle.run_engine.specs.declared.reading.Ending.TheVariants.{Open};
 
 use crate::command::Command;
 use crate::counter::{Counter, Desk};
-use crate::hands::write_lines;
+use crate::hands::{write_lines, write_result_lines};
 use crate::listed::{Listed, Numbers, listed_in};
 use crate::reading::{Input, next_unit};
 use crate::spots::write_spot_line;
@@ -49,6 +49,10 @@ fn write_unit<C: Counter>(
         }
         Listed::Hands { told } => {
             let rejected = write_lines(alloc, form, told, bytes, numbers.line, desk, block)?;
+            Ok(Some(rejected))
+        }
+        Listed::Results => {
+            let rejected = write_result_lines(alloc, form, bytes, numbers.line, desk, block)?;
             Ok(Some(rejected))
         }
     }
