@@ -4,6 +4,7 @@ use Rattle.std.specs.BTreeMap.{BTreeMap, get}
 use Rattle.std.specs.Int.{bit_at}
 use Rattle.std.specs.List.{AllByRecursion, list_any}
 use Rattle.std.specs.Option.{option_map_or}
+use Rattle.std.specs.Rc.{rc_slice_items}
 use Rattle.std.specs.Str.{bytes_eq}
 use Rattle.std.specs.declared.cmp.Ordering.{Ordering}
 use Rattle.history_text.specs.Names.{seat_named}
@@ -16,7 +17,7 @@ use Rattle.report_table.specs.contracts.player_rows.PlayerKeyOrd.TheImpl as key_
 
 -- a name with its unit
 abbrev pub player_of : PlayerKey → Player
-player_of key = record { hundredths = key.hundredths; name = key.name.items }
+player_of key = record { hundredths = key.hundredths; name = rc_slice_items key.name }
 
 -- the players with their sums
 abbrev pub seen_rows : List PlayerRow → List (Player × PlayerSums)

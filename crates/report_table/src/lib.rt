@@ -5,7 +5,8 @@
 //! nothing: equities come with what it is to write.
 //!
 //! 1. *A block is whole or not there.* It is put together in a `Sheet` of its own, word by word, and appended
-//!    when it is whole.
+//!    when it is whole. The lines of the totals are appended one by one, and taken back when out of memory, so
+//!    that they are held once.
 //! 2. *Both forms are one.* Words end as a line of text or as a record, in three methods of `Sheet`, so that
 //!    no line is written twice in the code.
 //! 3. *A number is rounded once.* What a hand may expect is added up in 1/5040 of a unit over all pots, and

@@ -14,24 +14,25 @@ use crate::player_sums::PlayerSums;
 use std::alloc::{AllocError, Global};
 use std::collections::BTreeMap;
 use std::marker::Model;
+use std::rc::RcSlice;
 
 /// A name, and the unit of the hands that it is summed over: hundredths, or else chips.
 #[derive(PartialEq, Eq, PartialOrd, Ord, Drop)]
 pub(crate) struct PlayerKey {
     /// Whether the money of the hands has hundredths.
     pub(crate) hundredths: bool,
-    /// The name's bytes.
-    pub(crate) name: Vec<u8>,
+    /// The name's bytes, which copies of the key share.
+    pub(crate) name: RcSlice<u8>,
 }
 
 impl PlayerKey {
-    /// The same key once more.
-    fn copy(&self, alloc: Global) -> Result<PlayerKey, AllocError>
+    /// The same key once more. Its name is not stored again.
+    fn copy(&self) -> Result<PlayerKey, AllocError>
         ensures { IfOk result (λ key. player_of key ≡ player_of self.now) }
     {
         Ok(PlayerKey {
             hundredths: self.hundredths,
-            name: self.name.as_slice().to_vec(alloc)?,
+            name: self.name.clone()?,
         })
     }
 }
@@ -122,7 +123,7 @@ impl Players {
         ensures memory { OnErr result (self.new ≡ self.old) }
     {
         let place = self.rows.len();
-        let other = key.copy(*self.rows.allocator())?;
+        let other = key.copy()?;
         self.rows.push(PlayerRow {
             key,
             sums: PlayerSums::NONE,

@@ -14,12 +14,13 @@ use card_sets::{Memory, PlayerSet};
 use hand_audit::{AllIn, Settlement};
 use history_text::Names;
 use std::alloc::{AllocError, Global};
+use std::rc::RcSlice;
 
 /// The key of a name in a unit.
 fn key_of(alloc: Global, hundredths: bool, name: &[u8]) -> Result<PlayerKey, AllocError>
     ensures { IfOk result (λ key. player_of key ≡ named_player hundredths name.now) }
 {
-    let name = name.to_vec(alloc)?;
+    let name = RcSlice::from_slice(alloc, name)?;
     Ok(PlayerKey { hundredths, name })
 }
 

@@ -1,11 +1,13 @@
 //! The lines of the totals. Each method appends whole lines, but for those that add words to one.
 
-ghost use Rattle.std.specs.Prelude.{◌≡◌, ◌+◌, ◌^◌, ◌≤◌, OnOk};
-ghost use Rattle.report_table.specs.Sheets.{IsBetweenLines, with_line, with_lines, with_words};
+ghost use Rattle.std.specs.Prelude.{◌≡◌, ◌+◌, ◌^◌, ◌≤◌, ◌++◌, length, take, OnOk, OnErr};
+ghost use Rattle.report_table.specs.Lines.{line_in};
+ghost use Rattle.report_table.specs.Sheets.{IsBetweenLines, with_line, with_words};
 ghost use Rattle.report_table.specs.Totals.{player_lines, total_line, total_title, totals_line, unit_word};
 ghost use Rattle.report_table.specs.TotalsSeen.{player_of};
 
-use crate::player_rows::{PlayerKey, Players};
+use crate::equity::Form;
+use crate::player_rows::{PlayerKey, PlayerRow, Players};
 use crate::player_sums::PlayerSums;
 use crate::sheet::Sheet;
 use std::alloc::AllocError;
@@ -63,18 +65,35 @@ impl Sheet {
         self.money(key.hundredths, sums.expected)?;
         self.end_with(key.name.as_slice())
     }
+}
 
-    /// The lines of all players.
-    pub(crate) fn player_lines(&mut self, players: &Players) -> Result<(), AllocError>
-        requires { IsBetweenLines self.old }
-        ensures { OnOk result (self.new
-            ≡ with_lines self.old (player_lines self.old.form players.now)) }
-    {
-        for place in 0..players.len() {
-            if let Some(row) = players.at(place) {
-                self.total_line(&row.key, &row.sums)?;
-            }
+/// Appends the line of a player. Out of memory leaves `out` as it was.
+fn write_player(out: &mut Vec<u8>, row: &PlayerRow, form: Form) -> Result<(), AllocError>
+    ensures line { OnOk result (out.new.items
+        ≡ out.old.items ++ line_in form (total_line (player_of row.now.key) row.now.sums)) }
+    ensures memory { OnErr result (out.new.items ≡ out.old.items) }
+{
+    let mut sheet = Sheet::new(*out.allocator(), form);
+    sheet.total_line(&row.key, &row.sums)?;
+    out.extend_from_slice(sheet.bytes())?;
+    Ok(())
+}
+
+/// Appends the lines of all players, one by one, so that no other place holds them too. Out of memory leaves
+/// what stood in `out`, and may leave some first lines.
+pub(crate) fn write_players(
+    out: &mut Vec<u8>,
+    players: &Players,
+    form: Form,
+) -> Result<(), AllocError>
+    ensures lines { OnOk result (out.new.items
+        ≡ out.old.items ++ player_lines form players.now) }
+    ensures kept { take (length out.old.items) out.new.items ≡ out.old.items }
+{
+    for place in 0..players.len() {
+        if let Some(row) = players.at(place) {
+            write_player(out, row, form)?;
         }
-        Ok(())
     }
+    Ok(())
 }

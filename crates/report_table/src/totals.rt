@@ -1,6 +1,6 @@
 //! What all hands of a run come to.
 
-ghost use Rattle.std.specs.Prelude.{◌≡◌, ℕ, ◌<◌, ◌^◌, List, [], ◌∷◌, ◌++◌, true, OnOk, OnErr};
+ghost use Rattle.std.specs.Prelude.{◌≡◌, ℕ, ◌<◌, ◌^◌, List, [], ◌∷◌, ◌++◌, true, length, take, OnOk, OnErr};
 ghost use Rattle.hand_audit.specs.declared.verdicts.HandAudit.{HandAudit};
 ghost use Rattle.report_table.specs.Equities.{IsOfHand, is_asked};
 ghost use Rattle.report_table.specs.Totals.{run_block, totals_of};
@@ -9,9 +9,10 @@ use crate::equity::{Equity, Form};
 use crate::player_rows::Players;
 use crate::players::{Lineup, add_players, add_sums};
 use crate::sheet::Sheet;
+use crate::total_lines::write_players;
 use card_sets::Memory;
 use hand_audit::HandAudit;
-use std::alloc::Global;
+use std::alloc::{AllocError, Global};
 use std::marker::Model;
 
 /// What all hands of a run come to: how many there are, and the sums of each name in each unit, in the
@@ -108,17 +109,31 @@ impl Totals {
         Ok(())
     }
 
+    /// The same as `write`, and out of memory may leave some first lines.
+    #[tactic(auto, unfolding(crate::specs::Totals::run_block))]
+    fn write_lines(&self, out: &mut Vec<u8>, form: Form) -> Result<(), AllocError>
+        ensures block { OnOk result (out.new.items ≡ out.old.items ++ run_block form self.now) }
+        ensures kept { take (length out.old.items) out.new.items ≡ out.old.items }
+    {
+        let mut sheet = Sheet::new(*out.allocator(), form);
+        sheet.totals_line(self.accepted, self.rejected)?;
+        out.extend_from_slice(sheet.bytes())?;
+        write_players(out, &self.players, form)
+    }
+
     /// Appends the totals: a line of all hands, and a line for each name in each unit. Want of memory
     /// leaves `out` as it was.
-    #[tactic(auto, unfolding(crate::specs::Totals::run_block))]
     pub fn write(&self, out: &mut Vec<u8>, form: Form) -> Result<(), Memory>
         ensures block { OnOk result (out.new.items ≡ out.old.items ++ run_block form self.now) }
         ensures memory { OnErr result (out.new.items ≡ out.old.items) }
     {
-        let mut sheet = Sheet::new(*out.allocator(), form);
-        sheet.totals_line(self.accepted, self.rejected)?;
-        sheet.player_lines(&self.players)?;
-        out.extend_from_slice(sheet.bytes())?;
-        Ok(())
+        let before = out.len();
+        match self.write_lines(out, form) {
+            Ok(()) => Ok(()),
+            Err(error) => {
+                out.truncate(before);
+                Err(Memory::from(error))
+            }
+        }
     }
 }
