@@ -207,3 +207,79 @@ fn is_won_alone(audit: &Option<HandAudit>) -> bool {
 fn who_folds_behind_the_point_wins_no_pot(rt: HostRuntime) {
     assert!(rt; is_won_alone(&audit(rt.alloc(), FOLDED_BEHIND)));
 }
+
+/// A hand with antes, blinds and dead chips, in which what ann raised comes back to her.
+const RETURNED: &[u8] =
+    b"PokerStars Hand #6: Tournament #5, $1+$0.10 USD Hold'em No Limit - Level I (10/20)
+Table 'x' 6-max Seat #1 is the button
+Seat 1: ann (1000 in chips)
+Seat 2: bob (300 in chips)
+Seat 3: cat (500 in chips)
+Seat 4: dan (80 in chips)
+Seat 6: eve (700 in chips) is sitting out
+ann: posts the ante 5
+bob: posts the ante 5
+cat: posts the ante 5
+dan: posts the ante 5
+bob: posts small blind 10
+cat: posts big blind 20
+dan: posts small & big blinds 30
+*** HOLE CARDS ***
+dan: checks
+ann: raises 100 to 120
+bob: folds
+cat: folds
+dan: folds
+Uncalled bet (100) returned to ann
+ann collected 100 from pot
+*** SUMMARY ***
+Total pot 100 | Rake 0
+";
+
+/// What each seat had and put in, by its number.
+const CHIPS: [[u64; 2]; 7] = [
+    [0, 0],
+    [1000, 25],
+    [300, 15],
+    [500, 25],
+    [80, 35],
+    [0, 0],
+    [700, 0],
+];
+
+/// The verdict on a hand and the chips of its seats.
+fn audit_chips(alloc: Global, bytes: &[u8]) -> Option<AuditedChips> {
+    if !is_hand(bytes) || count_lines(bytes) > 99 {
+        return None;
+    }
+    match audit_with_chips(alloc, bytes, 1) {
+        Ok(both) => Some(both),
+        Err(_) => None,
+    }
+}
+
+/// Whether the seats from one on had and put in so much.
+fn are_chips(chips: &[SeatChips], wanted: &[[u64; 2]]) -> bool {
+    match (chips, wanted) {
+        ([seat, seats @ ..], [[had, put], others @ ..]) => {
+            seat.had == *had && seat.put == *put && are_chips(seats, others)
+        }
+        (_, []) => true,
+        ([], _) => false,
+    }
+}
+
+/// Whether a hand is accepted, and its seats had and put in so much.
+fn has_chips(both: &Option<AuditedChips>, wanted: &[[u64; 2]]) -> bool {
+    match both {
+        Some(both) => {
+            matches!(both.audit, HandAudit::Accepted { .. }) && are_chips(&both.chips, wanted)
+        }
+        None => false,
+    }
+}
+
+#[test]
+fn what_comes_back_was_not_put_in(rt: HostRuntime) {
+    assert!(rt; has_chips(&audit_chips(rt.alloc(), RETURNED), &CHIPS));
+}
