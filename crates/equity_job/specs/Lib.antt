@@ -9,3 +9,4 @@ pub use Rattle.showdown_tally.specs.Cells
 pub use Rattle.showdown_tally.specs.Showdown
 pub mod Jobs
 pub mod Blocks
+pub mod Rooms

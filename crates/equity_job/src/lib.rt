@@ -2,7 +2,7 @@
 //!
 //! A `Job` is a table whose runouts are few enough. To count it is to settle each of its runouts once, and to add them up in
 //! one `Tally`. The runouts stand in blocks of `BLOCK`, in the order of their listing, and `count_block` counts one of them,
-//! so that a job can be counted in parts. `count_job` counts them all. Nothing here takes memory.
+//! so that a job can be counted in parts. `count_job` counts them all. Only [`Scratch::ready`] asks for memory.
 //!
 //! A block is counted in the [`Scratch`] that is lent: by what is lacking a leaf of `runout_walk` is chosen, which says how often
 //! each set of hands wins, and of that the block's tally is made. What the scratch held before makes no difference, and what a
@@ -14,9 +14,11 @@ mod counting;
 mod jobs;
 mod laws;
 mod limits;
+mod scratch;
 
-pub use blocks::{Scratch, count_block, fill_block};
+pub use blocks::{count_block, fill_block};
 pub use counting::{count_blocks, count_job};
 pub use jobs::{Job, JobFault};
 pub use laws::{law_block_sums_add, law_blocks_add_up, law_blocks_are_all};
 pub use limits::{BLOCK, RUNOUT_MAX};
+pub use scratch::Scratch;

@@ -15,9 +15,11 @@ use crate::spot::{Range, RangeSpot};
 use crate::sums::add_count;
 use crate::taken::Taken;
 use crate::tally::{RangeJobFault, RangeTally, four_places, no_tally};
+use card_sets::Memory;
 use equity_job::{Job, RUNOUT_MAX, Scratch, count_job};
 use runout_ranges::count_choices;
 use showdown_tally::Tally;
+use std::alloc::Global;
 
 /// Makes a tally the whole count of a choice.
 fn count_choice(spot: &RangeSpot, taken: &Taken, scratch: &mut Scratch, tally: &mut Tally)
@@ -206,4 +208,19 @@ pub fn count_ranges(spot: &RangeSpot, scratch: &mut Scratch) -> Result<RangeTall
     four_places(&total);
     total.runouts = runouts;
     Ok(total)
+}
+
+/// Asks for the room that [`count_ranges`] uses for a spot and that isn't there: that of boards with one pot where a choice at a time
+/// is counted, and none elsewhere. After `Memory` it may still be counted, and takes longer.
+pub fn ready_for_ranges(
+    spot: &RangeSpot,
+    alloc: Global,
+    scratch: &mut Scratch,
+) -> Result<(), Memory>
+    requires { IsSound (ranges_in spot.now) }
+{
+    if are_few(spot) {
+        return scratch.ready_for_boards(alloc, 1);
+    }
+    Ok(())
 }

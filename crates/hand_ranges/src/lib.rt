@@ -56,7 +56,7 @@ mod weights;
 mod winners;
 
 pub use blocks::write_ranges;
-pub use counts::count_ranges;
+pub use counts::{count_ranges, ready_for_ranges};
 pub use faults::RangeFault;
 pub use item_laws::law_items_name_their_hands;
 pub use laws::{

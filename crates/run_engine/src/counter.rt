@@ -13,7 +13,7 @@ ghost use Rattle.showdown_tally.specs.Tallies.{Counts, runouts_after};
 use card_sets::Memory;
 use equity_job::{Job, Scratch};
 use hand_audit::{AllIn, HandAudit, StreetState};
-use hand_ranges::{RangeJobFault, RangeSpot, RangeTally, count_ranges};
+use hand_ranges::{RangeJobFault, RangeSpot, RangeTally, count_ranges, ready_for_ranges};
 use report_table::Equity;
 use showdown_tally::{Table, Tally};
 use std::alloc::Global;
@@ -39,12 +39,12 @@ pub(crate) trait Counter {
         ensures { IsCountOf (ranges_in spot.now) result };
 }
 
-/// Counts on the thread that asks, in a room that is made for the first count. It takes memory for the marks of
-/// a book alone.
+/// Counts on the thread that asks, in a room that is kept from one count to the next. It takes memory for the marks of
+/// a book, and for the parts of the room that a count uses and that aren't there.
 #[derive(Drop)]
 pub(crate) struct Alone {
     alloc: Global,
-    scratch: Option<Scratch>,
+    scratch: Scratch,
 }
 
 impl Alone {
@@ -52,7 +52,7 @@ impl Alone {
     pub(crate) fn new(alloc: Global) -> Alone {
         Alone {
             alloc,
-            scratch: None,
+            scratch: Scratch::new(),
         }
     }
 
@@ -61,23 +61,8 @@ impl Alone {
         ensures { OnOk result (Counts (deal_of job.now.table)
             (runouts_after (state_of job.now.table.known)) tally.new) }
     {
-        if let Some(scratch) = &mut self.scratch {
-            return count_booked(self.alloc, job, scratch, tally);
-        }
-        self.count_first(job, tally)
-    }
-
-    /// The same where the room is still to be made. It has a frame of its own, so that no other call touches the
-    /// stack through which the room goes, two to three megabytes.
-    #[inline(never)]
-    fn count_first(&mut self, job: &Job, tally: &mut Tally) -> Result<(), Memory>
-        ensures { OnOk result (Counts (deal_of job.now.table)
-            (runouts_after (state_of job.now.table.known)) tally.new) }
-    {
-        let mut scratch = Scratch::new();
-        let counted = count_booked(self.alloc, job, &mut scratch, tally);
-        self.scratch = Some(scratch);
-        counted
+        self.scratch.ready(self.alloc, job)?;
+        count_booked(self.alloc, job, &mut self.scratch, tally)
     }
 }
 
@@ -117,27 +102,14 @@ fn count_named<N: Naming>(
 }
 
 impl Alone {
-    /// Counts a spot with ranges.
+    /// Counts a spot with ranges. Where there is no memory for the room that it uses it is counted without, which takes
+    /// longer.
     pub(crate) fn ranges_here(&mut self, spot: &RangeSpot) -> Result<RangeTally, RangeJobFault>
         requires { IsSound (ranges_in spot.now) }
         ensures { IsCountOf (ranges_in spot.now) result }
     {
-        if let Some(scratch) = &mut self.scratch {
-            return count_ranges(spot, scratch);
-        }
-        self.ranges_first(spot)
-    }
-
-    /// The same where the room is still to be made, with a frame of its own for the same reason.
-    #[inline(never)]
-    fn ranges_first(&mut self, spot: &RangeSpot) -> Result<RangeTally, RangeJobFault>
-        requires { IsSound (ranges_in spot.now) }
-        ensures { IsCountOf (ranges_in spot.now) result }
-    {
-        let mut scratch = Scratch::new();
-        let counted = count_ranges(spot, &mut scratch);
-        self.scratch = Some(scratch);
-        counted
+        let _ = ready_for_ranges(spot, self.alloc, &mut self.scratch);
+        count_ranges(spot, &mut self.scratch)
     }
 }
 

@@ -29,7 +29,7 @@ const BLOCKS_MIN: u32 = 25;
 pub(crate) struct Shared<'a, F> {
     /// Counts a job with so many workers.
     pub(crate) by_workers: F,
-    /// Counts what is counted on this thread. It is lent, since its room is large.
+    /// Counts what is counted on this thread.
     pub(crate) alone: &'a mut Alone,
 }
 
@@ -57,8 +57,8 @@ impl<'a, F: Fn(&Job, u32) -> Result<Tally, Memory>> Counter for Shared<'a, F> {
     }
 }
 
-/// The tally of a job by so many workers, 1 to 16 of them. It has a frame of its own, since the room of each worker
-/// goes through the stack.
+/// The tally of a job by so many workers, 1 to 16 of them. It has a frame of its own, since seats and tallies go through
+/// the stack.
 #[inline(never)]
 pub(crate) fn count_shared<R: Threads + Wait + Sync, G: Gate + Sync>(
     rt: &R,

@@ -1,9 +1,9 @@
 -- Rows and flushes in their places.
-use Rattle.std.proofs.Common.{◌≡◌, ◌+◌, ◌<◌, ◌≤◌, ℕ, zero, suc, List, [], ◌∷◌, ◌++◌, refl, sym, ap, ◌∙◌, arith, true, false, Some, set, subst, inl, inr, take, drop, ◌-◌, get_or, length, ◌⊎◌}
+use Rattle.std.proofs.Common.{◌≡◌, ◌+◌, ◌<◌, ◌≤◌, ℕ, zero, suc, List, [], ◌∷◌, ◌++◌, refl, sym, ap, ◌∙◌, arith, Some, set, subst, inl, inr, take, drop, ◌-◌, get_or, length, ◌⊎◌}
 use Rattle.std.specs.Prelude.{slice_get, replicate}
 use Rattle.std.specs.List.{slice_range}
+use Rattle.std.proofs.Math.Seq.{take-append_seam}
 use Rattle.std.proofs.lemmas.Bool.{cases_eq, cases_lt}
-use mathlib.Core.Bool.{true≢false}
 use Rattle.card_sets.specs.Cards.{IsRising, rank_of}
 use Rattle.showdown_tally.specs.Showdown.{Showdown}
 use Rattle.runout_walk.specs.Bests.{IsBestFlush}
@@ -11,10 +11,9 @@ use Rattle.runout_walk.specs.KeptRows.{IsAway, IsBestAt, IsButAt, IsRowFor}
 use Rattle.runout_walk.specs.SideRows.{AreRanksOf, IsSideRow}
 use Rattle.runout_walk.specs.declared.row.Row.{Row}
 
-pub none_live : (n i : ℕ) → slice_get (replicate n false) i ≡ Some true → ⊥
-none_live zero i e = cc
-none_live (suc n) zero e = let same : false ≡ true = cc in true≢false (sym same)
-none_live (suc n) (suc i) e = none_live n i e
+-- what a vector has after as many elements were written through a slice of all
+pub written : {X : Type 0} (n : ℕ) (new old : List X) → length new ≡ n → take n (new ++ drop (length new) old) ≡ new
+written n new old same = ap (λ k. take k (new ++ drop (length new) old)) (sym same) ∙ take-append_seam new (drop (length new) old)
 
 pub get-other : {X : Type 0} (xs : List X) (i k : ℕ) (v : X) → (k ≡ i → ⊥) → slice_get (set xs i v) k ≡ slice_get xs k
 get-other [] i k v ne = refl

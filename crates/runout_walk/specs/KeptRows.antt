@@ -1,5 +1,5 @@
 -- Rows that are kept, and what flushes change.
-use Rattle.std.specs.Prelude.{◌≡◌, ◌<◌, ◌≤◌, ℕ, zero, suc, ◌+◌, ◌==◌, ◌&&◌, Bool, true, if◌then◌else◌, List, [], ◌∷◌, ◌++◌, length, max, slice_get, slice_index, slice_index_or, count_by, Option, Some, MatchOption, ◌^◌}
+use Rattle.std.specs.Prelude.{◌≡◌, ◌<◌, ◌≤◌, ℕ, zero, suc, ◌+◌, ◌==◌, ◌&&◌, true, if◌then◌else◌, List, [], ◌∷◌, ◌++◌, length, max, slice_get, slice_index, slice_index_or, count_by, Option, Some, MatchOption, ◌^◌}
 use Rattle.card_sets.specs.Cards.{IsRising, rank_of}
 use Rattle.card_sets.specs.Disjoint.{apart}
 use Rattle.card_sets.specs.Games.{has_side}
@@ -45,9 +45,9 @@ pub record IsButAt (was : Row) (place : ℕ) (row : Row) : Type 0 where
 abbrev pub IsAway : ℕ → ℕ → ℕ → Type 0
 IsAway base pots i = (pot : ℕ) → pot < pots → i ≡ base + pot → ⊥
 
--- each row in use is one of the pot that it names
-abbrev pub AreRows : Showdown → List Bool → List Row → Type 0
-AreRows deal live rows = (i : ℕ) (row : Row) → slice_get live i ≡ Some true → slice_get rows i ≡ Some row → IsSideRow deal row.pot row.ranks row.least row.mains row.lows row.tops
+-- each row is one of the pot that it names
+abbrev pub AreRows : Showdown → List Row → Type 0
+AreRows deal rows = (i : ℕ) (row : Row) → slice_get rows i ≡ Some row → IsSideRow deal row.pot row.ranks row.least row.mains row.lows row.tops
 
 -- a row is one of a pot, for these first cards and all cards above them
 pub record IsRowFor (deal : Showdown) (pot : ℕ) (taken : List ℕ) (row : Row) : Type 0 where

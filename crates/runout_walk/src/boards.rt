@@ -18,9 +18,10 @@ use crate::pairs::Pairs;
 use crate::rank_pairs::{count_by_ranks, is_whole, take_steps};
 use crate::rows::Rows;
 use crate::spot::BoardSpot;
-use card_sets::CardSet;
+use card_sets::{CardSet, Memory};
 use runout_ranges::{Receiver, Shape};
 use showdown_tally::Table;
+use std::alloc::Global;
 use std::sync::ledger::Ledger;
 use step_count::Steps;
 
@@ -41,8 +42,8 @@ pub fn are_boards(table: &Table, shape: &Shape) -> bool
     table.known.game.has_board() && 2 <= board_lacks(shape)
 }
 
-/// The room that boards are counted in, about 320 kB. It is made once, and keeps what the next count of the same deal can use; what it
-/// held before makes no other difference.
+/// The room that boards are counted in. It asks for up to 320 kB of the heap, of which rows are written where a count wants them first.
+/// It is made once, and keeps what the next count of the same deal can use; what it held before makes no other difference.
 #[derive(Drop)]
 pub struct Boards {
     /// The table that it serves.
@@ -56,24 +57,28 @@ pub struct Boards {
     ghost same: { spot.table ≡ table },
     /// The cards are those that may come.
     ghost all: { cards ≡ unseen (state_of table.known) },
-    /// The rows in use are the deal's.
-    ghost right: { AreRows (deal_of spot.table) rows.live rows.rows },
+    /// The rows are the deal's.
+    ghost right: { AreRows (deal_of spot.table) rows.rows.items },
     /// The flushes are the deal's.
     ghost best: { AreFlushes (deal_of spot.table) flushes },
 }
 
 impl Boards {
-    /// An empty room.
-    pub fn new() -> Boards {
+    /// An empty room. `Memory` where there is none for its tables.
+    #[inline(never)]
+    pub fn new(alloc: Global) -> Result<Boards, Memory> {
         let spot = BoardSpot::none();
-        Boards {
+        let pairs = Pairs::none(alloc)?;
+        let rows = Rows::none(alloc)?;
+        let flushes = Flushes::none(alloc)?;
+        Ok(Boards {
             table: spot.table,
             spot,
             cards: CardSet::empty(),
-            pairs: Pairs::none(),
-            rows: Rows::none(),
-            flushes: Flushes::none(),
-        }
+            pairs,
+            rows,
+            flushes,
+        })
     }
 
     /// Makes it count the runouts of a table. What it keeps is dropped, but where the deal is the same.

@@ -1,7 +1,9 @@
 //! The leaf of draws: the last slot is a hand's, and all its draws are counted at once.
 
-ghost use Rattle.std.specs.Prelude.{◌≡◌, ℕ, ◌+◌, ◌<◌, ◌≤◌, [], List, true, false, length, if◌then◌else◌, nat_lt, slice_index, slice_index_or, IsTrue};
+ghost use Rattle.std.specs.Prelude.{◌≡◌, ℕ, ◌+◌, ◌-◌, ◌<◌, ◌≤◌, [], List, true, false, length, map, take, if◌then◌else◌, nat_lt, slice_index, slice_index_or, IsTrue};
+ghost use Rattle.std.specs.List.{slice_range};
 ghost use Rattle.card_sets.specs.Cards.{IsCardSet, union};
+ghost use Rattle.card_sets.specs.Choose.{choose};
 ghost use Rattle.card_sets.specs.Games.{board_size, only_side, own_size};
 ghost use Rattle.card_sets.specs.State.{state_of};
 ghost use Rattle.card_sets.specs.declared.games.Side.TheVariants.{Low};
@@ -13,16 +15,18 @@ ghost use Rattle.showdown_tally.specs.Deals.{deal_of};
 ghost use Rattle.showdown_tally.specs.Showdown.{has_two_sides};
 ghost use Rattle.runout_walk.specs.Draws.{are_draws, hand_at, last_hand, most_draw};
 ghost use Rattle.runout_walk.specs.Listing.{last_count};
-ghost use Rattle.runout_walk.specs.Worth.{AreNumbers, full_worth};
+ghost use Rattle.runout_walk.specs.Worth.{AreNumbers, full_worth, number_of};
 
 use crate::card_list::CardList;
+use crate::filled::filled;
 use crate::last::{DRAWS, Range, TWOS, put_draws, put_lows};
 use crate::leaf::{Leaf, Tail};
 use crate::numbers::{Lows, Numbers, full_worth};
 use crate::rivals::{count_highs, count_lows, count_pots};
-use card_sets::{CardSet, Game, Known, Side};
+use card_sets::{Card, CardSet, Game, Known, Memory, Side};
 use runout_ranges::{Receiver, Shape, Slot};
 use showdown_tally::Table;
+use std::alloc::Global;
 use std::sync::ledger::Ledger;
 use step_count::Steps;
 
@@ -97,8 +101,8 @@ pub fn are_draws(table: &Table, shape: &Shape) -> bool
     !table.known.game.has_board() && 0 < last.count && last.count <= most_draw(table.known.game)
 }
 
-/// The leaf of draws, about 390 kB. It is made once and lent to each walk, and keeps what the next walk of the same hands can use; what
-/// it held before makes no other difference.
+/// The leaf of draws, with tables of about 390 kB on the heap. It is made once and lent to each walk, and keeps what the next walk of the
+/// same hands can use; what it held before makes no other difference.
 #[derive(Drop)]
 pub struct Draws {
     /// The table.
@@ -110,9 +114,13 @@ pub struct Draws {
     /// What it is worth with each draw as a low in such a game.
     lows: Lows,
     /// Room for the numbers of the draws of a leaf.
-    values: [u32; DRAWS],
+    values: Vec<u32>,
     /// Room for their numbers as lows.
-    low_values: [u32; TWOS],
+    low_values: Vec<u32>,
+    /// There is room for all draws of three cards,
+    ghost room: { length values.items ≡ 22100 },
+    /// and for the lows of all draws of two.
+    ghost low_room: { length low_values.items ≡ 1326 },
     /// The game has no board.
     ghost no_board: { board_size table.known.game ≡ 0 },
     /// The hand is that of the last slot.
@@ -123,13 +131,13 @@ pub struct Draws {
     ghost few: { numbers.count ≤ 3 },
     /// The numbers are those of that hand.
     ghost right: { AreNumbers numbers.count (only_side table.known.game) table.known.game
-        (slice_index_or (state_of table.known).hands last []) numbers.rows numbers.planes },
+        (slice_index_or (state_of table.known).hands last []) numbers.rows.items numbers.planes.items },
     /// There are as many lows,
     ghost low_deep: { has_two_sides table.known.game ≡ true → lows.count ≡ numbers.count },
     /// and they are those of that hand.
     ghost low_right: { has_two_sides table.known.game ≡ true → (planes : List (List ℕ))
         → AreNumbers lows.count Low table.known.game
-        (slice_index_or (state_of table.known).hands last []) lows.rows planes },
+        (slice_index_or (state_of table.known).hands last []) lows.rows.items planes },
     /// These are fewer.
     ghost low_few: { has_two_sides table.known.game ≡ true → numbers.count ≤ 2 },
 }
@@ -139,6 +147,7 @@ fn no_table() -> Table
     ensures nobody { result.known.count ≡ 0 }
     ensures no_board { board_size result.known.game ≡ 0 }
     ensures one_side { has_two_sides result.known.game ≡ false }
+    ensures nothing { last_count (slots (state_of result.known)) ≡ 0 }
 {
     let none = CardSet::empty();
     let known = Known {
@@ -166,16 +175,21 @@ fn hand_of(known: &Known, hand: usize) -> CardSet
 }
 
 impl Draws {
-    /// An empty leaf, which counts nothing before it serves a table.
-    pub fn new() -> Draws {
-        Draws {
+    /// An empty leaf, which counts nothing before it serves a table. `Memory` where there is none for its tables.
+    #[inline(never)]
+    pub fn new(alloc: Global) -> Result<Draws, Memory> {
+        let numbers = Numbers::none(alloc)?;
+        let lows = Lows::none(alloc)?;
+        let values = filled(alloc, 0, DRAWS)?;
+        let low_values = filled(alloc, 0, TWOS)?;
+        Ok(Draws {
             table: no_table(),
             last: 0,
-            numbers: Numbers::none(),
-            lows: Lows::none(),
-            values: [0; DRAWS],
-            low_values: [0; TWOS],
-        }
+            numbers,
+            lows,
+            values,
+            low_values,
+        })
     }
 
     /// Makes it the leaf of a table. What the last hand is worth with each draw is filled in where it isn't kept.
@@ -260,20 +274,54 @@ fn ten_places(table: &Table)
     let _pots: &[u16] = &table.eligible;
 }
 
-/// There is room for all draws of three cards.
-#[inline]
-fn draws_room(values: &[u32; DRAWS])
-    ensures { length values.now ≡ 22100 }
+/// Writes the numbers of the draws between two places of their listing to the front of the room for them. It takes a step a draw.
+fn write_draws<L: Ledger>(
+    numbers: &Numbers,
+    cards: &[Card],
+    range: Range,
+    values: &mut Vec<u32>,
+    steps: &mut Steps<L>,
+)
+    // The numbers are of draws of one to three cards, out of those of a deck.
+    requires some { 1 ≤ numbers.now.count }
+    requires few { numbers.now.count ≤ 3 }
+    requires short { length cards.now ≤ 52 }
+
+    // Both places lie in the listing of the draws, and there is room for the numbers of those between them.
+    requires order { range.lo ≤ range.hi }
+    requires inside { range.hi ≤ length (choose numbers.now.count cards.now) }
+    requires room { range.hi - range.lo ≤ length values.old.items }
+
+    // At the front stand the numbers of the draws between the places, in order.
+    ensures numbers { take (range.hi - range.lo) values.new.items
+        ≡ map (number_of numbers.now.rows.items numbers.now.planes.items)
+        (slice_range (choose numbers.now.count cards.now) range.lo range.hi) }
+    ensures room { length values.new.items ≡ length values.old.items }
+    ensures steps { steps.new ≡ steps.old + (range.hi - range.lo) }
 {
-    let _values: &[u32] = values;
+    put_draws(numbers, cards, range, values.as_mut_slice(), steps);
 }
 
-/// There is room for all draws of two cards.
-#[inline]
-fn lows_room(values: &[u32; TWOS])
-    ensures { length values.now ≡ 1326 }
+/// Writes the numbers of the same draws as lows, where they have one or two cards. They take no second steps.
+fn write_lows(lows: &Lows, cards: &[Card], range: Range, values: &mut Vec<u32>)
+    // The numbers are of draws of one or two cards, out of those of a deck.
+    requires some { 1 ≤ lows.now.count }
+    requires few { lows.now.count ≤ 2 }
+    requires short { length cards.now ≤ 52 }
+
+    // Both places lie in the listing of the draws, and there is room for the numbers of those between them.
+    requires order { range.lo ≤ range.hi }
+    requires inside { range.hi ≤ length (choose lows.now.count cards.now) }
+    requires room { range.hi - range.lo ≤ length values.old.items }
+
+    // A table of three cards isn't looked at, whichever it is.
+    ensures numbers { (planes : List (List ℕ))
+        → take (range.hi - range.lo) values.new.items
+        ≡ map (number_of lows.now.rows.items planes)
+        (slice_range (choose lows.now.count cards.now) range.lo range.hi) }
+    ensures room { length values.new.items ≡ length values.old.items }
 {
-    let _values: &[u32] = values;
+    put_lows(lows, cards, range, values.as_mut_slice());
 }
 
 impl Leaf for Draws {
@@ -295,7 +343,6 @@ impl Leaf for Draws {
         steps: &mut Steps<L>,
     ) {
         ten_places(&self.table);
-        draws_room(&self.values);
         let game = self.table.known.game;
         let side = game.only_side();
         let numbers = numbers_with(side, &self.table.known, front);
@@ -305,14 +352,15 @@ impl Leaf for Draws {
         };
         let cards = CardList::of(tail.rest);
         let values = &mut self.values;
-        put_draws(&self.numbers, cards.as_slice(), range, values, steps);
+        write_draws(&self.numbers, cards.as_slice(), range, values, steps);
         if has_two_sides(game) {
             let lows = numbers_with(Side::Low, &self.table.known, front);
-            lows_room(&self.low_values);
             let low_values = &mut self.low_values;
-            put_lows(&self.lows, cards.as_slice(), range, low_values);
-            let values = &self.values[..range.hi - range.lo];
-            let low_values = &self.low_values[..range.hi - range.lo];
+            write_lows(&self.lows, cards.as_slice(), range, low_values);
+            let all_highs = self.values.as_slice();
+            let all_lows = self.low_values.as_slice();
+            let values = &all_highs[..range.hi - range.lo];
+            let low_values = &all_lows[..range.hi - range.lo];
             count_lows(&self.table, self.last, &lows, low_values, counts);
             count_highs(
                 &self.table,
@@ -324,7 +372,8 @@ impl Leaf for Draws {
                 counts,
             );
         } else {
-            let values = &self.values[..range.hi - range.lo];
+            let all = self.values.as_slice();
+            let values = &all[..range.hi - range.lo];
             count_pots(
                 &self.table,
                 side_row(side),

@@ -1,6 +1,6 @@
 //! The best flush of each pot with cards of one suit on the board.
 
-ghost use Rattle.std.specs.Prelude.{◌≡◌, ℕ, ◌<◌, ◌≤◌, [], length, slice_index_or, IsTrue};
+ghost use Rattle.std.specs.Prelude.{◌≡◌, ℕ, ◌<◌, ◌≤◌, [], length, slice_get, slice_index_or, Some, IfOk, IsTrue};
 ghost use Rattle.card_sets.specs.Disjoint.{apart};
 ghost use Rattle.card_sets.specs.Games.{has_board, own_size};
 ghost use Rattle.card_sets.specs.State.{state_of};
@@ -10,9 +10,12 @@ ghost use Rattle.runout_walk.specs.Bests.{AreFlushesOf, IsBestFlush};
 ghost use Rattle.runout_walk.specs.KeptFlushes.{AreFlushes, ArePast};
 
 use crate::bests::{Best, pot_best};
+use crate::filled::filled;
 use crate::flush::{Flush, HandFlushes, Suited};
 use crate::high::suited_value;
+use card_sets::Memory;
 use showdown_tally::Table;
+use std::alloc::Global;
 
 /// How many flushes are kept. First cards that follow one another ask for the same ones.
 const FLUSHES: usize = 2048;
@@ -51,37 +54,49 @@ fn flush_place(tag: u32, suit: u8, pot: u8) -> usize
     (mixed + 577 * usize::from(suit) + 1021 * usize::from(pot)) % FLUSHES
 }
 
+/// Makes each flush one of no deal.
+fn drop_all(list: &mut [Flush])
+    ensures none { (i : ℕ) (flush : Flush) → slice_get list.new i ≡ Some flush → flush.stamp ≡ 0 }
+    ensures places { length list.new ≡ length list.old }
+{
+    let none = Flush::none();
+    list.fill(none);
+}
+
 /// The best flushes of the pots of a table that were asked for last. They have the number of the deal, which is another for each, so
 /// those of the deals before needn't be cleared.
-#[derive(Clone, Copy)]
+#[derive(Drop)]
 pub(crate) struct Flushes {
     /// The number of the deal.
     pub(crate) stamp: u32,
     /// The flushes.
-    pub(crate) list: [Flush; FLUSHES],
+    pub(crate) list: Vec<Flush>,
     /// What each hand is worth with the cards that were worked out last.
     pub(crate) last: HandFlushes,
 }
 
 impl Flushes {
     /// No flushes.
-    pub(crate) fn none() -> Flushes
-        ensures { (deal : Showdown) → AreFlushes deal result }
+    pub(crate) fn none(alloc: Global) -> Result<Flushes, Memory>
+        ensures { IfOk result (λ flushes. (deal : Showdown) → AreFlushes deal flushes) }
     {
-        let none = Flush::none();
-        Flushes {
+        let list = filled(alloc, Flush::none(), FLUSHES)?;
+        Ok(Flushes {
             stamp: 1,
-            list: [none; FLUSHES],
+            list,
             last: HandFlushes::none(),
-        }
+        })
     }
 
     /// Drops all flushes when the numbers of deals have run out.
     #[inline(never)]
     fn begin_again(&mut self)
+        requires { length self.old.list.items ≡ 2048 }
         ensures { (deal : Showdown) → AreFlushes deal self.new }
     {
-        *self = Flushes::none();
+        drop_all(self.list.as_mut_slice());
+        self.stamp = 1;
+        self.last = HandFlushes::none();
     }
 
     /// Drops all flushes.
@@ -94,14 +109,6 @@ impl Flushes {
             return;
         }
         self.stamp += 1;
-    }
-
-    /// There are so many places.
-    #[inline]
-    fn places(&self)
-        ensures { length self.now.list ≡ 2048 }
-    {
-        let _list: &[Flush] = &self.list;
     }
 
     /// Works out what each hand is worth with some cards of a suit on the board, where it isn't known from before.
@@ -204,7 +211,6 @@ impl Flushes {
         ensures small { result.set < 1024 }
         ensures right { AreFlushes (deal_of table.now) self.new }
     {
-        self.places();
         let place = flush_place(part.tag, part.suit, pot);
         let kept = self.list[place];
         if kept.is_of(self.stamp, pot, part) {

@@ -113,6 +113,7 @@ fn put_singles<L: Ledger>(
     ensures numbers { (planes : List (List ℕ))
         → take (range.hi - range.lo) values.new
         ≡ map (number_of rows.now planes) (slice_range (choose 1 cards.now) range.lo range.hi) }
+    ensures room { length values.new ≡ length values.old }
     ensures steps { steps.new ≡ steps.old + (range.hi - range.lo) }
 {
     put_row(&rows[0], &cards[range.lo..range.hi], values, 0, steps);
@@ -138,6 +139,7 @@ fn put_twos<L: Ledger>(
     ensures numbers { (planes : List (List ℕ))
         → take (range.hi - range.lo) values.new
         ≡ map (number_of rows.now planes) (slice_range (choose 2 cards.now) range.lo range.hi) }
+    ensures room { length values.new ≡ length values.old }
     ensures steps { steps.new ≡ steps.old + (range.hi - range.lo) }
 {
     put_pairs(rows, 0, cards, range, values, 0, steps);
@@ -158,13 +160,14 @@ fn count_pairs(cards: &[Card]) -> usize
 
 /// The same of draws of three cards.
 fn put_triples<L: Ledger>(
-    numbers: &Numbers,
+    planes: &[[u32; DECK]],
     cards: &[Card],
     range: Range,
     values: &mut [u32],
     steps: &mut Steps<L>,
 )
-    // A deck has no more cards.
+    // There is room for the tables of all lowest cards, and a deck has no more cards.
+    requires places { length planes.now ≡ 1327 }
     requires few { length cards.now ≤ 52 }
 
     // Both places lie in the listing of the draws, and there is room for the numbers of those between them.
@@ -172,10 +175,11 @@ fn put_triples<L: Ledger>(
     requires inside { range.hi ≤ length (choose 3 cards.now) }
     requires room { range.hi - range.lo ≤ length values.old }
 
-    // For each lowest card there is a table of the two others.
-    ensures numbers { take (range.hi - range.lo) values.new
-        ≡ map (number_of numbers.now.rows numbers.now.planes)
-        (slice_range (choose 3 cards.now) range.lo range.hi) }
+    // For each lowest card there is a table of the two others; that of two cards isn't looked at.
+    ensures numbers { (rows : List (List ℕ))
+        → take (range.hi - range.lo) values.new
+        ≡ map (number_of rows planes.now) (slice_range (choose 3 cards.now) range.lo range.hi) }
+    ensures room { length values.new ≡ length values.old }
     ensures steps { steps.new ≡ steps.old + (range.hi - range.lo) }
 {
     let mut rest = cards;
@@ -189,7 +193,7 @@ fn put_triples<L: Ledger>(
         let end = hi.min(count);
         let part = Range { lo: start, hi: end };
         let base = plane_base(*low);
-        put_pairs(&numbers.planes, base, others, part, values, used, steps);
+        put_pairs(planes, base, others, part, values, used, steps);
         used += end - start;
         lo = lo.saturating_sub(count);
         hi = hi.saturating_sub(count);
@@ -220,16 +224,19 @@ pub(crate) fn put_draws<L: Ledger>(
 
     // At the front stand the numbers of the draws between the places, in order.
     ensures numbers { take (range.hi - range.lo) values.new
-        ≡ map (number_of numbers.now.rows numbers.now.planes)
+        ≡ map (number_of numbers.now.rows.items numbers.now.planes.items)
         (slice_range (choose numbers.now.count cards.now) range.lo range.hi) }
+    ensures room { length values.new ≡ length values.old }
     ensures steps { steps.new ≡ steps.old + (range.hi - range.lo) }
 {
+    let rows = numbers.rows.as_slice();
+    let planes = numbers.planes.as_slice();
     if numbers.count == 1 {
-        put_singles(&numbers.rows, cards, range, values, steps);
+        put_singles(rows, cards, range, values, steps);
     } else if numbers.count == 2 {
-        put_twos(&numbers.rows, cards, range, values, steps);
+        put_twos(rows, cards, range, values, steps);
     } else {
-        put_triples(numbers, cards, range, values, steps);
+        put_triples(planes, cards, range, values, steps);
     }
 }
 
@@ -254,14 +261,16 @@ fn put_on<L: Ledger>(lows: &Lows, cards: &[Card], range: Range, values: &mut [u3
     // A table of three cards isn't looked at, whichever it is.
     ensures numbers { (planes : List (List ℕ))
         → take (range.hi - range.lo) values.new
-        ≡ map (number_of lows.now.rows planes)
+        ≡ map (number_of lows.now.rows.items planes)
         (slice_range (choose lows.now.count cards.now) range.lo range.hi) }
+    ensures room { length values.new ≡ length values.old }
 {
+    let rows = lows.rows.as_slice();
     let mut steps = Steps::<L>::new(blank);
     if lows.count == 1 {
-        put_singles(&lows.rows, cards, range, values, &mut steps);
+        put_singles(rows, cards, range, values, &mut steps);
     } else {
-        put_twos(&lows.rows, cards, range, values, &mut steps);
+        put_twos(rows, cards, range, values, &mut steps);
     }
 }
 
@@ -280,8 +289,9 @@ pub(crate) fn put_lows(lows: &Lows, cards: &[Card], range: Range, values: &mut [
     // A table of three cards isn't looked at, whichever it is.
     ensures numbers { (planes : List (List ℕ))
         → take (range.hi - range.lo) values.new
-        ≡ map (number_of lows.now.rows planes)
+        ≡ map (number_of lows.now.rows.items planes)
         (slice_range (choose lows.now.count cards.now) range.lo range.hi) }
+    ensures room { length values.new ≡ length values.old }
 {
     put_on::<Brand>(lows, cards, range, values, Blank::new(1));
 }

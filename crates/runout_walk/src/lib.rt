@@ -44,6 +44,7 @@ mod counts;
 mod deal;
 mod draws;
 mod fill;
+mod filled;
 mod flush;
 mod flushes;
 mod free;

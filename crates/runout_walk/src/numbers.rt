@@ -1,14 +1,16 @@
 //! What a hand is worth with each draw of one to three cards.
 
-ghost use Rattle.std.specs.Prelude.{◌≡◌, ℕ, ◌+◌, ◌<◌, ◌≤◌, [], List, length, slice_index, slice_index_or, IsTrue};
+ghost use Rattle.std.specs.Prelude.{◌≡◌, ℕ, ◌+◌, ◌<◌, ◌≤◌, [], List, length, slice_index, slice_index_or, IfOk, IsTrue};
 ghost use Rattle.card_sets.specs.Cards.{with_card};
 ghost use Rattle.card_sets.specs.Games.{own_size, board_size};
 ghost use Rattle.card_sets.specs.declared.games.Side.TheVariants.{Low};
 ghost use Rattle.runout_walk.specs.Worth.{AreNumbers, ArePairsFrom, full_worth, plane_base};
 
 use crate::card_list::DECK;
-use card_sets::{Card, CardSet, Game, Side};
+use crate::filled::filled;
+use card_sets::{Card, CardSet, Game, Memory, Side};
 use showdown_tally::side_value;
+use std::alloc::Global;
 
 /// How many rows the tables of three cards have: those of two cards above each lowest card, one behind the other.
 const PLANES: usize = 1327;
@@ -25,11 +27,15 @@ pub(crate) struct Numbers {
     /// How many cards it draws: one to three, and 0 where there are no numbers.
     pub(crate) count: u8,
     /// The numbers of two cards, by the lower card and then the higher one. Those of one card alone stand in the first row.
-    pub(crate) rows: [[u32; DECK]; DECK],
+    pub(crate) rows: Vec<[u32; DECK]>,
     /// Those of three cards: for each lowest card a table as of two, of which the rows of the cards above it stand here.
-    pub(crate) planes: [[u32; DECK]; PLANES],
+    pub(crate) planes: Vec<[u32; DECK]>,
+    /// There is a row a card,
+    pub(crate) ghost row_places: { length rows.items ≡ 52 },
+    /// and room for all tables of three cards.
+    pub(crate) ghost plane_places: { length planes.items ≡ 1327 },
     /// They are right.
-    pub(crate) ghost right: { AreNumbers count side game own rows planes },
+    pub(crate) ghost right: { AreNumbers count side game own rows.items planes.items },
 }
 
 /// The card of a number.
@@ -80,7 +86,8 @@ fn fill_row(row: &mut [u32], side: Side, game: Game, own: CardSet, least: u8)
 fn fill_singles(rows: &mut [[u32; DECK]], side: Side, game: Game, own: CardSet)
     requires places { length rows.old ≡ 52 }
     requires no_board { board_size game ≡ 0 }
-    ensures { (planes : List (List ℕ)) → AreNumbers 1 side game own rows.new planes }
+    ensures numbers { (planes : List (List ℕ)) → AreNumbers 1 side game own rows.new planes }
+    ensures places { length rows.new ≡ length rows.old }
 {
     fill_row(&mut rows[0], side, game, own, 0);
 }
@@ -117,7 +124,8 @@ fn fill_pairs(
 fn fill_twos(rows: &mut [[u32; DECK]], side: Side, game: Game, own: CardSet)
     requires places { length rows.old ≡ 52 }
     requires no_board { board_size game ≡ 0 }
-    ensures { (planes : List (List ℕ)) → AreNumbers 2 side game own rows.new planes }
+    ensures numbers { (planes : List (List ℕ)) → AreNumbers 2 side game own rows.new planes }
+    ensures places { length rows.new ≡ length rows.old }
 {
     fill_pairs(rows, 0, side, game, own, 0);
 }
@@ -139,7 +147,8 @@ pub(crate) fn plane_base(low: Card) -> usize
 fn fill_planes(planes: &mut [[u32; DECK]], side: Side, game: Game, own: CardSet)
     requires places { length planes.old ≡ 1327 }
     requires no_board { board_size game ≡ 0 }
-    ensures { (rows : List (List ℕ)) → AreNumbers 3 side game own rows planes.new }
+    ensures numbers { (rows : List (List ℕ)) → AreNumbers 3 side game own rows planes.new }
+    ensures places { length planes.new ≡ length planes.old }
 {
     for number in 0..DECK {
         let low = card_of(number);
@@ -161,7 +170,9 @@ fn fill(
     requires planes { length planes.old ≡ 1327 }
     requires no_board { board_size game ≡ 0 }
     requires few { count ≤ 3 }
-    ensures { AreNumbers count side game own rows.new planes.new }
+    ensures numbers { AreNumbers count side game own rows.new planes.new }
+    ensures rows { length rows.new ≡ length rows.old }
+    ensures planes { length planes.new ≡ length planes.old }
 {
     match count {
         1 => fill_singles(rows, side, game, own),
@@ -173,17 +184,19 @@ fn fill(
 
 impl Numbers {
     /// No numbers.
-    pub(crate) fn none() -> Numbers
-        ensures { result.count ≡ 0 }
+    pub(crate) fn none(alloc: Global) -> Result<Numbers, Memory>
+        ensures { IfOk result (λ numbers. numbers.count ≡ 0) }
     {
-        Numbers {
+        let rows = filled(alloc, [0; DECK], DECK)?;
+        let planes = filled(alloc, [0; DECK], PLANES)?;
+        Ok(Numbers {
             side: Side::High,
             game: Game::Stud,
             own: CardSet::empty(),
             count: 0,
-            rows: [[0; DECK]; DECK],
-            planes: [[0; DECK]; PLANES],
-        }
+            rows,
+            planes,
+        })
     }
 
     /// Makes them the numbers of a hand on a side, which are filled in where they aren't kept.
@@ -202,7 +215,9 @@ impl Numbers {
             return;
         }
         self.count = 0;
-        fill(&mut self.rows, &mut self.planes, side, game, own, count);
+        let rows = self.rows.as_mut_slice();
+        let planes = self.planes.as_mut_slice();
+        fill(rows, planes, side, game, own, count);
         self.side = side;
         self.game = game;
         self.own = own;
@@ -220,10 +235,12 @@ pub(crate) struct Lows {
     /// How many cards it draws: one or two, and 0 where there are no numbers.
     pub(crate) count: u8,
     /// The numbers of two cards, by the lower card and then the higher one. Those of one card alone stand in the first row.
-    pub(crate) rows: [[u32; DECK]; DECK],
+    pub(crate) rows: Vec<[u32; DECK]>,
+    /// There is a row a card.
+    pub(crate) ghost row_places: { length rows.items ≡ 52 },
     /// They are right.
     pub(crate) ghost right: { (planes : List (List ℕ))
-        → AreNumbers count Low game own rows planes },
+        → AreNumbers count Low game own rows.items planes },
 }
 
 /// Fills in what a hand is worth as a low with each draw of one or two cards.
@@ -231,7 +248,8 @@ fn fill_lows(rows: &mut [[u32; DECK]], game: Game, own: CardSet, count: u8)
     requires rows { length rows.old ≡ 52 }
     requires no_board { board_size game ≡ 0 }
     requires few { count ≤ 2 }
-    ensures { (planes : List (List ℕ)) → AreNumbers count Low game own rows.new planes }
+    ensures numbers { (planes : List (List ℕ)) → AreNumbers count Low game own rows.new planes }
+    ensures places { length rows.new ≡ length rows.old }
 {
     match count {
         1 => fill_singles(rows, Side::Low, game, own),
@@ -242,15 +260,16 @@ fn fill_lows(rows: &mut [[u32; DECK]], game: Game, own: CardSet, count: u8)
 
 impl Lows {
     /// No numbers.
-    pub(crate) fn none() -> Lows
-        ensures { result.count ≡ 0 }
+    pub(crate) fn none(alloc: Global) -> Result<Lows, Memory>
+        ensures { IfOk result (λ lows. lows.count ≡ 0) }
     {
-        Lows {
+        let rows = filled(alloc, [0; DECK], DECK)?;
+        Ok(Lows {
             game: Game::Stud,
             own: CardSet::empty(),
             count: 0,
-            rows: [[0; DECK]; DECK],
-        }
+            rows,
+        })
     }
 
     /// Makes them the numbers of a hand, which are filled in where they aren't kept.
@@ -265,7 +284,7 @@ impl Lows {
             return;
         }
         self.count = 0;
-        fill_lows(&mut self.rows, game, own, count);
+        fill_lows(self.rows.as_mut_slice(), game, own, count);
         self.game = game;
         self.own = own;
         self.count = count;

@@ -1,32 +1,36 @@
 //! All pairs of the cards that may come, in the order of the listing of choices.
 
-ghost use Rattle.std.specs.Prelude.{◌≡◌, ℕ, ◌+◌, ◌-◌, ◌<◌, ◌≤◌, ◌++◌, [], ◌∷◌, List, length, map, take};
+ghost use Rattle.std.specs.Prelude.{◌≡◌, ℕ, ◌+◌, ◌-◌, ◌<◌, ◌≤◌, ◌++◌, [], ◌∷◌, List, length, map, take, IfOk};
 ghost use Rattle.std.specs.List.{slice_range};
 ghost use Rattle.card_sets.specs.Choose.{choose};
 ghost use Rattle.runout_ranges.specs.Ways.{binomial};
 ghost use Rattle.runout_walk.specs.Listing.{IsEndOf};
 ghost use Rattle.runout_walk.specs.Pairs.{cards_of_pair};
 
+use crate::filled::filled;
 use crate::pair::Pair;
-use card_sets::{Card, CardSet};
+use card_sets::{Card, CardSet, Memory};
 use runout_ranges::count_choices;
+use std::alloc::Global;
 
 /// How many pairs of 52 cards there are.
 const PAIRS_MAX: usize = 1326;
 
-/// All pairs of some cards, in the order of the listing of choices: room for those of a deck.
-#[derive(Clone, Copy)]
+/// All pairs of some cards, in the order of the listing of choices: room for those of a deck, on the heap.
+#[derive(Drop)]
 pub(crate) struct Pairs {
     /// The cards.
     pub(crate) cards: CardSet,
     /// How many pairs there are.
     used: usize,
     /// The pairs, and others behind them.
-    pairs: [Pair; PAIRS_MAX],
-    /// There are places for all.
+    pairs: Vec<Pair>,
+    /// There are so many places,
+    pub(crate) ghost sized: { length pairs.items ≡ 1326 },
+    /// which are enough for all.
     pub(crate) ghost few: { used ≤ 1326 },
     /// They are all choices of two of the cards.
-    pub(crate) ghost listed: { map cards_of_pair (take used pairs) ≡ choose 2 cards },
+    pub(crate) ghost listed: { map cards_of_pair (take used pairs.items) ≡ choose 2 cards },
 }
 
 /// Puts the pairs of a card with each of some others behind the first `used` ones, and gives how many there are then.
@@ -52,6 +56,7 @@ fn put_all_pairs(pairs: &mut [Pair], cards: CardSet) -> usize
     requires { length pairs.old ≡ 1326 }
     ensures used { result ≤ 1326 }
     ensures pairs { map cards_of_pair (take result pairs.new) ≡ choose 2 cards }
+    ensures same { length pairs.new ≡ 1326 }
 {
     cards.rising();
     let mut used = 0;
@@ -96,14 +101,15 @@ fn last_pairs(listed: &[Pair], count: u32, lo: u64, hi: u64) -> &[Pair]
 
 impl Pairs {
     /// The pairs of no cards.
-    pub(crate) fn none() -> Pairs
-        ensures { result.cards ≡ [] }
+    pub(crate) fn none(alloc: Global) -> Result<Pairs, Memory>
+        ensures { IfOk result (λ pairs. pairs.cards ≡ []) }
     {
-        Pairs {
+        let pairs = filled(alloc, any_pair(), PAIRS_MAX)?;
+        Ok(Pairs {
             cards: CardSet::empty(),
             used: 0,
-            pairs: [any_pair(); PAIRS_MAX],
-        }
+            pairs,
+        })
     }
 
     /// Makes them the pairs of some cards, in place. It does nothing where they are.
@@ -113,7 +119,7 @@ impl Pairs {
         if self.cards == cards {
             return;
         }
-        self.used = put_all_pairs(&mut self.pairs, cards);
+        self.used = put_all_pairs(self.pairs.as_mut_slice(), cards);
         self.cards = cards;
     }
 

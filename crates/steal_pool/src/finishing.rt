@@ -41,7 +41,8 @@ pub(crate) fn finish_book<N: Naming>(
 {
     let own = post_rest(job, &mut book, &mut spare, &mut seats[0].desk);
     while let Some(seat) = seats.pop() {
-        let Desk { part, .. } = seat.desk;
+        let Seat { desk, .. } = seat;
+        let Desk { part, .. } = desk;
         spare.merge(part);
     }
     let Closed { total, by_workers } = book.close(spare);

@@ -13,14 +13,15 @@ use crate::pushes::{push_all, share_of};
 use crate::reaches::{Owner, Reach};
 use crate::seat::Seat;
 use card_sets::Memory;
-use equity_job::Scratch;
+use equity_job::{Job, Scratch};
 use showdown_tally::Tally;
 use std::alloc::Global;
 use tally_book::{Naming, Part};
 
-/// A seat for each worker, with no way yet.
+/// A seat for each worker of a job, with no way yet.
 pub(crate) fn seats_without_ways<N: Naming>(
     alloc: Global,
+    job: &Job,
     workers: u32,
     spare: &mut Part<N>,
 ) -> Result<Vec<Seat<N>>, Memory>
@@ -31,15 +32,15 @@ pub(crate) fn seats_without_ways<N: Naming>(
 {
     let mut seats = Vec::with_capacity(alloc, workers as usize)?;
     for _ in 0..workers {
-        push_seat(alloc, workers, spare, &mut seats)?;
+        push_seat(alloc, job, workers, spare, &mut seats)?;
     }
     Ok(seats)
 }
 
-/// Adds a seat with no way yet, and a part of its own. It is made where it stays, since its room is
-/// large.
+/// Adds a seat with no way yet, with a part of its own and the room that the job wants.
 fn push_seat<N: Naming>(
     alloc: Global,
+    job: &Job,
     workers: u32,
     spare: &mut Part<N>,
     seats: &mut Vec<Seat<N>>,
@@ -52,11 +53,13 @@ fn push_seat<N: Naming>(
         (λ _. (spare.new.parts + 1 ≡ spare.old.parts) × (spare.new.amount ≡ spare.old.amount)) }
 {
     let lanes = Vec::with_capacity(alloc, workers as usize)?;
+    let mut scratch = Scratch::new();
+    scratch.ready(alloc, job)?;
     seats.push_reserved(Seat {
         lanes,
         desk: Desk {
             part: spare.split(),
-            scratch: Scratch::new(),
+            scratch,
             tally: Tally::zero(),
         },
     });

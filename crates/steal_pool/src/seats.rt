@@ -63,7 +63,7 @@ impl<N: Naming> Seats<N> {
             (λ s. IsFreshSitting workers (blocks_of (length (runouts_after N.deal.state))) s) }
     {
         let (book, mut spare) = Book::start(alloc, job, blank)?;
-        let mut seats = seats_without_ways(alloc, workers, &mut spare)?;
+        let mut seats = seats_without_ways(alloc, job, workers, &mut spare)?;
         for deque in 0..workers {
             add_deque(alloc, seats.as_mut_slice(), deque, workers, job.blocks())?;
         }

@@ -11,7 +11,7 @@ use Rattle.runout_walk.proofs.last.put_triples.Goals as goal
 
 pub loop-rest-init : goal.loop-rest-init
 loop-rest-init g c = record {
-  way = filling_begins (number_of c.args.numbers.now.rows c.args.numbers.now.planes) [] (slice_range (choose 3 c.args.cards.now) c.args.range.lo c.args.range.hi) 0 c.args.values.now refl refl;
+  way = λ rows. filling_begins (number_of rows c.args.planes.now) [] (slice_range (choose 3 c.args.cards.now) c.args.range.lo c.args.range.hi) 0 c.args.values.now refl refl;
   room = refl;
   steps = omega arith;
   order = c.requires.order;
@@ -54,7 +54,7 @@ put_pairs-requires-clause-room g c =
     let count_is : count ≡ length (choose 2 others) = omega (arith, pairs, two-first-length c.low-item.result rest others first) in
     let part : List (List ℕ) = slice_range (choose 2 others) c.min-start.result c.min-end.result in
     let split = choices_split 2 c.low-item.result rest others count c.loop-rest.lo c.loop-rest.hi c.min-start.result c.min-end.result _ _ first count_is c.min-start.ensures c.min-end.ensures refl refl in
-    let fits = filling_room _ _ _ _ (map (λ draw. c.low-item.result ∷ draw) part) _ c.loop-rest.used c.loop-rest.values inv.way split in
+    let fits = filling_room _ _ _ _ (map (λ draw. c.low-item.result ∷ draw) part) _ c.loop-rest.used c.loop-rest.values (inv.way []) split in
     let order = inv.order in
     let size : length part ≡ c.min-end.result - c.min-start.result = length-range (choose 2 others) c.min-start.result c.min-end.result (omega (arith, c.min-start.ensures, c.min-end.ensures, order)) (omega (arith, c.min-end.ensures, count_is)) in
     let whole : length (slice_range (choose 3 c.args.cards.now) c.args.range.lo c.args.range.hi) ≡ c.args.range.hi - c.args.range.lo = length-range (choose 3 c.args.cards.now) c.args.range.lo c.args.range.hi c.requires.order c.requires.inside in
@@ -73,7 +73,7 @@ overflow_add-used g c =
     let count_is : count ≡ length (choose 2 others) = omega (arith, pairs, two-first-length c.low-item.result rest others first) in
     let part : List (List ℕ) = slice_range (choose 2 others) c.min-start.result c.min-end.result in
     let split = choices_split 2 c.low-item.result rest others count c.loop-rest.lo c.loop-rest.hi c.min-start.result c.min-end.result _ _ first count_is c.min-start.ensures c.min-end.ensures refl refl in
-    let fits = filling_room _ _ _ _ (map (λ draw. c.low-item.result ∷ draw) part) _ c.loop-rest.used c.loop-rest.values inv.way split in
+    let fits = filling_room _ _ _ _ (map (λ draw. c.low-item.result ∷ draw) part) _ c.loop-rest.used c.loop-rest.values (inv.way []) split in
     let order = inv.order in
     let size : length part ≡ c.min-end.result - c.min-start.result = length-range (choose 2 others) c.min-start.result c.min-end.result (omega (arith, c.min-start.ensures, c.min-end.ensures, order)) (omega (arith, c.min-end.ensures, count_is)) in
     let whole : length (slice_range (choose 3 c.args.cards.now) c.args.range.lo c.args.range.hi) ≡ c.args.range.hi - c.args.range.lo = length-range (choose 3 c.args.cards.now) c.args.range.lo c.args.range.hi c.requires.order c.requires.inside in
@@ -97,8 +97,8 @@ loop-rest-preserved g c =
     let few = inv.few in
     let size : length part ≡ c.min-end.result - c.min-start.result = length-range (choose 2 others) c.min-start.result c.min-end.result (omega (arith, c.min-start.ensures, c.min-end.ensures, order)) (omega (arith, c.min-end.ensures, count_is)) in
     record {
-      way = filling_goes_on (number_of c.args.numbers.now.rows c.args.numbers.now.planes) _ _ _ (map (λ draw. c.low-item.result ∷ draw) part) _ c.loop-rest.used (c.min-end.result - c.min-start.result) _ c.loop-rest.values c.put_pairs.new.values
-          (map (number_at c.args.numbers.now.planes c.plane_base-base.result) part) inv.way split (sym (length-map part _ ∙ size)) (three_numbers c.args.numbers.now.rows c.args.numbers.now.planes c.low-item.result c.plane_base-base.result others c.min-start.result c.min-end.result c.plane_base-base.ensures.value) c.put_pairs.ensures.numbers (omega arith);
+      way = λ rows. filling_goes_on (number_of rows c.args.planes.now) _ _ _ (map (λ draw. c.low-item.result ∷ draw) part) _ c.loop-rest.used (c.min-end.result - c.min-start.result) _ c.loop-rest.values c.put_pairs.new.values
+          (map (number_at c.args.planes.now c.plane_base-base.result) part) (inv.way rows) split (sym (length-map part _ ∙ size)) (three_numbers rows c.args.planes.now c.low-item.result c.plane_base-base.result others c.min-start.result c.min-end.result c.plane_base-base.ensures.value) c.put_pairs.ensures.numbers (omega arith);
       room = c.put_pairs.ensures.room ∙ inv.room;
       steps = (let s = inv.steps in let t = c.put_pairs.ensures.steps in omega (arith, s, t));
       order = omega (arith, c.saturating_sub-lo.ensures, c.saturating_sub-hi.ensures, order);
@@ -112,10 +112,11 @@ returns g c =
     let inv = c.loop-rest.invariant in
     let none : c.loop-rest.rest.now ≡ [] = no_list c.loop-rest.rest.now c.in_default.len_below in
     let todo : slice_range (choose 3 c.loop-rest.rest.now) c.loop-rest.lo c.loop-rest.hi ≡ [] = ap (λ l. slice_range (choose 3 l) c.loop-rest.lo c.loop-rest.hi) none ∙ range-none c.loop-rest.lo c.loop-rest.hi in
-    let ends = filling_ends _ _ _ _ c.loop-rest.used c.loop-rest.values inv.way todo in
+    let ends = (λ (rows : List (List ℕ)). filling_ends (number_of rows c.args.planes.now) _ _ _ c.loop-rest.used c.loop-rest.values (inv.way rows) todo) in
     let whole : length (slice_range (choose 3 c.args.cards.now) c.args.range.lo c.args.range.hi) ≡ c.args.range.hi - c.args.range.lo = length-range (choose 3 c.args.cards.now) c.args.range.lo c.args.range.hi c.requires.order c.requires.inside in
-    let all : c.loop-rest.used ≡ c.args.range.hi - c.args.range.lo = (let u = ends.0 in omega (arith, u, whole)) in
+    let all : c.loop-rest.used ≡ c.args.range.hi - c.args.range.lo = (let u = (ends []).0 in omega (arith, u, whole)) in
     record {
-      numbers = ap (λ n. take n c.loop-rest.values) (sym all) ∙ ends.1;
+      numbers = λ rows. ap (λ n. take n c.loop-rest.values) (sym all) ∙ (ends rows).1;
+      room = inv.room;
       steps = (let s = inv.steps in omega (arith, s, all));
     }

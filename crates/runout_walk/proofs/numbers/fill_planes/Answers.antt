@@ -19,8 +19,8 @@ triples side game own rows planes (a ∷ b ∷ c ∷ []) size is all =
     all a (omega (arith, r)) b c (omega (arith, r)) (omega (arith, r)) (omega (arith, r)) (ap length (with_three own a b c) ∙ is.full) ∙ ap (full_worth side game) (with_three own a b c)
 triples side game own rows planes (a ∷ b ∷ c ∷ d ∷ draw) size is all = absurd (omega arith)
 
-pub returns : goal.returns
-returns c = λ rows draw some size is. triples c.args.side c.args.game c.args.own rows _ draw size is (λ low l. c.loop-number.invariant.planes low (omega arith))
+pub returns-clause-numbers : goal.returns-clause-numbers
+returns-clause-numbers c = λ rows draw some size is. triples c.args.side c.args.game c.args.own rows _ draw size is (λ low l. c.loop-number.invariant.planes low (omega arith))
 
 pub loop-number-preserved : goal.loop-number-preserved
 loop-number-preserved c =

@@ -18,6 +18,6 @@ singles side game own (old ∷ rows) planes row (a ∷ []) inside size is all =
     all a (omega (arith, r)) (ap length (with_one own a) ∙ is.full) ∙ ap (full_worth side game) (with_one own a)
 singles side game own (old ∷ rows) planes row (a ∷ b ∷ draw) inside size is all = absurd (omega arith)
 
-pub returns : goal.returns
-returns c = λ planes draw some size is.
+pub returns-clause-numbers : goal.returns-clause-numbers
+returns-clause-numbers c = λ planes draw some size is.
     singles c.args.side c.args.game c.args.own c.args.rows.now planes c.fill_row.new.row draw (omega arith) size is (λ card l full. c.fill_row.ensures card (omega arith) l full)

@@ -13,5 +13,5 @@ pairs side game own rows planes (a ∷ b ∷ []) size is all =
     all a b (omega arith) (omega (arith, r)) (omega (arith, r)) (ap length (with_two own a b) ∙ is.full) ∙ ap (full_worth side game) (with_two own a b)
 pairs side game own rows planes (a ∷ b ∷ c ∷ draw) size is all = absurd (omega arith)
 
-pub returns : goal.returns
-returns c = λ planes draw some size is. pairs c.args.side c.args.game c.args.own c.fill_pairs.new.rows planes draw size is c.fill_pairs.ensures.pairs
+pub returns-clause-numbers : goal.returns-clause-numbers
+returns-clause-numbers c = λ planes draw some size is. pairs c.args.side c.args.game c.args.own c.fill_pairs.new.rows planes draw size is c.fill_pairs.ensures.pairs

@@ -6,6 +6,6 @@ pub invariant_of-result : goal.invariant_of-result
 invariant_of-result c = record {
   same = refl;
   all = c.empty.ensures ∙ sym c.none-spot.ensures;
-  right = c.none-2.ensures (deal_of c.none-spot.result.table);
-  best = c.none-3.ensures (deal_of c.none-spot.result.table);
+  right = c.in_ok-rows.ensures (deal_of c.none-spot.result.table);
+  best = c.in_ok-flushes.ensures (deal_of c.none-spot.result.table);
 }

@@ -5,6 +5,6 @@ pub invariant_of-self : goal.invariant_of-self
 invariant_of-self c = record {
   same = c.of-self.ensures;
   all = c.requires.shape.cards;
-  right = c.clear.ensures (deal_of c.of-self.result.table);
+  right = c.clear.ensures.right (deal_of c.of-self.result.table);
   best = c.clear-2.ensures (deal_of c.of-self.result.table);
 }

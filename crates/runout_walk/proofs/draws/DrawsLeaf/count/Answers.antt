@@ -28,8 +28,8 @@ use Rattle.runout_walk.proofs.DrawLists.{few_draws, few_twos}
 use Rattle.runout_walk.proofs.DrawWinners.{only_one}
 use Rattle.runout_walk.proofs.draws.DrawsLeaf.count.Goals as goal
 
-pub put_draws-requires-clause-some : goal.put_draws-requires-clause-some
-put_draws-requires-clause-some g c =
+pub write_draws-requires-clause-some : goal.write_draws-requires-clause-some
+write_draws-requires-clause-some g c =
     let leaf = c.args.self.now in
     let st : State = state_of leaf.table.known in
     let size : suc (length c.args.front.now) ≡ length (slots st) = c.requires.last in
@@ -37,8 +37,8 @@ put_draws-requires-clause-some g c =
     let deep : leaf.numbers.count ≡ last_count (slots st) = leaf.deep in
     omega (arith, inside.1, deep)
 
-pub put_draws-requires-clause-room : goal.put_draws-requires-clause-room
-put_draws-requires-clause-room g c =
+pub write_draws-requires-clause-room : goal.write_draws-requires-clause-room
+write_draws-requires-clause-room g c =
     let leaf = c.args.self.now in
     let st : State = state_of leaf.table.known in
     let size : suc (length c.args.front.now) ≡ length (slots st) = c.requires.last in
@@ -50,7 +50,7 @@ put_draws-requires-clause-room g c =
     let short : length c.args.tail.rest ≤ 52 = (let f = cards.few in omega (arith, ap length c.of-cards.ensures, length-take cards.used cards.cards)) in
     let most = few_draws c.args.tail.rest c.args.tail.left short (omega (arith, inside.1, left)) (omega (arith, few, left, deep)) in
     let end = c.requires.inside in
-    omega (arith, most, end, c.draws_room.ensures)
+    omega (arith, most, end, leaf.room)
 
 pub count_pots-requires-clause-last : goal.count_pots-requires-clause-last
 count_pots-requires-clause-last g c =
@@ -87,10 +87,10 @@ returns-else-has_two_sides-clause-counts g c = λ pot place side p has m.
     let last : ℕ = leaf.last in
     let only : Side = only_side known.game in
     let count : ℕ = leaf.numbers.count in
-    let rows : List (List ℕ) = leaf.numbers.rows in
-    let planes : List (List ℕ) = leaf.numbers.planes in
+    let rows : List (List ℕ) = leaf.numbers.rows.items in
+    let planes : List (List ℕ) = leaf.numbers.planes.items in
     let numbers : List ℕ = c.numbers_with-numbers.result in
-    let values : List ℕ = take (hi - lo) c.put_draws.new.values in
+    let values : List ℕ = take (hi - lo) c.as_slice-all.result.now in
     let size : suc (length front) ≡ length (slots st) = c.requires.last in
     let inside = last_inside st leaf.no_board (omega arith) in
     let at : last ≡ last_hand (slots st) = leaf.last_is in
@@ -106,7 +106,8 @@ returns-else-has_two_sides-clause-counts g c = λ pot place side p has m.
     let Others : Side → Type 0 = λ s. AreOthers s st front numbers in
     let others : Others only = subst Others side_is c.numbers_with-numbers.ensures.numbers in
     let values_is : values ≡ map (worth only known.game (hand_of st last)) (slice_range (choose left rest) lo hi) =
-    c.put_draws.ensures.numbers
+    ap (take (hi - lo)) c.as_slice-all.ensures.value
+    ∙ c.write_draws.ensures.numbers
     ∙ ap (λ l. map (number_of rows planes) (slice_range (choose count l) lo hi)) cards_is
     ∙ leaf_values only st front rows planes taken rest count last lo hi deep at (omega (arith, inside.1, deep)) leaf.right empty (λ more m. each more (subst (M more) count_is m))
     ∙ ap (λ n. map (worth only known.game (hand_of st last)) (slice_range (choose n rest) lo hi)) count_is in
@@ -142,10 +143,10 @@ returns-then-has_two_sides-clause-counts g c = λ pot place side p has m.
     let last : ℕ = leaf.last in
     let only : Side = only_side known.game in
     let count : ℕ = leaf.numbers.count in
-    let rows : List (List ℕ) = leaf.numbers.rows in
-    let planes : List (List ℕ) = leaf.numbers.planes in
+    let rows : List (List ℕ) = leaf.numbers.rows.items in
+    let planes : List (List ℕ) = leaf.numbers.planes.items in
     let numbers : List ℕ = c.numbers_with-numbers.result in
-    let values : List ℕ = take (hi - lo) c.put_draws.new.values in
+    let values : List ℕ = take (hi - lo) c.as_slice-all_highs.result.now in
     let size : suc (length front) ≡ length (slots st) = c.requires.last in
     let inside = last_inside st leaf.no_board (omega arith) in
     let at : last ≡ last_hand (slots st) = leaf.last_is in
@@ -161,20 +162,22 @@ returns-then-has_two_sides-clause-counts g c = λ pot place side p has m.
     let Others : Side → Type 0 = λ s. AreOthers s st front numbers in
     let others : Others only = subst Others side_is c.numbers_with-numbers.ensures.numbers in
     let values_is : values ≡ map (worth only known.game (hand_of st last)) (slice_range (choose left rest) lo hi) =
-    c.put_draws.ensures.numbers
+    ap (take (hi - lo)) c.as_slice-all_highs.ensures.value
+    ∙ c.write_draws.ensures.numbers
     ∙ ap (λ l. map (number_of rows planes) (slice_range (choose count l) lo hi)) cards_is
     ∙ leaf_values only st front rows planes taken rest count last lo hi deep at (omega (arith, inside.1, deep)) leaf.right empty (λ more m. each more (subst (M more) count_is m))
     ∙ ap (λ n. map (worth only known.game (hand_of st last)) (slice_range (choose n rest) lo hi)) count_is in
     let two : has_two_sides known.game ≡ true = sym c.has_two_sides.ensures ∙ c.if-has_two_sides.true in
     let lows : List ℕ = c.numbers_with-lows.result in
-    let low_rows : List (List ℕ) = leaf.lows.rows in
-    let low_planes : List (List ℕ) = leaf.numbers.planes in
-    let low_values : List ℕ = take (hi - lo) c.put_lows.new.values in
+    let low_rows : List (List ℕ) = leaf.lows.rows.items in
+    let low_planes : List (List ℕ) = leaf.numbers.planes.items in
+    let low_values : List ℕ = take (hi - lo) c.as_slice-all_lows.result.now in
     let low_count : leaf.lows.count ≡ last_count (slots st) = leaf.low_deep two ∙ deep in
     let low_is : leaf.lows.count ≡ left = low_count ∙ sym left_is in
     let low_cards_is : c.as_slice-then-has_two_sides.result.now ≡ rest = c.as_slice-then-has_two_sides.ensures ∙ c.of-cards.ensures in
     let low_values_is : low_values ≡ map (worth Low known.game (hand_of st last)) (slice_range (choose left rest) lo hi) =
-    c.put_lows.ensures.numbers low_planes
+    ap (take (hi - lo)) c.as_slice-all_lows.ensures.value
+    ∙ c.write_lows.ensures.numbers low_planes
     ∙ ap (λ l. map (number_of low_rows low_planes) (slice_range (choose leaf.lows.count l) lo hi)) low_cards_is
     ∙ leaf_values Low st front low_rows low_planes taken rest leaf.lows.count last lo hi low_count at (omega (arith, inside.1, low_count)) (leaf.low_right two low_planes) empty (λ more m. each more (subst (M more) low_is m))
     ∙ ap (λ n. map (worth Low known.game (hand_of st last)) (slice_range (choose n rest) lo hi)) low_is in
@@ -202,14 +205,14 @@ returns-then-has_two_sides-clause-counts g c = λ pot place side p has m.
     c.count_highs.ensures.lows pot place ∙ c.count_lows.ensures.counts pot place there m ∙ ap (λ n. slice_index (slice_index_or old (2 * pot + 1) []) place + n) low_won in
     both_rows side old new pot place (λ s. count_by (λ runout. count_place deal pot s runout == place) runouts) high_row low_row
 
-pub put_draws-requires-clause-short : goal.put_draws-requires-clause-short
-put_draws-requires-clause-short g c =
+pub write_draws-requires-clause-short : goal.write_draws-requires-clause-short
+write_draws-requires-clause-short g c =
     let cards = c.of-cards.result in
     let few = cards.few in
     omega (arith, ap length c.as_slice.ensures, length-take cards.used cards.cards)
 
-pub put_lows-requires-clause-some : goal.put_lows-requires-clause-some
-put_lows-requires-clause-some g c =
+pub write_lows-requires-clause-some : goal.write_lows-requires-clause-some
+write_lows-requires-clause-some g c =
     let leaf = c.args.self.now in
     let st : State = state_of leaf.table.known in
     let size : suc (length c.args.front.now) ≡ length (slots st) = c.requires.last in
@@ -247,7 +250,7 @@ count_lows-requires-clause-fits g c = λ pot place l m.
     let pots = table.few_pots in
     let among : pot < length (deal_of table).pots = omega (arith, l, pots, length-map (take table.pots table.eligible) hands_of, length-take table.pots table.eligible, c.ten_places.ensures.pots) in
     let room = c.requires.fits pot place Low among sides.1 m in
-    omega (arith, room, length-take (c.args.hi - c.args.lo) c.put_lows.new.values)
+    omega (arith, room, length-take (c.args.hi - c.args.lo) c.as_slice-all_lows.result.now)
 
 pub count_highs-requires-clause-fits : goal.count_highs-requires-clause-fits
 count_highs-requires-clause-fits g c = λ pot place l m.
@@ -260,16 +263,16 @@ count_highs-requires-clause-fits g c = λ pot place l m.
     let Room : ℕ → Type 0 = λ row. slice_index (slice_index_or c.args.counts.now row []) place + (c.args.hi - c.args.lo) < 2 ^ 32 in
     let same : 2 * pot + 0 ≡ 2 * pot = omega arith in
     let room : Room (2 * pot) = subst Room same (c.requires.fits pot place High among sides.0 m) in
-    omega (arith, room, c.count_lows.ensures.highs pot place, length-take (c.args.hi - c.args.lo) c.put_draws.new.values)
+    omega (arith, room, c.count_lows.ensures.highs pot place, length-take (c.args.hi - c.args.lo) c.as_slice-all_highs.result.now)
 
-pub put_lows-requires-clause-few : goal.put_lows-requires-clause-few
-put_lows-requires-clause-few g c =
+pub write_lows-requires-clause-few : goal.write_lows-requires-clause-few
+write_lows-requires-clause-few g c =
     let leaf = c.args.self.now in
     let two : has_two_sides leaf.table.known.game ≡ true = sym c.has_two_sides.ensures ∙ c.if-has_two_sides.true in
     omega (arith, leaf.low_few two, leaf.low_deep two)
 
-pub put_lows-requires-clause-room : goal.put_lows-requires-clause-room
-put_lows-requires-clause-room g c =
+pub write_lows-requires-clause-room : goal.write_lows-requires-clause-room
+write_lows-requires-clause-room g c =
     let leaf = c.args.self.now in
     let st : State = state_of leaf.table.known in
     let two : has_two_sides leaf.table.known.game ≡ true = sym c.has_two_sides.ensures ∙ c.if-has_two_sides.true in
@@ -282,10 +285,10 @@ put_lows-requires-clause-room g c =
     let short : length c.args.tail.rest ≤ 52 = (let f = cards.few in omega (arith, ap length c.of-cards.ensures, length-take cards.used cards.cards)) in
     let most = few_twos c.args.tail.rest c.args.tail.left short (omega (arith, inside.1, left)) (omega (arith, few, left, deep)) in
     let end = c.requires.inside in
-    omega (arith, most, end, c.lows_room.ensures)
+    omega (arith, most, end, leaf.low_room)
 
-pub shared_ref_as_front-low_values : goal.shared_ref_as_front-low_values
-shared_ref_as_front-low_values g c =
+pub slice_bounds-low_values-length : goal.slice_bounds-low_values-length
+slice_bounds-low_values-length g c =
     let leaf = c.args.self.now in
     let st : State = state_of leaf.table.known in
     let two : has_two_sides leaf.table.known.game ≡ true = sym c.has_two_sides.ensures ∙ c.if-has_two_sides.true in
@@ -298,4 +301,26 @@ shared_ref_as_front-low_values g c =
     let short : length c.args.tail.rest ≤ 52 = (let f = cards.few in omega (arith, ap length c.of-cards.ensures, length-take cards.used cards.cards)) in
     let most = few_twos c.args.tail.rest c.args.tail.left short (omega (arith, inside.1, left)) (omega (arith, few, left, deep)) in
     let end = c.requires.inside in
-    omega (arith, most, end)
+    let span : ℕ = c.args.hi - c.args.lo in
+    let lows : span ≤ length c.as_slice-all_lows.result.now = omega (arith, most, end, leaf.low_room, c.write_lows.ensures.room, ap length c.as_slice-all_lows.ensures.value) in
+    omega (arith, lows, length-take span c.as_slice-all_lows.result.now)
+
+pub count_highs-requires-clause-same : goal.count_highs-requires-clause-same
+count_highs-requires-clause-same g c =
+    let leaf = c.args.self.now in
+    let st : State = state_of leaf.table.known in
+    let two : has_two_sides leaf.table.known.game ≡ true = sym c.has_two_sides.ensures ∙ c.if-has_two_sides.true in
+    let size : suc (length c.args.front.now) ≡ length (slots st) = c.requires.last in
+    let inside = last_inside st leaf.no_board (omega arith) in
+    let deep : leaf.numbers.count ≡ last_count (slots st) = leaf.deep in
+    let left : c.args.tail.left ≡ last_count (slots st) = c.requires.deep in
+    let few = leaf.low_few two in
+    let cards = c.of-cards.result in
+    let short : length c.args.tail.rest ≤ 52 = (let f = cards.few in omega (arith, ap length c.of-cards.ensures, length-take cards.used cards.cards)) in
+    let most = few_twos c.args.tail.rest c.args.tail.left short (omega (arith, inside.1, left)) (omega (arith, few, left, deep)) in
+    let end = c.requires.inside in
+    let draws = few_draws c.args.tail.rest c.args.tail.left short (omega (arith, inside.1, left)) (omega (arith, leaf.few, left, deep)) in
+    let span : ℕ = c.args.hi - c.args.lo in
+    let lows : span ≤ length c.as_slice-all_lows.result.now = omega (arith, most, end, leaf.low_room, c.write_lows.ensures.room, ap length c.as_slice-all_lows.ensures.value) in
+    let values : span ≤ length c.as_slice-all_highs.result.now = omega (arith, draws, end, leaf.room, c.write_draws.ensures.room, ap length c.as_slice-all_highs.ensures.value) in
+    omega (arith, lows, values, length-take span c.as_slice-all_lows.result.now, length-take span c.as_slice-all_highs.result.now)

@@ -6,6 +6,7 @@ returns c = λ deal.
     let was = c.requires in
     record {
       past = record {
+        places = was.places;
         each = λ i flush at. let l = was.each i flush at in omega arith;
         hands = (let l = was.hands in omega arith);
       };

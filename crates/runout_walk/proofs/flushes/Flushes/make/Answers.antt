@@ -1,4 +1,5 @@
-use Rattle.std.proofs.Common.{◌≡◌, ◌≤◌, arith}
+use Rattle.std.proofs.Common.{◌≡◌, ◌≤◌, ◌∙◌, arith}
+use Rattle.std.proofs.Math.ListN.{length-set}
 use Rattle.card_sets.specs.State.{state_of}
 use Rattle.showdown_tally.specs.Deals.{deal_of}
 use Rattle.runout_walk.specs.Bests.{IsBestFlush, flush_of}
@@ -17,9 +18,10 @@ returns-clause-right c =
     let best = c.pot_best-best.ensures.best (flush_of (state_of c.args.table.now.known) c.args.part.now.cards c.args.part.now.suit) c.work_out.ensures.values in
     record {
       past = record {
-        each = all_set (λ (f : Flush). f.stamp ≤ c.work_out.new.self.stamp) c.work_out.new.self.list c.args.place _ was.past.each (omega arith);
+        places = length-set c.work_out.new.self.list.items c.args.place _ ∙ was.past.places;
+        each = all_set (λ (f : Flush). f.stamp ≤ c.work_out.new.self.stamp) c.work_out.new.self.list.items c.args.place _ was.past.each (omega arith);
         hands = was.past.hands;
       };
-      best = all_set (λ (f : Flush). f.stamp ≡ c.work_out.new.self.stamp → IsBestFlush (deal_of c.args.table.now) f.pot f.cards f.suit f.top f.set) c.work_out.new.self.list c.args.place _ was.best (λ same. record { greatest = best.0; winners = λ some. best.1 });
+      best = all_set (λ (f : Flush). f.stamp ≡ c.work_out.new.self.stamp → IsBestFlush (deal_of c.args.table.now) f.pot f.cards f.suit f.top f.set) c.work_out.new.self.list.items c.args.place _ was.best (λ same. record { greatest = best.0; winners = λ some. best.1 });
       of_hands = was.of_hands;
     }

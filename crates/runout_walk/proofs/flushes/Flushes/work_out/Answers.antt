@@ -15,7 +15,7 @@ pub returns-clause-right : goal.returns-clause-right
 returns-clause-right c =
     let was = c.requires.right in
     record {
-      past = record { each = was.past.each; hands = omega arith };
+      past = record { places = was.past.places; each = was.past.each; hands = omega arith };
       best = was.best;
       of_hands = λ same. c.hand_flushes.ensures;
     }

@@ -13,7 +13,8 @@ last_pairs-requires-clause-two c =
 
 pub last_pairs-requires-clause-enough : goal.last_pairs-requires-clause-enough
 last_pairs-requires-clause-enough c =
-    let fits = stretch_fits (take c.args.self.now.used c.args.self.now.pairs) c.args.self.now.cards c.requires.end.0 c.args.rest c.requires.end.1 c.args.self.now.listed in
+    let listed : map cards_of_pair (take c.args.self.now.used c.deref.result.now) ≡ choose 2 c.args.self.now.cards = ap (λ l. map cards_of_pair (take c.args.self.now.used l)) c.deref.ensures.value ∙ c.args.self.now.listed in
+    let fits = stretch_fits (take c.args.self.now.used c.deref.result.now) c.args.self.now.cards c.requires.end.0 c.args.rest c.requires.end.1 listed in
     let size : binomial c.count.result 2 ≡ length (choose 2 c.args.rest) = ap (λ n. binomial n 2) c.count.ensures.value ∙ sym (length_choose 2 c.args.rest) in
     omega (arith, fits, size)
 
@@ -24,5 +25,6 @@ last_pairs-requires-clause-inside c =
 
 pub returns : goal.returns
 returns c =
+    let listed : map cards_of_pair (take c.args.self.now.used c.deref.result.now) ≡ choose 2 c.args.self.now.cards = ap (λ l. map cards_of_pair (take c.args.self.now.used l)) c.deref.ensures.value ∙ c.args.self.now.listed in
     let size : binomial c.count.result 2 ≡ length (choose 2 c.args.rest) = ap (λ n. binomial n 2) c.count.ensures.value ∙ sym (length_choose 2 c.args.rest) in
-    ap (λ l. map cards_of_pair l) c.last_pairs.ensures ∙ stretch_is (take c.args.self.now.used c.args.self.now.pairs) c.args.self.now.cards c.requires.end.0 c.args.rest (binomial c.count.result 2) c.args.lo c.args.hi c.requires.end.1 c.args.self.now.listed size
+    ap (λ l. map cards_of_pair l) c.last_pairs.ensures ∙ stretch_is (take c.args.self.now.used c.deref.result.now) c.args.self.now.cards c.requires.end.0 c.args.rest (binomial c.count.result 2) c.args.lo c.args.hi c.requires.end.1 listed size

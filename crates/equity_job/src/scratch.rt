@@ -1,0 +1,112 @@
+//! The room that counts work in.
+
+ghost use Rattle.std.specs.Prelude.{◌≡◌, ◌*◌, ◌<◌, ◌≤◌, length, IfOk, IsSome, IsTrue, OnOk};
+ghost use Rattle.equity_job.specs.Rooms.{HasRows, IsReady};
+
+use crate::Job;
+use crate::blocks::is_full;
+use card_sets::Memory;
+use runout_walk::{Boards, Draws, are_boards, are_draws};
+use std::alloc::Global;
+
+/// The room that counts work in. It is made without memory, and has its parts on the heap once [`Scratch::ready`] was asked for
+/// them: 16 kB a pot, and tables of about 320 kB for boards or 390 kB for draws. What it holds makes no difference to a count but
+/// in time, so it is made once and lent to each: where a part isn't there, the count goes without it, runout by runout.
+#[derive(Drop)]
+pub struct Scratch {
+    /// Two rows of counts a pot, for as many pots as were asked for.
+    pub(crate) counts: Option<Vec<[u32; 2048]>>,
+    /// The room of boards.
+    pub(crate) boards: Option<Boards>,
+    /// The room of draws.
+    pub(crate) draws: Option<Draws>,
+}
+
+/// So many rows of counts.
+fn rows_of(alloc: Global, rows: usize) -> Result<Vec<[u32; 2048]>, Memory>
+    ensures { IfOk result (λ counts. length counts.items ≡ rows) }
+{
+    let mut counts = Vec::new(alloc);
+    counts.resize(rows, [0; 2048])?;
+    Ok(counts)
+}
+
+impl Scratch {
+    /// A room without any part.
+    pub fn new() -> Scratch {
+        Scratch {
+            counts: None,
+            boards: None,
+            draws: None,
+        }
+    }
+
+    /// Asks for the parts that the count of a job uses and that aren't there. After `Memory` it has what it had, or more, and every
+    /// count may still be made in it.
+    pub fn ready(&mut self, alloc: Global, job: &Job) -> Result<(), Memory>
+        ensures { 0 < job.now.shape.used → OnOk result (IsReady self.new job.now) }
+    {
+        if is_full(job) {
+            return Ok(());
+        }
+        self.ready_counts(alloc, job.table.pots)?;
+        self.ready_boards(alloc, are_boards(&job.table, &job.shape))?;
+        self.ready_draws(alloc, are_draws(&job.table, &job.shape))
+    }
+
+    /// The same for boards of so many pots that lack two cards or more, whichever they are.
+    pub fn ready_for_boards(&mut self, alloc: Global, pots: u8) -> Result<(), Memory>
+        ensures counts { OnOk result (HasRows (2 * pots) self.new.counts) }
+        ensures boards { OnOk result (IsSome self.new.boards) }
+    {
+        self.ready_counts(alloc, pots)?;
+        self.ready_boards(alloc, true)
+    }
+
+    /// Whether there are so many rows of counts.
+    fn has_rows(&self, rows: usize) -> bool
+        ensures { IsTrue result → HasRows rows self.now.counts }
+    {
+        match &self.counts {
+            Some(counts) => rows <= counts.len(),
+            None => false,
+        }
+    }
+
+    /// Asks for two rows of counts a pot.
+    fn ready_counts(&mut self, alloc: Global, pots: u8) -> Result<(), Memory>
+        ensures { OnOk result (HasRows (2 * pots) self.new.counts) }
+    {
+        let rows = 2 * usize::from(pots);
+        if self.has_rows(rows) {
+            return Ok(());
+        }
+        self.counts = Some(rows_of(alloc, rows)?);
+        Ok(())
+    }
+
+    /// Asks for the room of boards, where it is wanted.
+    fn ready_boards(&mut self, alloc: Global, wanted: bool) -> Result<(), Memory>
+        ensures there { OnOk result (IsTrue wanted → IsSome self.new.boards) }
+        ensures counts { self.new.counts ≡ self.old.counts }
+    {
+        if !wanted || self.boards.is_some() {
+            return Ok(());
+        }
+        self.boards = Some(Boards::new(alloc)?);
+        Ok(())
+    }
+
+    /// Asks for the room of draws, where it is wanted.
+    fn ready_draws(&mut self, alloc: Global, wanted: bool) -> Result<(), Memory>
+        ensures there { OnOk result (IsTrue wanted → IsSome self.new.draws) }
+        ensures counts { self.new.counts ≡ self.old.counts }
+        ensures boards { self.new.boards ≡ self.old.boards }
+    {
+        if !wanted || self.draws.is_some() {
+            return Ok(());
+        }
+        self.draws = Some(Draws::new(alloc)?);
+        Ok(())
+    }
+}
