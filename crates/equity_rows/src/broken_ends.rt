@@ -225,8 +225,8 @@ fn failing(piece: usize, read: usize, write_fault: Option<u64>) -> Edges {
 }
 
 /// The run of a mode between these ends ends with this status and leaves these blocks.
-fn leaves(
-    rt: &impl Abort,
+fn leaves<R: Threads + Wait + Sync + Abort>(
+    rt: &R,
     alloc: Global,
     mode: &str,
     is_csv: bool,
@@ -242,8 +242,8 @@ fn leaves(
 }
 
 /// Where a read fails and the write of a block too, the run ends with status 4 and the blocks before.
-fn each_block_fails(
-    rt: &impl Abort,
+fn each_block_fails<R: Threads + Wait + Sync + Abort>(
+    rt: &R,
     alloc: Global,
     mode: &str,
     is_csv: bool,
@@ -261,8 +261,8 @@ fn each_block_fails(
 
 /// Where the read of this number fails, of so many bytes each, the run ends with status 3 and the report of what is
 /// closed.
-fn read_fails(
-    rt: &impl Abort,
+fn read_fails<R: Threads + Wait + Sync + Abort>(
+    rt: &R,
     alloc: Global,
     row: &Broken,
     is_csv: bool,
@@ -277,8 +277,8 @@ fn read_fails(
 }
 
 /// So it is at each read of so many bytes.
-fn each_read_of(
-    rt: &impl Abort,
+fn each_read_of<R: Threads + Wait + Sync + Abort>(
+    rt: &R,
     alloc: Global,
     row: &Broken,
     is_csv: bool,
@@ -296,7 +296,11 @@ fn each_read_of(
 const PIECES: [(usize, bool); 4] = [(1, false), (7, true), (64, false), (4096, true)];
 
 /// So it is at each read, however many bytes it asks for.
-fn each_read_fails(rt: &impl Abort, alloc: Global, row: &Broken) -> Result<(), Fail> {
+fn each_read_fails<R: Threads + Wait + Sync + Abort>(
+    rt: &R,
+    alloc: Global,
+    row: &Broken,
+) -> Result<(), Fail> {
     let input = input_of(alloc, row.input)?;
     for (piece, is_csv) in PIECES {
         each_read_of(rt, alloc, row, is_csv, &input, piece)?;

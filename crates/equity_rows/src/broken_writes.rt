@@ -13,7 +13,9 @@ use byte_ends::{MemorySource, Source};
 use run_engine::run_alone;
 use std::alloc::Global;
 use std::process::Abort;
+use std::sync::Wait;
 use std::test::Fail;
+use std::thread::Threads;
 
 /// Words, an input, how many bytes a write takes, and each of how many writes is tried.
 type Writes = (
@@ -34,8 +36,8 @@ fn status_of(written: &[u8], whole: &Ran) -> u8 {
 
 /// Where the write of this number fails, of so many bytes each, the run ends with status 4 and with the front of its
 /// report that was taken.
-fn write_fails(
-    rt: &impl Abort,
+fn write_fails<R: Threads + Wait + Sync + Abort>(
+    rt: &R,
     alloc: Global,
     words: &[&str],
     input: &[u8],
@@ -48,15 +50,15 @@ fn write_fails(
         write_fault: Some(write as u64),
         ..AMPLE
     };
-    let ran = run(alloc, words, input, edges)?;
+    let ran = run(rt, alloc, words, input, edges)?;
     let written = front(&whole.written, write.saturating_mul(taken));
     did(rt, &ran, status_of(written, whole), written, "a write");
     Ok(())
 }
 
 /// So it is with these writes.
-fn all_writes_fail(
-    rt: &impl Abort,
+fn all_writes_fail<R: Threads + Wait + Sync + Abort>(
+    rt: &R,
     alloc: Global,
     row: &Writes,
     input: &[u8],
@@ -71,9 +73,13 @@ fn all_writes_fail(
 }
 
 /// So it is over the input of a row.
-fn each_write_fails(rt: &impl Abort, alloc: Global, row: &Writes) -> Result<(), Fail> {
+fn each_write_fails<R: Threads + Wait + Sync + Abort>(
+    rt: &R,
+    alloc: Global,
+    row: &Writes,
+) -> Result<(), Fail> {
     let input = input_of(alloc, row.1)?;
-    let whole = run(alloc, row.0, &input, AMPLE)?;
+    let whole = run(rt, alloc, row.0, &input, AMPLE)?;
     all_writes_fail(rt, alloc, row, &input, &whole)
 }
 

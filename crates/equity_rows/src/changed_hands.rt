@@ -7,7 +7,9 @@ use crate::histories::{Hand, TWICE_REPORT};
 use crate::runs::{LAST, Part, input_of};
 use std::alloc::{AllocError, Global};
 use std::process::Abort;
+use std::sync::Wait;
 use std::test::Fail;
+use std::thread::Threads;
 
 /// What `check` reports where a line is dropped, is there twice, and stands behind the next one.
 type Verdicts = (&'static str, &'static str, &'static str);
@@ -159,7 +161,12 @@ fn verdict_of(report: &str) -> Verdict<'_> {
 }
 
 /// Each mode tells so of this input.
-fn is_told_so(rt: &impl Abort, alloc: Global, input: &[u8], verdict: &Verdict) -> Result<(), Fail> {
+fn is_told_so<R: Threads + Wait + Sync + Abort>(
+    rt: &R,
+    alloc: Global,
+    input: &[u8],
+    verdict: &Verdict,
+) -> Result<(), Fail> {
     for mode in HAND_MODES {
         mode_tells(rt, alloc, mode, input, 7, verdict)?;
     }
@@ -167,14 +174,19 @@ fn is_told_so(rt: &impl Abort, alloc: Global, input: &[u8], verdict: &Verdict) -
 }
 
 /// Each mode reports so of the input of these parts.
-fn is_judged(rt: &impl Abort, alloc: Global, parts: &[Part], report: &str) -> Result<(), Fail> {
+fn is_judged<R: Threads + Wait + Sync + Abort>(
+    rt: &R,
+    alloc: Global,
+    parts: &[Part],
+    report: &str,
+) -> Result<(), Fail> {
     let input = input_of(alloc, parts)?;
     is_told_so(rt, alloc, &input, &verdict_of(report))
 }
 
 /// The line of this number, from 1, is dropped, doubled, and exchanged with the next.
-fn is_judged_without(
-    rt: &impl Abort,
+fn is_judged_without<R: Threads + Wait + Sync + Abort>(
+    rt: &R,
     alloc: Global,
     hand: Hand,
     number: usize,

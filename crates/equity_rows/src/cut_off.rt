@@ -8,7 +8,9 @@ use crate::histories::{Hand, TWICE_REPORT};
 use crate::runs::{AMPLE, LAST, Part, Ran, front, holds, input_of, run};
 use std::alloc::{AllocError, Global};
 use std::process::Abort;
+use std::sync::Wait;
 use std::test::Fail;
+use std::thread::Threads;
 
 /// A hand whose number has one digit.
 struct Cut {
@@ -47,8 +49,8 @@ fn told_in<'a>(whole: &Cut, line: usize, departs: bool, written: &'a [u8]) -> Ve
 
 /// A mode reports of the hand, cut off behind this byte, that the line departs, or that the hand is unfinished there.
 /// Before the line of its stated pot it can't be accepted.
-fn is_cut_behind(
-    rt: &impl Abort,
+fn is_cut_behind<R: Threads + Wait + Sync + Abort>(
+    rt: &R,
     alloc: Global,
     mode: &str,
     whole: &Cut,
@@ -57,7 +59,7 @@ fn is_cut_behind(
 ) -> Result<(), Fail> {
     let line = line_count(front(text, place)).saturating_add(1);
     let cut = front(text, place.saturating_add(1));
-    let checked = run(alloc, &["check"], cut, AMPLE)?;
+    let checked = run(rt, alloc, &["check"], cut, AMPLE)?;
     let departs = departs_in(alloc, whole.number, line, &checked.written)?;
     holds(rt, departs || line == 1 || line >= whole.total, mode);
     let verdict = told_in(whole, line, departs, &checked.written);
@@ -65,8 +67,8 @@ fn is_cut_behind(
 }
 
 /// So it is at each byte.
-fn is_cut_at_each_byte(
-    rt: &impl Abort,
+fn is_cut_at_each_byte<R: Threads + Wait + Sync + Abort>(
+    rt: &R,
     alloc: Global,
     mode: &str,
     whole: &Cut,
@@ -141,21 +143,21 @@ fn is_spot(ran: &Ran, counted: &[u8]) -> bool {
 }
 
 /// The front of a line is a spot, counted or rejected; in both forms, and byte by byte.
-fn is_spot_so(
-    rt: &impl Abort,
+fn is_spot_so<R: Threads + Wait + Sync + Abort>(
+    rt: &R,
     alloc: Global,
     mode: &str,
     cut: &[u8],
     counted: &str,
 ) -> Result<(), Fail> {
-    let ran = run(alloc, &[mode], cut, AMPLE)?;
+    let ran = run(rt, alloc, &[mode], cut, AMPLE)?;
     holds(rt, is_spot(&ran, counted.as_bytes()), mode);
     goes_so(rt, alloc, mode, cut, 1, &ran)
 }
 
 /// So it is behind each byte.
-fn is_spot_at_each_byte(
-    rt: &impl Abort,
+fn is_spot_at_each_byte<R: Threads + Wait + Sync + Abort>(
+    rt: &R,
     alloc: Global,
     mode: &str,
     line: &str,

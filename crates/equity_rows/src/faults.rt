@@ -3,7 +3,9 @@
 use crate::runs::{AMPLE, Case, Edges, NO_WRITE, Part, each_ends, ends};
 use std::alloc::Global;
 use std::process::Abort;
+use std::sync::Wait;
 use std::test::Fail;
+use std::thread::Threads;
 
 /// A spot line and its report, and the usage line.
 pub(crate) const SPOT: &str = "holdem As Ah - Ks Kh -- 2c 7d 9h 4s\n";
@@ -54,7 +56,11 @@ fn after_reads(call: u64) -> (u8, &'static [&'static str]) {
 }
 
 /// The read of this number fails, of seven bytes each.
-fn a_read_fails(rt: &impl Abort, alloc: Global, call: u64) -> Result<(), Fail> {
+fn a_read_fails<R: Threads + Wait + Sync + Abort>(
+    rt: &R,
+    alloc: Global,
+    call: u64,
+) -> Result<(), Fail> {
     let edges = Edges {
         piece: 7,
         read_fault: Some(call),

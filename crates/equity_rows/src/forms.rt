@@ -3,7 +3,9 @@
 use crate::runs::{AMPLE, Edges, Ran, did, holds, run};
 use std::alloc::{AllocError, Global};
 use std::process::Abort;
+use std::sync::Wait;
 use std::test::Fail;
+use std::thread::Threads;
 
 /// Records as lines of text: their fields that aren't empty, with a space between. No field has a comma or a quote.
 fn as_text(alloc: Global, records: &[u8]) -> Result<Vec<u8>, AllocError> {
@@ -40,14 +42,14 @@ fn has_thirteen_each(records: &[u8]) -> bool {
 }
 
 /// What the run of a mode over this input, between these ends, did in the form of records, with what they say as text.
-fn told_by_records(
-    rt: &impl Abort,
+fn told_by_records<R: Threads + Wait + Sync + Abort>(
+    rt: &R,
     alloc: Global,
     mode: &str,
     input: &[u8],
     edges: Edges,
 ) -> Result<Ran, Fail> {
-    let ran = run(alloc, &[mode, "--format=csv"], input, edges)?;
+    let ran = run(rt, alloc, &[mode, "--format=csv"], input, edges)?;
     holds(rt, has_thirteen_each(&ran.written), mode);
     Ok(Ran {
         status: ran.status,
@@ -56,8 +58,8 @@ fn told_by_records(
 }
 
 /// What the run did in this form.
-pub(crate) fn told(
-    rt: &impl Abort,
+pub(crate) fn told<R: Threads + Wait + Sync + Abort>(
+    rt: &R,
     alloc: Global,
     mode: &str,
     is_csv: bool,
@@ -67,7 +69,7 @@ pub(crate) fn told(
     if is_csv {
         told_by_records(rt, alloc, mode, input, edges)
     } else {
-        run(alloc, &[mode], input, edges)
+        run(rt, alloc, &[mode], input, edges)
     }
 }
 
@@ -77,8 +79,8 @@ pub(crate) fn pieces(piece: usize) -> Edges {
 }
 
 /// The runs of a mode over this input in both forms, where it comes in such pieces, do what this one did.
-pub(crate) fn goes_so(
-    rt: &impl Abort,
+pub(crate) fn goes_so<R: Threads + Wait + Sync + Abort>(
+    rt: &R,
     alloc: Global,
     mode: &str,
     input: &[u8],
@@ -129,15 +131,15 @@ fn is_told(mode: &str, verdict: &Verdict, written: &[u8]) -> bool {
 }
 
 /// A mode tells so of this input, in both forms, and where the input comes in pieces.
-pub(crate) fn mode_tells(
-    rt: &impl Abort,
+pub(crate) fn mode_tells<R: Threads + Wait + Sync + Abort>(
+    rt: &R,
     alloc: Global,
     mode: &str,
     input: &[u8],
     piece: usize,
     verdict: &Verdict,
 ) -> Result<(), Fail> {
-    let ran = run(alloc, &[mode], input, AMPLE)?;
+    let ran = run(rt, alloc, &[mode], input, AMPLE)?;
     holds(rt, ran.status == verdict.status, mode);
     holds(rt, is_told(mode, verdict, &ran.written), mode);
     goes_so(rt, alloc, mode, input, piece, &ran)

@@ -113,8 +113,8 @@ fn between(
     ran_so(alloc, status, &sink)
 }
 
-/// Runs these words over this input.
-pub(crate) fn run(alloc: Global, words: &[&str], input: &[u8], edges: Edges) -> Result<Ran, Fail> {
+/// Runs these words over this input on one thread.
+fn run_by_one(alloc: Global, words: &[&str], input: &[u8], edges: Edges) -> Result<Ran, Fail> {
     let owned = owned(alloc, words)?;
     let source = source_of(alloc, input, edges)?;
     let sink = sink_of(alloc, edges)?;
@@ -162,9 +162,23 @@ pub(crate) fn did(rt: &impl Abort, ran: &Ran, status: u8, written: &[u8], name: 
     holds(rt, is_so(ran, status, written), name);
 }
 
+/// Runs these words over this input, on one thread and with several workers, as many as the words say. The two do the same.
+pub(crate) fn run<R: Threads + Wait + Sync + Abort>(
+    rt: &R,
+    alloc: Global,
+    words: &[&str],
+    input: &[u8],
+    edges: Edges,
+) -> Result<Ran, Fail> {
+    let one = run_by_one(alloc, words, input, edges)?;
+    let several = run_by_workers(rt, alloc, words, input, edges)?;
+    did(rt, &several, one.status, &one.written, "by workers");
+    Ok(one)
+}
+
 /// The run of these words over this input, between these ends, ends with this status and writes these texts.
-pub(crate) fn ends(
-    rt: &impl Abort,
+pub(crate) fn ends<R: Threads + Wait + Sync + Abort>(
+    rt: &R,
     alloc: Global,
     words: &[&str],
     edges: Edges,
@@ -173,7 +187,7 @@ pub(crate) fn ends(
     texts: &[&str],
 ) -> Result<(), Fail> {
     let report = joined(alloc, texts)?;
-    let ran = run(alloc, words, input, edges)?;
+    let ran = run(rt, alloc, words, input, edges)?;
     did(rt, &ran, status, report.as_bytes(), &report);
     Ok(())
 }
@@ -255,14 +269,22 @@ pub(crate) type Case = (
 );
 
 /// A run of a table does what stands there.
-fn ends_so(rt: &impl Abort, alloc: Global, case: &Case) -> Result<(), Fail> {
+fn ends_so<R: Threads + Wait + Sync + Abort>(
+    rt: &R,
+    alloc: Global,
+    case: &Case,
+) -> Result<(), Fail> {
     let (words, edges, parts, status, texts) = case;
     let input = input_of(alloc, parts)?;
     ends(rt, alloc, words, *edges, &input, *status, texts)
 }
 
 /// So it is with each run of the table.
-pub(crate) fn each_ends(rt: &impl Abort, alloc: Global, cases: &[Case]) -> Result<(), Fail> {
+pub(crate) fn each_ends<R: Threads + Wait + Sync + Abort>(
+    rt: &R,
+    alloc: Global,
+    cases: &[Case],
+) -> Result<(), Fail> {
     for case in cases {
         ends_so(rt, alloc, case)?;
     }
@@ -273,8 +295,8 @@ pub(crate) fn each_ends(rt: &impl Abort, alloc: Global, cases: &[Case]) -> Resul
 pub(crate) type Row = (&'static str, u8, &'static str);
 
 /// Each run of these words over an input of the table does what stands there.
-pub(crate) fn each_reports(
-    rt: &impl Abort,
+pub(crate) fn each_reports<R: Threads + Wait + Sync + Abort>(
+    rt: &R,
     alloc: Global,
     words: &[&str],
     rows: &[Row],
@@ -302,8 +324,8 @@ pub(crate) type Told = (
 );
 
 /// The run of each of these words over this input ends with this status and writes this report.
-fn all_report(
-    rt: &impl Abort,
+fn all_report<R: Threads + Wait + Sync + Abort>(
+    rt: &R,
     alloc: Global,
     forms: &[&[&str]],
     input: &str,
@@ -317,7 +339,11 @@ fn all_report(
 }
 
 /// So it is with each row of the table.
-pub(crate) fn each_told(rt: &impl Abort, alloc: Global, rows: &[Told]) -> Result<(), Fail> {
+pub(crate) fn each_told<R: Threads + Wait + Sync + Abort>(
+    rt: &R,
+    alloc: Global,
+    rows: &[Told],
+) -> Result<(), Fail> {
     for (forms, input, status, report) in rows {
         all_report(rt, alloc, forms, input, *status, report)?;
     }
@@ -328,8 +354,8 @@ pub(crate) fn each_told(rt: &impl Abort, alloc: Global, rows: &[Told]) -> Result
 pub(crate) type Change = (usize, &'static str, &'static str);
 
 /// A change of a hand makes a run of the mode write its report, and end with status 1.
-fn change_reports(
-    rt: &impl Abort,
+fn change_reports<R: Threads + Wait + Sync + Abort>(
+    rt: &R,
     alloc: Global,
     mode: &str,
     hand: Hand,
@@ -343,8 +369,8 @@ fn change_reports(
 }
 
 /// So it is with each change of some.
-fn all_report_so(
-    rt: &impl Abort,
+fn all_report_so<R: Threads + Wait + Sync + Abort>(
+    rt: &R,
     alloc: Global,
     mode: &str,
     hand: Hand,
@@ -360,7 +386,11 @@ fn all_report_so(
 pub(crate) type Changed = (&'static str, Hand, &'static [Change]);
 
 /// So it is with each hand of the table.
-pub(crate) fn each_change(rt: &impl Abort, alloc: Global, hands: &[Changed]) -> Result<(), Fail> {
+pub(crate) fn each_change<R: Threads + Wait + Sync + Abort>(
+    rt: &R,
+    alloc: Global,
+    hands: &[Changed],
+) -> Result<(), Fail> {
     for (mode, hand, changes) in hands {
         all_report_so(rt, alloc, mode, *hand, changes)?;
     }

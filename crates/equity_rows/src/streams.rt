@@ -5,14 +5,21 @@ use crate::histories::{CUT_AND_WHOLE, Hand};
 use crate::runs::{AMPLE, Edges, Part, ends, holds, input_of, run};
 use std::alloc::Global;
 use std::process::Abort;
+use std::sync::Wait;
 use std::test::Fail;
+use std::thread::Threads;
 
 /// How many bytes a read gives at the most.
 const PIECES: [usize; 5] = [1, 2, 7, 64, 4096];
 
 /// The mode reports the same of this input however it is cut into pieces.
-fn is_the_same(rt: &impl Abort, alloc: Global, mode: &str, input: &[u8]) -> Result<(), Fail> {
-    let whole = run(alloc, &[mode], input, AMPLE)?;
+fn is_the_same<R: Threads + Wait + Sync + Abort>(
+    rt: &R,
+    alloc: Global,
+    mode: &str,
+    input: &[u8],
+) -> Result<(), Fail> {
+    let whole = run(rt, alloc, &[mode], input, AMPLE)?;
     holds(rt, whole.status == 1, mode);
     for piece in PIECES {
         goes_so(rt, alloc, mode, input, piece, &whole)?;
@@ -30,8 +37,8 @@ fn pieces_change_nothing(rt: HostRuntime) -> Result<(), Fail> {
 }
 
 /// Where a read of so many bytes fails behind a place, the first hand is reported.
-fn is_cut_behind(
-    rt: &impl Abort,
+fn is_cut_behind<R: Threads + Wait + Sync + Abort>(
+    rt: &R,
     alloc: Global,
     input: &[u8],
     place: usize,
