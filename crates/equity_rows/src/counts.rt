@@ -9,6 +9,7 @@ use equity_job::{Job, Scratch, count_job};
 use report_table::table_alone;
 use showdown_tally::{Table, Tally};
 use spot_text::read_spot;
+use std::alloc::Global;
 use std::marker::Brand;
 use std::process::Abort;
 use std::sync::ledger::{Blank, Ledger};
@@ -48,15 +49,28 @@ fn is_same(a: &Tally, b: &Tally) -> bool {
     a.runouts() == b.runouts()
 }
 
-/// Whether the runouts of a table are counted by blocks as in one walk.
-fn is_counted_alike(table: &Table, scratch: &mut Scratch) -> bool {
-    let Ok(job) = Job::make(table) else {
+/// The tally of a job by blocks.
+fn by_blocks(job: &Job, scratch: &mut Scratch) -> Tally {
+    let mut tally = Tally::zero();
+    count_job(job, scratch, &mut tally);
+    tally
+}
+
+/// Whether the runouts of a job are counted by blocks as in one walk: in a room that has the parts for it, and in one without any.
+fn is_job_counted_alike(alloc: Global, job: &Job, scratch: &mut Scratch) -> bool {
+    if scratch.ready(alloc, job).is_err() {
         return false;
-    };
-    let mut blocks = Tally::zero();
-    count_job(&job, scratch, &mut blocks);
-    let walk = in_one_walk::<Brand>(&job, Blank::new(1));
-    is_same(&blocks, &walk)
+    }
+    let walk = in_one_walk::<Brand>(job, Blank::new(1));
+    is_same(&by_blocks(job, scratch), &walk) && is_same(&by_blocks(job, &mut Scratch::new()), &walk)
+}
+
+/// Whether the runouts of a table are.
+fn is_counted_alike(alloc: Global, table: &Table, scratch: &mut Scratch) -> bool {
+    match Job::make(table) {
+        Ok(job) => is_job_counted_alike(alloc, &job, scratch),
+        Err(_) => false,
+    }
 }
 
 /// Three hands with a main pot and two side pots: one of the last two, and one of the first and the last.
@@ -72,29 +86,29 @@ fn three_pots(known: &Known) -> Option<Table> {
 }
 
 /// Whether the runouts of a spot line are, with one pot, and of three hands with side pots too.
-fn is_spot_counted_alike(line: &[u8], scratch: &mut Scratch) -> bool {
+fn is_spot_counted_alike(alloc: Global, line: &[u8], scratch: &mut Scratch) -> bool {
     let Ok(known) = read_spot(line) else {
         return false;
     };
     if let Some(table) = three_pots(&known) {
-        if !is_counted_alike(&table, scratch) {
+        if !is_counted_alike(alloc, &table, scratch) {
             return false;
         }
     }
-    is_counted_alike(&table_alone(known), scratch)
+    is_counted_alike(alloc, &table_alone(known), scratch)
 }
 
-/// All spots of some are, in their order and then in the other, whatever the room held before.
-fn are_counted_alike(rt: &impl Abort, all: &[&[u8]], scratch: &mut Scratch) {
+/// All spots of some are, in their order and then in the other, whatever the room held and had before.
+fn are_counted_alike(rt: &impl Abort, alloc: Global, all: &[&[u8]], scratch: &mut Scratch) {
     for line in all {
-        assert!(rt; is_spot_counted_alike(line, scratch));
+        assert!(rt; is_spot_counted_alike(alloc, line, scratch));
     }
     for line in all.iter().rev() {
-        assert!(rt; is_spot_counted_alike(line, scratch));
+        assert!(rt; is_spot_counted_alike(alloc, line, scratch));
     }
 }
 
 #[test]
 fn blocks_count_what_one_walk_counts(rt: HostRuntime) {
-    are_counted_alike(&rt, spots(), &mut Scratch::new());
+    are_counted_alike(&rt, rt.alloc(), spots(), &mut Scratch::new());
 }
