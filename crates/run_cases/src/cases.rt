@@ -108,7 +108,7 @@ fn line_of<'a>(line: &'a str) -> Option<Line<'a>> {
 /// Appends a line of a text, with its newline where it has one.
 fn put_line(out: &mut Vec<u8>, text: &[u8], ends: bool) -> Result<(), AllocError>
     ensures { OnOk result (out.new.items
-        ≡ out.old.items ++ (text.now ++ if ends then 10 ∷ [] else [])) }
+        ≡ out.old.items ++ (text.now ++ (if ends then 10 ∷ [] else []))) }
 {
     out.extend_from_slice(text)?;
     if ends {
