@@ -1,16 +1,14 @@
 -- Cards that are gathered word by word.
-use Rattle.std.proofs.Common.{◌≡◌, ℕ, zero, suc, ◌<◌, Bool, true, false, ◌||◌, ◌==◌, List, [], ◌∷◌, ◌++◌, get_or, refl, sym, ap, ◌∙◌, Some, None, append_assoc, append-nil}
+use Rattle.std.proofs.Common.{◌≡◌, ℕ, ◌<◌, Bool, true, false, ◌||◌, ◌==◌, List, [], ◌∷◌, ◌++◌, refl, sym, ap, ◌∙◌, Some, None, append_assoc, append-nil}
 use Rattle.std.specs.Prelude.{Option}
 use Rattle.std.specs.Option.{option_map_or}
-use Rattle.std.specs.List.{onto_first}
 use Rattle.card_sets.specs.Cards.{cards_where, has_card, with_card}
 use Rattle.card_sets.specs.CardText.{card_of_text}
 use Rattle.card_sets.specs.Bits.{cards_where_same, has-cards_where}
 use Rattle.card_sets.specs.Rising.{has_card-push}
-use Rattle.spot_text.specs.Parts.{is_slash, is_dashes, is_dash, hand_words, dead_words, cards_of, set_of}
+use Rattle.spot_text.specs.Parts.{is_slash, dead_words, cards_of, set_of}
 use Rattle.spot_text.specs.Spot.{repeated_after}
 use Rattle.spot_text.proofs.PartsByWord.{after_no, slash_first, none_first}
-use Rattle.spot_text.proofs.SizesByWord.{hands_end, hands_dash, hands_card}
 
 -- the set of no card has no card
 pub set_of-nil : set_of [] ≡ []
@@ -56,58 +54,12 @@ gathered_word set set' w part left all h more step = at (card_of_text w) refl
           whole = append_assoc h.front (card ∷ []) (cards_of part) ∙ ap (λ l. h.front ++ l) (sym (more ∙ one)) ∙ h.whole;
         }
 
--- the words of one of the hands
-abbrev pub hand_at : ℕ → List (List ℕ) → List (List ℕ)
-hand_at number ws = get_or (hand_words ws) number []
-
-abbrev hand_of : ℕ → List (List (List ℕ)) → List (List ℕ)
-hand_of number hands = get_or hands number []
-
-one_hand : (number : ℕ) → hand_of number ([] ∷ []) ≡ []
-one_hand zero = refl
-one_hand (suc number) = refl
-
-pub hand_end : (number : ℕ) (w : List ℕ) (ws left : List (List ℕ)) → left ≡ w ∷ ws → (is_slash w || is_dashes w) ≡ true → cards_of (hand_at number left) ≡ []
-hand_end number w ws left more end =
-    ap (λ l. cards_of (hand_at number l)) more ∙ ap (λ hs. cards_of (get_or hs number [])) (hands_end w ws end) ∙ ap cards_of (one_hand number)
-
-pub hand_all : (number : ℕ) (left : List (List ℕ)) → left ≡ [] → cards_of (hand_at number left) ≡ []
-hand_all number left none =
-    ap (λ l. cards_of (hand_at number l)) none ∙ ap (λ hs. cards_of (get_or hs number [])) none_first.0 ∙ ap cards_of (one_hand number)
-
-pub hand_dash : (number : ℕ) (w : List ℕ) (ws left : List (List ℕ)) → left ≡ w ∷ ws → (is_slash w || is_dashes w) ≡ false → is_dash w ≡ true →
-    number ≡ 0 → cards_of (hand_at number left) ≡ []
-hand_dash number w ws left more on dash first =
-    ap (λ l. cards_of (hand_at number l)) more ∙ ap (λ hs. cards_of (get_or hs number [])) (hands_dash w ws on dash)
-    ∙ ap (λ n. cards_of (get_or ([] ∷ hand_words ws) n [])) first
-
-pub hand_later : (number next : ℕ) (w : List ℕ) (ws left : List (List ℕ)) → left ≡ w ∷ ws → (is_slash w || is_dashes w) ≡ false → is_dash w ≡ true →
-    number ≡ suc next → cards_of (hand_at number left) ≡ cards_of (hand_at next ws)
-hand_later number next w ws left more on dash later =
-    ap (λ l. cards_of (hand_at number l)) more ∙ ap (λ hs. cards_of (get_or hs number [])) (hands_dash w ws on dash)
-    ∙ ap (λ n. cards_of (get_or ([] ∷ hand_words ws) n [])) later
-
-first_onto : (w : List ℕ) (hands : List (List (List ℕ))) → get_or (onto_first w hands) 0 [] ≡ w ∷ get_or hands 0 []
-first_onto w [] = refl
-first_onto w (hand ∷ hands) = refl
-
-other_onto : (w : List ℕ) (hands : List (List (List ℕ))) (number : ℕ) → (number ≡ 0 → ⊥) → get_or (onto_first w hands) number [] ≡ get_or hands number []
-other_onto w hands zero h = absurd (h refl)
-other_onto w [] (suc number) h = refl
-other_onto w (hand ∷ hands) (suc number) h = refl
-
-pub hand_card : (number : ℕ) (w : List ℕ) (ws left : List (List ℕ)) → left ≡ w ∷ ws → (is_slash w || is_dashes w) ≡ false → is_dash w ≡ false →
-    number ≡ 0 → cards_of (hand_at number left) ≡ cards_of (w ∷ hand_at number ws)
-hand_card number w ws left more on card first =
-    ap (λ l. cards_of (hand_at number l)) more ∙ ap (λ hs. cards_of (get_or hs number [])) (hands_card w ws on card)
-    ∙ ap (λ n. cards_of (get_or (onto_first w (hand_words ws)) n [])) first ∙ ap cards_of (first_onto w (hand_words ws))
-    ∙ ap (λ n. cards_of (w ∷ get_or (hand_words ws) n [])) (sym first)
-
-pub hand_other : (number : ℕ) (w : List ℕ) (ws left : List (List ℕ)) → left ≡ w ∷ ws → (is_slash w || is_dashes w) ≡ false → is_dash w ≡ false →
-    (number ≡ 0 → ⊥) → cards_of (hand_at number left) ≡ cards_of (hand_at number ws)
-hand_other number w ws left more on card later =
-    ap (λ l. cards_of (hand_at number l)) more ∙ ap (λ hs. cards_of (get_or hs number [])) (hands_card w ws on card)
-    ∙ ap cards_of (other_onto w (hand_words ws) number later)
+pub gathered_card : (set set' : List ℕ) (w : List ℕ) (part : List (List ℕ)) (left all : List ℕ) (card : ℕ) (o : Option ℕ) → Gathered set left all → left ≡ cards_of (w ∷ part) →
+    o ≡ card_of_text w → o ≡ Some card → set' ≡ with_card set card → Gathered set' (cards_of part) all
+gathered_card set set' w part left all card o h more is some step =
+    let named : card_of_text w ≡ Some card = sym is ∙ some in
+    let add : option_map_or (λ c. with_card set c) (card_of_text w) set ≡ with_card set card = rw named refl in
+    gathered_word set set' w part left all h more (step ∙ sym add)
 
 -- the dead words that are left
 abbrev pub dead_left : Bool → List (List ℕ) → List (List ℕ)
@@ -140,7 +92,7 @@ seen_all seen left all h none = sym (h.same ∙ ap (repeated_after h.front) none
 pub seen_same : (seen left left' all : List ℕ) → Seen seen left all → left ≡ left' → Seen seen left' all
 seen_same seen left left' all h e = record { front = h.front; is = h.is; same = h.same ∙ ap (repeated_after h.front) e }
 
-has_seen : (seen front : List ℕ) (card : ℕ) → seen ≡ set_of front → card < 52 → has_card front card ≡ has_card seen card
+pub has_seen : (seen front : List ℕ) (card : ℕ) → seen ≡ set_of front → card < 52 → has_card front card ≡ has_card seen card
 has_seen seen front card is deck = sym (has-cards_where (has_card front) card deck) ∙ ap (λ s. has_card s card) (sym is)
 
 pub seen_twice : (seen left rest all : List ℕ) (card : ℕ) → Seen seen left all → left ≡ card ∷ rest → card < 52 → has_card seen card ≡ true →

@@ -88,7 +88,7 @@ not_out : (v : Bool) → not v ≡ true → v ≡ false
 not_out true h = absurd (true≢false (sym h))
 not_out false h = refl
 
-differ_append : (xs ys : List ℕ) → all_differ (xs ++ ys) ≡ true → (all_differ xs ≡ true) × (all_differ ys ≡ true) × NoneIn xs ys
+pub differ_append : (xs ys : List ℕ) → all_differ (xs ++ ys) ≡ true → (all_differ xs ≡ true) × (all_differ ys ≡ true) × NoneIn xs ys
 differ_append [] ys h = (refl, h, λ k held. absurd (true≢false (sym held)))
 differ_append (x ∷ xs) ys h =
     let rest = differ_append xs ys (and_second (not (has_card (xs ++ ys) x)) (all_differ (xs ++ ys)) h) in
@@ -110,13 +110,13 @@ bytes_same : (xs ys : List ℕ) → bytes_eq xs ys ≡ true → xs ≡ ys
 bytes_same xs ys h = (bytes_eq-Decides xs ys).0 h
 
 -- a mark names no card
-no_slash : (w : List ℕ) → is_slash w ≡ true → card_of_text w ≡ None
+pub no_slash : (w : List ℕ) → is_slash w ≡ true → card_of_text w ≡ None
 no_slash w h = let same : w ≡ codes "/" = bytes_same w (codes "/") h in ap card_of_text same
 
-no_dash : (w : List ℕ) → is_dash w ≡ true → card_of_text w ≡ None
+pub no_dash : (w : List ℕ) → is_dash w ≡ true → card_of_text w ≡ None
 no_dash w h = let same : w ≡ codes "-" = bytes_same w (codes "-") h in ap card_of_text same
 
-no_dashes : (w : List ℕ) → is_dashes w ≡ true → card_of_text w ≡ None
+pub no_dashes : (w : List ℕ) → is_dashes w ≡ true → card_of_text w ≡ None
 unfolding card_of_letters
 no_dashes w h = let same : w ≡ codes "--" = bytes_same w (codes "--") h in ap card_of_text same
 

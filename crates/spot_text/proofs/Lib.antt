@@ -6,6 +6,10 @@ pub mod CardsByWord
 pub mod SetSizes
 pub mod RepeatedCard
 pub mod KnownCards
+pub mod SeenCards
+pub mod CollectedParts
+pub mod FrontsByWord
+pub mod HandsByPart
 pub mod WrittenWords
 pub mod WrittenSpots
 pub mod CallerLemmas

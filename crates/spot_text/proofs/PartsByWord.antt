@@ -65,3 +65,13 @@ none_first = (refl, refl, refl)
 pub some_hand : (ws : List (List ℕ)) → 1 ≤ length (hand_words ws)
 unfolding hand_words
 some_hand ws = omega (arith, length-slice_split is_dash (before_first is_dashes (before_first is_slash ws)))
+
+-- words in front of the first hand
+unfoldable pub onto_words : List (List ℕ) → List (List (List ℕ)) → List (List (List ℕ))
+onto_words [] hands = hands
+onto_words (w ∷ ws) hands = onto_first w (onto_words ws hands)
+
+pub onto_empty : (ws : List (List ℕ)) (hands : List (List (List ℕ))) → onto_words ws ([] ∷ hands) ≡ ws ∷ hands
+unfolding onto_words
+onto_empty [] hands = refl
+onto_empty (w ∷ ws) hands = ap (onto_first w) (onto_empty ws hands)

@@ -18,7 +18,7 @@ use Rattle.spot_text.specs.Spot.{repeated_after, hands_fit, players_fit, state_o
 use Rattle.spot_text.specs.Written.{is_word, all_in_deck, texts, hands_text, spot_line, state_of_cards, MayBeWritten}
 use Rattle.card_sets.proofs.CallerLemmas.{and_first, and_second}
 use Rattle.std.proofs.lemmas.Bool.{and_from}
-use Rattle.spot_text.proofs.PartsByWord.{before_yes, before_no, after_yes, after_no, dashes_first, hand_first}
+use Rattle.spot_text.proofs.PartsByWord.{before_yes, before_no, after_yes, after_no, dashes_first, hand_first, onto_words, onto_empty}
 use Rattle.spot_text.proofs.RepeatedCard.{none_where_all_differ}
 use Rattle.spot_text.proofs.WrittenWords.{not_out, words-joined}
 use Rattle.spot_text.proofs.KnownCards.{hands_cards, parts_same, cards_split}
@@ -58,15 +58,6 @@ plain card inside = from (text_of_card card) (text_is_plain card (let lt : card 
         }
 
 -- cards in front of other words stand in the first hand
-onto_words : List (List ℕ) → List (List (List ℕ)) → List (List (List ℕ))
-onto_words [] hands = hands
-onto_words (w ∷ ws) hands = onto_first w (onto_words ws hands)
-
-onto_empty : (ws : List (List ℕ)) (hands : List (List (List ℕ))) → onto_words ws ([] ∷ hands) ≡ ws ∷ hands
-unfolding onto_words
-onto_empty [] hands = refl
-onto_empty (w ∷ ws) hands = ap (onto_first w) (onto_empty ws hands)
-
 texts_parts : (cards : List ℕ) (ws : List (List ℕ)) → all_in_deck cards ≡ true →
     (hand_words (texts cards ++ ws) ≡ onto_words (texts cards) (hand_words ws)) × (board_words (texts cards ++ ws) ≡ board_words ws) × (dead_words (texts cards ++ ws) ≡ dead_words ws)
 unfolding onto_words

@@ -4,4 +4,6 @@ pub mod Games
 pub mod Spot
 pub mod Written
 pub mod Sections
+pub mod Fronts
+pub mod Collected
 pub mod FaultNames

@@ -8,11 +8,12 @@
 //! `razz`, and up to five that are kept in `draw5`, `lowball27` and `triple27`. Only the first three have
 //! a board, of three, four or five cards.
 //!
-//! A line is read where it lies, by one pass over its words for each question: whether each word may stand
-//! where it stands, which card is the first that stands twice, whether the hands and the board have the
-//! right sizes, and how many hands there are. Then each hand, the board and the dead cards are gathered by
-//! a pass of their own. So that is at most seventeen passes, in time that grows with the line alone. The
-//! crate takes no memory, and it knows neither where a line comes from nor what is counted of it.
+//! A line is read where it lies, in one walk over its words: it collects each hand, the board, the dead
+//! cards and the first card that stands twice, and ends at a word that may not stand where it stands. The
+//! sizes and the number of hands are looked at behind it. Only a line of more than ten hands, which is no
+//! spot, is walked again, once for each fault that it may have. So a line is read in time that grows with
+//! it alone. The crate takes no memory, and it knows neither where a line comes from nor what is counted
+//! of it.
 #![tactic(auto)]
 
 mod counts;
@@ -23,6 +24,7 @@ mod gather;
 mod laws;
 mod marks;
 mod spot;
+mod walk;
 mod words;
 
 pub use counts::{board_fits, player_count};
