@@ -5,6 +5,8 @@ pub use Rattle.spot_text.proofs.PartsByWord.{hand_first, none_first, some_hand}
 pub use Rattle.spot_text.proofs.SizesByWord.{hands_card, hands_dash, hands_end}
 -- The set of no card, and the set of some cards and one more.
 pub use Rattle.spot_text.proofs.CardsByWord.{set_of-nil, set_of_more}
+-- Words that are cards name as many, and the set of cards that differ has as many.
+pub use Rattle.spot_text.proofs.SetSizes.{length-set_whole, cards_named}
 -- The cards that a whole line names are those of its hands, of its board and of its dead cards.
 pub use Rattle.spot_text.proofs.KnownCards.{cards_split, parts_same}
 -- There is no repeated card exactly where all cards differ.

@@ -1,103 +1,22 @@
 -- What the collected parts of a spot say of it.
-use Rattle.std.proofs.Common.{◌≡◌, ℕ, zero, suc, ◌+◌, ◌*◌, ◌<◌, ◌≤◌, Bool, true, false, cond, not, ◌||◌, ◌&&◌, ◌==◌, List, [], ◌∷◌, ◌++◌, length, take, map, refl, sym, ap, ◌∙◌, length-append, inl, inr, Some, None, Err, Ok, ◌↔◌, IsNone, arith}
-use Rattle.std.specs.Prelude.{Option, is_some, is_none, nat_lt, nat_le, position, option_and_then}
-use Rattle.std.specs.List.{list_all, cons_option, position_or_len}
-use Rattle.std.proofs.lemmas.Bool.{cases_eq, cases_lt, ltb-true}
+use Rattle.std.proofs.Common.{◌≡◌, ℕ, ◌<◌, ◌≤◌, Bool, true, false, cond, ◌&&◌, List, [], ◌∷◌, ◌++◌, length, take, map, refl, sym, ap, ◌∙◌, inl, inr, None, Err, Ok, ◌↔◌, IsNone, arith}
+use Rattle.std.specs.Prelude.{Option, is_some, is_none, nat_lt, nat_le}
+use Rattle.std.specs.List.{list_all}
+use Rattle.std.proofs.lemmas.Bool.{cases_lt}
 use mathlib.Core.Bool.{true≢false}
 use Rattle.card_sets.specs.declared.games.Game.{Game}
 use Rattle.card_sets.specs.State.{State}
-use Rattle.card_sets.specs.CardText.{rank_letters, suit_letters, card_of_letters, card_of_text}
-use Rattle.card_sets.specs.Cards.{cards_where, cards_below, has_card}
 use Rattle.card_sets.proofs.CallerLemmas.{and_first, and_second}
-use Rattle.spot_text.specs.declared.faults.SpotFault.TheVariants.{BadCard, TwiceCard, HandSize, BoardSize, PlayerCount, DeckShort}
+use Rattle.spot_text.specs.declared.faults.SpotFault.TheVariants.{BadCard, HandSize, BoardSize, PlayerCount, DeckShort}
 use Rattle.spot_text.specs.declared.walk.Collected.{Collected}
 use Rattle.spot_text.specs.Parts.{hand_words, board_words, dead_words, all_cards, in_form, cards_of, set_of}
 use Rattle.spot_text.specs.Games.{hand_fits, board_fits}
 use Rattle.spot_text.specs.Spot.{hands_fit, players_fit, repeated_after, state_of_words, is_short, unless_short, spot_of_sizes, unless_repeated, spot_behind}
-use Rattle.spot_text.specs.Written.{all_differ, all_in_deck}
+use Rattle.spot_text.specs.Written.{all_differ}
 use Rattle.spot_text.specs.Collected.{IsCollected}
+use Rattle.spot_text.proofs.SetSizes.{length-set_whole, cards_named}
 use Rattle.spot_text.proofs.RepeatedCard.{none_repeated}
 use Rattle.spot_text.proofs.KnownCards.{spread, spread_is, take_spread, hands_cards, cards_split, differ_append, known_state}
-
--- one card more that wasn't there
-below_same : (p : ℕ → Bool) (c n : ℕ) → n ≤ c → cards_below (λ k. (c == k) || p k) n ≡ cards_below p n
-below_same p c zero past = refl
-below_same p c (suc n) past =
-    let other : (c == n) ≡ false = (let below : n < c = omega (arith, past) in grind arith) in
-    let rest = below_same p c n (omega (arith, past)) in
-    rw (other, rest) refl
-
-below_more : (p : ℕ → Bool) (c n : ℕ) → p c ≡ false → c < n → length (cards_below (λ k. (c == k) || p k) n) ≡ length (cards_below p n) + 1
-below_more p c zero out l = absurd (omega (arith, l))
-below_more p c (suc n) out l =
-    let a = length-append (cards_below (λ k. (c == k) || p k) n) (cond ((c == n) || p n) (n ∷ []) []) in
-    let b = length-append (cards_below p n) (cond (p n) (n ∷ []) []) in
-    elim (cases_eq c n) [
-      | inl same ↦
-          let is : (c == n) ≡ true = grind arith in
-          let none : p n ≡ false = ap p (sym same) ∙ out in
-          let rest = ap length (below_same p c n (omega (arith, same))) in
-          let x : length (cond ((c == n) || p n) (n ∷ []) []) ≡ 1 = rw is refl in
-          let y : length (cond (p n) (n ∷ []) []) ≡ 0 = rw none refl in
-          omega (arith, a, b, rest, x, y)
-      | inr different ↦
-          let other : (c == n) ≡ false = grind arith in
-          let rest = below_more p c n out (omega (arith, l, different)) in
-          let x : length (cond ((c == n) || p n) (n ∷ []) []) ≡ length (cond (p n) (n ∷ []) []) = rw other refl in
-          omega (arith, a, b, rest, x)
-    ]
-
-not_out : (v : Bool) → not v ≡ true → v ≡ false
-not_out true h = absurd (true≢false (sym h))
-not_out false h = refl
-
-pub length-set_whole : (cards : List ℕ) → all_differ cards ≡ true → all_in_deck cards ≡ true → length (set_of cards) ≡ length cards
-unfolding cards_where
-length-set_whole [] differ inside = refl
-length-set_whole (c ∷ cards) differ inside =
-    let out : has_card cards c ≡ false = not_out (has_card cards c) (and_first (not (has_card cards c)) (all_differ cards) differ) in
-    let low : c < 52 = ltb-true c 52 (and_first (nat_lt c 52) (all_in_deck cards) inside) in
-    let rest = length-set_whole cards (and_second (not (has_card cards c)) (all_differ cards) differ) (and_second (nat_lt c 52) (all_in_deck cards) inside) in
-    omega (arith, below_more (has_card cards) c 52 out low, rest)
-
--- words that are cards name as many
-position_below : (p : ℕ → Bool) (xs : List ℕ) (n : ℕ) → position p xs ≡ Some n → n < length xs
-position_below p xs n h = at (nat_lt (position_or_len p xs) (length xs)) refl h
-  where
-    at : (b : Bool) → nat_lt (position_or_len p xs) (length xs) ≡ b → cond b (Some (position_or_len p xs)) None ≡ Some n → n < length xs
-    at true e f = let is : position_or_len p xs ≡ n = cc f in omega (arith, ltb-true (position_or_len p xs) (length xs) e, is)
-    at false e f = absurd (cc f)
-
-letters_in_deck : (r s : ℕ) (card : ℕ) → card_of_letters r s ≡ Some card → card < 52
-unfolding card_of_letters
-letters_in_deck r s card h = ranks (position (λ c. c == r) rank_letters) (position (λ c. c == s) suit_letters) refl refl h
-  where
-    ranks : (a b : Option ℕ) → position (λ c. c == r) rank_letters ≡ a → position (λ c. c == s) suit_letters ≡ b →
-        option_and_then (λ rank. option_and_then (λ suit. Some (4 * rank + suit)) b) a ≡ Some card → card < 52
-    ranks None b e f g = absurd (cc g)
-    ranks (Some rank) None e f g = absurd (cc g)
-    ranks (Some rank) (Some suit) e f g =
-        let is : 4 * rank + suit ≡ card = cc g in
-        omega (arith, is, position_below (λ c. c == r) rank_letters rank e, position_below (λ c. c == s) suit_letters suit f)
-
-text_in_deck : (w : List ℕ) (card : ℕ) → card_of_text w ≡ Some card → card < 52
-text_in_deck [] card h = absurd (cc h)
-text_in_deck (r ∷ []) card h = absurd (cc h)
-text_in_deck (r ∷ s ∷ []) card h = letters_in_deck r s card h
-text_in_deck (r ∷ s ∷ t ∷ w) card h = absurd (cc h)
-
-pub cards_named : (part : List (List ℕ)) → all_cards part ≡ true → (length (cards_of part) ≡ length part) × (all_in_deck (cards_of part) ≡ true)
-cards_named [] h = (refl, refl)
-cards_named (w ∷ part) h =
-    let rest = cards_named part (and_second (is_some (card_of_text w)) (all_cards part) h) in
-    at (card_of_text w) refl (and_first (is_some (card_of_text w)) (all_cards part) h) rest.0 rest.1
-  where
-    at : (o : Option ℕ) → card_of_text w ≡ o → is_some o ≡ true → length (cards_of part) ≡ length part → all_in_deck (cards_of part) ≡ true →
-        (length (cons_option o (cards_of part)) ≡ suc (length part)) × (all_in_deck (cons_option o (cards_of part)) ≡ true)
-    at None e some count inside = absurd (true≢false (sym some))
-    at (Some card) e some count inside =
-        let low : nat_lt card 52 ≡ true = (let below : card < 52 = text_in_deck w card e in grind arith) in
-        (ap suc count, rw (low, inside) refl)
 
 -- a set has as many cards as the part has words
 part_size : (part : List (List ℕ)) → all_cards part ≡ true → all_differ (cards_of part) ≡ true → length (set_of (cards_of part)) ≡ length part
@@ -150,39 +69,32 @@ table_size game others parts h once =
     ap (λ b. board_fits game (length b)) h.board ∙ ap (board_fits game) size
 
 -- the faults in their order
-pub no_form : (game : Game) (others : List (List ℕ)) → in_form others ≡ false → spot_behind game others ≡ Err BadCard
-no_form game others h = ap (λ b. cond b (unless_repeated (repeated_after [] (cards_of others)) game others) (Err BadCard)) h
-
 in_order : (game : Game) (others : List (List ℕ)) → in_form others ≡ true → spot_behind game others ≡ unless_repeated (repeated_after [] (cards_of others)) game others
 in_order game others h = ap (λ b. cond b (unless_repeated (repeated_after [] (cards_of others)) game others) (Err BadCard)) h
 
-pub twice_found : (game : Game) (others : List (List ℕ)) (card : ℕ) → in_form others ≡ true → repeated_after [] (cards_of others) ≡ Some card →
-    spot_behind game others ≡ Err (TwiceCard card)
-twice_found game others card form twice = in_order game others form ∙ ap (λ o. unless_repeated o game others) twice
-
-pub once_each : (game : Game) (others : List (List ℕ)) → in_form others ≡ true → repeated_after [] (cards_of others) ≡ None →
+once_each : (game : Game) (others : List (List ℕ)) → in_form others ≡ true → repeated_after [] (cards_of others) ≡ None →
     spot_behind game others ≡ spot_of_sizes game others
 once_each game others form once = in_order game others form ∙ ap (λ o. unless_repeated o game others) once
 
-pub hand_wrong : (game : Game) (others : List (List ℕ)) → hands_fit game (hand_words others) ≡ false → spot_of_sizes game others ≡ Err HandSize
+hand_wrong : (game : Game) (others : List (List ℕ)) → hands_fit game (hand_words others) ≡ false → spot_of_sizes game others ≡ Err HandSize
 hand_wrong game others own = rw own refl
 
-pub board_wrong : (game : Game) (others : List (List ℕ)) → hands_fit game (hand_words others) ≡ true → board_fits game (length (board_words others)) ≡ false →
+board_wrong : (game : Game) (others : List (List ℕ)) → hands_fit game (hand_words others) ≡ true → board_fits game (length (board_words others)) ≡ false →
     spot_of_sizes game others ≡ Err BoardSize
 board_wrong game others own table = rw (own, table) refl
 
-pub players_wrong : (game : Game) (others : List (List ℕ)) → hands_fit game (hand_words others) ≡ true → board_fits game (length (board_words others)) ≡ true →
+players_wrong : (game : Game) (others : List (List ℕ)) → hands_fit game (hand_words others) ≡ true → board_fits game (length (board_words others)) ≡ true →
     players_fit (length (hand_words others)) ≡ false → spot_of_sizes game others ≡ Err PlayerCount
 players_wrong game others own table players = rw (own, table, players) refl
 
-pub sizes_right : (game : Game) (others : List (List ℕ)) → hands_fit game (hand_words others) ≡ true → board_fits game (length (board_words others)) ≡ true →
+sizes_right : (game : Game) (others : List (List ℕ)) → hands_fit game (hand_words others) ≡ true → board_fits game (length (board_words others)) ≡ true →
     players_fit (length (hand_words others)) ≡ true → spot_of_sizes game others ≡ unless_short (state_of_words game others)
 sizes_right game others own table players = rw (own, table, players) refl
 
-pub few_players : (count n : ℕ) → count ≡ n → count < 2 → players_fit n ≡ false
+few_players : (count n : ℕ) → count ≡ n → count < 2 → players_fit n ≡ false
 few_players count n is few = let less : nat_le 2 n ≡ false = grind arith in rw less refl
 
-pub enough_players : (count n : ℕ) → count ≡ n → 2 ≤ count → count ≤ 10 → players_fit n ≡ true
+enough_players : (count n : ℕ) → count ≡ n → 2 ≤ count → count ≤ 10 → players_fit n ≡ true
 enough_players count n is some few =
     let two : nat_le 2 n ≡ true = grind arith in
     let ten : nat_le n 10 ≡ true = grind arith in
@@ -192,7 +104,7 @@ enough_players count n is some few =
 abbrev pub parts_state : Game → Collected → State
 parts_state game parts = record { game = game; hands = take parts.count parts.hands; board = parts.board; dead = parts.dead }
 
-pub is_state : (game : Game) (others : List (List ℕ)) (parts : Collected) → length parts.hands ≡ 10 → IsCollected others parts →
+is_state : (game : Game) (others : List (List ℕ)) (parts : Collected) → length parts.hands ≡ 10 → IsCollected others parts →
     parts_state game parts ≡ state_of_words game others
 is_state game others parts long h =
     known_state game parts.count parts.board parts.dead parts.hands others h.count h.few h.board h.dead (hands_are others parts long h)

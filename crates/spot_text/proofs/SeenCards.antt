@@ -5,15 +5,7 @@ use Rattle.card_sets.specs.Cards.{has_card, with_card}
 use Rattle.spot_text.specs.declared.walk.Seen.{Seen}
 use Rattle.spot_text.specs.Spot.{repeated_after}
 use Rattle.spot_text.specs.Collected.{IsSeen, twice_or}
-use Rattle.spot_text.proofs.CardsByWord.{set_of-nil, set_of_more, has_seen}
-
--- before the first card none is seen
-pub seen_nothing : (seen : Seen) (all : List ℕ) → seen.cards ≡ [] → seen.twice ≡ None → IsSeen seen all all
-seen_nothing seen all empty once = record {
-  front = [];
-  is = empty ∙ sym set_of-nil;
-  same = ap (λ o. twice_or o (repeated_after [] all)) (sym once);
-}
+use Rattle.spot_text.proofs.CardsByWord.{set_of_more, has_seen}
 
 -- behind the last the first that stands twice is found
 pub seen_whole : (seen : Seen) (left all : List ℕ) → IsSeen seen left all → left ≡ [] → seen.twice ≡ repeated_after [] all

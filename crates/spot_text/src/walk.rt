@@ -158,8 +158,8 @@ fn read_dead(words: &mut Words, seen: &mut Seen) -> Option<CardSet>
     }
 }
 
-/// The board, which the words that are left begin with, and the dead cards behind it. None where a word may not stand
-/// where it stands.
+/// The board, with which the words that are left begin, and the dead cards behind it. None where a word
+/// may not stand where it stands.
 fn read_board(words: &mut Words, seen: &mut Seen) -> Option<Table>
     ensures cards { MatchOption result
         (stands_from Board (words_left words.old) ≡ false)
@@ -189,7 +189,8 @@ fn read_board(words: &mut Words, seen: &mut Seen) -> Option<Table>
     }
 }
 
-/// What stands behind the hands, from the mark on. None where a word may not stand where it stands.
+/// The board and the dead cards behind the mark that ends the hands. None where a word may not stand
+/// where it stands.
 fn read_table(mark: Mark, words: &mut Words, seen: &mut Seen) -> Option<Table>
     requires { IsTrue (ends_hands mark) }
     ensures table { (ws : List (List ℕ))
