@@ -1,7 +1,7 @@
 //! The room that counts work in.
 
-ghost use Rattle.std.specs.Prelude.{◌≡◌, ◌*◌, ◌<◌, ◌≤◌, length, IfOk, IsSome, IsTrue, OnOk};
-ghost use Rattle.equity_job.specs.Rooms.{HasRows, IsReady};
+ghost use Rattle.std.specs.Prelude.{◌≡◌, ◌*◌, ◌<◌, ◌≤◌, length, IfOk, IsSome, IsTrue, OnErr, OnOk};
+ghost use Rattle.equity_job.specs.Rooms.{HasRows, IsReady, newer};
 
 use crate::Job;
 use crate::blocks::is_full;
@@ -41,26 +41,32 @@ impl Scratch {
         }
     }
 
-    /// Asks for the parts that the count of a job uses and that aren't there. After `Memory` it has what it had, or more, and every
-    /// count may still be made in it.
+    /// Asks for the parts that the count of a job uses and that aren't there. After `Memory` it has what it had, and every count may
+    /// still be made in it.
     pub fn ready(&mut self, alloc: Global, job: &Job) -> Result<(), Memory>
-        ensures { 0 < job.now.shape.used → OnOk result (IsReady self.new job.now) }
+        ensures ready { 0 < job.now.shape.used → OnOk result (IsReady self.new job.now) }
+        ensures memory { OnErr result (self.new ≡ self.old) }
     {
         if is_full(job) {
             return Ok(());
         }
-        self.ready_counts(alloc, job.table.pots)?;
-        self.ready_boards(alloc, are_boards(&job.table, &job.shape))?;
-        self.ready_draws(alloc, are_draws(&job.table, &job.shape))
+        let counts = self.more_counts(alloc, job.table.pots)?;
+        let boards = self.more_boards(alloc, are_boards(&job.table, &job.shape))?;
+        let draws = self.more_draws(alloc, are_draws(&job.table, &job.shape))?;
+        self.take(counts, boards, draws);
+        Ok(())
     }
 
     /// The same for boards of so many pots that lack two cards or more, whichever they are.
     pub fn ready_for_boards(&mut self, alloc: Global, pots: u8) -> Result<(), Memory>
         ensures counts { OnOk result (HasRows (2 * pots) self.new.counts) }
         ensures boards { OnOk result (IsSome self.new.boards) }
+        ensures memory { OnErr result (self.new ≡ self.old) }
     {
-        self.ready_counts(alloc, pots)?;
-        self.ready_boards(alloc, true)
+        let counts = self.more_counts(alloc, pots)?;
+        let boards = self.more_boards(alloc, true)?;
+        self.take(counts, boards, None);
+        Ok(())
     }
 
     /// Whether there are so many rows of counts.
@@ -73,40 +79,56 @@ impl Scratch {
         }
     }
 
-    /// Asks for two rows of counts a pot.
-    fn ready_counts(&mut self, alloc: Global, pots: u8) -> Result<(), Memory>
-        ensures { OnOk result (HasRows (2 * pots) self.new.counts) }
+    /// Two rows of counts a pot, where they aren't there.
+    fn more_counts(&self, alloc: Global, pots: u8) -> Result<Option<Vec<[u32; 2048]>>, Memory>
+        ensures { IfOk result (λ more. HasRows (2 * pots) (newer more self.now.counts)) }
     {
         let rows = 2 * usize::from(pots);
         if self.has_rows(rows) {
-            return Ok(());
+            return Ok(None);
         }
-        self.counts = Some(rows_of(alloc, rows)?);
-        Ok(())
+        Ok(Some(rows_of(alloc, rows)?))
     }
 
-    /// Asks for the room of boards, where it is wanted.
-    fn ready_boards(&mut self, alloc: Global, wanted: bool) -> Result<(), Memory>
-        ensures there { OnOk result (IsTrue wanted → IsSome self.new.boards) }
-        ensures counts { self.new.counts ≡ self.old.counts }
+    /// The room of boards, where it is wanted and isn't there.
+    fn more_boards(&self, alloc: Global, wanted: bool) -> Result<Option<Boards>, Memory>
+        ensures { IfOk result (λ more. IsTrue wanted → IsSome (newer more self.now.boards)) }
     {
         if !wanted || self.boards.is_some() {
-            return Ok(());
+            return Ok(None);
         }
-        self.boards = Some(Boards::new(alloc)?);
-        Ok(())
+        Ok(Some(Boards::new(alloc)?))
     }
 
-    /// Asks for the room of draws, where it is wanted.
-    fn ready_draws(&mut self, alloc: Global, wanted: bool) -> Result<(), Memory>
-        ensures there { OnOk result (IsTrue wanted → IsSome self.new.draws) }
-        ensures counts { self.new.counts ≡ self.old.counts }
-        ensures boards { self.new.boards ≡ self.old.boards }
+    /// The room of draws, where it is wanted and isn't there.
+    fn more_draws(&self, alloc: Global, wanted: bool) -> Result<Option<Draws>, Memory>
+        ensures { IfOk result (λ more. IsTrue wanted → IsSome (newer more self.now.draws)) }
     {
         if !wanted || self.draws.is_some() {
-            return Ok(());
+            return Ok(None);
         }
-        self.draws = Some(Draws::new(alloc)?);
-        Ok(())
+        Ok(Some(Draws::new(alloc)?))
+    }
+
+    /// Takes new parts in, each where there is one.
+    fn take(
+        &mut self,
+        counts: Option<Vec<[u32; 2048]>>,
+        boards: Option<Boards>,
+        draws: Option<Draws>,
+    )
+        ensures counts { self.new.counts ≡ newer counts self.old.counts }
+        ensures boards { self.new.boards ≡ newer boards self.old.boards }
+        ensures draws { self.new.draws ≡ newer draws self.old.draws }
+    {
+        if let Some(counts) = counts {
+            self.counts = Some(counts);
+        }
+        if let Some(boards) = boards {
+            self.boards = Some(boards);
+        }
+        if let Some(draws) = draws {
+            self.draws = Some(draws);
+        }
     }
 }
