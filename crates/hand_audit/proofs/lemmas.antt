@@ -7,6 +7,7 @@ pub mod splits
 pub mod won_pots
 pub mod pot_sums
 pub mod nets
+pub mod dues
 pub mod tables
 pub mod all_ins
 pub mod later_streets

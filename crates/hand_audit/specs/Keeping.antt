@@ -9,6 +9,7 @@ use Rattle.history_text.specs.declared.events.Part.{Part}
 use Rattle.history_text.specs.declared.events.Part.TheVariants.{Summary as SummaryPart}
 use Rattle.history_text.specs.Lines.{line_event}
 use Rattle.history_text.specs.Within.{IsSeated, stands_in}
+use Rattle.pot_layers.specs.Pots.{pots}
 use Rattle.betting_replay.specs.Accepted.{IsAccepted}
 use Rattle.betting_replay.specs.CardLaws.{MarkerFits, MarkersFit}
 use Rattle.betting_replay.specs.Later.{later_streets}
@@ -22,10 +23,11 @@ use Rattle.hand_audit.specs.declared.follow.Followed.TheVariants.{Departs, Ends}
 use Rattle.hand_audit.specs.Lines.{SoFar, part_of, part_after, named_by, with_event, nothing}
 use Rattle.hand_audit.specs.Collections.{collections, taken}
 use Rattle.hand_audit.specs.Showings.{rake, showing_of}
-use Rattle.hand_audit.specs.Departs.{is_total, event_cause, end_cause, departs_from}
+use Rattle.hand_audit.specs.Departs.{is_total, event_cause, end_cause, split_cause, is_split, at_line, departs_from}
 use Rattle.hand_audit.specs.Verdict.{read_all}
 use Rattle.hand_audit.specs.declared.settling.HandSettled.{HandSettled}
 use Rattle.hand_audit.specs.SettlementAnswers.{IsOfHand}
+use Rattle.hand_audit.specs.Winning.{AreDecided}
 
 -- the name of a seat line is within the line
 abbrev pub HasName : Event → List ℕ → Type 0
@@ -86,16 +88,23 @@ Goes new header players so_far line (Err fault) cause = cause ≡ Some (Text fau
 Goes new header players so_far line (Ok e) (Some c) = event_cause header players so_far.events e ≡ Some c
 Goes new header players so_far line (Ok e) None = (event_cause header players so_far.events e ≡ None) × Keeps new header players (with_event line e so_far)
 
+-- a hand has ended with its chips settled: why its last line departs is its first payment beyond its tolerance, where there is one, and
+-- each pot is decided
+pub record IsEnded (header : Header) (players : ℕ) (h : List Event) (settled : HandSettled) : Type 0 where
+  pub cause : end_cause header players h ≡ split_cause settled.beyond
+  pub is : IsOfHand (showing_of header players h) settled
+  pub decided : AreDecided (showing_of header players h) (pots (showing_of header players h).paid)
+
 -- what comes of the end of a hand: what became of its chips, or why its last line departs
 abbrev pub EndsAs : Header → ℕ → List Event → Result HandSettled Cause → Type 0
-EndsAs header players h (Ok settled) = (end_cause header players h ≡ None) × IsOfHand (showing_of header players h) settled
-EndsAs header players h (Err cause) = end_cause header players h ≡ Some cause
+EndsAs header players h (Ok settled) = IsEnded header players h settled
+EndsAs header players h (Err cause) = (end_cause header players h ≡ Some cause) × (is_split cause ≡ false)
 
 -- what comes of following the lines, whatever the number of the line before them: the first that departs, told by how many they are up to
--- it, or what is kept at the end, and what became of the chips
+-- it, and not for a payment; or what is kept at the end, and what became of the chips
 abbrev pub Follows : Header → ℕ → List (List ℕ) → Followed → Type 0
 Follows header players lines (Departs count cause) =
-    (count ≤ length lines) × ((number : ℕ) → departs_from header players number nothing lines ≡ Some (number + count, cause))
-Follows header players lines (Ends hand settled) =
-    ((number : ℕ) → departs_from header players number nothing lines ≡ None) × Keeps hand header players (read_all header nothing lines)
-    × IsOfHand (showing_of header players (read_all header nothing lines).events) settled
+    (count ≤ length lines) × ((number : ℕ) → departs_from header players number nothing lines ≡ Some (number + count, cause)) × (is_split cause ≡ false)
+Follows header players lines (Ends count hand settled) =
+    (count ≤ length lines) × ((number : ℕ) → departs_from header players number nothing lines ≡ at_line (number + count) (split_cause settled.beyond))
+    × Keeps hand header players (read_all header nothing lines) × IsEnded header players (read_all header nothing lines).events settled

@@ -15,11 +15,14 @@ pub mod PotSeats
 pub mod AllIns
 pub mod Verdict
 pub mod SeatChips
+pub mod Parts
+pub mod SplitHands
 pub mod Keeping
 pub mod Chips
 pub mod Splits
 pub mod PotSums
 pub mod Nets
+pub mod Dues
 pub mod Before
 pub mod Passing
 pub mod CardsKnown

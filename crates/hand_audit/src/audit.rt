@@ -2,12 +2,16 @@
 
 ghost use Rattle.std.specs.Prelude.{◌≡◌, ℕ, ◌+◌, ◌<◌, ◌^◌, IfOk, IsTrue, Some, length};
 ghost use Rattle.line_text.specs.Lines.{lines};
+ghost use Rattle.history_text.specs.declared.events.Header.{Header};
 ghost use Rattle.hand_audit.specs.Departs.{begins_hand};
-ghost use Rattle.hand_audit.specs.Verdict.{audit_of, accepted_by};
+ghost use Rattle.hand_audit.specs.declared.cause.Cause.TheVariants.{Split};
+ghost use Rattle.hand_audit.specs.Verdict.{audit_of, accepted_by, settlement_of};
 ghost use Rattle.hand_audit.specs.Lines.{SoFar};
 ghost use Rattle.hand_audit.specs.Showings.{showing_of};
 ghost use Rattle.hand_audit.specs.SettlementAnswers.{IsOfHand};
-ghost use Rattle.hand_audit.specs.Keeping.{Keeps};
+ghost use Rattle.hand_audit.specs.Keeping.{IsEnded, Keeps};
+ghost use Rattle.hand_audit.specs.Parts.{hand_parts};
+ghost use Rattle.hand_audit.specs.SplitHands.{parts_given, split_by, split_of};
 ghost use Rattle.hand_audit.specs.Streets.{states_of, streets_of};
 ghost use Rattle.hand_audit.specs.SeatChips.{AreWithin, all_chips_on, chips_of};
 ghost use Rattle.hand_audit.specs.declared.audit.Beside.TheVariants as beside;
@@ -17,12 +21,13 @@ use crate::cause::Cause;
 use crate::first_pass::players_of;
 use crate::follow::{Followed, follow};
 use crate::hand::AuditState;
+use crate::parts::{AuditedShares, PartShares, SplitHand, hand_parts};
 use crate::seat_chips::{AuditedChips, SeatChips, all_chips_on, no_chips};
-use crate::settlement::Settlement;
+use crate::settlement::{Payment, Settlement};
 use crate::settling::HandSettled;
 use crate::streets::{AuditedStreets, StreetState, states_of};
 use crate::verdicts::HandAudit;
-use card_sets::Memory;
+use card_sets::{Game, Memory};
 use history_text::{Header, read_header};
 use line_text::next_line;
 use std::alloc::{AllocError, Global};
@@ -36,6 +41,8 @@ enum Beside {
     Streets,
     /// What each seat had and put in.
     Chips,
+    /// The shares of the parts of its pots.
+    Shares,
 }
 
 /// A verdict on a hand, and what was asked for beside it.
@@ -44,6 +51,38 @@ struct AuditedHand {
     audit: HandAudit,
     streets: Vec<StreetState>,
     chips: [SeatChips; 11],
+    split: Option<SplitHand>,
+    parts: Vec<PartShares>,
+}
+
+/// What became of the chips of a hand.
+fn settlement_of(header: &Header, state: &AuditState, settled: HandSettled) -> Settlement
+    ensures { (players : ℕ) (so_far : SoFar) → Keeps state.now header.now players so_far
+        → IsOfHand (showing_of header.now players so_far.events) settled
+        → result ≡ settlement_of header.now players so_far.events }
+{
+    Settlement {
+        game: header.game,
+        hundredths: header.hundredths,
+        rake: state.rake,
+        fits: settled.fits,
+        twice: state.replay.is_twice(),
+        pots: settled.pots,
+        paid: settled.paid,
+    }
+}
+
+/// What became of the chips of a hand that is rejected for its payments alone, and who plays it.
+fn split_hand(header: &Header, players: u16, state: AuditState, settled: HandSettled) -> SplitHand
+    ensures { (so_far : SoFar) → Keeps state header.now players so_far
+        → IsOfHand (showing_of header.now players so_far.events) settled
+        → result ≡ split_by header.now players so_far }
+{
+    SplitHand {
+        settlement: settlement_of(header, &state, settled),
+        names: state.names,
+        players,
+    }
 }
 
 /// The verdict on a hand in which no line departs.
@@ -54,15 +93,7 @@ fn accepted(header: &Header, players: u16, state: AuditState, settled: HandSettl
 {
     let all_in = all_in_by(header.game, &state.replay, settled.pots.items());
     HandAudit::Accepted {
-        settlement: Settlement {
-            game: header.game,
-            hundredths: header.hundredths,
-            rake: state.rake,
-            fits: settled.fits,
-            twice: state.replay.is_twice(),
-            pots: settled.pots,
-            paid: settled.paid,
-        },
+        settlement: settlement_of(header, &state, settled),
         all_in,
         names: state.names,
         players,
@@ -85,7 +116,7 @@ fn streets_if(
 {
     match asked {
         Beside::Streets => states_of(alloc, header, state, settled),
-        Beside::Nothing | Beside::Chips => Ok(Vec::new(alloc)),
+        Beside::Nothing | Beside::Chips | Beside::Shares => Ok(Vec::new(alloc)),
     }
 }
 
@@ -96,7 +127,37 @@ fn chips_if(asked: Beside, state: &AuditState) -> [SeatChips; 11]
 {
     match asked {
         Beside::Chips => all_chips_on(&state.replay),
-        Beside::Nothing | Beside::Streets => no_chips(),
+        Beside::Nothing | Beside::Streets | Beside::Shares => no_chips(),
+    }
+}
+
+/// The shares of the parts of the pots of a hand whose chips are settled, where they are asked for.
+fn parts_if(
+    alloc: Global,
+    asked: Beside,
+    game: Game,
+    state: &AuditState,
+    settled: &HandSettled,
+) -> Result<Vec<PartShares>, Memory>
+    ensures { IfOk result (λ parts. (header : Header) (players : ℕ) (so_far : SoFar)
+        → Keeps state.now header players so_far → IsEnded header players so_far.events settled.now
+        → header.game ≡ game → asked ≡ beside.Shares
+        → parts.items ≡ hand_parts (showing_of header players so_far.events)) }
+{
+    match asked {
+        Beside::Shares => hand_parts(alloc, game, state, settled),
+        Beside::Nothing | Beside::Streets | Beside::Chips => Ok(Vec::new(alloc)),
+    }
+}
+
+/// Why the last line of a hand departs with this payment.
+fn split_cause(pay: Payment) -> Cause
+    ensures { result ≡ Split pay.seat pay.due pay.got }
+{
+    Cause::Split {
+        seat: pay.seat,
+        due: pay.due,
+        got: pay.got,
     }
 }
 
@@ -115,6 +176,9 @@ fn audited(
         → all.streets.items ≡ streets_of all.audit (lines bytes.now)) }
     ensures chips { IfOk result (λ all. asked ≡ beside.Chips
         → all.chips ≡ chips_of all.audit (lines bytes.now)) }
+    ensures split { IfOk result (λ all. all.split ≡ split_of all.audit (lines bytes.now)) }
+    ensures parts { IfOk result (λ all. asked ≡ beside.Shares
+        → all.parts.items ≡ parts_given all.audit (lines bytes.now)) }
 {
     let Some(head) = next_line(bytes, 0) else {
         unreachable!();
@@ -130,6 +194,8 @@ fn audited(
                 },
                 streets: Vec::new(alloc),
                 chips: no_chips(),
+                split: None,
+                parts: Vec::new(alloc),
             });
         }
     };
@@ -144,14 +210,32 @@ fn audited(
             },
             streets: Vec::new(alloc),
             chips: no_chips(),
+            split: None,
+            parts: Vec::new(alloc),
         }),
-        Followed::Ends(state, settled) => {
+        Followed::Ends(count, state, settled) => {
+            let parts = parts_if(alloc, asked, header.game, &state, &settled)?;
+            if let Some(pay) = settled.beyond {
+                return Ok(AuditedHand {
+                    audit: HandAudit::Rejected {
+                        line: first_line + count as u32,
+                        cause: split_cause(pay),
+                        hundredths: header.hundredths,
+                    },
+                    streets: Vec::new(alloc),
+                    chips: no_chips(),
+                    split: Some(split_hand(&header, players, state, settled)),
+                    parts,
+                });
+            }
             let streets = streets_if(alloc, asked, &header, &state, &settled)?;
             let chips = chips_if(asked, &state);
             Ok(AuditedHand {
                 audit: accepted(&header, players, state, settled),
                 streets,
                 chips,
+                split: None,
+                parts,
             })
         }
     }
@@ -205,4 +289,33 @@ pub fn audit_with_chips(
 {
     let AuditedHand { audit, chips, .. } = audited(alloc, bytes, first_line, Beside::Chips)?;
     Ok(AuditedChips { audit, chips })
+}
+
+/// The same verdict, and what the rules give of the pots of a hand, by one reading: what became of the chips of
+/// one that is rejected for its payments alone, and the shares of the parts of each pot of one that is accepted
+/// or so rejected. A hand that is rejected for another cause has neither.
+pub fn audit_with_shares(
+    alloc: Global,
+    bytes: &[u8],
+    first_line: u32,
+) -> Result<AuditedShares, Memory>
+    requires header { IsTrue (begins_hand (lines bytes.now)) }
+    requires numbers { first_line + length (lines bytes.now) < 2 ^ 32 }
+    ensures verdict { IfOk result (λ all.
+        audit_of first_line (lines bytes.now) ≡ Some all.audit) }
+    ensures split { IfOk result (λ all. all.split ≡ split_of all.audit (lines bytes.now)) }
+    ensures parts { IfOk result (λ all.
+        all.parts.items ≡ parts_given all.audit (lines bytes.now)) }
+{
+    let AuditedHand {
+        audit,
+        split,
+        parts,
+        ..
+    } = audited(alloc, bytes, first_line, Beside::Shares)?;
+    Ok(AuditedShares {
+        audit,
+        split,
+        parts,
+    })
 }

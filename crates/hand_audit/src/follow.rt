@@ -18,8 +18,9 @@ use std::alloc::Global;
 pub(crate) enum Followed {
     /// How many the lines are up to the first that departs, and why it does.
     Departs(usize, Cause),
-    /// No line departs: what is kept of them, and what became of the chips.
-    Ends(AuditState, HandSettled),
+    /// The chips are settled: how many the lines are, what is kept of them, and what became of the chips. The last
+    /// line departs where a payment is beyond its tolerance, and else none does.
+    Ends(usize, AuditState, HandSettled),
 }
 
 /// The first of some reads, and those behind it.
@@ -61,7 +62,7 @@ pub(crate) fn follow(
         left = others;
     }
     match state.end(alloc, header.game)? {
-        Ok(settled) => Ok(Followed::Ends(state, settled)),
+        Ok(settled) => Ok(Followed::Ends(count, state, settled)),
         Err(cause) => Ok(Followed::Departs(count, cause)),
     }
 }

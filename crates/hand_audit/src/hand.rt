@@ -281,7 +281,8 @@ impl AuditState {
         settle(alloc, &standings, all.items(), &self.collections, most)
     }
 
-    /// What comes of the end of a hand of this game: what became of its chips, or why its last line departs.
+    /// What comes of the end of a hand of this game: what became of its chips, with the payment for which its last
+    /// line departs, where there is one; or why that departs without a settlement.
     pub(crate) fn end(
         &self,
         alloc: Global,
@@ -301,13 +302,6 @@ impl AuditState {
         law_a_table_shows_each_seat();
         law_a_folded_player_is_eligible_nowhere();
         let settled = self.settle(alloc, game)?;
-        match settled.beyond {
-            None => Ok(Ok(settled)),
-            Some(pay) => Ok(Err(Cause::Split {
-                seat: pay.seat,
-                due: pay.due,
-                got: pay.got,
-            })),
-        }
+        Ok(Ok(settled))
     }
 }

@@ -5,6 +5,7 @@ ghost use Rattle.history_text.specs.Headers.{header_of};
 ghost use Rattle.history_text.specs.declared.events.Header.{Header};
 ghost use Rattle.hand_audit.specs.Before.{Stand};
 ghost use Rattle.hand_audit.specs.Chips.{KeepsChips};
+ghost use Rattle.hand_audit.specs.Dues.{PartsGiveDues};
 ghost use Rattle.hand_audit.specs.Lines.{nothing, players_of};
 ghost use Rattle.hand_audit.specs.declared.cause.Cause.{Cause};
 ghost use Rattle.hand_audit.specs.Showings.{showing_of};
@@ -84,6 +85,13 @@ pub fn law_pots_go_by_boards()
 /// part, so one in a hand that was run once and two in a hand that was run twice.
 pub fn law_a_lone_player_wins_a_side_of_each_part()
     ensures { LoneAreDueAll }
+{}
+
+/// A law on parts. Of a pot of which it is known who wins it, that two players or more may win, and that no more was
+/// collected from than it holds: what the shares of its parts give a seat, over both boards and both sides, is what
+/// the seat is due of it.
+pub fn law_parts_give_what_is_due()
+    ensures { PartsGiveDues }
 {}
 
 /// A law on sums. Of a hand that is accepted and whose pot names fit: what was collected from a pot and its

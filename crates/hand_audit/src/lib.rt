@@ -3,7 +3,8 @@
 //! `audit_hand` takes the lines of one hand, its header line first. It answers `Rejected` with the first line that departs and the cause,
 //! or `Accepted` with a `Settlement` and an `AllIn`. `later_streets` tells what is known on each street behind a known all-in, and
 //! `audit_with_streets` answers both by one reading of the lines. `audit_with_chips` answers the verdict and what each player had and
-//! put in.
+//! put in, and `audit_with_shares` the verdict and what each winner of a side of each part of a pot gets, also of a hand that is rejected
+//! for its payments alone.
 //!
 //! 1. *First pass* (`first_pass`). Each line is read once, and who plays is noted. What the first 256 lines say is kept.
 //! 2. *Second pass* (`follow`, `hand`). What each line says is stepped by a `Replay`. A line departs where it can't be read, where the
@@ -35,6 +36,7 @@ mod known_tables;
 mod laws;
 mod marks;
 mod orders;
+mod parts;
 mod payments;
 mod pot_names;
 mod pots;
@@ -48,15 +50,17 @@ mod verdicts;
 mod winners;
 mod worths;
 
-pub use audit::{audit_hand, audit_with_chips, audit_with_streets};
+pub use audit::{audit_hand, audit_with_chips, audit_with_shares, audit_with_streets};
 pub use cause::Cause;
 pub use laws::{
     law_a_lone_player_wins_a_side_of_each_part, law_a_mark_is_a_card_of_its_player,
     law_a_table_has_the_pots_of_the_hand, law_all_in_cards, law_checked_pots_are_won,
     law_chips_are_kept, law_later_streets_come_in_order, law_later_streets_know_cards,
-    law_lines_before_stand, law_nets_add_up_to_the_rake, law_pots_add_up,
-    law_pots_are_split_by_the_rules, law_pots_go_by_boards, law_unknown_all_ins_have_unknown_cards,
+    law_lines_before_stand, law_nets_add_up_to_the_rake, law_parts_give_what_is_due,
+    law_pots_add_up, law_pots_are_split_by_the_rules, law_pots_go_by_boards,
+    law_unknown_all_ins_have_unknown_cards,
 };
+pub use parts::{AuditedShares, PartShare, PartShares, SplitHand};
 pub use seat_chips::{AuditedChips, SeatChips};
 pub use settlement::{Payment, Payments, PotLine, PotLines, Settlement};
 pub use streets::{AuditedStreets, StreetState, later_streets};

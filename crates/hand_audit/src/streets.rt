@@ -160,7 +160,7 @@ pub fn later_streets(
         head.next,
     )? {
         Followed::Departs(_, _) => unreachable!(),
-        Followed::Ends(state, settled) => {
+        Followed::Ends(_, state, settled) => {
             let states = states_of(alloc, &header, &state, &settled)?;
             Ok(states)
         }

@@ -101,7 +101,7 @@ fn side_values(
 }
 
 /// The first side that a pot of the game is played for.
-fn first_side(game: Game) -> Option<Side>
+pub(crate) fn first_side(game: Game) -> Option<Side>
     ensures { result ≡ first_side game }
 {
     let [first, _] = sides(game);
@@ -109,7 +109,7 @@ fn first_side(game: Game) -> Option<Side>
 }
 
 /// The second side.
-fn second_side(game: Game) -> Option<Side>
+pub(crate) fn second_side(game: Game) -> Option<Side>
     ensures { result ≡ second_side game }
 {
     let [_, second] = sides(game);

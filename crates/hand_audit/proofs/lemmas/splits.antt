@@ -11,3 +11,5 @@ pub mod ShownHand
 pub mod SettledPots
 pub mod PotsBehind
 pub mod RightSplits
+pub mod SideShares
+pub mod SplitHands

@@ -1,15 +1,14 @@
 use Rattle.std.proofs.Common.{◌≡◌, ℕ, List, sym, ap, ◌∙◌, refl}
 use Rattle.pot_layers.specs.declared.paid.Paid.{Paid}
 use Rattle.pot_layers.specs.Pots.{pots}
-use Rattle.betting_replay.specs.Table.{ReplayState, is_twice}
+use Rattle.betting_replay.specs.Table.{ReplayState}
 use Rattle.hand_audit.specs.declared.verdicts.AllIn.{AllIn}
 use Rattle.hand_audit.specs.declared.verdicts.HandAudit.TheVariants.{Accepted}
 use Rattle.hand_audit.specs.declared.settlement.Settlement.{Settlement}
 use Rattle.hand_audit.specs.AllIns.{eligible_in, all_in_by}
 use Rattle.hand_audit.specs.PotSeats.{eligible_of}
-use Rattle.hand_audit.specs.Settle.{Settled, settled}
-use Rattle.hand_audit.specs.Showings.{paid_in, rake, showing_of}
-use Rattle.hand_audit.specs.Verdict.{settlement_by}
+use Rattle.hand_audit.specs.Settle.{Settled}
+use Rattle.hand_audit.specs.Showings.{paid_in, showing_of}
 use Rattle.hand_audit.proofs.lemmas.tables.SettlementPots.{settled_same, paid_shown}
 use Rattle.hand_audit.proofs.audit.accepted.Goals as goal
 
@@ -24,7 +23,5 @@ returns c so_far k made =
     let pots_same : eligible_of c.items.result.now ≡ eligible_in (pots (paid_in c.args.state.replay))
     = ap eligible_of c.items.ensures ∙ ap (λ (x : Settled). eligible_of x.pots) made.settled ∙ settled_same s ∙ ap (λ (ps : List Paid). eligible_in (pots ps)) (paid_shown g c.args.players h)
     ∙ ap (λ (t : ReplayState). eligible_in (pots (paid_in t))) (sym k.stands.is) in
-    same_accepted _ _ _ _ _ _ c.args.players
-    (ap (λ (x : Settled). settlement_by g c.args.state.rake c.is_twice.result x) made.settled ∙ ap (λ stated. settlement_by g stated c.is_twice.result (settled s)) k.rake
-    ∙ ap (λ twice. settlement_by g (rake h) twice (settled s)) (c.is_twice.ensures ∙ ap is_twice k.stands.is))
+    same_accepted _ _ _ _ _ _ c.args.players (c.settlement_of.ensures c.args.players so_far k made)
     (c.all_in_by-all_in.ensures pots_same ∙ ap (all_in_by g.game) k.stands.is) k.names

@@ -56,7 +56,7 @@ lines-preserved c =
 pub returns-in-Ok : goal.returns-in-Ok
 returns-in-Ok c =
     let r = c.lines.invariant.going in
-    going_ends c.lines.state c.args.header.now c.args.players _ _ c.lines.count c.in-Ok.settled r c.in_default.ensures.texts
+    going_ends c.lines.state c.args.header.now c.args.players _ _ c.lines.count c.in-Ok.settled r c.in_default.ensures.texts c.lines.invariant.counted
     (subst (EndsAs c.args.header.now c.args.players r.so_far.events) c.in-Ok.is (c.in_ok-settled.ensures c.args.header.now c.args.players r.so_far r.keeps refl))
 
 pub returns-in-Err : goal.returns-in-Err

@@ -10,11 +10,10 @@ use Rattle.hand_audit.specs.declared.hand.AuditState.{AuditState}
 use Rattle.hand_audit.specs.Lines.{SoFar, nothing, read_at, with_event}
 use Rattle.hand_audit.specs.Departs.{departs_from, at_line}
 use Rattle.hand_audit.specs.Verdict.{read_all}
-use Rattle.hand_audit.specs.Keeping.{Keeps, Goes, EndsAs, Follows}
+use Rattle.hand_audit.specs.Keeping.{Keeps, Goes, EndsAs, IsEnded, Follows}
 use Rattle.hand_audit.specs.declared.follow.Followed.TheVariants.{Departs, Ends}
 use Rattle.hand_audit.specs.declared.settling.HandSettled.{HandSettled}
-use Rattle.hand_audit.specs.SettlementAnswers.{IsOfHand}
-use Rattle.hand_audit.specs.Showings.{showing_of}
+use Rattle.hand_audit.proofs.lemmas.lines.LineSteps.{goes_no_split}
 
 -- after so many of the lines, with those that are left: what is kept stands for them, and the rest decides, whatever the number of the line before them
 pub record Going (state : AuditState) (g : Header) (players : ℕ) (all left : List (List ℕ)) (count : ℕ) : Type 0 where
@@ -60,6 +59,7 @@ pub going_departs : (state new : AuditState) (g : Header) (players : ℕ) (all :
 going_departs state new g players all line left left' count c r is counted goes = (
   (let some : length left' ≡ length (line ∷ left) = ap length is in omega (arith, some, counted)),
   λ number. r.same number ∙ ap (departs_from g players (number + count) r.so_far) is ∙ by_read number (read_at g r.so_far line) refl goes ∙ ap (λ n. Some (n, c)) (counts_on number count),
+  goes_no_split new g players r.so_far line (read_at g r.so_far line) c goes,
 )
   where
     by_read : (number : ℕ) (o : Result Event TextFault) → read_at g r.so_far line ≡ o → Goes new g players r.so_far line o (Some c) → departs_from g players (number + count) r.so_far (line ∷ left) ≡ Some ((number + count) + 1, c)
@@ -71,14 +71,16 @@ pub going_stops : (state : AuditState) (g : Header) (players : ℕ) (all left : 
     → count + length left ≡ length all → EndsAs g players r.so_far.events (Err c) → Follows g players all (Departs count c)
 going_stops state g players all left count c r is counted ends = (
   omega (arith, counted),
-  λ number. r.same number ∙ ap (departs_from g players (number + count) r.so_far) is ∙ ap (at_line (number + count)) ends,
+  λ number. r.same number ∙ ap (departs_from g players (number + count) r.so_far) is ∙ ap (at_line (number + count)) ends.0,
+  ends.1,
 )
 
 pub going_ends : (state : AuditState) (g : Header) (players : ℕ) (all left : List (List ℕ)) (count : ℕ) (settled : HandSettled) (r : Going state g players all left count) → left ≡ []
-    → EndsAs g players r.so_far.events (Ok settled) → Follows g players all (Ends state settled)
-going_ends state g players all left count settled r is ends =
+    → count + length left ≡ length all → EndsAs g players r.so_far.events (Ok settled) → Follows g players all (Ends count state settled)
+going_ends state g players all left count settled r is counted ends =
     let read : r.so_far ≡ read_all g nothing all = sym (r.read ∙ ap (read_all g r.so_far) is) in (
-      λ number. r.same number ∙ ap (departs_from g players (number + count) r.so_far) is ∙ ap (at_line (number + count)) ends.0,
+      omega (arith, counted),
+      λ number. r.same number ∙ ap (departs_from g players (number + count) r.so_far) is ∙ ap (at_line (number + count)) ends.cause,
       subst (Keeps state g players) read r.keeps,
-      subst (λ (t : SoFar). IsOfHand (showing_of g players t.events) settled) read ends.1,
+      subst (λ (t : SoFar). IsEnded g players t.events settled) read ends,
     )

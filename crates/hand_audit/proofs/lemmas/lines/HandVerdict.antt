@@ -7,9 +7,10 @@ use Rattle.history_text.specs.Headers.{header_of}
 use Rattle.hand_audit.specs.declared.verdicts.HandAudit.{HandAudit}
 use Rattle.hand_audit.specs.declared.verdicts.HandAudit.TheVariants.{Rejected}
 use Rattle.hand_audit.specs.declared.cause.Cause.{Cause}
-use Rattle.hand_audit.specs.declared.cause.Cause.TheVariants.{Text}
+use Rattle.hand_audit.specs.declared.cause.Cause.TheVariants.{Text, Split}
+use Rattle.hand_audit.specs.declared.settlement.Payment.{Payment}
 use Rattle.hand_audit.specs.Lines.{nothing, players_of}
-use Rattle.hand_audit.specs.Departs.{departs, departs_behind, departs_from}
+use Rattle.hand_audit.specs.Departs.{departs, departs_behind, departs_from, at_line, split_cause}
 use Rattle.hand_audit.specs.Verdict.{audit_of, audit_behind, judged, accepted_by, read_all}
 
 -- the header line departs
@@ -34,3 +35,9 @@ pub audit_ends : (n : ℕ) (all : List (List ℕ)) (line : List ℕ) (rest : Lis
     → departs_from g players n nothing rest ≡ None → audit ≡ accepted_by g players (read_all g nothing rest) → audit_of n all ≡ Some audit
 audit_ends n all line rest g players audit is read play none same =
     judged_is n all line rest g players None is read play none ∙ ap (λ p. Some (accepted_by g p (read_all g nothing rest))) (sym play) ∙ ap (λ x. Some x) (sym same)
+
+-- the last does, for a payment
+pub audit_splits : (n : ℕ) (all : List (List ℕ)) (line : List ℕ) (rest : List (List ℕ)) (g : Header) (players number : ℕ) (first : Option Payment) (pay : Payment) (c : Cause) → all ≡ line ∷ rest → header_of line ≡ Ok g → players ≡ players_of g rest
+    → departs_from g players n nothing rest ≡ at_line number (split_cause first) → first ≡ Some pay → c ≡ Split pay.seat pay.due pay.got → audit_of n all ≡ Some (Rejected number c g.hundredths)
+audit_splits n all line rest g players number first pay c is read play at beyond cause =
+    audit_departs n all line rest g players number c is read play (at ∙ ap (λ o. at_line number (split_cause o)) beyond ∙ ap (λ x. Some (number, x)) (sym cause))

@@ -1,11 +1,11 @@
 -- What one line makes of what is kept of a hand, and what its end does.
-use Rattle.std.proofs.Common.{◌≡◌, ℕ, List, ◌∷◌, ◌++◌, refl, sym, ap, ◌∙◌, subst, true, false, ◌||◌}
-use Rattle.std.specs.Prelude.{Option, Some, None, Result, Ok, Err, All}
+use Rattle.std.proofs.Common.{◌≡◌, ℕ, ◌+◌, ◌==◌, List, ◌∷◌, ◌++◌, refl, sym, ap, ◌∙◌, subst, true, false, ◌||◌}
+use Rattle.std.specs.Prelude.{Option, Some, None, Result, Ok, Err, All, Bool, not, if◌then◌else◌}
 use Rattle.std.specs.List.{list_any}
 use Rattle.std.proofs.lemmas.List.Elements.{All-push}
 use Rattle.history_text.specs.declared.events.Header.{Header}
 use Rattle.history_text.specs.declared.events.Event.{Event}
-use Rattle.history_text.specs.declared.events.Event.TheVariants.{Seat}
+use Rattle.history_text.specs.declared.events.Event.TheVariants.{Seat, Total}
 use Rattle.history_text.specs.declared.events.TextFault.{TextFault}
 use Rattle.history_text.specs.Lines.{line_event}
 use Rattle.betting_replay.specs.declared.faults.BetFault.{BetFault}
@@ -19,15 +19,17 @@ use Rattle.betting_replay.proofs.CallerLemmas.{no_fault}
 use Rattle.history_text.specs.declared.events.Part.TheVariants.{Summary as SummaryPart}
 use Rattle.betting_replay.specs.Accepted.{IsAccepted}
 use Rattle.betting_replay.specs.Table.{ReplayState}
+use Rattle.pot_layers.specs.declared.paid.Pot.{Pot}
 use Rattle.pot_layers.specs.Pots.{pots, put_in_all}
 use Rattle.hand_audit.specs.Winning.{AreDecided}
 use Rattle.hand_audit.specs.declared.cause.Cause.{Cause}
-use Rattle.hand_audit.specs.declared.cause.Cause.TheVariants.{Text, Bet, Split, Unfinished}
+use Rattle.hand_audit.specs.declared.cause.Cause.TheVariants.{Text, Bet, Chips, Unfinished}
 use Rattle.hand_audit.specs.declared.hand.AuditState.{AuditState}
 use Rattle.hand_audit.specs.Lines.{SoFar, part_after, part_of, read_at, named_by}
 use Rattle.hand_audit.specs.Collections.{collected_by, taken}
 use Rattle.hand_audit.specs.Showings.{paid_in, rake_by, showing_at, showing_of}
-use Rattle.hand_audit.specs.Departs.{is_total, total_cause, event_cause, end_cause, split_cause, put_in_by, collected}
+use Rattle.betting_replay.specs.Seats.{or_else}
+use Rattle.hand_audit.specs.Departs.{is_total, bet_cause, total_cause, event_cause, end_cause, split_cause, is_split, put_in_by, collected}
 use Rattle.hand_audit.specs.Settle.{Showing, beyond}
 use Rattle.card_sets.specs.declared.games.Game.{Game}
 use Rattle.card_sets.specs.declared.streets.Street.{Street}
@@ -36,6 +38,7 @@ use Rattle.hand_audit.specs.declared.settling.HandSettled.{HandSettled}
 use Rattle.hand_audit.specs.SettlementAnswers.{IsOfHand}
 use Rattle.hand_audit.specs.Keeping.{Keeps, Goes, EndsAs}
 use Rattle.history_text.specs.Within.{IsSeated}
+use Rattle.hand_audit.proofs.lemmas.tables.SettlementPots.{paid_shown}
 
 -- the line is read by what is kept as it is by the lines so far
 pub read_is : (hand : AuditState) (g : Header) (players : ℕ) (so_far : SoFar) (line : List ℕ) → Keeps hand g players so_far → line_event hand.names g hand.part line ≡ read_at g so_far line
@@ -109,12 +112,34 @@ goes_on new hand g players so_far line e u k is bet total fits marker stands nam
       },
     )
 
+-- a line that departs for what it says doesn't depart for a payment
+total_no_split : (put taken : ℕ) (e : Event) (c : Cause) → total_cause put taken e ≡ Some c → is_split c ≡ false
+total_no_split put taken (Total units stated) c h = by (units == put) (units == taken + stated) h
+  where
+    by : (a b : Bool) → (if not a then Some (Chips units put) else (if not b then Some (Chips units (taken + stated)) else None)) ≡ Some c → is_split c ≡ false
+    by false b h = let same : c ≡ Chips units put = cc in rw same refl
+    by true false h = let same : c ≡ Chips units (taken + stated) = cc in rw same refl
+    by true true h = cc
+total_no_split put taken _ c h = cc
+
+event_no_split : (g : Header) (players : ℕ) (h : List Event) (e : Event) (c : Cause) → event_cause g players h e ≡ Some c → is_split c ≡ false
+unfolding event_cause
+event_no_split g players h e c is = by (legal g players h e) is
+  where
+    by : (o : Option BetFault) → or_else (bet_cause o) (total_cause (put_in_by g players h) (collected h) e) ≡ Some c → is_split c ≡ false
+    by None is = total_no_split (put_in_by g players h) (collected h) e c is
+    by (Some fault) is = let same : c ≡ Bet fault = cc in rw same refl
+
+pub goes_no_split : (new : AuditState) (g : Header) (players : ℕ) (so_far : SoFar) (line : List ℕ) (said : Result Event TextFault) (c : Cause) → Goes new g players so_far line said (Some c) → is_split c ≡ false
+goes_no_split new g players so_far line (Err fault) c h = let same : c ≡ Text fault = cc in rw same refl
+goes_no_split new g players so_far line (Ok e) c h = event_no_split g players so_far.events e c h
+
 -- the end of a hand without a total line, and with one
 pub unfinished : (hand : AuditState) (g : Header) (players : ℕ) (so_far : SoFar) → Keeps hand g players so_far → hand.total ≡ false → end_cause g players so_far.events ≡ Some Unfinished
 unfolding end_cause
 unfinished hand g players so_far k none = let t : list_any is_total so_far.events ≡ false = sym k.total ∙ none in rw t refl
 
-showing_kept : (hand : AuditState) (g : Header) (players : ℕ) (so_far : SoFar) (game : Game) → Keeps hand g players so_far → g.game ≡ game → showing_at game hand.replay hand.collections.items ≡ showing_of g players so_far.events
+pub showing_kept : (hand : AuditState) (g : Header) (players : ℕ) (so_far : SoFar) (game : Game) → Keeps hand g players so_far → g.game ≡ game → showing_at game hand.replay hand.collections.items ≡ showing_of g players so_far.events
 unfolding showing_of
 showing_kept hand g players so_far game k same =
     ap (λ x. showing_at x hand.replay hand.collections.items) (sym same) ∙ ap (λ t. showing_at g.game t hand.collections.items) k.stands.is
@@ -135,13 +160,11 @@ decided_kept hand g players so_far game k same decides ended =
     (subst (λ (s : Showing). AreDecided s (pots (paid_in (table_of g players so_far.events)))) (sym (showing_kept hand g players so_far game k same)) (decides g players so_far.events k.accepted k.markers (sym k.part ∙ ended)))
 
 pub settles : (hand : AuditState) (g : Header) (players : ℕ) (so_far : SoFar) (game : Game) (settled : HandSettled) → Keeps hand g players so_far → g.game ≡ game → hand.total ≡ true
-    → DecidesPots → hand.part ≡ SummaryPart → (AreDecided (showing_at game hand.replay hand.collections.items) (pots (paid_in hand.replay)) → IsOfHand (showing_at game hand.replay hand.collections.items) settled) → settled.beyond ≡ None → EndsAs g players so_far.events (Ok settled)
-settles hand g players so_far game settled k same some decides ended is none =
+    → DecidesPots → hand.part ≡ SummaryPart → (AreDecided (showing_at game hand.replay hand.collections.items) (pots (paid_in hand.replay)) → IsOfHand (showing_at game hand.replay hand.collections.items) settled) → EndsAs g players so_far.events (Ok settled)
+settles hand g players so_far game settled k same some decides ended is =
     let s : IsOfHand (showing_of g players so_far.events) settled = subst (λ (x : Showing). IsOfHand x settled) (showing_kept hand g players so_far game k same) (is (decided_kept hand g players so_far game k same decides ended)) in
-    (split_is hand g players so_far None k some (sym s.beyond ∙ none), s)
-
-pub splits : (hand : AuditState) (g : Header) (players : ℕ) (so_far : SoFar) (game : Game) (settled : HandSettled) (pay : Payment) → Keeps hand g players so_far → g.game ≡ game → hand.total ≡ true
-    → DecidesPots → hand.part ≡ SummaryPart → (AreDecided (showing_at game hand.replay hand.collections.items) (pots (paid_in hand.replay)) → IsOfHand (showing_at game hand.replay hand.collections.items) settled) → settled.beyond ≡ Some pay → EndsAs g players so_far.events (Err (Split pay.seat pay.due pay.got))
-splits hand g players so_far game settled pay k same some decides ended is one =
-    let s : IsOfHand (showing_of g players so_far.events) settled = subst (λ (x : Showing). IsOfHand x settled) (showing_kept hand g players so_far game k same) (is (decided_kept hand g players so_far game k same decides ended)) in
-    split_is hand g players so_far (Some pay) k some (sym s.beyond ∙ one)
+    record {
+      cause = split_is hand g players so_far settled.beyond k some (sym s.beyond);
+      is = s;
+      decided = subst (λ (ps : List Pot). AreDecided (showing_of g players so_far.events) ps) (ap pots (sym (paid_shown g players so_far.events))) (decides g players so_far.events k.accepted k.markers (sym k.part ∙ ended));
+    }

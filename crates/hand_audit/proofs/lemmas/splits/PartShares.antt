@@ -19,7 +19,7 @@ nobody_from units order other seat (suc n) =
     let zero_won : sides_won 0 0 seat ≡ 0 = (let z : bit_at 0 seat ≡ 0 = bit_at-zero seat in rw z refl) in
     rw zero_won (nobody_from units order other (seat + 1) n)
 
-nobody_shares : (units : ℕ) (order other : List ℕ) → shares units 0 0 order other ≡ []
+pub nobody_shares : (units : ℕ) (order other : List ℕ) → shares units 0 0 order other ≡ []
 unfolding shares
 nobody_shares units order other = nobody_from units order other 1 10
 

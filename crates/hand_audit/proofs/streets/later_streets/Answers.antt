@@ -23,5 +23,5 @@ returns c =
     let g = c.in-Ok.header in
     let players = c.in_ok-found.found.players in
     let ends = subst (Follows g players rest) c.in-Ends.is c.in_ok-follow.ensures in
-    c.in_ok-states-in-Ends.ensures players (read_all g nothing rest) ends.1 ends.2
+    c.in_ok-states-in-Ends.ensures players (read_all g nothing rest) ends.2 ends.3.is
     ∙ states_are (lines c.args.bytes.now) text rest g players c.in-Some.ensures.texts (sym c.read_header.ensures ∙ c.in-Ok.is) c.in_ok-found.ensures.players

@@ -1,0 +1,35 @@
+-- What the rules give each seat of a hand: by its parts, and beside what was paid.
+use Rattle.std.specs.Prelude.{◌≡◌, ℕ, ◌+◌, ◌≤◌, ◌==◌, true, if◌then◌else◌, List, find, sum_by}
+use Rattle.std.specs.Option.{option_map_or}
+use Rattle.pot_layers.specs.declared.paid.Pot.{Pot}
+use Rattle.hand_audit.specs.Chips.{over_seats}
+use Rattle.hand_audit.specs.Nets.{got_of}
+use Rattle.hand_audit.specs.Parts.{is_contested, part_shares}
+use Rattle.hand_audit.specs.Settle.{Showing, due_of_seat, is_checked, net_of, pot_line, shares_of_pot}
+use Rattle.hand_audit.specs.declared.parts.PartShare.{PartShare}
+use Rattle.hand_audit.specs.declared.pot_names.Source.{Source}
+use Rattle.hand_audit.specs.declared.settlement.Payment.{Payment}
+use Rattle.hand_audit.specs.declared.settlement.Settlement.{Settlement}
+
+-- what a seat is due, by payments by rising seat, of which it has at most one
+abbrev pub due_by : List Payment → ℕ → ℕ
+due_by payments seat = option_map_or (λ pay. pay.due) (find (λ pay. pay.seat == seat) payments) 0
+
+-- all that a seat is due of a hand: of each pot, and by the payments of the hand, which there are where the names of the
+-- collections don't fit the pots
+abbrev pub due_of : Settlement → ℕ → ℕ
+due_of s seat = sum_by (λ pot. due_by pot.paid seat) s.pots + due_by s.paid seat
+
+-- what some shares of parts give a seat
+abbrev pub units_of : ℕ → List PartShare → ℕ
+units_of p shares = sum_by (λ share. if share.seat == p then share.units else 0) shares
+
+-- of a pot of which it is known who wins it, that two players or more may win, and that no more was collected from than it holds, the
+-- shares of the parts give each seat what it is due
+abbrev pub PartsGiveDues : Type 0
+PartsGiveDues = (s : Showing) (source : Source) (pot : Pot) (p : ℕ) → is_checked s pot.eligible ≡ true → is_contested pot.eligible ≡ true → net_of s source ≤ pot.units
+    → units_of p (part_shares s (pot_line s source pot)) ≡ due_of_seat p (shares_of_pot s source pot)
+
+-- all seats are due what they got together
+abbrev pub DuesAddUp : Settlement → Type 0
+DuesAddUp settlement = over_seats (due_of settlement) ≡ over_seats (got_of settlement)

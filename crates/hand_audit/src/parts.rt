@@ -1,0 +1,323 @@
+//! What the winners of each side of each part of a pot get.
+
+ghost use Rattle.std.specs.Prelude.{◌≡◌, ℕ, ◌≤◌, ◌++◌, ◌∷◌, [], List, Some, true, All, map, length, IfOk, OnOk};
+ghost use Rattle.card_sets.specs.PlayerSets.{seats_in};
+ghost use Rattle.history_text.specs.declared.events.Header.{Header};
+ghost use Rattle.pot_layers.specs.Split.{IsOrder, high_half, low_half};
+ghost use Rattle.hand_audit.specs.Keeping.{IsEnded, Keeps};
+ghost use Rattle.hand_audit.specs.Lines.{SoFar};
+ghost use Rattle.hand_audit.specs.Parts.{part_share, side_parts, shares_on, shares_on_boards, is_contested, part_shares, hand_parts};
+ghost use Rattle.hand_audit.specs.Settle.{Showing, parts_of, first_side, second_side};
+ghost use Rattle.hand_audit.specs.Showings.{showing_of};
+ghost use Rattle.hand_audit.specs.Winning.{Tells, Decides, HasBothMarks, IsReady, IsDecided};
+
+use crate::hand::AuditState;
+use crate::settlement::{PotLine, Settlement};
+use crate::settling::HandSettled;
+use crate::standings::Standings;
+use crate::verdicts::HandAudit;
+use crate::worths::{OnBoard, first_side, second_side};
+use card_sets::{Game, Memory, PlayerSet, Side};
+use history_text::Names;
+use pot_layers::{OddOrder, Share, SideWinners, halves, split};
+use std::alloc::{AllocError, Global};
+use std::marker::Model;
+
+/// What a winner gets of a side of a part of a pot.
+#[derive(Clone, Copy)]
+pub struct PartShare {
+    /// The board that the part goes by, 1 or 2; 1 in a game without a board.
+    pub board: u8,
+    /// The side.
+    pub side: Side,
+    /// The winner's seat.
+    pub seat: u8,
+    /// What he gets of it, in units.
+    pub units: u64,
+    /// Whether one of them is an odd unit: one of those that are left over when the side is shared in equal parts.
+    pub odd: bool,
+}
+
+/// The shares of the parts of a pot: board by board, the first side of each before the second, and the winners of
+/// a side by rising seat. Clauses see the list of them.
+#[derive(Drop)]
+pub struct PartShares {
+    items: Vec<PartShare>,
+}
+
+impl Model for PartShares {
+    ghost use Rattle.std.specs.Prelude.{List};
+    ghost use Rattle.hand_audit.specs.declared.parts.PartShare.{PartShare};
+
+    ghost Value = { List PartShare };
+
+    ghost view = { λ p. p.items.items };
+}
+
+impl PartShares {
+    /// Of these.
+    pub fn of(items: Vec<PartShare>) -> PartShares
+        ensures { result ≡ items.items }
+    {
+        PartShares { items }
+    }
+
+    /// The shares.
+    pub fn items(&self) -> &[PartShare]
+        ensures { result.now ≡ self.now }
+    {
+        self.items.as_slice()
+    }
+}
+
+/// What became of the chips of a hand that is rejected for its payments alone.
+#[derive(Drop)]
+pub struct SplitHand {
+    /// What became of them.
+    pub settlement: Settlement,
+    /// The seats and names of all seat lines before the first street, in their order.
+    pub names: Names,
+    /// Who plays: bit s for seat s.
+    pub players: u16,
+}
+
+/// A verdict on a hand, and what the rules give of its pots.
+#[derive(Drop)]
+pub struct AuditedShares {
+    /// The verdict.
+    pub audit: HandAudit,
+    /// What became of the chips of a hand that is rejected for its payments alone; none of another.
+    pub split: Option<SplitHand>,
+    /// The shares of the parts of each pot of a hand that is accepted or rejected for its payments alone: none of
+    /// a pot of which it isn't known who wins it, or that one player alone may win.
+    pub parts: Vec<PartShares>,
+}
+
+/// One more.
+fn add<T: Copy>(items: &mut Vec<T>, item: T) -> Result<(), AllocError>
+    ensures { OnOk result (items.new.items ≡ items.old.items ++ item ∷ []) }
+{
+    items.push(item)?;
+    Ok(())
+}
+
+/// A share of a side, whose winners get so much each and some of them an odd unit more.
+fn part_share(board: u8, side: Side, each: u64, share: Share) -> PartShare
+    ensures { result ≡ part_share board side each share }
+{
+    PartShare {
+        board,
+        side,
+        seat: share.seat,
+        units: share.units,
+        odd: each < share.units,
+    }
+}
+
+/// The shares of a side more.
+fn add_shares(
+    all: &mut Vec<PartShare>,
+    board: u8,
+    side: Side,
+    each: u64,
+    shares: &[Share],
+) -> Result<(), AllocError>
+    ensures { OnOk result (all.new.items
+        ≡ all.old.items ++ map (part_share board side each) shares.now) }
+{
+    match shares {
+        [] => Ok(()),
+        [share, others @ ..] => {
+            add(all, part_share(board, side, each, *share))?;
+            add_shares(all, board, side, each, others)
+        }
+    }
+}
+
+/// Those of the winners of a side more, who share what it gets.
+fn add_side(
+    alloc: Global,
+    all: &mut Vec<PartShare>,
+    board: u8,
+    side: Option<Side>,
+    winners: PlayerSet,
+    order: &OddOrder,
+    units: u64,
+) -> Result<(), Memory>
+    requires { IsOrder winners order.now }
+    ensures { OnOk result (all.new.items
+        ≡ all.old.items ++ side_parts board side winners order.now units) }
+{
+    let Some(side) = side else {
+        return Ok(());
+    };
+    if winners.bits() == 0 {
+        return Ok(());
+    }
+    let only = SideWinners {
+        high: winners.bits(),
+        low: 0,
+    };
+    let each = units / order.as_slice().len() as u64;
+    let shares = split(alloc, units, only, order, &OddOrder::none())?;
+    add_shares(all, board, side, each, shares.items())?;
+    Ok(())
+}
+
+/// What the two sides of a part get; the first has all where nobody wins the second.
+fn side_units(units: u64, second: PlayerSet) -> [u64; 2]
+    ensures { result ≡ high_half units second ∷ low_half units second ∷ [] }
+{
+    if second.bits() == 0 {
+        return [units, 0];
+    }
+    halves(units)
+}
+
+/// Those of a part more that goes by a board.
+fn add_part(
+    alloc: Global,
+    all: &mut Vec<PartShare>,
+    standings: &Standings,
+    on: &OnBoard,
+    board: u8,
+    eligible: PlayerSet,
+    units: u64,
+) -> Result<(), Memory>
+    requires ready { IsReady standings.now }
+    requires marks { HasBothMarks on.now }
+    ensures { OnOk result ((s : Showing) (cards : List ℕ) → Tells standings.now s
+        → Decides on.now s cards eligible → 2 ≤ length (seats_in eligible)
+        → all.new.items
+        ≡ all.old.items ++ shares_on s eligible board (record { units = units; board = cards })) }
+{
+    let first = on.first.winners(eligible);
+    let second = on.second.winners(eligible);
+    let first_order = standings.order(&on.first, first);
+    let second_order = standings.order(&on.second, second);
+    let [high, low] = side_units(units, second);
+    let game = standings.game;
+    add_side(
+        alloc,
+        all,
+        board,
+        first_side(game),
+        first,
+        &first_order,
+        high,
+    )?;
+    add_side(
+        alloc,
+        all,
+        board,
+        second_side(game),
+        second,
+        &second_order,
+        low,
+    )?;
+    Ok(())
+}
+
+/// Those of all parts of so many units.
+fn add_parts(
+    alloc: Global,
+    all: &mut Vec<PartShare>,
+    standings: &Standings,
+    eligible: PlayerSet,
+    units: u64,
+) -> Result<(), Memory>
+    requires { IsReady standings.now }
+    ensures { OnOk result ((s : Showing) → Tells standings.now s → IsDecided s eligible
+        → 2 ≤ length (seats_in eligible)
+        → all.new.items ≡ all.old.items ++ shares_on_boards s eligible 1 (parts_of s units)) }
+{
+    match &standings.second {
+        None => add_part(alloc, all, standings, &standings.board, 1, eligible, units),
+        Some(second) => {
+            let [rounded_up, rounded_down] = halves(units);
+            add_part(
+                alloc,
+                all,
+                standings,
+                &standings.board,
+                1,
+                eligible,
+                rounded_up,
+            )?;
+            add_part(alloc, all, standings, second, 2, eligible, rounded_down)?;
+            Ok(())
+        }
+    }
+}
+
+/// Whether two players or more may win a pot.
+fn is_contested(eligible: PlayerSet) -> bool
+    ensures { result ≡ is_contested eligible }
+{
+    1 < eligible.seats().count()
+}
+
+/// The shares of the parts of a pot.
+#[tactic(auto, unfolding(crate::specs::Parts::part_shares))]
+fn part_shares(alloc: Global, standings: &Standings, pot: &PotLine) -> Result<PartShares, Memory>
+    requires { IsReady standings.now }
+    ensures { IfOk result (λ parts. (s : Showing) → Tells standings.now s → IsDecided s pot.now.eligible
+        → parts ≡ part_shares s pot.now) }
+{
+    let eligible = PlayerSet::of(pot.eligible);
+    let mut parts = Vec::new(alloc);
+    if !pot.checked || !is_contested(eligible) {
+        return Ok(PartShares::of(parts));
+    }
+    let units = pot.gross.saturating_sub(pot.rake);
+    add_parts(alloc, &mut parts, standings, eligible, units)?;
+    Ok(PartShares::of(parts))
+}
+
+/// A pot's more.
+fn add_pot(all: &mut Vec<PartShares>, parts: PartShares) -> Result<(), AllocError>
+    ensures { OnOk result (all.new.items ≡ all.old.items ++ parts ∷ []) }
+{
+    all.push(parts)?;
+    Ok(())
+}
+
+/// Those of some pots more.
+fn add_pots(
+    alloc: Global,
+    all: &mut Vec<PartShares>,
+    standings: &Standings,
+    pots: &[PotLine],
+) -> Result<(), Memory>
+    requires { IsReady standings.now }
+    ensures { OnOk result ((s : Showing) → Tells standings.now s
+        → All (λ (pot : PotLine). IsDecided s pot.eligible) pots.now
+        → all.new.items ≡ all.old.items ++ map (part_shares s) pots.now) }
+{
+    match pots {
+        [] => Ok(()),
+        [pot, others @ ..] => {
+            add_pot(all, part_shares(alloc, standings, pot)?)?;
+            add_pots(alloc, all, standings, others)?;
+            Ok(())
+        }
+    }
+}
+
+/// The shares of the parts of the pots of a hand whose chips are settled, pot by pot.
+pub(crate) fn hand_parts(
+    alloc: Global,
+    game: Game,
+    state: &AuditState,
+    settled: &HandSettled,
+) -> Result<Vec<PartShares>, Memory>
+    ensures { IfOk result (λ parts. (header : Header) (players : ℕ) (so_far : SoFar)
+        → Keeps state.now header players so_far → IsEnded header players so_far.events settled.now
+        → header.game ≡ game
+        → parts.items ≡ hand_parts (showing_of header players so_far.events)) }
+{
+    let standings = Standings::of(&state.replay, game);
+    let mut parts = Vec::new(alloc);
+    add_pots(alloc, &mut parts, &standings, settled.pots.items())?;
+    Ok(parts)
+}
