@@ -5,7 +5,7 @@ ghost use Rattle.history_text.specs.Headers.{header_of};
 ghost use Rattle.history_text.specs.declared.events.Header.{Header};
 ghost use Rattle.hand_audit.specs.Before.{Stand};
 ghost use Rattle.hand_audit.specs.Chips.{KeepsChips};
-ghost use Rattle.hand_audit.specs.Dues.{PartsGiveDues};
+ghost use Rattle.hand_audit.specs.Dues.{DuesAddUp, PartsGiveDues};
 ghost use Rattle.hand_audit.specs.Lines.{nothing, players_of};
 ghost use Rattle.hand_audit.specs.declared.cause.Cause.{Cause};
 ghost use Rattle.hand_audit.specs.Showings.{showing_of};
@@ -103,6 +103,25 @@ pub fn law_pots_add_up()
         → (settlement : Settlement) (all_in : AllIn) (names : List (ℕ × List ℕ)) (players : ℕ)
         → audit_of number (line ∷ lines) ≡ Some (Accepted settlement all_in names players)
         → settlement.fits ≡ true → PotsAddUp settlement }
+{
+    law_a_list_orders_its_seats();
+    law_values_keep_order();
+    law_fives_have_five_cards();
+    law_places_are_apart();
+    law_cards_belong();
+    law_whole_boards();
+    law_a_table_shows_each_seat();
+    law_a_folded_player_is_eligible_nowhere();
+}
+
+/// A law on dues. Of a hand that is accepted and whose pot names fit: over all seats of the table what is due of its
+/// pots is together what was got of them. So what some are still to get is what others are to give back.
+pub fn law_dues_add_up_to_what_was_paid()
+    ensures { (number : ℕ) (line : List ℕ) (lines : List (List ℕ)) (header : Header)
+        → header_of line ≡ Ok header
+        → (settlement : Settlement) (all_in : AllIn) (names : List (ℕ × List ℕ)) (players : ℕ)
+        → audit_of number (line ∷ lines) ≡ Some (Accepted settlement all_in names players)
+        → settlement.fits ≡ true → DuesAddUp settlement }
 {
     law_a_list_orders_its_seats();
     law_values_keep_order();

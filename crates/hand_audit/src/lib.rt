@@ -55,10 +55,10 @@ pub use cause::Cause;
 pub use laws::{
     law_a_lone_player_wins_a_side_of_each_part, law_a_mark_is_a_card_of_its_player,
     law_a_table_has_the_pots_of_the_hand, law_all_in_cards, law_checked_pots_are_won,
-    law_chips_are_kept, law_later_streets_come_in_order, law_later_streets_know_cards,
-    law_lines_before_stand, law_nets_add_up_to_the_rake, law_parts_give_what_is_due,
-    law_pots_add_up, law_pots_are_split_by_the_rules, law_pots_go_by_boards,
-    law_unknown_all_ins_have_unknown_cards,
+    law_chips_are_kept, law_dues_add_up_to_what_was_paid, law_later_streets_come_in_order,
+    law_later_streets_know_cards, law_lines_before_stand, law_nets_add_up_to_the_rake,
+    law_parts_give_what_is_due, law_pots_add_up, law_pots_are_split_by_the_rules,
+    law_pots_go_by_boards, law_unknown_all_ins_have_unknown_cards,
 };
 pub use parts::{AuditedShares, PartShare, PartShares, SplitHand};
 pub use seat_chips::{AuditedChips, SeatChips};

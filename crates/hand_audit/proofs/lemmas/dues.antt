@@ -1,2 +1,3 @@
 -- What the rules give each seat: `law_parts_give_what_is_due`, `law_dues_add_up_to_what_was_paid`.
 pub mod PartDues
+pub mod DueSums

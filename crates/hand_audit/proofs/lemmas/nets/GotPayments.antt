@@ -1,7 +1,8 @@
 -- What the payments of a settlement give a seat is what it collected.
 use Rattle.std.proofs.Common.{◌≡◌, ℕ, zero, suc, ◌+◌, ◌<◌, ◌≤◌, List, [], ◌∷◌, refl, sym, ap, ◌∙◌, Bool, true, false, ◌==◌, ◌&&◌, length, map, arith}
-use Rattle.std.specs.Prelude.{is_some, sum_by, if◌then◌else◌}
+use Rattle.std.specs.Prelude.{find, is_some, sum_by, if◌then◌else◌}
 use Rattle.std.specs.List.{list_all}
+use Rattle.std.specs.Option.{option_map_or}
 use Rattle.std.proofs.lemmas.List.Sums.{sum_by-cons}
 use Rattle.history_text.specs.declared.events.PotName.{PotName}
 use Rattle.pot_layers.specs.declared.paid.Pot.{Pot}
@@ -19,44 +20,51 @@ use Rattle.hand_audit.proofs.lemmas.pot_sums.PaymentSums.{nothing}
 use Rattle.hand_audit.proofs.lemmas.pot_sums.Rakes.{both_true, taken_by, taken_in_all}
 
 -- the payments of the seats from one on, each with its own
-abbrev OwnSeats : (ℕ → Payment) → Type 0
+abbrev pub OwnSeats : (ℕ → Payment) → Type 0
 OwnSeats pay = (q : ℕ) → (pay q).seat ≡ q
 
+-- so much of the payment of a seat, as what it got or what it is due; nothing where it has none
+abbrev pub of_payment : (Payment → ℕ) → List Payment → ℕ → ℕ
+of_payment f payments seat = option_map_or f (find (λ pay. pay.seat == seat) payments) 0
+
 -- one payment more
-got_here : (pay : Payment) (later : List Payment) (q : ℕ) → pay.seat ≡ q → got_by (pay ∷ later) q ≡ pay.got
-got_here pay later q is = let here : (pay.seat == q) ≡ true = grind (arith, is) in rw here refl
+paid_here : (f : Payment → ℕ) (pay : Payment) (later : List Payment) (q : ℕ) → pay.seat ≡ q → of_payment f (pay ∷ later) q ≡ f pay
+paid_here f pay later q is = let here : (pay.seat == q) ≡ true = grind (arith, is) in rw here refl
 
-got_later : (pay : Payment) (later : List Payment) (q : ℕ) → (pay.seat == q) ≡ false → got_by (pay ∷ later) q ≡ got_by later q
-got_later pay later q other = rw other refl
+paid_later : (f : Payment → ℕ) (pay : Payment) (later : List Payment) (q : ℕ) → (pay.seat == q) ≡ false → of_payment f (pay ∷ later) q ≡ of_payment f later q
+paid_later f pay later q other = rw other refl
 
-got_none : (pay : ℕ → Payment) → OwnSeats pay → (p n q : ℕ) → q < p → got_by (payments_from pay p n) q ≡ 0
-got_none pay own p zero q l = refl
-got_none pay own p (suc n) q l = by (is_payment (pay p)) (got_none pay own (p + 1) n q (omega (arith, l)))
+paid_none : (f : Payment → ℕ) (pay : ℕ → Payment) → OwnSeats pay → (p n q : ℕ) → q < p → of_payment f (payments_from pay p n) q ≡ 0
+paid_none f pay own p zero q l = refl
+paid_none f pay own p (suc n) q l = by (is_payment (pay p)) (paid_none f pay own (p + 1) n q (omega (arith, l)))
   where
-    by : (b : Bool) → got_by (payments_from pay (p + 1) n) q ≡ 0 → got_by (if b then pay p ∷ payments_from pay (p + 1) n else payments_from pay (p + 1) n) q ≡ 0
-    by true rest = let is = own p in let other : ((pay p).seat == q) ≡ false = grind (arith, is, l) in got_later (pay p) (payments_from pay (p + 1) n) q other ∙ rest
+    by : (b : Bool) → of_payment f (payments_from pay (p + 1) n) q ≡ 0 → of_payment f (if b then pay p ∷ payments_from pay (p + 1) n else payments_from pay (p + 1) n) q ≡ 0
+    by true rest = let is = own p in let other : ((pay p).seat == q) ≡ false = grind (arith, is, l) in paid_later f (pay p) (payments_from pay (p + 1) n) q other ∙ rest
     by false rest = rest
 
-got_paid : (pay : ℕ → Payment) → OwnSeats pay → (p n q : ℕ) → p ≤ q → q < p + n → got_by (payments_from pay p n) q ≡ (pay q).got
-got_paid pay own p zero q l h = absurd (omega arith)
-got_paid pay own p (suc n) q l h = by (is_payment (pay p)) (p == q) refl refl (λ far. got_paid pay own (p + 1) n q far (omega (arith, h)))
+pub paid_at : (f : Payment → ℕ) → ((pay : Payment) → is_payment pay ≡ false → f pay ≡ 0) → (pay : ℕ → Payment) → OwnSeats pay → (p n q : ℕ) → p ≤ q → q < p + n → of_payment f (payments_from pay p n) q ≡ f (pay q)
+paid_at f none pay own p zero q l h = absurd (omega arith)
+paid_at f none pay own p (suc n) q l h = by (is_payment (pay p)) (p == q) refl refl (λ far. paid_at f none pay own (p + 1) n q far (omega (arith, h)))
   where
     later : List Payment
     later = payments_from pay (p + 1) n
 
-    by : (a b : Bool) → is_payment (pay p) ≡ a → (p == q) ≡ b → (p + 1 ≤ q → got_by later q ≡ (pay q).got) → got_by (if a then pay p ∷ later else later) q ≡ (pay q).got
+    by : (a b : Bool) → is_payment (pay p) ≡ a → (p == q) ≡ b → (p + 1 ≤ q → of_payment f later q ≡ f (pay q)) → of_payment f (if a then pay p ∷ later else later) q ≡ f (pay q)
     by true true ea eb rest =
         let same : p ≡ q = grind (arith, eb) in
-        got_here (pay p) later q (own p ∙ same) ∙ ap (λ r. (pay r).got) same
+        paid_here f (pay p) later q (own p ∙ same) ∙ ap (λ r. f (pay r)) same
     by false true ea eb rest =
         let same : p ≡ q = grind (arith, eb) in
-        got_none pay own (p + 1) n q (omega (arith, same)) ∙ sym (ap (λ r. (pay r).got) (sym same) ∙ (nothing (pay p) ea).got)
+        paid_none f pay own (p + 1) n q (omega (arith, same)) ∙ sym (ap (λ r. f (pay r)) (sym same) ∙ none (pay p) ea)
     by true false ea eb rest =
         let is = own p in
         let other : ((pay p).seat == q) ≡ false = grind (arith, is, eb) in
         let far : p + 1 ≤ q = grind (arith, eb) in
-        got_later (pay p) later q other ∙ rest far
+        paid_later f (pay p) later q other ∙ rest far
     by false false ea eb rest = let far : p + 1 ≤ q = grind (arith, eb) in rest far
+
+got_paid : (pay : ℕ → Payment) → OwnSeats pay → (q : ℕ) → 1 ≤ q → q ≤ 10 → got_by (payments_from pay 1 10) q ≡ (pay q).got
+got_paid pay own q low high = paid_at (λ x. x.got) (λ x none. (nothing x none).got) pay own 1 10 q low (omega (arith, high))
 
 -- the collections of a seat: what it got is what was taken by them
 of_seat : ℕ → List Collection → List Collection
@@ -96,7 +104,7 @@ pots_give : (s : Showing) (count k q : ℕ) (all : List Pot) → 1 ≤ q → q �
 pots_give s count k q [] low high = refl
 pots_give s count k q (pot ∷ all) low high =
     let pay = pay_of s (Numbered count k) pot in
-    let here : got_by (payments_from pay 1 10) q ≡ taken_from (names_pot count k) (of_seat q s.collections) = got_paid pay (λ r. refl) 1 10 q low (omega (arith, high)) ∙ got_is_taken_of (names_pot count k) q s.collections in
+    let here : got_by (payments_from pay 1 10) q ≡ taken_from (names_pot count k) (of_seat q s.collections) = got_paid pay (λ r. refl) q low high ∙ got_is_taken_of (names_pot count k) q s.collections in
     let rest = pots_give s count (k + 1) q all low high in
     omega (arith, sum_by-cons (λ (line : PotLine). got_by line.paid q) (pot_line s (Numbered count k) pot) (pot_lines s count (k + 1) all), here, rest)
 
@@ -123,5 +131,5 @@ got_collected s q low high = by (list_all (λ c. is_some (pot_named (length all)
         omega (arith, some, whole, is)
     by false e =
         let none = unfit_give q all in
-        let own : got_by (payments_from (hand_payment s) 1 10) q ≡ got_from (λ pot. true) q s.collections = got_paid (hand_payment s) (λ r. refl) 1 10 q low (omega (arith, high)) in
+        let own : got_by (payments_from (hand_payment s) 1 10) q ≡ got_from (λ pot. true) q s.collections = got_paid (hand_payment s) (λ r. refl) q low high in
         omega (arith, none, own)

@@ -112,7 +112,7 @@ taken_shown : (g : Header) (players : ℕ) (h : List Event) → collected h ≡ 
 unfolding collected
 taken_shown g players h = ap taken (sym (all_shown g players h))
 
-settled_fits : (s : Showing) → fits (pots s.paid) s.collections ≡ true → settled_of true s (pots s.paid) ≡ settled s
+pub settled_fits : (s : Showing) → fits (pots s.paid) s.collections ≡ true → settled_of true s (pots s.paid) ≡ settled s
 unfolding settled
 settled_fits s fit = ap (λ b. settled_of b s (pots s.paid)) (sym fit)
 
