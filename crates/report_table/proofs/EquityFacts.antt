@@ -144,6 +144,15 @@ few_units deal sums k hand full p h =
     let few = full.few in
     omega arith
 
+-- and no more than that for each of them
+pub whole_units : (deal : Showdown) (sums : Sums) (k hand : ℕ) → IsFull deal sums → k < 10 → hand < 10 → units_at sums k hand ≤ 5040 * sums.runouts
+whole_units deal sums k hand full p h =
+    let one : sum_by (units deal k hand) (runouts_after deal.state) ≤ length (runouts_after deal.state) * 5040 =
+    sum_by-le (units deal k hand) 5040 (runouts_after deal.state) (λ i d below. units_whole deal k hand (slice_index_or (runouts_after deal.state) i d)) in
+    let counted = full.counts.units k hand p h in
+    let all = full.counts.runouts in
+    omega arith
+
 ways_none : (counts : List ℕ) (left : ℕ) → left < sum counts → ways left counts ≡ 0
 ways_none [] left short = absurd (omega arith)
 ways_none (n ∷ counts) left short =

@@ -6,10 +6,10 @@ use Rattle.std.specs.List.{AllByRecursion, IsDistinct, list_any}
 use Rattle.std.specs.Map.{keys_of, lookup}
 use Rattle.std.specs.Ordering.{is_eq}
 use Rattle.report_table.specs.Totals.{Player, same_player}
-use Rattle.report_table.specs.TotalsSeen.{AllAreOfHands, AreOfHands, IsIndexOf, key_cmp, place_of, player_of, plus, seen_rows, with_more}
-use Rattle.report_table.specs.contracts.player_rows.PlayerKeyOrd.TheImpl.Laws as key_laws
-use Rattle.report_table.specs.declared.player_sums.PlayerSums.{PlayerSums}
-use Rattle.report_table.specs.declared.player_rows.PlayerKey.{PlayerKey}
+use Rattle.report_table.specs.SumsSeen.{AllAreOf, with_more}
+use Rattle.report_table.specs.TotalsSeen.{IsIndexOf, key_cmp, place_of, player_of, seen_rows}
+use Rattle.report_table.specs.contracts.player_key.PlayerKeyOrd.TheImpl.Laws as key_laws
+use Rattle.report_table.specs.declared.player_key.PlayerKey.{PlayerKey}
 use Rattle.report_table.specs.declared.player_rows.PlayerRow.{PlayerRow}
 use Rattle.report_table.proofs.NameFacts.{same_congr, same_symm}
 
@@ -147,58 +147,69 @@ place_within player (first ∷ later) place at = by (same_player player first) (
     by true zeroth rest = omega arith
     by false parts rest = let below = rest parts.0 parts.1 in let step = parts.2 in omega arith
 
--- more sums at the place of a player
-pub more_at : (rows : List PlayerRow) (player : Player) (place : ℕ) (row : PlayerRow) (more sums : PlayerSums) → place_of player (keys_of (seen_rows rows)) ≡ Some place →
-    row ≡ get_or rows place row → sums ≡ plus row.sums more →
-    seen_rows (slice_set rows place (record { key = row.key; sums = sums })) ≡ with_more (seen_rows rows) player more
-more_at [] player place row more sums at read is = cc
-more_at (first ∷ later) player place row more sums at read is =
-    by (same_player player (player_of first.key)) (found_at (same_player player (player_of first.key)) (place_of player (keys_of (seen_rows later))) place at)
-    (λ before there at_before. more_at later player before row more sums there at_before is)
-  where
-    rest : List (Player × PlayerSums)
-    rest = seen_rows later
+module _ {S : Type 0} (plus : S → S → S) where
+  -- more sums at the place of a player
+  pub more_at : (rows : List (PlayerRow S)) (player : Player) (place : ℕ) (row : PlayerRow S) (more sums : S) → place_of player (keys_of (seen_rows rows)) ≡ Some place →
+      row ≡ get_or rows place row → sums ≡ plus row.sums more →
+      seen_rows (slice_set rows place (record { key = row.key; sums = sums })) ≡ with_more plus (seen_rows rows) player more
+  more_at [] player place row more sums at read is = cc
+  more_at (first ∷ later) player place row more sums at read is =
+      by (same_player player (player_of first.key)) (found_at (same_player player (player_of first.key)) (place_of player (keys_of (seen_rows later))) place at)
+      (λ before there at_before. more_at later player before row more sums there at_before is)
+    where
+      rest : List (Player × S)
+      rest = seen_rows later
 
-    by : (b : Bool) → cond b (place ≡ 0) ((before : ℕ) × (place_of player (keys_of rest) ≡ Some before) × (place ≡ suc before)) →
-        ((before : ℕ) → place_of player (keys_of rest) ≡ Some before → row ≡ get_or later before row →
-        seen_rows (slice_set later before (record { key = row.key; sums = sums })) ≡ with_more rest player more) →
-        seen_rows (slice_set (first ∷ later) place (record { key = row.key; sums = sums }))
-        ≡ cond b ((player_of first.key, plus first.sums more) ∷ rest) ((player_of first.key, first.sums) ∷ with_more rest player more)
-    by true zeroth later_more =
-        let same : row ≡ first = read ∙ ap (λ n. get_or (first ∷ later) n row) zeroth in
-        ap (λ n. seen_rows (slice_set (first ∷ later) n (record { key = row.key; sums = sums }))) zeroth
-        ∙ (λ i. (player_of ((same i).key), (is ∙ ap (λ (r : PlayerRow). plus r.sums more) same) i) ∷ rest)
-    by false parts later_more =
-        ap (λ n. seen_rows (slice_set (first ∷ later) n (record { key = row.key; sums = sums }))) parts.2
-        ∙ ap (λ more_rows. (player_of first.key, first.sums) ∷ more_rows)
-        (later_more parts.0 parts.1 (read ∙ ap (λ n. get_or (first ∷ later) n row) parts.2))
+      by : (b : Bool) → cond b (place ≡ 0) ((before : ℕ) × (place_of player (keys_of rest) ≡ Some before) × (place ≡ suc before)) →
+          ((before : ℕ) → place_of player (keys_of rest) ≡ Some before → row ≡ get_or later before row →
+          seen_rows (slice_set later before (record { key = row.key; sums = sums })) ≡ with_more plus rest player more) →
+          seen_rows (slice_set (first ∷ later) place (record { key = row.key; sums = sums }))
+          ≡ cond b ((player_of first.key, plus first.sums more) ∷ rest) ((player_of first.key, first.sums) ∷ with_more plus rest player more)
+      by true zeroth later_more =
+          let same : row ≡ first = read ∙ ap (λ n. get_or (first ∷ later) n row) zeroth in
+          ap (λ n. seen_rows (slice_set (first ∷ later) n (record { key = row.key; sums = sums }))) zeroth
+          ∙ (λ i. (player_of ((same i).key), (is ∙ ap (λ (r : PlayerRow S). plus r.sums more) same) i) ∷ rest)
+      by false parts later_more =
+          ap (λ n. seen_rows (slice_set (first ∷ later) n (record { key = row.key; sums = sums }))) parts.2
+          ∙ ap (λ more_rows. (player_of first.key, first.sums) ∷ more_rows)
+          (later_more parts.0 parts.1 (read ∙ ap (λ n. get_or (first ∷ later) n row) parts.2))
 
-pub more_none : (player : Player) (rows : List (Player × PlayerSums)) (more : PlayerSums) → place_of player (keys_of rows) ≡ None → rows ≡ with_more rows player more
-more_none player [] more none = refl
-more_none player (row ∷ rows) more none =
-    let parts = apart_of (same_player player row.0) (place_of player (keys_of rows)) none in
-    ap (λ later. row ∷ later) (more_none player rows more parts.1)
-    ∙ ap (λ b. cond b ((row.0, plus row.1 more) ∷ rows) (row ∷ with_more rows player more)) (sym parts.0)
+  pub more_none : (player : Player) (rows : List (Player × S)) (more : S) → place_of player (keys_of rows) ≡ None → rows ≡ with_more plus rows player more
+  more_none player [] more none = refl
+  more_none player (row ∷ rows) more none =
+      let parts = apart_of (same_player player row.0) (place_of player (keys_of rows)) none in
+      ap (λ later. row ∷ later) (more_none player rows more parts.1)
+      ∙ ap (λ b. cond b ((row.0, plus row.1 more) ∷ rows) (row ∷ with_more plus rows player more)) (sym parts.0)
 
--- more sums change no player
-pub keys_more : (player : Player) (rows : List (Player × PlayerSums)) (more : PlayerSums) → keys_of (with_more rows player more) ≡ keys_of rows
-keys_more player [] more = refl
-keys_more player (row ∷ rows) more = by (same_player player row.0) (keys_more player rows more)
-  where
-    by : (b : Bool) → keys_of (with_more rows player more) ≡ keys_of rows → keys_of (cond b ((row.0, plus row.1 more) ∷ rows) (row ∷ with_more rows player more)) ≡ row.0 ∷ keys_of rows
-    by true rest = refl
-    by false rest = ap (λ later. row.0 ∷ later) rest
+  -- more sums change no player
+  pub keys_more : (player : Player) (rows : List (Player × S)) (more : S) → keys_of (with_more plus rows player more) ≡ keys_of rows
+  keys_more player [] more = refl
+  keys_more player (row ∷ rows) more = by (same_player player row.0) (keys_more player rows more)
+    where
+      by : (b : Bool) → keys_of (with_more plus rows player more) ≡ keys_of rows → keys_of (cond b ((row.0, plus row.1 more) ∷ rows) (row ∷ with_more plus rows player more)) ≡ row.0 ∷ keys_of rows
+      by true rest = refl
+      by false rest = ap (λ later. row.0 ∷ later) rest
 
--- the sums that are found are of so many hands
-pub found_small : (count : ℕ) (rows : List PlayerRow) (place : ℕ) (row : PlayerRow) → AllAreOfHands count (seen_rows rows) → place < length rows → row ≡ get_or rows place row → AreOfHands count row.sums
-found_small count [] place row small within read = omega arith
-found_small count (first ∷ later) zero row small within read = subst (λ (r : PlayerRow). AreOfHands count r.sums) (sym read) small.0
-found_small count (first ∷ later) (suc place) row small within read = found_small count later place row small.1 (omega arith) read
+module _ {S : Type 0} (AreOf : ℕ → S → Type 0) where
+  -- the sums that are found are of so many hands
+  pub found_small : (count : ℕ) (rows : List (PlayerRow S)) (place : ℕ) (row : PlayerRow S) → AllAreOf AreOf count (seen_rows rows) → place < length rows → row ≡ get_or rows place row → AreOf count row.sums
+  found_small count [] place row small within read = absurd (omega arith)
+  found_small count (first ∷ later) zero row small within read = subst (λ (r : PlayerRow S). AreOf count r.sums) (sym read) small.0
+  found_small count (first ∷ later) (suc place) row small within read = found_small count later place row small.1 (omega arith) read
 
--- with one row more
-pub keys_push : (rows : List PlayerRow) (row : PlayerRow) → keys_of (seen_rows (rows ++ row ∷ [])) ≡ keys_of (seen_rows rows) ++ player_of row.key ∷ []
-keys_push [] row = refl
-keys_push (first ∷ rows) row = ap (λ later. player_of first.key ∷ later) (keys_push rows row)
+module _ {S : Type 0} where
+  -- with one row more
+  pub keys_push : (rows : List (PlayerRow S)) (row : PlayerRow S) → keys_of (seen_rows (rows ++ row ∷ [])) ≡ keys_of (seen_rows rows) ++ player_of row.key ∷ []
+  keys_push [] row = refl
+  keys_push (first ∷ rows) row = ap (λ later. player_of first.key ∷ later) (keys_push rows row)
+
+  pub rows_length : (rows : List (PlayerRow S)) → length (keys_of (seen_rows rows)) ≡ length rows
+  rows_length [] = refl
+  rows_length (row ∷ rows) = ap suc (rows_length rows)
+
+  -- where a player has a place, there is a row
+  pub row_within : (player : Player) (rows : List (PlayerRow S)) (place : ℕ) → place_of player (keys_of (seen_rows rows)) ≡ Some place → place < length rows
+  row_within player rows place at = subst (λ n. place < n) (rows_length rows) (place_within player (keys_of (seen_rows rows)) place at)
 
 -- an index of nobody
 pub index_none : (places : BTreeMap PlayerKey ℕ) → places.entries ≡ [] → IsIndexOf [] places
@@ -207,11 +218,3 @@ index_none places empty key = ap (lookup (is_at (key_cmp key))) empty
 pub none_distinct : IsDistinct same_player []
 unfolding IsDistinct
 none_distinct = tt
-
-pub rows_length : (rows : List PlayerRow) → length (keys_of (seen_rows rows)) ≡ length rows
-rows_length [] = refl
-rows_length (row ∷ rows) = ap suc (rows_length rows)
-
--- where a player has a place, there is a row
-pub row_within : (player : Player) (rows : List PlayerRow) (place : ℕ) → place_of player (keys_of (seen_rows rows)) ≡ Some place → place < length rows
-row_within player rows place at = subst (λ n. place < n) (rows_length rows) (place_within player (keys_of (seen_rows rows)) place at)

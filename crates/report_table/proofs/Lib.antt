@@ -12,6 +12,7 @@ pub mod IndexFacts
 pub mod LineupFacts
 pub mod MadeFacts
 pub mod RunFacts
+pub mod BalanceFacts
 pub mod TotalLaws
 pub mod StreetFacts
 pub mod EvenFacts

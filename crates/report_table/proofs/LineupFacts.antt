@@ -12,15 +12,13 @@ use Rattle.std.proofs.lemmas.Bool.{cases_Bool}
 use Rattle.std.proofs.lemmas.List.{length-map, length-take, map_push, take-append-drop, take-append-le}
 use Rattle.std.proofs.lemmas.List.Elements.{filter-append}
 use Rattle.std.proofs.lemmas.Option.{slice_get-map, slice_get_read, slice_get_within}
-use Rattle.hand_audit.specs.declared.verdicts.AllIn.{AllIn}
-use Rattle.hand_audit.specs.declared.settlement.Settlement.{Settlement}
 use Rattle.history_text.specs.Names.{seat_named}
 use Rattle.report_table.specs.Hands.{Seated}
-use Rattle.report_table.specs.Totals.{Player, no_sums, playing, same_player, seat_sums, seated_sums}
+use Rattle.report_table.specs.SumsSeen.{AllAreOf, AreSums, seated_share, with_given, with_more, with_player, with_players}
+use Rattle.report_table.specs.Totals.{Player, playing, same_player}
 use Rattle.report_table.proofs.NameFacts.{names_congr, same_name}
-use Rattle.report_table.specs.TotalsSeen.{AllAreOfHands, AreOfHands, first_at, has_name, named_player, player_at, player_of, plus, with_given, with_more, with_player, with_players}
-use Rattle.report_table.specs.declared.player_sums.PlayerSums.{PlayerSums}
-use Rattle.report_table.specs.declared.player_rows.PlayerKey.{PlayerKey}
+use Rattle.report_table.specs.TotalsSeen.{first_at, has_name, named_player, player_at, player_of}
+use Rattle.report_table.specs.declared.player_key.PlayerKey.{PlayerKey}
 
 -- one element more
 pub taken : {A : Type 0} (xs : List A) (i : ℕ) (x : A) → slice_get xs i ≡ Some x → take (suc i) xs ≡ take i xs ++ x ∷ []
@@ -185,205 +183,6 @@ not_first text names players place = by (player_at names players place) refl
     by None at absent = ap (seat_named text) (playing_same names players place at)
     by (Some line) at absent = old (is_none (seat_named line.1 seated)) line at refl absent
 
--- one player more, at the end of some
-pub players_push : (entries : List (Player × PlayerSums)) (players : List Player) (player : Player) → with_players entries (players ++ player ∷ []) ≡ with_player (with_players entries players) player
-players_push entries [] player = refl
-players_push entries (first ∷ players) player = players_push (with_player entries first) players player
-
--- equal givings give the same sums
-given_same : (entries : List (Player × PlayerSums)) (player : Player) (f g : Player → PlayerSums) → AllByRecursion (λ other. same_player player other ≡ false) (keys_of entries) →
-    ((other : Player) → same_player player other ≡ false → f other ≡ g other) → with_given f entries ≡ with_given g entries
-given_same [] player f g apart same = refl
-given_same (entry ∷ entries) player f g apart same =
-    let first = same entry.0 apart.0 in
-    let later = given_same entries player f g apart.1 same in
-    λ i. (entry.0, plus entry.1 (first i)) ∷ later i
-
--- those who are not the same as one are not the same as another who is the same
-apart_along : (player one : Player) (others : List Player) → same_player player one ≡ true → AllByRecursion (λ other. same_player one other ≡ false) others →
-    AllByRecursion (λ other. same_player player other ≡ false) others
-apart_along player one [] same apart = tt
-apart_along player one (other ∷ others) same apart =
-    (names_congr player.hundredths one.hundredths other.hundredths player.name one.name other.name same ∙ apart.0, apart_along player one others same apart.1)
-
-plus_more : (a b more : PlayerSums) → plus (plus a b) more ≡ plus a (plus b more)
-plus_more a b more =
-    let hands : a.hands + b.hands + more.hands ≡ a.hands + (b.hands + more.hands) = omega arith in
-    let all_ins : a.all_ins + b.all_ins + more.all_ins ≡ a.all_ins + (b.all_ins + more.all_ins) = omega arith in
-    let collected : a.collected + b.collected + more.collected ≡ a.collected + (b.collected + more.collected) = omega arith in
-    let expected : a.expected + b.expected + more.expected ≡ a.expected + (b.expected + more.expected) = omega arith in
-    λ i. record { hands = hands i; all_ins = all_ins i; collected = collected i; expected = expected i }
-
--- more for one player, where all are given something
-pub more_given : (entries : List (Player × PlayerSums)) (player : Player) (more : PlayerSums) (f g : Player → PlayerSums) → IsDistinct same_player (keys_of entries) →
-    ((other : Player) → same_player player other ≡ false → f other ≡ g other) → ((other : Player) → same_player player other ≡ true → plus (f other) more ≡ g other) →
-    with_more (with_given f entries) player more ≡ with_given g entries
-unfolding IsDistinct
-more_given [] player more f g distinct others own = refl
-more_given (entry ∷ entries) player more f g distinct others own =
-    by (same_player player entry.0) refl (more_given entries player more f g distinct.1 others own)
-  where
-    by : (b : Bool) → same_player player entry.0 ≡ b → with_more (with_given f entries) player more ≡ with_given g entries →
-        cond b ((entry.0, plus (plus entry.1 (f entry.0)) more) ∷ with_given f entries) ((entry.0, plus entry.1 (f entry.0)) ∷ with_more (with_given f entries) player more)
-        ≡ (entry.0, plus entry.1 (g entry.0)) ∷ with_given g entries
-    by true same later =
-        let first = plus_more entry.1 (f entry.0) more ∙ ap (plus entry.1) (own entry.0 same) in
-        let rest = given_same entries player f g (apart_along player entry.0 (keys_of entries) same distinct.0) others in
-        λ i. (entry.0, first i) ∷ rest i
-    by false other later =
-        let first = others entry.0 other in
-        λ i. (entry.0, plus entry.1 (first i)) ∷ later i
-
--- who isn't the player is given what he was given before
-pub given_other : (s : Settlement) (all_in : AllIn) (seated : Seated) (who : ℕ × List ℕ) (player : Player) → same_player (named_player s.hundredths who.1) player ≡ false →
-    seated_sums s all_in seated player ≡ seated_sums s all_in (seated ++ who ∷ []) player
-given_other s all_in seated who player = by s.hundredths player.hundredths
-  where
-    by : (b c : Bool) → (beq b c && bytes_eq who.1 player.name) ≡ false →
-        cond (beq c b) (option_map_or (seat_sums s all_in) (seat_named player.name seated) no_sums) no_sums
-        ≡ cond (beq c b) (option_map_or (seat_sums s all_in) (seat_named player.name (seated ++ who ∷ [])) no_sums) no_sums
-    by true true other = ap (λ found. option_map_or (seat_sums s all_in) found no_sums) (sym (named_other player.name seated who other))
-    by false false other = ap (λ found. option_map_or (seat_sums s all_in) found no_sums) (sym (named_other player.name seated who other))
-    by true false other = refl
-    by false true other = refl
-
-zero_plus : (more : PlayerSums) → plus no_sums more ≡ more
-zero_plus more =
-    let hands : 0 + more.hands ≡ more.hands = omega arith in
-    let all_ins : 0 + more.all_ins ≡ more.all_ins = omega arith in
-    let collected : 0 + more.collected ≡ more.collected = omega arith in
-    let expected : 0 + more.expected ≡ more.expected = omega arith in
-    λ i. record { hands = hands i; all_ins = all_ins i; collected = collected i; expected = expected i }
-
--- and the player what his first seat is given, where he had none before
-pub given_own : (s : Settlement) (all_in : AllIn) (seated : Seated) (who : ℕ × List ℕ) (player : Player) → same_player (named_player s.hundredths who.1) player ≡ true → seat_named who.1 seated ≡ None →
-    (seated_sums s all_in seated player ≡ no_sums) × (seated_sums s all_in (seated ++ who ∷ []) player ≡ seat_sums s all_in who.0)
-given_own s all_in seated who player same none =
-    let parts = same_name s.hundredths player.hundredths who.1 player.name same in
-    let unit : beq player.hundredths s.hundredths ≡ true = ap (λ b. beq b s.hundredths) (sym parts.0) ∙ itself s.hundredths in
-    let before : seat_named player.name seated ≡ None = subst (λ (name : List ℕ). seat_named name seated ≡ None) parts.1 none in
-    let now = named_own player.name seated who before ((bytes_decides who.1 player.name).1 parts.1) in
-    (rw (unit, before) refl, rw (unit, now) refl)
-  where
-    itself : (b : Bool) → beq b b ≡ true
-    itself true = refl
-    itself false = refl
-
-pub plus_own : (s : Settlement) (all_in : AllIn) (seated : Seated) (who : ℕ × List ℕ) (more : PlayerSums) (player : Player) → same_player (named_player s.hundredths who.1) player ≡ true →
-    seat_named who.1 seated ≡ None → more ≡ seat_sums s all_in who.0 → plus (seated_sums s all_in seated player) more ≡ seated_sums s all_in (seated ++ who ∷ []) player
-plus_own s all_in seated who more player same none is =
-    let both = given_own s all_in seated who player same none in
-    ap (λ sums. plus sums more) both.0 ∙ zero_plus more ∙ is ∙ sym both.1
-
--- what a player is given stays small
-pub given_small : (s : Settlement) (all_in : AllIn) (seated : Seated) (who : ℕ × List ℕ) (more : PlayerSums) → seat_named who.1 seated ≡ None → more ≡ seat_sums s all_in who.0 → AreOfHands 1 more →
-    ((player : Player) → AreOfHands 1 (seated_sums s all_in seated player)) → (player : Player) → AreOfHands 1 (seated_sums s all_in (seated ++ who ∷ []) player)
-given_small s all_in seated who more none is small before player = elim (cases_Bool (same_player (named_player s.hundredths who.1) player)) [
-  | inl same ↦ subst (AreOfHands 1) (is ∙ sym (given_own s all_in seated who player same none).1) small
-  | inr other ↦ subst (AreOfHands 1) (given_other s all_in seated who player other) (before player)
-]
-
--- what several hands give and one hand more
-plus_small : (count : ℕ) (a b : PlayerSums) → AreOfHands count a → AreOfHands 1 b → AreOfHands (count + 1) (plus a b)
-plus_small count a b many one =
-    let hands = many.hands in
-    let all_ins = many.all_ins in
-    let collected = many.collected in
-    let expected = many.expected in
-    let hand = one.hands in
-    let all_in = one.all_ins in
-    let got = one.collected in
-    let hoped = one.expected in
-    record { hands = omega arith; all_ins = omega arith; collected = omega arith; expected = omega arith }
-
-pub all_small : (count : ℕ) (given : Player → PlayerSums) (entries : List (Player × PlayerSums)) → AllAreOfHands count entries → ((player : Player) → AreOfHands 1 (given player)) →
-    AllAreOfHands (count + 1) (with_given given entries)
-all_small count given [] small one = tt
-all_small count given (entry ∷ entries) small one = (plus_small count entry.1 (given entry.0) small.0 (one entry.0), all_small count given entries small.1 one)
-
--- with no seat nobody is given anything
-given_nobody : (s : Settlement) (all_in : AllIn) (player : Player) → seated_sums s all_in [] player ≡ no_sums
-given_nobody s all_in player = by (beq player.hundredths s.hundredths)
-  where
-    by : (b : Bool) → cond b no_sums no_sums ≡ no_sums
-    by true = refl
-    by false = refl
-
-plus_zero : (sums : PlayerSums) → plus sums no_sums ≡ sums
-plus_zero sums =
-    let hands : sums.hands + 0 ≡ sums.hands = omega arith in
-    let all_ins : sums.all_ins + 0 ≡ sums.all_ins = omega arith in
-    let collected : sums.collected + 0 ≡ sums.collected = omega arith in
-    let expected : sums.expected + 0 ≡ sums.expected = omega arith in
-    λ i. record { hands = hands i; all_ins = all_ins i; collected = collected i; expected = expected i }
-
-pub given_none : (given : Player → PlayerSums) (entries : List (Player × PlayerSums)) → ((player : Player) → given player ≡ no_sums) → entries ≡ with_given given entries
-given_none given [] none = refl
-given_none given (entry ∷ entries) none =
-    let first = sym (plus_zero entry.1) ∙ ap (plus entry.1) (sym (none entry.0)) in
-    let later = given_none given entries none in
-    λ i. (entry.0, first i) ∷ later i
-
-pub given_first : (s : Settlement) (all_in : AllIn) (entries : List (Player × PlayerSums)) → entries ≡ with_given (seated_sums s all_in []) entries
-given_first s all_in entries = given_none (seated_sums s all_in []) entries (given_nobody s all_in)
-
-pub nobody_small : (s : Settlement) (all_in : AllIn) (player : Player) → AreOfHands 1 (seated_sums s all_in [] player)
-nobody_small s all_in player =
-    let none : AreOfHands 1 no_sums = record { hands = omega arith; all_ins = omega arith; collected = omega arith; expected = omega arith } in
-    subst (AreOfHands 1) (sym (given_nobody s all_in player)) none
-
--- a line that isn't the first of a player gives nothing more
-pub given_kept : (s : Settlement) (all_in : AllIn) (names : Seated) (players place : ℕ) → first_at names players place ≡ None →
-    seated_sums s all_in (playing (take place names) players) ≡ seated_sums s all_in (playing (take (place + 1) names) players)
-given_kept s all_in names players place none =
-    λ i player. cond (beq player.hundredths s.hundredths) (option_map_or (seat_sums s all_in) (sym (not_first player.name names players place none) i) no_sums) no_sums
-
--- what is given changes no player
-keys_given : (given : Player → PlayerSums) (entries : List (Player × PlayerSums)) → keys_of (with_given given entries) ≡ keys_of entries
-keys_given given [] = refl
-keys_given given (entry ∷ entries) = ap (λ later. entry.0 ∷ later) (keys_given given entries)
-
--- the first line of a player gives him more
-pub given_more : (s : Settlement) (all_in : AllIn) (names : Seated) (players place : ℕ) (who : ℕ × List ℕ) (more : PlayerSums) (entries was now : List (Player × PlayerSums)) →
-    first_at names players place ≡ Some who → more ≡ seat_sums s all_in who.0 → IsDistinct same_player (keys_of was) →
-    was ≡ with_given (seated_sums s all_in (playing (take place names) players)) entries → now ≡ with_more was (named_player s.hundredths who.1) more →
-    now ≡ with_given (seated_sums s all_in (playing (take (place + 1) names) players)) entries
-given_more s all_in names players place who more entries was now at is distinct before written =
-    let parts = first_parts names players place who at in
-    let seated = playing (take place names) players in
-    let given = seated_sums s all_in seated in
-    let apart = subst (IsDistinct same_player) (ap keys_of before ∙ keys_given given entries) distinct in
-    written ∙ ap (λ some. with_more some (named_player s.hundredths who.1) more) before
-    ∙ more_given entries (named_player s.hundredths who.1) more given (seated_sums s all_in (seated ++ who ∷ [])) apart
-    (λ other. given_other s all_in seated who other) (λ other same. plus_own s all_in seated who more other same parts.1 is)
-    ∙ ap (λ all. with_given (seated_sums s all_in all) entries) (sym (playing_more names players place who parts.0))
-
-pub more_small : (s : Settlement) (all_in : AllIn) (names : Seated) (players place : ℕ) (who : ℕ × List ℕ) (more : PlayerSums) →
-    first_at names players place ≡ Some who → more ≡ seat_sums s all_in who.0 → AreOfHands 1 more →
-    ((player : Player) → AreOfHands 1 (seated_sums s all_in (playing (take place names) players) player)) →
-    (player : Player) → AreOfHands 1 (seated_sums s all_in (playing (take (place + 1) names) players) player)
-more_small s all_in names players place who more at is small before player =
-    let parts = first_parts names players place who at in
-    subst (λ (seated : Seated). AreOfHands 1 (seated_sums s all_in seated player)) (sym (playing_more names players place who parts.0))
-    (given_small s all_in (playing (take place names) players) who more parts.1 is small before player)
-
--- one seat line more of those who get sums
-pub added_more : (hundredths : Bool) (names : Seated) (players place : ℕ) (who : ℕ × List ℕ) (entries was now : List (Player × PlayerSums)) → player_at names players place ≡ Some who →
-    was ≡ with_players entries (map (λ line. named_player hundredths line.1) (playing (take place names) players)) → now ≡ with_player was (named_player hundredths who.1) →
-    now ≡ with_players entries (map (λ line. named_player hundredths line.1) (playing (take (place + 1) names) players))
-added_more hundredths names players place who entries was now at before written =
-    let seated = playing (take place names) players in
-    written ∙ ap (λ some. with_player some (named_player hundredths who.1)) before
-    ∙ sym (players_push entries (map (λ line. named_player hundredths line.1) seated) (named_player hundredths who.1))
-    ∙ ap (with_players entries) (sym (map_push (λ line. named_player hundredths line.1) seated who))
-    ∙ ap (λ all. with_players entries (map (λ line. named_player hundredths line.1) all)) (sym (playing_more names players place who at))
-
-pub added_same : (hundredths : Bool) (names : Seated) (players place : ℕ) (entries was : List (Player × PlayerSums)) → player_at names players place ≡ None →
-    was ≡ with_players entries (map (λ line. named_player hundredths line.1) (playing (take place names) players)) →
-    was ≡ with_players entries (map (λ line. named_player hundredths line.1) (playing (take (place + 1) names) players))
-added_same hundredths names players place entries was at before =
-    before ∙ ap (λ all. with_players entries (map (λ line. named_player hundredths line.1) all)) (sym (playing_same names players place at))
-
 -- one key more of the names
 pub keys_more : (hundredths : Bool) (names : Seated) (place : ℕ) (who : ℕ × List ℕ) (was : List PlayerKey) (key : PlayerKey) → slice_get names place ≡ Some who →
     player_of key ≡ named_player hundredths who.1 → map player_of was ≡ map (λ line. named_player hundredths line.1) (take place names) →
@@ -421,27 +220,181 @@ kept_both a b c first second =
     let short : length a ≤ length b = omega (arith, ap length first, length-take (length a) b) in
     ap (take (length a)) front ∙ take-append-le (length a) b (drop (length b) c) short ∙ first
 
-small_push : (count : ℕ) (entries : List (Player × PlayerSums)) (player : Player) → AllAreOfHands count entries → AllAreOfHands count (entries ++ (player, no_sums) ∷ [])
-small_push count [] player small = (record { hands = omega arith; all_ins = omega arith; collected = omega arith; expected = omega arith }, tt)
-small_push count (entry ∷ entries) player small = (small.0, small_push count entries player small.1)
+module _ {S : Type 0} {nothing : S} {plus : S → S → S} {AreOf : ℕ → S → Type 0} (laws : AreSums nothing plus AreOf) where
+  -- one player more, at the end of some
+  pub players_push : (entries : List (Player × S)) (players : List Player) (player : Player) → with_players nothing entries (players ++ player ∷ []) ≡ with_player nothing (with_players nothing entries players) player
+  players_push entries [] player = refl
+  players_push entries (first ∷ players) player = players_push (with_player nothing entries first) players player
 
--- sums of no hand are small
-pub players_small : (count : ℕ) (entries : List (Player × PlayerSums)) (players : List Player) → AllAreOfHands count entries → AllAreOfHands count (with_players entries players)
-players_small count entries [] small = small
-players_small count entries (player ∷ players) small = players_small count (with_player entries player) players (by (list_any (λ entry. same_player player entry.0) entries))
-  where
-    by : (b : Bool) → AllAreOfHands count (cond b entries (entries ++ (player, no_sums) ∷ []))
-    by true = small
-    by false = small_push count entries player small
+  -- equal givings give the same sums
+  given_same : (entries : List (Player × S)) (player : Player) (f g : Player → S) → AllByRecursion (λ other. same_player player other ≡ false) (keys_of entries) →
+      ((other : Player) → same_player player other ≡ false → f other ≡ g other) → with_given plus f entries ≡ with_given plus g entries
+  given_same [] player f g apart same = refl
+  given_same (entry ∷ entries) player f g apart same =
+      let first = same entry.0 apart.0 in
+      let later = given_same entries player f g apart.1 same in
+      λ i. (entry.0, plus entry.1 (first i)) ∷ later i
 
-sums_more : (count most : ℕ) (sums : PlayerSums) → count ≤ most → AreOfHands count sums → AreOfHands most sums
-sums_more count most sums few small =
-    let hands = small.hands in
-    let all_ins = small.all_ins in
-    let collected = small.collected in
-    let expected = small.expected in
-    record { hands = omega arith; all_ins = omega arith; collected = omega arith; expected = omega arith }
+  -- those who are not the same as one are not the same as another who is the same
+  apart_along : (player one : Player) (others : List Player) → same_player player one ≡ true → AllByRecursion (λ other. same_player one other ≡ false) others →
+      AllByRecursion (λ other. same_player player other ≡ false) others
+  apart_along player one [] same apart = tt
+  apart_along player one (other ∷ others) same apart =
+      (names_congr player.hundredths one.hundredths other.hundredths player.name one.name other.name same ∙ apart.0, apart_along player one others same apart.1)
 
-pub small_more : (count most : ℕ) (entries : List (Player × PlayerSums)) → count ≤ most → AllAreOfHands count entries → AllAreOfHands most entries
-small_more count most [] few small = tt
-small_more count most (entry ∷ entries) few small = (sums_more count most entry.1 few small.0, small_more count most entries few small.1)
+  -- more for one player, where all are given something
+  pub more_given : (entries : List (Player × S)) (player : Player) (more : S) (f g : Player → S) → IsDistinct same_player (keys_of entries) →
+      ((other : Player) → same_player player other ≡ false → f other ≡ g other) → ((other : Player) → same_player player other ≡ true → plus (f other) more ≡ g other) →
+      with_more plus (with_given plus f entries) player more ≡ with_given plus g entries
+  unfolding IsDistinct
+  more_given [] player more f g distinct others own = refl
+  more_given (entry ∷ entries) player more f g distinct others own =
+      by (same_player player entry.0) refl (more_given entries player more f g distinct.1 others own)
+    where
+      by : (b : Bool) → same_player player entry.0 ≡ b → with_more plus (with_given plus f entries) player more ≡ with_given plus g entries →
+          cond b ((entry.0, plus (plus entry.1 (f entry.0)) more) ∷ with_given plus f entries) ((entry.0, plus entry.1 (f entry.0)) ∷ with_more plus (with_given plus f entries) player more)
+          ≡ (entry.0, plus entry.1 (g entry.0)) ∷ with_given plus g entries
+      by true same later =
+          let first = laws.joined entry.1 (f entry.0) more ∙ ap (plus entry.1) (own entry.0 same) in
+          let rest = given_same entries player f g (apart_along player entry.0 (keys_of entries) same distinct.0) others in
+          λ i. (entry.0, first i) ∷ rest i
+      by false other later =
+          let first = others entry.0 other in
+          λ i. (entry.0, plus entry.1 (first i)) ∷ later i
+
+  -- who isn't the player is given what he was given before
+  pub given_other : (hundredths : Bool) (each : ℕ → S) (seated : Seated) (who : ℕ × List ℕ) (player : Player) → same_player (named_player hundredths who.1) player ≡ false →
+      seated_share nothing hundredths each seated player ≡ seated_share nothing hundredths each (seated ++ who ∷ []) player
+  given_other hundredths each seated who player = by hundredths player.hundredths
+    where
+      by : (b c : Bool) → (beq b c && bytes_eq who.1 player.name) ≡ false →
+          cond (beq c b) (option_map_or each (seat_named player.name seated) nothing) nothing
+          ≡ cond (beq c b) (option_map_or each (seat_named player.name (seated ++ who ∷ [])) nothing) nothing
+      by true true other = ap (λ found. option_map_or each found nothing) (sym (named_other player.name seated who other))
+      by false false other = ap (λ found. option_map_or each found nothing) (sym (named_other player.name seated who other))
+      by true false other = refl
+      by false true other = refl
+
+  -- and the player what his first seat is given, where he had none before
+  pub given_own : (hundredths : Bool) (each : ℕ → S) (seated : Seated) (who : ℕ × List ℕ) (player : Player) → same_player (named_player hundredths who.1) player ≡ true → seat_named who.1 seated ≡ None →
+      (seated_share nothing hundredths each seated player ≡ nothing) × (seated_share nothing hundredths each (seated ++ who ∷ []) player ≡ each who.0)
+  given_own hundredths each seated who player same none =
+      let parts = same_name hundredths player.hundredths who.1 player.name same in
+      let unit : beq player.hundredths hundredths ≡ true = ap (λ b. beq b hundredths) (sym parts.0) ∙ itself hundredths in
+      let before : seat_named player.name seated ≡ None = subst (λ (name : List ℕ). seat_named name seated ≡ None) parts.1 none in
+      let now = named_own player.name seated who before ((bytes_decides who.1 player.name).1 parts.1) in
+      (rw (unit, before) refl, rw (unit, now) refl)
+    where
+      itself : (b : Bool) → beq b b ≡ true
+      itself true = refl
+      itself false = refl
+
+  pub plus_own : (hundredths : Bool) (each : ℕ → S) (seated : Seated) (who : ℕ × List ℕ) (more : S) (player : Player) → same_player (named_player hundredths who.1) player ≡ true →
+      seat_named who.1 seated ≡ None → more ≡ each who.0 → plus (seated_share nothing hundredths each seated player) more ≡ seated_share nothing hundredths each (seated ++ who ∷ []) player
+  plus_own hundredths each seated who more player same none is =
+      let both = given_own hundredths each seated who player same none in
+      ap (λ sums. plus sums more) both.0 ∙ laws.before more ∙ is ∙ sym both.1
+
+  -- what a player is given stays small
+  pub given_small : (hundredths : Bool) (each : ℕ → S) (seated : Seated) (who : ℕ × List ℕ) (more : S) → seat_named who.1 seated ≡ None → more ≡ each who.0 → AreOf 1 more →
+      ((player : Player) → AreOf 1 (seated_share nothing hundredths each seated player)) → (player : Player) → AreOf 1 (seated_share nothing hundredths each (seated ++ who ∷ []) player)
+  given_small hundredths each seated who more none is small before player = elim (cases_Bool (same_player (named_player hundredths who.1) player)) [
+    | inl same ↦ subst (AreOf 1) (is ∙ sym (given_own hundredths each seated who player same none).1) small
+    | inr other ↦ subst (AreOf 1) (given_other hundredths each seated who player other) (before player)
+  ]
+
+  pub all_small : (count : ℕ) (given : Player → S) (entries : List (Player × S)) → AllAreOf AreOf count entries → ((player : Player) → AreOf 1 (given player)) →
+      AllAreOf AreOf (count + 1) (with_given plus given entries)
+  all_small count given [] small one = tt
+  all_small count given (entry ∷ entries) small one = (laws.one count entry.1 (given entry.0) small.0 (one entry.0), all_small count given entries small.1 one)
+
+  -- with no seat nobody is given anything
+  given_nobody : (hundredths : Bool) (each : ℕ → S) (player : Player) → seated_share nothing hundredths each [] player ≡ nothing
+  given_nobody hundredths each player = by (beq player.hundredths hundredths)
+    where
+      by : (b : Bool) → cond b nothing nothing ≡ nothing
+      by true = refl
+      by false = refl
+
+  pub given_none : (given : Player → S) (entries : List (Player × S)) → ((player : Player) → given player ≡ nothing) → entries ≡ with_given plus given entries
+  given_none given [] none = refl
+  given_none given (entry ∷ entries) none =
+      let first = sym (laws.behind entry.1) ∙ ap (plus entry.1) (sym (none entry.0)) in
+      let later = given_none given entries none in
+      λ i. (entry.0, first i) ∷ later i
+
+  pub given_first : (hundredths : Bool) (each : ℕ → S) (entries : List (Player × S)) → entries ≡ with_given plus (seated_share nothing hundredths each []) entries
+  given_first hundredths each entries = given_none (seated_share nothing hundredths each []) entries (given_nobody hundredths each)
+
+  pub nobody_small : (hundredths : Bool) (each : ℕ → S) (player : Player) → AreOf 1 (seated_share nothing hundredths each [] player)
+  nobody_small hundredths each player =
+      subst (AreOf 1) (sym (given_nobody hundredths each player)) (laws.none 1)
+
+  -- a line that isn't the first of a player gives nothing more
+  pub given_kept : (hundredths : Bool) (each : ℕ → S) (names : Seated) (players place : ℕ) → first_at names players place ≡ None →
+      seated_share nothing hundredths each (playing (take place names) players) ≡ seated_share nothing hundredths each (playing (take (place + 1) names) players)
+  given_kept hundredths each names players place none =
+      λ i player. cond (beq player.hundredths hundredths) (option_map_or each (sym (not_first player.name names players place none) i) nothing) nothing
+
+  -- what is given changes no player
+  keys_given : (given : Player → S) (entries : List (Player × S)) → keys_of (with_given plus given entries) ≡ keys_of entries
+  keys_given given [] = refl
+  keys_given given (entry ∷ entries) = ap (λ later. entry.0 ∷ later) (keys_given given entries)
+
+  -- the first line of a player gives him more
+  pub given_more : (hundredths : Bool) (each : ℕ → S) (names : Seated) (players place : ℕ) (who : ℕ × List ℕ) (more : S) (entries was now : List (Player × S)) →
+      first_at names players place ≡ Some who → more ≡ each who.0 → IsDistinct same_player (keys_of was) →
+      was ≡ with_given plus (seated_share nothing hundredths each (playing (take place names) players)) entries → now ≡ with_more plus was (named_player hundredths who.1) more →
+      now ≡ with_given plus (seated_share nothing hundredths each (playing (take (place + 1) names) players)) entries
+  given_more hundredths each names players place who more entries was now at is distinct before written =
+      let parts = first_parts names players place who at in
+      let seated = playing (take place names) players in
+      let given = seated_share nothing hundredths each seated in
+      let apart = subst (IsDistinct same_player) (ap keys_of before ∙ keys_given given entries) distinct in
+      written ∙ ap (λ some. with_more plus some (named_player hundredths who.1) more) before
+      ∙ more_given entries (named_player hundredths who.1) more given (seated_share nothing hundredths each (seated ++ who ∷ [])) apart
+      (λ other. given_other hundredths each seated who other) (λ other same. plus_own hundredths each seated who more other same parts.1 is)
+      ∙ ap (λ all. with_given plus (seated_share nothing hundredths each all) entries) (sym (playing_more names players place who parts.0))
+
+  pub more_small : (hundredths : Bool) (each : ℕ → S) (names : Seated) (players place : ℕ) (who : ℕ × List ℕ) (more : S) →
+      first_at names players place ≡ Some who → more ≡ each who.0 → AreOf 1 more →
+      ((player : Player) → AreOf 1 (seated_share nothing hundredths each (playing (take place names) players) player)) →
+      (player : Player) → AreOf 1 (seated_share nothing hundredths each (playing (take (place + 1) names) players) player)
+  more_small hundredths each names players place who more at is small before player =
+      let parts = first_parts names players place who at in
+      subst (λ (seated : Seated). AreOf 1 (seated_share nothing hundredths each seated player)) (sym (playing_more names players place who parts.0))
+      (given_small hundredths each (playing (take place names) players) who more parts.1 is small before player)
+
+  -- one seat line more of those who get sums
+  pub added_more : (hundredths : Bool) (names : Seated) (players place : ℕ) (who : ℕ × List ℕ) (entries was now : List (Player × S)) → player_at names players place ≡ Some who →
+      was ≡ with_players nothing entries (map (λ line. named_player hundredths line.1) (playing (take place names) players)) → now ≡ with_player nothing was (named_player hundredths who.1) →
+      now ≡ with_players nothing entries (map (λ line. named_player hundredths line.1) (playing (take (place + 1) names) players))
+  added_more hundredths names players place who entries was now at before written =
+      let seated = playing (take place names) players in
+      written ∙ ap (λ some. with_player nothing some (named_player hundredths who.1)) before
+      ∙ sym (players_push entries (map (λ line. named_player hundredths line.1) seated) (named_player hundredths who.1))
+      ∙ ap (with_players nothing entries) (sym (map_push (λ line. named_player hundredths line.1) seated who))
+      ∙ ap (λ all. with_players nothing entries (map (λ line. named_player hundredths line.1) all)) (sym (playing_more names players place who at))
+
+  pub added_same : (hundredths : Bool) (names : Seated) (players place : ℕ) (entries was : List (Player × S)) → player_at names players place ≡ None →
+      was ≡ with_players nothing entries (map (λ line. named_player hundredths line.1) (playing (take place names) players)) →
+      was ≡ with_players nothing entries (map (λ line. named_player hundredths line.1) (playing (take (place + 1) names) players))
+  added_same hundredths names players place entries was at before =
+      before ∙ ap (λ all. with_players nothing entries (map (λ line. named_player hundredths line.1) all)) (sym (playing_same names players place at))
+
+  small_push : (count : ℕ) (entries : List (Player × S)) (player : Player) → AllAreOf AreOf count entries → AllAreOf AreOf count (entries ++ (player, nothing) ∷ [])
+  small_push count [] player small = (laws.none count, tt)
+  small_push count (entry ∷ entries) player small = (small.0, small_push count entries player small.1)
+
+  -- sums of no hand are small
+  pub players_small : (count : ℕ) (entries : List (Player × S)) (players : List Player) → AllAreOf AreOf count entries → AllAreOf AreOf count (with_players nothing entries players)
+  players_small count entries [] small = small
+  players_small count entries (player ∷ players) small = players_small count (with_player nothing entries player) players (by (list_any (λ entry. same_player player entry.0) entries))
+    where
+      by : (b : Bool) → AllAreOf AreOf count (cond b entries (entries ++ (player, nothing) ∷ []))
+      by true = small
+      by false = small_push count entries player small
+
+  pub small_more : (count most : ℕ) (entries : List (Player × S)) → count ≤ most → AllAreOf AreOf count entries → AllAreOf AreOf most entries
+  small_more count most [] few small = tt
+  small_more count most (entry ∷ entries) few small = (laws.more count most entry.1 few small.0, small_more count most entries few small.1)

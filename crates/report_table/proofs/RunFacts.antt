@@ -22,7 +22,8 @@ use Rattle.history_text.specs.Names.{seat_named}
 use Rattle.report_table.specs.Hands.{Seated}
 use Rattle.report_table.specs.Totals.{Player, RunTotals, each_once, is_accepted, no_sums, players_in, playing, same_player, seat_sums, seated_sums, sums_in, sums_over, totals_of}
 use Rattle.report_table.proofs.NameFacts.{same_congr, same_symm}
-use Rattle.report_table.specs.TotalsSeen.{named_player, plus, with_given, with_player, with_players}
+use Rattle.report_table.specs.SumsSeen.{AreSums, seated_share, with_given, with_player, with_players}
+use Rattle.report_table.specs.TotalsSeen.{named_player, plus, totals_are_sums}
 use Rattle.report_table.specs.declared.player_sums.PlayerSums.{PlayerSums}
 use Rattle.report_table.proofs.LineupFacts.{given_none}
 
@@ -63,35 +64,6 @@ once_push (first ∷ later) player =
         let stays : kept player ≡ true = ap not (same_symm first player ∙ other) in
         ap (λ rest. first ∷ rest) (filter-append kept (each_once later) (player ∷ []) ∙ ap (λ b. filter kept (each_once later) ++ cond b (player ∷ []) []) stays)
 
--- some players, each once, with sums
-abbrev beside : (Player → PlayerSums) → Player → Player × PlayerSums
-beside sums player = (player, sums player)
-
-abbrev listed : (Player → PlayerSums) → List Player → List (Player × PlayerSums)
-listed sums players = map (beside sums) (each_once players)
-
-any_listed : (player : Player) (sums : Player → PlayerSums) (players : List Player) →
-    list_any (λ (entry : Player × PlayerSums). same_player player entry.0) (map (beside sums) players) ≡ list_any (same_player player) players
-any_listed player sums [] = refl
-any_listed player sums (first ∷ later) = ap (λ rest. same_player player first || rest) (any_listed player sums later)
-
-map_pushed : (sums : Player → PlayerSums) (players : List Player) (player : Player) →
-    map (beside sums) (players ++ player ∷ []) ≡ map (beside sums) players ++ (player, sums player) ∷ []
-map_pushed sums [] player = refl
-map_pushed sums (first ∷ later) player = ap (λ rest. (first, sums first) ∷ rest) (map_pushed sums later player)
-
-listed_push : (sums : Player → PlayerSums) (players : List Player) (player : Player) → (list_any (same_player player) players ≡ false → sums player ≡ no_sums) →
-    with_player (listed sums players) player ≡ listed sums (players ++ player ∷ [])
-listed_push sums players player none =
-    ap (λ b. cond b (listed sums players) (listed sums players ++ (player, no_sums) ∷ [])) (any_listed player sums (each_once players) ∙ any_once player players)
-    ∙ by (list_any (same_player player) players) refl ∙ ap (map (beside sums)) (sym (once_push players player))
-  where
-    by : (b : Bool) → list_any (same_player player) players ≡ b →
-        cond b (listed sums players) (listed sums players ++ (player, no_sums) ∷ [])
-        ≡ map (beside sums) (cond b (each_once players) (each_once players ++ player ∷ []))
-    by true there = refl
-    by false new = ap (λ s. listed sums players ++ (player, s) ∷ []) (sym (none new)) ∙ sym (map_pushed sums (each_once players) player)
-
 or_left : (a b : Bool) → (a || b) ≡ false → a ≡ false
 or_left true b e = e
 or_left false b e = refl
@@ -99,16 +71,6 @@ or_left false b e = refl
 or_right : (a b : Bool) → (a || b) ≡ false → b ≡ false
 or_right true b e = absurd (true≢false e)
 or_right false b e = e
-
--- more players, who have sums of nothing where they weren't among the first
-listed_all : (sums : Player → PlayerSums) (players more : List Player) → ((player : Player) → list_any (same_player player) players ≡ false → sums player ≡ no_sums) →
-    with_players (listed sums players) more ≡ listed sums (players ++ more)
-listed_all sums players [] none = ap (listed sums) (sym (append-nil players))
-listed_all sums players (player ∷ more) none =
-    ap (λ entries. with_players entries more) (listed_push sums players player (none player))
-    ∙ listed_all sums (players ++ player ∷ []) more
-    (λ other absent. none other (or_left (list_any (same_player other) players) _ (sym (list_any-append (same_player other) players (player ∷ [])) ∙ absent)))
-    ∙ ap (listed sums) (append_assoc players (player ∷ []) more)
 
 -- who isn't a player of a hand is given nothing by it
 unseated : (hundredths : Bool) (player : Player) (seated : Seated) → beq player.hundredths hundredths ≡ true →
@@ -120,14 +82,95 @@ unseated hundredths player (who ∷ seated) unit absent =
     ap (λ b. cond b (Some who.0) (seat_named player.name seated)) other
     ∙ unseated hundredths player seated unit (or_right (same_player player (named_player hundredths who.1)) _ absent)
 
+-- what each hand gives its players, and what several do: nothing of none, and each hand adds what it gives
+pub record AreOver {S H : Type 0} (nothing : S) (plus : S → S → S) (players_in : H → List Player) (given : H → Player → S) (over : List H → Player → S) : Type 0 where
+  pub absent : (hand : H) (player : Player) → list_any (same_player player) (players_in hand) ≡ false → given hand player ≡ nothing
+  pub none : (player : Player) → over [] player ≡ nothing
+  pub before : (hand : H) (hands : List H) (player : Player) → over (hand ∷ hands) player ≡ plus (given hand player) (over hands player)
+  pub behind : (hand : H) (hands : List H) (player : Player) → plus (over hands player) (given hand player) ≡ over (hands ++ hand ∷ []) player
+
+module _ {S : Type 0} {nothing : S} {plus : S → S → S} {AreOf : ℕ → S → Type 0} (laws : AreSums nothing plus AreOf) where
+  -- some players, each once, with sums
+  abbrev beside : (Player → S) → Player → Player × S
+  beside sums player = (player, sums player)
+
+  abbrev listed : (Player → S) → List Player → List (Player × S)
+  listed sums players = map (beside sums) (each_once players)
+
+  any_listed : (player : Player) (sums : Player → S) (players : List Player) →
+      list_any (λ (entry : Player × S). same_player player entry.0) (map (beside sums) players) ≡ list_any (same_player player) players
+  any_listed player sums [] = refl
+  any_listed player sums (first ∷ later) = ap (λ rest. same_player player first || rest) (any_listed player sums later)
+
+  map_pushed : (sums : Player → S) (players : List Player) (player : Player) →
+      map (beside sums) (players ++ player ∷ []) ≡ map (beside sums) players ++ (player, sums player) ∷ []
+  map_pushed sums [] player = refl
+  map_pushed sums (first ∷ later) player = ap (λ rest. (first, sums first) ∷ rest) (map_pushed sums later player)
+
+  listed_push : (sums : Player → S) (players : List Player) (player : Player) → (list_any (same_player player) players ≡ false → sums player ≡ nothing) →
+      with_player nothing (listed sums players) player ≡ listed sums (players ++ player ∷ [])
+  listed_push sums players player none =
+      ap (λ b. cond b (listed sums players) (listed sums players ++ (player, nothing) ∷ [])) (any_listed player sums (each_once players) ∙ any_once player players)
+      ∙ by (list_any (same_player player) players) refl ∙ ap (map (beside sums)) (sym (once_push players player))
+    where
+      by : (b : Bool) → list_any (same_player player) players ≡ b →
+          cond b (listed sums players) (listed sums players ++ (player, nothing) ∷ [])
+          ≡ map (beside sums) (cond b (each_once players) (each_once players ++ player ∷ []))
+      by true there = refl
+      by false new = ap (λ s. listed sums players ++ (player, s) ∷ []) (sym (none new)) ∙ sym (map_pushed sums (each_once players) player)
+
+  -- more players, who have sums of nothing where they weren't among the first
+  listed_all : (sums : Player → S) (players more : List Player) → ((player : Player) → list_any (same_player player) players ≡ false → sums player ≡ nothing) →
+      with_players nothing (listed sums players) more ≡ listed sums (players ++ more)
+  listed_all sums players [] none = ap (listed sums) (sym (append-nil players))
+  listed_all sums players (player ∷ more) none =
+      ap (λ entries. with_players nothing entries more) (listed_push sums players player (none player))
+      ∙ listed_all sums (players ++ player ∷ []) more
+      (λ other absent. none other (or_left (list_any (same_player other) players) _ (sym (list_any-append (same_player other) players (player ∷ [])) ∙ absent)))
+      ∙ ap (listed sums) (append_assoc players (player ∷ []) more)
+
+  -- who isn't a player of a hand is given nothing by it
+  pub absent_share : (hundredths : Bool) (each : ℕ → S) (seated : Seated) (player : Player) →
+      list_any (same_player player) (map (λ who. named_player hundredths who.1) seated) ≡ false → seated_share nothing hundredths each seated player ≡ nothing
+  absent_share hundredths each seated player absent = elim (cases_Bool (beq player.hundredths hundredths)) [
+    | inl unit ↦
+        ap (λ b. cond b (option_map_or each (seat_named player.name seated) nothing) nothing) unit
+        ∙ ap (λ found. option_map_or each found nothing) (unseated hundredths player seated unit absent)
+    | inr unit ↦ ap (λ b. cond b (option_map_or each (seat_named player.name seated) nothing) nothing) unit
+  ]
+
+  given_listed : (given sums now : Player → S) (players : List Player) → ((player : Player) → plus (sums player) (given player) ≡ now player) →
+      with_given plus given (map (beside sums) players) ≡ map (beside now) players
+  given_listed given sums now [] each = refl
+  given_listed given sums now (first ∷ later) each =
+      let head = each first in
+      let rest = given_listed given sums now later each in
+      λ i. (first, head i) ∷ rest i
+
+  -- who is no player of some hands is given nothing by them
+  nothing_over : {H : Type 0} (players_in : H → List Player) (given : H → Player → S) (over : List H → Player → S) → AreOver nothing plus players_in given over →
+      (hands : List H) (player : Player) → list_any (same_player player) (flat_map players_in hands) ≡ false → over hands player ≡ nothing
+  nothing_over players_in given over is [] player absent = is.none player
+  nothing_over players_in given over is (hand ∷ hands) player absent =
+      let split = sym (list_any-append (same_player player) (players_in hand) (flat_map players_in hands)) ∙ ap (list_any (same_player player)) (sym (flat_map-cons players_in hand hands)) ∙ absent in
+      let first = is.absent hand player (or_left _ _ split) in
+      let later = nothing_over players_in given over is hands player (or_right (list_any (same_player player) (players_in hand)) _ split) in
+      is.before hand hands player ∙ (λ i. plus (first i) (later i)) ∙ laws.before nothing
+
+  -- the players of some hands, with one hand more
+  pub hand_more : {H : Type 0} (players_in : H → List Player) (given : H → Player → S) (over : List H → Player → S) → AreOver nothing plus players_in given over → (hands : List H) (hand : H) →
+      with_given plus (given hand) (with_players nothing (listed (over hands) (flat_map players_in hands)) (players_in hand)) ≡ listed (over (hands ++ hand ∷ [])) (flat_map players_in (hands ++ hand ∷ []))
+  hand_more players_in given over is hands hand =
+      ap (with_given plus (given hand)) (listed_all (over hands) (flat_map players_in hands) (players_in hand) (nothing_over players_in given over is hands))
+      ∙ given_listed (given hand) (over hands) (over (hands ++ hand ∷ [])) (each_once (flat_map players_in hands ++ players_in hand)) (is.behind hand hands)
+      ∙ ap (λ players. map (beside (over (hands ++ hand ∷ []))) (each_once players)) one_more
+    where
+      one_more : flat_map players_in hands ++ players_in hand ≡ flat_map players_in (hands ++ hand ∷ [])
+      one_more = sym (flat_map-append players_in hands (hand ∷ []) ∙ ap (λ last. flat_map players_in hands ++ last) (flat_map-cons players_in hand [] ∙ append-nil (players_in hand)))
+
 nothing_in : (hand : HandAudit) (player : Player) → list_any (same_player player) (players_in hand) ≡ false → sums_in hand player ≡ no_sums
 nothing_in (Rejected line cause hundredths) player absent = refl
-nothing_in (Accepted s all_in names players) player absent = elim (cases_Bool (beq player.hundredths s.hundredths)) [
-  | inl unit ↦
-      ap (λ b. cond b (option_map_or (seat_sums s all_in) (seat_named player.name (playing names players)) no_sums) no_sums) unit
-      ∙ ap (λ found. option_map_or (seat_sums s all_in) found no_sums) (unseated s.hundredths player (playing names players) unit absent)
-  | inr unit ↦ ap (λ b. cond b (option_map_or (seat_sums s all_in) (seat_named player.name (playing names players)) no_sums) no_sums) unit
-]
+nothing_in (Accepted s all_in names players) player absent = absent_share totals_are_sums s.hundredths (seat_sums s all_in) (playing names players) player absent
 
 -- sums over one hand before others, and behind them
 sums_before : (hand : HandAudit) (hands : List HandAudit) (player : Player) → sums_over (hand ∷ hands) player ≡ plus (sums_in hand player) (sums_over hands player)
@@ -146,41 +189,18 @@ sums_behind hand hands player =
     let expected = sum_by_push (λ h. (sums_in h player).expected) hands hand in
     sym (λ i. record { hands = in_hands i; all_ins = all_ins i; collected = collected i; expected = expected i })
 
--- who is no player of some hands is given nothing by them
-nothing_over : (hands : List HandAudit) (player : Player) → list_any (same_player player) (flat_map players_in hands) ≡ false → sums_over hands player ≡ no_sums
-nothing_over [] player absent = refl
-nothing_over (hand ∷ hands) player absent =
-    let split = sym (list_any-append (same_player player) (players_in hand) (flat_map players_in hands)) ∙ ap (list_any (same_player player)) (sym (flat_map-cons players_in hand hands)) ∙ absent in
-    let first = nothing_in hand player (or_left _ _ split) in
-    let later = nothing_over hands player (or_right (list_any (same_player player) (players_in hand)) _ split) in
-    sums_before hand hands player ∙ (λ i. plus (first i) (later i)) ∙ nothing_twice
-  where
-    nothing_twice : plus no_sums no_sums ≡ no_sums
-    nothing_twice = refl
-
-given_listed : (given sums now : Player → PlayerSums) (players : List Player) → ((player : Player) → plus (sums player) (given player) ≡ now player) →
-    with_given given (map (beside sums) players) ≡ map (beside now) players
-given_listed given sums now [] each = refl
-given_listed given sums now (first ∷ later) each =
-    let head = each first in
-    let rest = given_listed given sums now later each in
-    λ i. (first, head i) ∷ rest i
+totals_over : AreOver no_sums plus players_in sums_in sums_over
+totals_over = record { absent = nothing_in; none = λ player. refl; before = sums_before; behind = sums_behind }
 
 -- the players of the totals, with one hand more
 players_more : (hands : List HandAudit) (hand : HandAudit) →
-    with_given (sums_in hand) (with_players (totals_of hands).players (players_in hand)) ≡ (totals_of (hands ++ hand ∷ [])).players
-players_more hands hand =
-    ap (with_given (sums_in hand)) (listed_all (sums_over hands) (flat_map players_in hands) (players_in hand) (nothing_over hands))
-    ∙ given_listed (sums_in hand) (sums_over hands) (sums_over (hands ++ hand ∷ [])) (each_once (flat_map players_in hands ++ players_in hand)) (sums_behind hand hands)
-    ∙ ap (λ players. map (beside (sums_over (hands ++ hand ∷ []))) (each_once players)) one_more
-  where
-    one_more : flat_map players_in hands ++ players_in hand ≡ flat_map players_in (hands ++ hand ∷ [])
-    one_more = sym (flat_map-append players_in hands (hand ∷ []) ∙ ap (λ last. flat_map players_in hands ++ last) (flat_map-cons players_in hand [] ∙ append-nil (players_in hand)))
+    with_given plus (sums_in hand) (with_players no_sums (totals_of hands).players (players_in hand)) ≡ (totals_of (hands ++ hand ∷ [])).players
+players_more hands hand = hand_more totals_are_sums players_in sums_in sums_over totals_over hands hand
 
 -- the totals with one accepted hand more
 pub accepted_more : (hands : List HandAudit) (s : Settlement) (all_in : AllIn) (names : Seated) (players accepted rejected : ℕ) (entries now : List (Player × PlayerSums)) →
     record { hands = accepted + rejected; accepted = accepted; rejected = rejected; players = entries } ≡ totals_of hands →
-    now ≡ with_given (seated_sums s all_in (playing names players)) (with_players entries (map (λ who. named_player s.hundredths who.1) (playing names players))) →
+    now ≡ with_given plus (seated_sums s all_in (playing names players)) (with_players no_sums entries (map (λ who. named_player s.hundredths who.1) (playing names players))) →
     record { hands = accepted + 1 + rejected; accepted = accepted + 1; rejected = rejected; players = now } ≡ totals_of (hands ++ Accepted s all_in names players ∷ [])
 accepted_more hands s all_in names players accepted rejected entries now before written =
     let hand : HandAudit = Accepted s all_in names players in
@@ -192,7 +212,7 @@ accepted_more hands s all_in names players accepted rejected entries now before 
     let all_accepted : accepted + 1 ≡ count_by is_accepted (hands ++ hand ∷ []) = omega (arith, sum_by_push (λ h. cond (is_accepted h) 1 0) hands hand) in
     let all_rejected : rejected ≡ count_by (λ h. not (is_accepted h)) (hands ++ hand ∷ []) = omega (arith, sum_by_push (λ h. cond (not (is_accepted h)) 1 0) hands hand) in
     let all_players : now ≡ (totals_of (hands ++ hand ∷ [])).players =
-    written ∙ ap (λ some. with_given (sums_in hand) (with_players some (players_in hand))) entries_before ∙ players_more hands hand in
+    written ∙ ap (λ some. with_given plus (sums_in hand) (with_players no_sums some (players_in hand))) entries_before ∙ players_more hands hand in
     λ i. record { hands = all_hands i; accepted = all_accepted i; rejected = all_rejected i; players = all_players i }
 
 -- and with one rejected hand more
@@ -209,5 +229,5 @@ rejected_more hands line cause hundredths accepted rejected entries before =
     let all_accepted : accepted ≡ count_by is_accepted (hands ++ hand ∷ []) = omega (arith, sum_by_push (λ h. cond (is_accepted h) 1 0) hands hand) in
     let all_rejected : rejected + 1 ≡ count_by (λ h. not (is_accepted h)) (hands ++ hand ∷ []) = omega (arith, sum_by_push (λ h. cond (not (is_accepted h)) 1 0) hands hand) in
     let all_players : entries ≡ (totals_of (hands ++ hand ∷ [])).players =
-    entries_before ∙ given_none (sums_in hand) (totals_of hands).players (λ player. refl) ∙ players_more hands hand in
+    entries_before ∙ given_none totals_are_sums (sums_in hand) (totals_of hands).players (λ player. refl) ∙ players_more hands hand in
     λ i. record { hands = all_hands i; accepted = all_accepted i; rejected = all_rejected i; players = all_players i }

@@ -4,8 +4,8 @@ use Rattle.std.specs.Prelude.{codes}
 use Rattle.std.specs.List.{flat_map}
 use Rattle.std.proofs.lemmas.Grind.{flat_map-append}
 use Rattle.std.proofs.lemmas.List.Concat.{flat_map-cons}
-use Rattle.report_table.specs.Lines.{plain, named, line_in, spaced}
-use Rattle.report_table.specs.Sheets.{Written, IsBetweenLines, with_end, with_line, with_lines, with_name, with_word, with_words}
+use Rattle.report_table.specs.Lines.{Line, plain, named, line_in, spaced}
+use Rattle.report_table.specs.Sheets.{Written, IsBetweenLines, nothing_in, with_end, with_line, with_lines, with_name, with_word, with_words}
 use Rattle.report_table.specs.declared.equity.Form.{Form}
 use Rattle.report_table.specs.declared.equity.Form.TheVariants.{Text, Csv}
 
@@ -111,6 +111,10 @@ pub each_more : (w w' w'' : Written) (text : ℕ → List ℕ) (done : List ℕ)
 each_more w w' w'' text done n before more =
     then_lines w w' w'' (flat_map text done) (text n) before more
     ∙ ap (λ lines. with_lines w lines) (sym (flat_map-append text done (n ∷ []) ∙ ap (λ lines. flat_map text done ++ lines) (append-nil (text n))))
+
+-- a first line behind other bytes
+pub first_line : (w : Written) (form : Form) (line : Line) (old bytes now : List ℕ) → w ≡ with_line (nothing_in form) line → bytes ≡ w.bytes → now ≡ old ++ bytes → now ≡ old ++ line_in form line
+first_line w form line old bytes now is read written = written ∙ ap (λ more. old ++ more) (read ∙ ap (λ (v : Written). v.bytes) is)
 
 -- what joins words, and words and lines
 pub ruleset word_steps = (words_more, no_words)

@@ -26,6 +26,12 @@ unfolding round
 round_small given part some few =
     div-le_of_le-mul (2 * part) {m = 2 * given * 10 ^ 0 + part} {n = 2 ^ 95} (omega arith)
 
+-- also what ten players got of ten pots
+pub even_small : (given part : ℕ) → 5040 ≤ part → given ≤ 10 * (10 * 2 ^ 64 * part) → round given part 0 ≤ 2 ^ 95
+unfolding round
+even_small given part some few =
+    div-le_of_le-mul (2 * part) {m = 2 * given * 10 ^ 0 + part} {n = 2 ^ 95} (omega arith)
+
 -- an all-in with a tally of one runout or more is counted
 pub counted_some : (deal : Showdown) (sums : Sums) → IsFull deal sums → 0 < sums.runouts → is_counted deal ≡ true
 counted_some deal sums full some = elim (cases_lt (length (unseen deal.state)) (sum (counts_of (slots deal.state)))) [

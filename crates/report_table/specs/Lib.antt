@@ -17,6 +17,9 @@ pub mod Causes
 pub mod Hands
 pub mod HandEquities
 pub mod Totals
+pub mod SumsSeen
 pub mod TotalsSeen
 pub mod Results
+pub mod Balance
+pub mod BalanceSeen
 pub mod Streets

@@ -155,9 +155,9 @@ abbrev pub unit_word : Bool → List ℕ
 unit_word hundredths = if hundredths then codes "hundredths" else codes "chips"
 
 -- the first line, as `totals hands 3 accepted 2 rejected 1`
-unfoldable pub totals_line : ℕ → ℕ → ℕ → Line
-totals_line hands accepted rejected =
-    plain (codes "totals" ∷ codes "hands" ∷ decimal hands ∷ codes "accepted" ∷ decimal accepted
+unfoldable pub hands_line : List ℕ → ℕ → ℕ → ℕ → Line
+hands_line word hands accepted rejected =
+    plain (word ∷ codes "hands" ∷ decimal hands ∷ codes "accepted" ∷ decimal accepted
     ∷ codes "rejected" ∷ decimal rejected ∷ [])
 
 -- the first words of the line of a player, as `total chips hands 1 allins 1`
@@ -180,7 +180,7 @@ player_lines form players = flat_map (λ entry. line_in form (total_line entry.0
 -- what a run comes to, as the report has it
 unfoldable pub run_block : Form → RunTotals → List ℕ
 run_block form t =
-    line_in form (totals_line t.hands t.accepted t.rejected) ++ player_lines form t.players
+    line_in form (hands_line (codes "totals") t.hands t.accepted t.rejected) ++ player_lines form t.players
 
 -- the totals of some hands, as the report has them
 abbrev pub totals_block : Form → List HandAudit → List ℕ

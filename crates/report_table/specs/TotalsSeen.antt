@@ -1,26 +1,27 @@
 -- How clauses see the totals that the code keeps, how a hand changes them, and what keeps their sums small.
-use Rattle.std.specs.Prelude.{ℕ, ◌≡◌, suc, ◌+◌, ◌*◌, ◌^◌, ◌≤◌, ◌==◌, Bool, false, if◌then◌else◌, List, [], ◌∷◌, ◌++◌, map, take, Option, None, Some, is_none, option_and_then, option_map, slice_get}
+use Rattle.std.specs.Prelude.{ℕ, ◌≡◌, suc, ◌+◌, ◌*◌, ◌^◌, ◌≤◌, ◌==◌, Bool, false, if◌then◌else◌, List, [], ◌∷◌, map, take, Option, None, Some, is_none, option_and_then, option_map, slice_get}
+use Rattle.std.proofs.Common.{arith}
 use Rattle.std.specs.BTreeMap.{BTreeMap, get}
 use Rattle.std.specs.Int.{bit_at}
-use Rattle.std.specs.List.{AllByRecursion, list_any}
 use Rattle.std.specs.Option.{option_map_or}
 use Rattle.std.specs.Rc.{rc_slice_items}
 use Rattle.std.specs.Str.{bytes_eq}
 use Rattle.std.specs.declared.cmp.Ordering.{Ordering}
 use Rattle.history_text.specs.Names.{seat_named}
 use Rattle.report_table.specs.Hands.{Seated}
+use Rattle.report_table.specs.SumsSeen.{AreSums}
 use Rattle.report_table.specs.Totals.{Player, no_sums, playing, same_player}
 use Rattle.report_table.specs.declared.player_sums.PlayerSums.{PlayerSums}
-use Rattle.report_table.specs.declared.player_rows.PlayerKey.{PlayerKey}
+use Rattle.report_table.specs.declared.player_key.PlayerKey.{PlayerKey}
 use Rattle.report_table.specs.declared.player_rows.PlayerRow.{PlayerRow}
-use Rattle.report_table.specs.contracts.player_rows.PlayerKeyOrd.TheImpl as key_ord
+use Rattle.report_table.specs.contracts.player_key.PlayerKeyOrd.TheImpl as key_ord
 
 -- a name with its unit
 abbrev pub player_of : PlayerKey → Player
 player_of key = record { hundredths = key.hundredths; name = rc_slice_items key.name }
 
 -- the players with their sums
-abbrev pub seen_rows : List PlayerRow → List (Player × PlayerSums)
+abbrev pub seen_rows : {S : Type 0} → List (PlayerRow S) → List (Player × S)
 seen_rows rows = map (λ row. (player_of row.key, row.sums)) rows
 
 -- the order of the keys
@@ -68,29 +69,6 @@ first_at names players place =
     if is_none (seat_named who.1 (playing (take place names) players)) then Some who else None)
     (player_at names players place)
 
--- the sums, with those of a player at the end where he has none yet
-abbrev pub with_player : List (Player × PlayerSums) → Player → List (Player × PlayerSums)
-with_player entries player =
-    if list_any (λ entry. same_player player entry.0) entries then entries
-    else entries ++ (player, no_sums) ∷ []
-
--- the same for some players, one after the other
-abbrev pub with_players : List (Player × PlayerSums) → List Player → List (Player × PlayerSums)
-with_players entries [] = entries
-with_players entries (player ∷ later) = with_players (with_player entries player) later
-
--- the sums, with more for a player where he has some
-abbrev pub with_more : List (Player × PlayerSums) → Player → PlayerSums → List (Player × PlayerSums)
-with_more [] player more = []
-with_more (entry ∷ entries) player more =
-    if same_player player entry.0 then (entry.0, plus entry.1 more) ∷ entries
-    else entry ∷ with_more entries player more
-
--- the sums, with what each player is given
-abbrev pub with_given : (Player → PlayerSums) → List (Player × PlayerSums) →
-    List (Player × PlayerSums)
-with_given given entries = map (λ entry. (entry.0, plus entry.1 (given entry.0))) entries
-
 -- sums that so many hands may give a player: one hand gives at most 2 ^ 95 units
 pub record AreOfHands (count : ℕ) (sums : PlayerSums) : Type 0 where
   pub hands : sums.hands ≤ count
@@ -98,6 +76,42 @@ pub record AreOfHands (count : ℕ) (sums : PlayerSums) : Type 0 where
   pub collected : sums.collected ≤ count * 2 ^ 95
   pub expected : sums.expected ≤ count * 2 ^ 95
 
--- the sums of each player are of so many hands
-abbrev pub AllAreOfHands : ℕ → List (Player × PlayerSums) → Type 0
-AllAreOfHands count entries = AllByRecursion (λ entry. AreOfHands count entry.1) entries
+-- they are sums
+pub totals_are_sums : AreSums no_sums plus AreOfHands
+totals_are_sums = record {
+  before = λ a.
+      let hands : 0 + a.hands ≡ a.hands = omega arith in
+      let all_ins : 0 + a.all_ins ≡ a.all_ins = omega arith in
+      let collected : 0 + a.collected ≡ a.collected = omega arith in
+      let expected : 0 + a.expected ≡ a.expected = omega arith in
+      λ i. record { hands = hands i; all_ins = all_ins i; collected = collected i; expected = expected i };
+  behind = λ a.
+      let hands : a.hands + 0 ≡ a.hands = omega arith in
+      let all_ins : a.all_ins + 0 ≡ a.all_ins = omega arith in
+      let collected : a.collected + 0 ≡ a.collected = omega arith in
+      let expected : a.expected + 0 ≡ a.expected = omega arith in
+      λ i. record { hands = hands i; all_ins = all_ins i; collected = collected i; expected = expected i };
+  joined = λ a b c.
+      let hands : a.hands + b.hands + c.hands ≡ a.hands + (b.hands + c.hands) = omega arith in
+      let all_ins : a.all_ins + b.all_ins + c.all_ins ≡ a.all_ins + (b.all_ins + c.all_ins) = omega arith in
+      let collected : a.collected + b.collected + c.collected ≡ a.collected + (b.collected + c.collected) = omega arith in
+      let expected : a.expected + b.expected + c.expected ≡ a.expected + (b.expected + c.expected) = omega arith in
+      λ i. record { hands = hands i; all_ins = all_ins i; collected = collected i; expected = expected i };
+  none = λ count. record { hands = omega arith; all_ins = omega arith; collected = omega arith; expected = omega arith };
+  one = λ count a b many few.
+      let hands = many.hands in
+      let all_ins = many.all_ins in
+      let collected = many.collected in
+      let expected = many.expected in
+      let hand = few.hands in
+      let all_in = few.all_ins in
+      let got = few.collected in
+      let hoped = few.expected in
+      record { hands = omega arith; all_ins = omega arith; collected = omega arith; expected = omega arith };
+  more = λ count most a within small.
+      let hands = small.hands in
+      let all_ins = small.all_ins in
+      let collected = small.collected in
+      let expected = small.expected in
+      record { hands = omega arith; all_ins = omega arith; collected = omega arith; expected = omega arith };
+}

@@ -1,6 +1,6 @@
 //! What a player would have got of a hand with even luck.
 
-ghost use Rattle.std.specs.Prelude.{◌≡◌, ℕ, ◌*◌, ◌<◌, ◌≤◌, ◌^◌, Some, length, true};
+ghost use Rattle.std.specs.Prelude.{◌≡◌, ℕ, ◌*◌, ◌<◌, ◌≤◌, ◌^◌, ◌+◌, IfSome, Some, length, true};
 ghost use Rattle.equity_job.specs.declared.limits.TheConstants.{RUNOUT_MAX};
 ghost use Rattle.hand_audit.specs.Nets.{got_of};
 ghost use Rattle.report_table.specs.Equities.{IsEquityOf, IsFull, IsOfAllIn, is_asked};
@@ -19,7 +19,8 @@ use showdown_tally::{Table, Tally};
 
 /// All that a seat got of a hand.
 pub(crate) fn got_of(settlement: &Settlement, seat: u8) -> u128
-    ensures { result ≡ got_of settlement.now seat }
+    ensures value { result ≡ got_of settlement.now seat }
+    ensures bound { result ≤ (length settlement.now.pots + 1) * 2 ^ 64 }
 {
     let pots = settlement.pots.items();
     let _count = pots.len();
@@ -67,10 +68,11 @@ fn given_of(pots: &[PotLine], seats: &[u8], tally: &Tally, hand: u8, count: u8) 
     requires few_seats { length seats.now ≤ 10 }
     requires hand { hand < 10 }
     requires few { count ≤ 10 }
-    requires small { (k : ℕ) → k < 10 → units_at tally.now k hand ≤ 5040 * RUNOUT_MAX }
+    requires small { (k : ℕ) → k < 10 → units_at tally.now k hand ≤ 5040 * tally.now.runouts }
+    requires within { tally.now.runouts ≤ RUNOUT_MAX }
     ensures value { result
         ≡ given_to (shared_pots seats.now pots.now) (tally_figures tally.now) hand count }
-    ensures bound { result ≤ 10 * (10 * 2 ^ 64 * (5040 * RUNOUT_MAX)) }
+    ensures bound { result ≤ 10 * (10 * 2 ^ 64 * (5040 * tally.now.runouts)) }
 {
     let mut given = 0;
     for k in 0..count {
@@ -85,9 +87,11 @@ fn even_units(pots: &[PotLine], seats: &[u8], tally: &Tally, hand: u8, count: u8
     requires few_seats { length seats.now ≤ 10 }
     requires hand { hand < 10 }
     requires few { count ≤ 10 }
-    requires small { (k : ℕ) → k < 10 → units_at tally.now k hand ≤ 5040 * RUNOUT_MAX }
-    ensures { result ≡ expected_units tally.now.runouts
+    requires small { (k : ℕ) → k < 10 → units_at tally.now k hand ≤ 5040 * tally.now.runouts }
+    requires within { tally.now.runouts ≤ RUNOUT_MAX }
+    ensures value { result ≡ expected_units tally.now.runouts
         (given_to (shared_pots seats.now pots.now) (tally_figures tally.now) hand count) }
+    ensures bound { result ≤ 2 ^ 95 }
 {
     let given = given_of(pots, seats, tally, hand, count);
     rounded(given, 5040 * u128::from(tally.runouts()), 0).whole
@@ -104,7 +108,8 @@ fn even_got(
     requires some { 0 < tally.now.runouts }
     requires hand { hand < 10 }
     requires full { IsFull (deal_of table.now) tally.now }
-    ensures { result ≡ even_got settlement.now seats.now (deal_of table.now) hand }
+    ensures value { result ≡ even_got settlement.now seats.now (deal_of table.now) hand }
+    ensures bound { result ≤ 2 ^ 95 }
 {
     even_units(
         settlement.pots.items(),
@@ -126,7 +131,8 @@ fn full_even(
 ) -> Option<u128>
     requires fits { settlement.now.fits ≡ true }
     requires full { IsFull (deal_of table.now) tally.now }
-    ensures { result ≡ known_even settlement.now seats.now (deal_of table.now) seat }
+    ensures value { result ≡ known_even settlement.now seats.now (deal_of table.now) seat }
+    ensures bound { IfSome result (λ even. length settlement.now.pots ≤ 10 → even ≤ 2 ^ 95) }
 {
     if tally.runouts() == 0 {
         return None;
@@ -146,7 +152,8 @@ fn known_even(
     seat: u8,
 ) -> Option<u128>
     requires { IsEquityOf (deal_of table.now) equity.now }
-    ensures { result ≡ known_even settlement.now seats.now (deal_of table.now) seat }
+    ensures value { result ≡ known_even settlement.now seats.now (deal_of table.now) seat }
+    ensures bound { IfSome result (λ even. length settlement.now.pots ≤ 10 → even ≤ 2 ^ 95) }
 {
     if !settlement.fits {
         return None;
@@ -168,7 +175,8 @@ pub(crate) fn even_of(
 ) -> Option<u128>
     requires asked { is_asked equity.now ≡ true }
     requires equity { IsOfAllIn all_in.now equity.now }
-    ensures { result ≡ even_of settlement.now all_in.now seat }
+    ensures value { result ≡ even_of settlement.now all_in.now seat }
+    ensures bound { IfSome result (λ even. length settlement.now.pots ≤ 10 → even ≤ 2 ^ 95) }
 {
     match all_in {
         AllIn::None => Some(got_of(settlement, seat)),

@@ -19,6 +19,9 @@
 #![tactic(auto)]
 
 mod alone;
+mod balance;
+mod balance_lines;
+mod balance_sums;
 mod causes;
 mod equity;
 mod even_luck;
@@ -28,6 +31,7 @@ mod hands;
 mod laws;
 mod made_sums;
 mod numbers;
+mod player_key;
 mod player_rows;
 mod player_sums;
 mod players;
@@ -36,12 +40,14 @@ mod sheet;
 mod spot_blocks;
 mod spots;
 mod streets;
+mod sums;
 mod total_laws;
 mod total_lines;
 mod totals;
 mod words;
 
 pub use alone::table_alone;
+pub use balance::Balance;
 pub use equity::{Equity, Form};
 pub use hand_blocks::write_hand;
 pub use laws::{

@@ -7,63 +7,42 @@ ghost use Rattle.std.specs.Prelude.{◌≡◌, ◌+◌, ◌-◌, ◌≤◌, ◌^
 ghost use Rattle.std.specs.List.{IsDistinct, list_any};
 ghost use Rattle.std.specs.Map.{keys_of};
 ghost use Rattle.std.specs.Option.{option_copied};
-ghost use Rattle.report_table.specs.Totals.{no_sums, same_player};
-ghost use Rattle.report_table.specs.TotalsSeen.{AllAreOfHands, AreOfHands, place_of, player_of, with_more};
+ghost use Rattle.report_table.specs.SumsSeen.{AllAreOf, with_more};
+ghost use Rattle.report_table.specs.Totals.{same_player};
+ghost use Rattle.report_table.specs.TotalsSeen.{place_of, player_of};
 
-use crate::player_sums::PlayerSums;
+use crate::player_key::PlayerKey;
+use crate::sums::Sums;
 use std::alloc::{AllocError, Global};
 use std::collections::BTreeMap;
 use std::marker::Model;
-use std::rc::RcSlice;
-
-/// A name, and the unit of the hands that it is summed over: hundredths, or else chips.
-#[derive(PartialEq, Eq, PartialOrd, Ord, Drop)]
-pub(crate) struct PlayerKey {
-    /// Whether the money of the hands has hundredths.
-    pub(crate) hundredths: bool,
-    /// The name's bytes, which copies of the key share.
-    pub(crate) name: RcSlice<u8>,
-}
-
-impl PlayerKey {
-    /// The same key once more. Its name is not stored again.
-    fn copy(&self) -> Result<PlayerKey, AllocError>
-        ensures { IfOk result (λ key. player_of key ≡ player_of self.now) }
-    {
-        Ok(PlayerKey {
-            hundredths: self.hundredths,
-            name: self.name.clone()?,
-        })
-    }
-}
 
 /// A player with his sums.
 #[derive(Drop)]
-pub(crate) struct PlayerRow {
+pub(crate) struct PlayerRow<S> {
     /// Who it is.
     pub(crate) key: PlayerKey,
     /// What his hands come to.
-    pub(crate) sums: PlayerSums,
+    pub(crate) sums: S,
 }
 
 /// The players with their sums, in the order in which they were added. Clauses see them as a plain list.
 #[derive(Drop)]
-pub(crate) struct Players {
+pub(crate) struct Players<S> {
     /// A row for each player.
-    rows: Vec<PlayerRow>,
+    rows: Vec<PlayerRow<S>>,
     /// The place of each player among the rows, from 0.
     places: BTreeMap<PlayerKey, usize>,
 }
 
-impl Model for Players {
+impl<S> Model for Players<S> {
     ghost use Rattle.std.specs.Prelude.{List};
     ghost use Rattle.std.specs.List.{IsDistinct};
     ghost use Rattle.std.specs.Map.{keys_of};
     ghost use Rattle.report_table.specs.Totals.{Player, same_player};
-    ghost use Rattle.report_table.specs.declared.player_sums.PlayerSums.{PlayerSums};
     ghost use Rattle.report_table.specs.TotalsSeen.{IsIndexOf, seen_rows};
 
-    ghost Value = { List (Player × PlayerSums) };
+    ghost Value = { List (Player × S) };
 
     ghost view = { λ p. seen_rows p.rows.items };
 
@@ -71,9 +50,9 @@ impl Model for Players {
         × IsDistinct same_player (keys_of (seen_rows p.rows.items)) };
 }
 
-impl Players {
+impl<S: Sums> Players<S> {
     /// No player.
-    pub(crate) fn new(alloc: Global) -> Players
+    pub(crate) fn new(alloc: Global) -> Players<S>
         ensures { result ≡ [] }
     {
         Players {
@@ -95,7 +74,7 @@ impl Players {
     }
 
     /// The player at a place.
-    pub(crate) fn at(&self, place: usize) -> Option<&PlayerRow>
+    pub(crate) fn at(&self, place: usize) -> Option<&PlayerRow<S>>
         ensures { option_map (λ row. (player_of row.key, row.sums)) (option_copied result)
             ≡ slice_get self.now place }
     {
@@ -119,14 +98,14 @@ impl Players {
     /// Puts a player who isn't there at the end, with the sums of no hand. Out of memory leaves all as it was.
     pub(crate) fn push(&mut self, key: PlayerKey) -> Result<(), AllocError>
         requires { list_any (λ entry. same_player (player_of key) entry.0) self.old ≡ false }
-        ensures added { OnOk result (self.new ≡ self.old ++ (player_of key, no_sums) ∷ []) }
+        ensures added { OnOk result (self.new ≡ self.old ++ (player_of key, S.nothing) ∷ []) }
         ensures memory { OnErr result (self.new ≡ self.old) }
     {
         let place = self.rows.len();
         let other = key.copy()?;
         self.rows.push(PlayerRow {
             key,
-            sums: PlayerSums::NONE,
+            sums: S::none(),
         })?;
         match self.places.insert(other, place) {
             Ok(_) => Ok(()),
@@ -157,15 +136,15 @@ impl Players {
     }
 
     /// Adds to the sums of a player, where he has some.
-    pub(crate) fn add(&mut self, key: &PlayerKey, more: &PlayerSums)
-        requires sums { AllAreOfHands (2 ^ 32 + 1) self.old }
-        requires more { AreOfHands 1 more.now }
-        ensures added { self.new ≡ with_more self.old (player_of key.now) more.now }
+    pub(crate) fn add(&mut self, key: &PlayerKey, more: &S)
+        requires sums { AllAreOf S.AreOf (2 ^ 32 + 1) self.old }
+        requires more { S.AreOf 1 more.now }
+        ensures added { self.new ≡ with_more S.plus self.old (player_of key.now) more.now }
         ensures distinct { IsDistinct same_player (keys_of self.old) }
     {
         if let Some(place) = self.place(key) {
             if let Some(row) = self.rows.get_mut(place) {
-                row.sums = row.sums.plus(more);
+                row.sums = row.sums.with(more);
             }
         }
     }

@@ -4,15 +4,19 @@ ghost use Rattle.std.specs.Prelude.{◌≡◌, ◌+◌, ◌<◌, ◌≤◌, ◌^
 ghost use Rattle.std.specs.Option.{option_copied};
 ghost use Rattle.hand_audit.specs.Nets.{got_by};
 ghost use Rattle.report_table.specs.Equities.{IsEquityOf, IsFull, IsOfAllIn, is_asked};
-ghost use Rattle.report_table.specs.Totals.{collected_by, hand_alone, hand_all_in, hand_at, known_sums, paid_from, seat_sums};
-ghost use Rattle.report_table.specs.TotalsSeen.{AreOfHands, plus};
+ghost use Rattle.report_table.specs.Totals.{collected_by, hand_alone, hand_all_in, hand_at, known_sums, no_sums, paid_from, seat_sums, total_line};
+ghost use Rattle.report_table.specs.TotalsSeen.{AreOfHands, plus, totals_are_sums};
 ghost use Rattle.showdown_tally.specs.Deals.{deal_of};
 
 use crate::alone::hand_count;
 use crate::equity::Equity;
 use crate::hand_equities::{expected_by, pot_count};
+use crate::player_key::PlayerKey;
+use crate::sheet::Sheet;
+use crate::sums::{Gives, Sums};
 use hand_audit::{AllIn, Payment, PotLine, Settlement};
 use showdown_tally::{Table, Tally};
+use std::alloc::AllocError;
 
 /// What hands of one unit of money come to for a player.
 #[derive(Clone, Copy)]
@@ -29,7 +33,7 @@ pub struct PlayerSums {
 
 impl PlayerSums {
     /// Those of no hand.
-    pub(crate) const NONE: PlayerSums = PlayerSums {
+    const NONE: PlayerSums = PlayerSums {
         hands: 0,
         all_ins: 0,
         collected: 0,
@@ -43,19 +47,52 @@ impl PlayerSums {
         collected: 0,
         expected: 0,
     };
+}
 
-    /// The sums with those of one hand more.
-    pub(crate) fn plus(&self, more: &PlayerSums) -> PlayerSums
-        requires sums { AreOfHands (2 ^ 32 + 1) self.now }
-        requires more { AreOfHands 1 more.now }
-        ensures { result ≡ plus self.now more.now }
-    {
+impl Sums for PlayerSums {
+    ghost nothing = { no_sums };
+
+    ghost plus = { plus };
+
+    ghost AreOf = { AreOfHands };
+
+    ghost laws = { totals_are_sums };
+
+    ghost line = { total_line };
+
+    fn none() -> PlayerSums {
+        PlayerSums::NONE
+    }
+
+    fn with(&self, more: &PlayerSums) -> PlayerSums {
         PlayerSums {
             hands: self.hands + more.hands,
             all_ins: self.all_ins + more.all_ins,
             collected: self.collected + more.collected,
             expected: self.expected + more.expected,
         }
+    }
+
+    fn write_line(&self, sheet: &mut Sheet, key: &PlayerKey) -> Result<(), AllocError> {
+        sheet.total_line(key, self)
+    }
+}
+
+/// A hand in which no line departs: its settlement, and its all-in with the equity of that.
+#[derive(Clone, Copy)]
+pub(crate) struct PlayedHand<'a> {
+    pub(crate) settlement: &'a Settlement,
+    pub(crate) all_in: &'a AllIn,
+    pub(crate) equity: &'a Equity,
+}
+
+impl<'a> Gives<PlayerSums> for PlayedHand<'a> {
+    ghost IsWhole = { λ hand. (is_asked hand.equity.now ≡ true) × IsOfAllIn hand.all_in.now hand.equity.now };
+
+    ghost share = { λ hand. seat_sums hand.settlement.now hand.all_in.now };
+
+    fn sums(&self, seat: u8) -> PlayerSums {
+        seat_sums(self.settlement, self.all_in, self.equity, seat)
     }
 }
 
@@ -182,12 +219,7 @@ fn known_sums(
 }
 
 /// What a hand in which no line departs gives a seat that plays, with the equity of its all-in.
-pub(crate) fn seat_sums(
-    settlement: &Settlement,
-    all_in: &AllIn,
-    equity: &Equity,
-    seat: u8,
-) -> PlayerSums
+fn seat_sums(settlement: &Settlement, all_in: &AllIn, equity: &Equity, seat: u8) -> PlayerSums
     requires asked { is_asked equity.now ≡ true }
     requires equity { IsOfAllIn all_in.now equity.now }
     ensures value { result ≡ seat_sums settlement.now all_in.now seat }

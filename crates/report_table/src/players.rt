@@ -3,15 +3,14 @@
 ghost use Rattle.std.specs.Prelude.{◌≡◌, ℕ, ◌+◌, ◌^◌, ◌≤◌, ◌==◌, true, length, map, take, is_some, option_map, IfOk, OnOk, OnErr};
 ghost use Rattle.std.specs.Int.{bit_at};
 ghost use Rattle.history_text.specs.Names.{seat_named};
-ghost use Rattle.report_table.specs.Equities.{IsOfAllIn, is_asked};
-ghost use Rattle.report_table.specs.Totals.{playing, seated_sums};
-ghost use Rattle.report_table.specs.TotalsSeen.{AllAreOfHands, AreOfHands, first_at, has_name, named_player, player_at, player_of, with_given, with_player, with_players};
+ghost use Rattle.report_table.specs.SumsSeen.{AllAreOf, seated_share, with_given, with_player, with_players};
+ghost use Rattle.report_table.specs.Totals.{playing};
+ghost use Rattle.report_table.specs.TotalsSeen.{first_at, has_name, named_player, player_at, player_of};
 
-use crate::equity::Equity;
-use crate::player_rows::{PlayerKey, Players};
-use crate::player_sums::seat_sums;
+use crate::player_key::PlayerKey;
+use crate::player_rows::Players;
+use crate::sums::{Gives, Sums};
 use card_sets::{Memory, PlayerSet};
-use hand_audit::{AllIn, Settlement};
 use history_text::Names;
 use std::alloc::{AllocError, Global};
 use std::rc::RcSlice;
@@ -103,9 +102,13 @@ impl<'a> Lineup<'a> {
 }
 
 /// Gives a player sums of no hand, at the end, where he has none yet.
-fn add_player(players: &mut Players, hundredths: bool, name: &[u8]) -> Result<(), AllocError>
+fn add_player<S: Sums>(
+    players: &mut Players<S>,
+    hundredths: bool,
+    name: &[u8],
+) -> Result<(), AllocError>
     ensures added { OnOk result (players.new
-        ≡ with_player players.old (named_player hundredths name.now)) }
+        ≡ with_player S.nothing players.old (named_player hundredths name.now)) }
     ensures kept { take (length players.old) players.new ≡ players.old }
 {
     let key = key_of(players.allocator(), hundredths, name)?;
@@ -117,9 +120,9 @@ fn add_player(players: &mut Players, hundredths: bool, name: &[u8]) -> Result<()
 
 /// Gives each player of a hand sums of no hand, where he has none yet. For want of memory some first of
 /// them have got theirs.
-fn add_each_player(players: &mut Players, lineup: &Lineup) -> Result<(), AllocError>
+fn add_each_player<S: Sums>(players: &mut Players<S>, lineup: &Lineup) -> Result<(), AllocError>
     ensures added { OnOk result (players.new
-        ≡ with_players players.old
+        ≡ with_players S.nothing players.old
         (map (λ who. named_player lineup.now.hundredths who.1)
         (playing lineup.now.names.now lineup.now.players))) }
     ensures kept { take (length players.old) players.new ≡ players.old }
@@ -133,9 +136,9 @@ fn add_each_player(players: &mut Players, lineup: &Lineup) -> Result<(), AllocEr
 }
 
 /// The same, and want of memory changes nothing.
-pub(crate) fn add_players(players: &mut Players, lineup: &Lineup) -> Result<(), Memory>
+pub(crate) fn add_players<S: Sums>(players: &mut Players<S>, lineup: &Lineup) -> Result<(), Memory>
     ensures added { OnOk result (players.new
-        ≡ with_players players.old
+        ≡ with_players S.nothing players.old
         (map (λ who. named_player lineup.now.hundredths who.1)
         (playing lineup.now.names.now lineup.now.players))) }
     ensures memory { OnErr result (players.new ≡ players.old) }
@@ -150,36 +153,31 @@ pub(crate) fn add_players(players: &mut Players, lineup: &Lineup) -> Result<(), 
     }
 }
 
-/// Adds what a hand in which no line departs gives each of its players, with the equity of its all-in.
-/// Takes the keys of the names of its seat lines.
-pub(crate) fn add_sums(
-    players: &mut Players,
+/// Adds what a hand in which no line departs gives each of its players. Takes the keys of the names of its
+/// seat lines.
+pub(crate) fn add_sums<S: Sums, H: Gives<S>>(
+    players: &mut Players<S>,
     keys: &[PlayerKey],
     lineup: &Lineup,
-    settlement: &Settlement,
-    all_in: &AllIn,
-    equity: &Equity,
+    hand: &H,
 )
-    // The equity was asked for, and is that of the all-in.
-    requires asked { is_asked equity.now ≡ true }
-    requires equity { IsOfAllIn all_in.now equity.now }
+    requires whole { H.IsWhole hand.now }
 
-    // The seat lines are those of the hand, and each name has its key.
-    requires unit { lineup.now.hundredths ≡ settlement.now.hundredths }
+    // Each name of the seat lines has its key.
     requires keys { map player_of keys.now
         ≡ map (λ who. named_player lineup.now.hundredths who.1) lineup.now.names.now }
 
     // The sums have room for one hand more, and each player gets what the hand gives him.
-    requires sums { AllAreOfHands (2 ^ 32) players.old }
+    requires sums { AllAreOf S.AreOf (2 ^ 32) players.old }
     ensures added { players.new
-        ≡ with_given (seated_sums settlement.now all_in.now
+        ≡ with_given S.plus (seated_share S.nothing lineup.now.hundredths (H.share hand.now)
         (playing lineup.now.names.now lineup.now.players)) players.old }
-    ensures small { (count : ℕ) → AllAreOfHands count players.old
-        → AllAreOfHands (count + 1) players.new }
+    ensures small { (count : ℕ) → AllAreOf S.AreOf count players.old
+        → AllAreOf S.AreOf (count + 1) players.new }
 {
     for place in 0..lineup.names.count() {
         if let Some((seat, _)) = lineup.first_at(place) {
-            let more = seat_sums(settlement, all_in, equity, seat);
+            let more = hand.sums(seat);
             players.add(&keys[place], &more);
         }
     }

@@ -3,32 +3,40 @@
 ghost use Rattle.std.specs.Prelude.{◌≡◌, ◌+◌, ◌^◌, ◌≤◌, ◌++◌, length, take, OnOk, OnErr};
 ghost use Rattle.report_table.specs.Lines.{line_in};
 ghost use Rattle.report_table.specs.Sheets.{IsBetweenLines, with_line, with_words};
-ghost use Rattle.report_table.specs.Totals.{player_lines, total_line, total_title, totals_line, unit_word};
+ghost use Rattle.report_table.specs.SumsSeen.{lines_of};
+ghost use Rattle.report_table.specs.Totals.{hands_line, total_line, total_title, unit_word};
 ghost use Rattle.report_table.specs.TotalsSeen.{player_of};
 
 use crate::equity::Form;
-use crate::player_rows::{PlayerKey, PlayerRow, Players};
+use crate::player_key::PlayerKey;
+use crate::player_rows::{PlayerRow, Players};
 use crate::player_sums::PlayerSums;
 use crate::sheet::Sheet;
+use crate::sums::Sums;
 use std::alloc::AllocError;
 
 /// How a unit of money is written.
-fn unit_word(hundredths: bool) -> &'static str
+pub(crate) fn unit_word(hundredths: bool) -> &'static str
     ensures { result.now ≡ unit_word hundredths }
 {
     if hundredths { "hundredths" } else { "chips" }
 }
 
 impl Sheet {
-    /// The first line.
-    #[tactic(auto, using(crate::proofs::SheetFacts::sheet_steps), unfolding(crate::specs::Totals::totals_line))]
-    pub(crate) fn totals_line(&mut self, accepted: u64, rejected: u64) -> Result<(), AllocError>
+    /// The first line: the word of what is summed up, and how many hands there are.
+    #[tactic(auto, using(crate::proofs::SheetFacts::sheet_steps), unfolding(crate::specs::Totals::hands_line))]
+    pub(crate) fn hands_line(
+        &mut self,
+        word: &str,
+        accepted: u64,
+        rejected: u64,
+    ) -> Result<(), AllocError>
         requires between { IsBetweenLines self.old }
         requires few { accepted + rejected ≤ 2 ^ 32 }
         ensures { OnOk result (self.new
-            ≡ with_line self.old (totals_line (accepted + rejected) accepted rejected)) }
+            ≡ with_line self.old (hands_line word.now (accepted + rejected) accepted rejected)) }
     {
-        self.text("totals")?;
+        self.text(word)?;
         self.text("hands")?;
         self.number(accepted + rejected)?;
         self.text("accepted")?;
@@ -53,7 +61,11 @@ impl Sheet {
 
     /// The line of a player.
     #[tactic(auto, using(crate::proofs::SheetFacts::sheet_steps), unfolding(crate::specs::Totals::total_line))]
-    fn total_line(&mut self, key: &PlayerKey, sums: &PlayerSums) -> Result<(), AllocError>
+    pub(crate) fn total_line(
+        &mut self,
+        key: &PlayerKey,
+        sums: &PlayerSums,
+    ) -> Result<(), AllocError>
         requires { IsBetweenLines self.old }
         ensures { OnOk result (self.new
             ≡ with_line self.old (total_line (player_of key.now) sums.now)) }
@@ -68,26 +80,30 @@ impl Sheet {
 }
 
 /// Appends the line of a player. Out of memory leaves `out` as it was.
-fn write_player(out: &mut Vec<u8>, row: &PlayerRow, form: Form) -> Result<(), AllocError>
+fn write_player<S: Sums>(
+    out: &mut Vec<u8>,
+    row: &PlayerRow<S>,
+    form: Form,
+) -> Result<(), AllocError>
     ensures line { OnOk result (out.new.items
-        ≡ out.old.items ++ line_in form (total_line (player_of row.now.key) row.now.sums)) }
+        ≡ out.old.items ++ line_in form (S.line (player_of row.now.key) row.now.sums)) }
     ensures memory { OnErr result (out.new.items ≡ out.old.items) }
 {
     let mut sheet = Sheet::new(*out.allocator(), form);
-    sheet.total_line(&row.key, &row.sums)?;
+    row.sums.write_line(&mut sheet, &row.key)?;
     out.extend_from_slice(sheet.bytes())?;
     Ok(())
 }
 
 /// Appends the lines of all players, one by one, so that no other place holds them too. Out of memory leaves
 /// what stood in `out`, and may leave some first lines.
-pub(crate) fn write_players(
+pub(crate) fn write_players<S: Sums>(
     out: &mut Vec<u8>,
-    players: &Players,
+    players: &Players<S>,
     form: Form,
 ) -> Result<(), AllocError>
     ensures lines { OnOk result (out.new.items
-        ≡ out.old.items ++ player_lines form players.now) }
+        ≡ out.old.items ++ lines_of S.line form players.now) }
     ensures kept { take (length out.old.items) out.new.items ≡ out.old.items }
 {
     for place in 0..players.len() {

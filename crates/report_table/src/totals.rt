@@ -7,6 +7,7 @@ ghost use Rattle.report_table.specs.Totals.{run_block, totals_of};
 
 use crate::equity::{Equity, Form};
 use crate::player_rows::Players;
+use crate::player_sums::{PlayedHand, PlayerSums};
 use crate::players::{Lineup, add_players, add_sums};
 use crate::sheet::Sheet;
 use crate::total_lines::write_players;
@@ -21,7 +22,7 @@ use std::marker::Model;
 pub struct Totals {
     accepted: u64,
     rejected: u64,
-    players: Players,
+    players: Players<PlayerSums>,
 }
 
 impl Model for Totals {
@@ -30,7 +31,8 @@ impl Model for Totals {
 
     ghost Value = { RunTotals };
 
-    ghost use Rattle.report_table.specs.TotalsSeen.{AllAreOfHands};
+    ghost use Rattle.report_table.specs.SumsSeen.{AllAreOf};
+    ghost use Rattle.report_table.specs.TotalsSeen.{AreOfHands};
 
     ghost view = { λ t. record {
       hands = t.accepted + t.rejected;
@@ -40,7 +42,7 @@ impl Model for Totals {
     } };
 
     ghost invariant = { λ t. (t.accepted + t.rejected ≤ 2 ^ 32)
-        × AllAreOfHands t.accepted t.players };
+        × AllAreOf AreOfHands t.accepted t.players };
 }
 
 impl Totals {
@@ -97,14 +99,12 @@ impl Totals {
         // Before anything is changed: want of memory for the keys then leaves the totals as they were.
         let keys = lineup.keys(self.players.allocator())?;
         add_players(&mut self.players, &lineup)?;
-        add_sums(
-            &mut self.players,
-            &keys,
-            &lineup,
+        let hand = PlayedHand {
             settlement,
             all_in,
             equity,
-        );
+        };
+        add_sums(&mut self.players, &keys, &lineup, &hand);
         self.accepted += 1;
         Ok(())
     }
@@ -116,7 +116,7 @@ impl Totals {
         ensures kept { take (length out.old.items) out.new.items ≡ out.old.items }
     {
         let mut sheet = Sheet::new(*out.allocator(), form);
-        sheet.totals_line(self.accepted, self.rejected)?;
+        sheet.hands_line("totals", self.accepted, self.rejected)?;
         out.extend_from_slice(sheet.bytes())?;
         write_players(out, &self.players, form)
     }

@@ -4,12 +4,12 @@ use Rattle.report_table.proofs.players.add_each_player.Goals as goal
 use Rattle.report_table.proofs.players.add_each_player.Goals.{in-Some+in_ok-add_player, in_default}
 
 pub loop-place-preserved : goal.loop-place-preserved
-loop-place-preserved c =
+loop-place-preserved g c =
     let lineup = c.args.lineup.now in
     let before = c.args.players.now in
     elim c.match-player_at.branch [
       | in-Some+in_ok-add_player w ↦ record {
-        added = added_more lineup.hundredths lineup.names.now lineup.players c.loop-place.place _ before c.loop-place.players _
+        added = added_more g.S.Sums.laws lineup.hundredths lineup.names.now lineup.players c.loop-place.place _ before c.loop-place.players _
             (sym w.in-Some.ensures) c.loop-place.invariant.added
             (w.players-is ∙ w.in_ok-add_player.ensures.added);
         kept = kept_both before c.loop-place.players _ c.loop-place.invariant.kept
@@ -17,7 +17,7 @@ loop-place-preserved c =
       }
       | in_default w ↦ record {
         added = w.players-is
-            ∙ added_same lineup.hundredths lineup.names.now lineup.players c.loop-place.place before c.loop-place.players (sym w.in_default.ensures) c.loop-place.invariant.added;
+            ∙ added_same g.S.Sums.laws lineup.hundredths lineup.names.now lineup.players c.loop-place.place before c.loop-place.players (sym w.in_default.ensures) c.loop-place.invariant.added;
         kept = ap (λ players. take (length before) players) w.players-is ∙ c.loop-place.invariant.kept;
       }
     ]

@@ -1,21 +1,20 @@
 use Rattle.std.proofs.Common.{◌++◌, ap, sym, ◌∙◌}
 use Rattle.report_table.specs.Lines.{line_in}
-use Rattle.report_table.specs.Totals.{total_line}
 use Rattle.report_table.specs.TotalsSeen.{player_of}
 use Rattle.report_table.proofs.PlayerFacts.{lines_more, lines_same}
 use Rattle.report_table.proofs.total_lines.write_players.Goals as goal
 use Rattle.report_table.proofs.total_lines.write_players.Goals.{in-Some+in_ok-write_player, in_default}
 
 pub loop-place-preserved : goal.loop-place-preserved
-loop-place-preserved c =
+loop-place-preserved g c =
     let form = c.args.form in
     let players = c.args.players.now in
     let before = c.args.out.now.items in
     elim c.match-at.branch [
       | in-Some+in_ok-write_player w ↦
-          let line = line_in form (total_line (player_of w.in-Some.row.now.key) w.in-Some.row.now.sums) in
-          lines_more form players c.loop-place.place _ before _ (sym w.in-Some.ensures)
+          let line = line_in form (g.S.Sums.line (player_of w.in-Some.row.now.key) w.in-Some.row.now.sums) in
+          lines_more g.S.Sums.line form players c.loop-place.place _ before _ (sym w.in-Some.ensures)
           (ap (λ out. out.items) w.out-is ∙ w.in_ok-write_player.ensures.line ∙ ap (λ was. was ++ line) c.loop-place.invariant)
       | in_default w ↦
-          lines_same form players c.loop-place.place before _ (sym w.in_default.ensures) (ap (λ out. out.items) w.out-is ∙ c.loop-place.invariant)
+          lines_same g.S.Sums.line form players c.loop-place.place before _ (sym w.in_default.ensures) (ap (λ out. out.items) w.out-is ∙ c.loop-place.invariant)
     ]

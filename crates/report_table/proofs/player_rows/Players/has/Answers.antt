@@ -4,4 +4,4 @@ use Rattle.report_table.proofs.IndexFacts.{place_any}
 use Rattle.report_table.proofs.player_rows.Players.has.Goals as goal
 
 pub returns : goal.returns
-returns c = c.is_some.ensures ∙ ap is_some c.place.ensures ∙ place_any (player_of c.args.key.now) c.args.self.now
+returns g c = c.is_some.ensures ∙ ap is_some c.place.ensures ∙ place_any (player_of c.args.key.now) c.args.self.now

@@ -7,7 +7,7 @@ use Rattle.report_table.proofs.IndexFacts.{distinct_pop, index_pop, keys_push}
 use Rattle.report_table.proofs.player_rows.Players.pop.Goals as goal
 
 pub invariant_of-self : goal.invariant_of-self
-invariant_of-self c =
+invariant_of-self g c =
     let row = c.in-Some.row in
     let left = keys_of (seen_rows c.pop.new.self.items) in
     let keys = ap (λ items. keys_of (seen_rows items)) c.in-Some.ensures.items ∙ keys_push c.pop.new.self.items row in

@@ -8,7 +8,7 @@ use Rattle.report_table.proofs.IndexFacts.{distinct_push, index_push, keys_push,
 use Rattle.report_table.proofs.player_rows.Players.push.Goals as goal
 
 pub invariant_of-self-in-Ok : goal.invariant_of-self-in-Ok
-invariant_of-self-in-Ok c =
+invariant_of-self-in-Ok g c =
     let player = player_of c.args.key in
     let rows = c.self.inside.rows.items in
     let players = keys_of (seen_rows rows) in

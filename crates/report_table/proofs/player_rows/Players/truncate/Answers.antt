@@ -2,7 +2,7 @@ use Rattle.std.proofs.Common.{◌≡◌, length, take, ap, ◌∙◌, arith}
 use Rattle.report_table.proofs.player_rows.Players.truncate.Goals as goal
 
 pub returns : goal.returns
-returns c =
+returns g c =
     let all = c.len-last-end.ensures in
     let below = c.loop-last.auto.last-end (omega (arith, all, c.requires)) in
     let beyond = c.loop-last-test.false in
