@@ -23,3 +23,4 @@ pub mod Results
 pub mod Balance
 pub mod BalanceSeen
 pub mod Streets
+pub mod Settles

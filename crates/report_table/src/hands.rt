@@ -130,7 +130,7 @@ impl Sheet {
 
     /// The line of a pot. Pots count from 0.
     #[tactic(auto, using(crate::proofs::SheetFacts::sheet_steps), unfolding(crate::specs::Hands::pot_line))]
-    fn pot_line(
+    pub(crate) fn pot_line(
         &mut self,
         hundredths: bool,
         fits: bool,
@@ -165,7 +165,7 @@ impl Sheet {
 
     /// Who got what.
     #[tactic(auto, using(crate::proofs::SheetFacts::sheet_steps), unfolding(crate::specs::Hands::paid_line))]
-    fn paid_line(
+    pub(crate) fn paid_line(
         &mut self,
         hundredths: bool,
         names: &Names,

@@ -1,6 +1,6 @@
 //! The blocks of the report: what is printed of a spot and of a hand, and of all hands of a run together.
 //!
-//! `write_spot`, `write_hand`, `write_street`, `write_results` and `Totals::write` each append one block to the bytes that they are lent:
+//! `write_spot`, `write_hand`, `write_street`, `write_results`, `write_settlement` and `Totals::write` each append one block to the bytes that they are lent:
 //! all of it, or, for want of memory, nothing. The crate knows of no input and of no output, and it counts
 //! nothing: equities come with what it is to write.
 //!
@@ -36,6 +36,7 @@ mod player_rows;
 mod player_sums;
 mod players;
 mod results;
+mod settles;
 mod sheet;
 mod spot_blocks;
 mod spots;
@@ -56,6 +57,7 @@ pub use laws::{
 };
 pub use made_sums::{AllInSums, MadeSums};
 pub use results::write_results;
+pub use settles::write_settlement;
 pub use sheet::Sheet;
 pub use spot_blocks::write_spot;
 pub use streets::{has_counted, write_street};

@@ -97,7 +97,7 @@ impl<'a> Gives<PlayerSums> for PlayedHand<'a> {
 }
 
 /// The first payment of a seat.
-fn payment_of(payments: &[Payment], seat: u8) -> Option<&Payment>
+pub(crate) fn payment_of(payments: &[Payment], seat: u8) -> Option<&Payment>
     ensures { option_copied result ≡ find (λ pay. pay.seat == seat) payments.now }
 {
     payments.iter().find(|pay| pay.seat == seat)

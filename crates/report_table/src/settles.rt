@@ -1,0 +1,424 @@
+//! The block of a hand's settlement: what the rules give of its pots, beside what was paid, and what each player is
+//! still to get, or to give back. Each method appends whole lines, but for those that add words to one.
+
+ghost use Rattle.std.specs.Prelude.{◌≡◌, ◌<◌, [], ◌∷◌, ◌++◌, OnOk, OnErr};
+ghost use Rattle.std.specs.List.{flat_map};
+ghost use Rattle.card_sets.specs.PlayerSets.{seats_in};
+ghost use Rattle.hand_audit.specs.Dues.{due_by, due_of};
+ghost use Rattle.report_table.specs.Settles.{accepted_settlement, are_checked, given_line, given_lines, odd_word, part_line, part_lines, part_title, settle_block, settle_line, settle_lines, settle_lines_of, settled_lines, settled_pot, settled_pots_from, share_line, shares_at, split_lines, units_words};
+ghost use Rattle.report_table.specs.Sheets.{IsBetweenLines, with_line, with_lines, with_words};
+
+use crate::equity::Form;
+use crate::even_luck::got_of;
+use crate::hands::name_text;
+use crate::player_sums::payment_of;
+use crate::sheet::Sheet;
+use crate::words::side_word;
+use card_sets::{Memory, PlayerSet};
+use hand_audit::{
+    AuditedShares, HandAudit, PartShare, PartShares, Payment, PotLine, Settlement, SplitHand,
+};
+use history_text::Names;
+use std::alloc::AllocError;
+
+/// What a seat is due, by payments of which it has at most one.
+fn due_by(payments: &[Payment], seat: u8) -> u64
+    ensures { result ≡ due_by payments.now seat }
+{
+    match payment_of(payments, seat) {
+        Some(pay) => pay.due,
+        None => 0,
+    }
+}
+
+/// All that a seat is due of a hand.
+fn due_of(settlement: &Settlement, seat: u8) -> u128
+    ensures { result ≡ due_of settlement.now seat }
+{
+    let pots = settlement.pots.items();
+    let _count = pots.len();
+    let mut due = 0u128;
+    for pot in pots {
+        due += u128::from(due_by(pot.paid.items(), seat));
+    }
+    due + u128::from(due_by(settlement.paid.items(), seat))
+}
+
+/// Whether it is known who wins each pot.
+fn are_checked(pots: &[PotLine]) -> bool
+    ensures { result ≡ are_checked pots.now }
+{
+    pots.iter().all(|pot| pot.checked)
+}
+
+/// The shares of the parts of a pot, of those of all pots.
+fn shares_at(parts: &[PartShares], k: usize) -> &[PartShare]
+    ensures { result.now ≡ shares_at parts.now k }
+{
+    match parts.get(k) {
+        Some(shares) => shares.items(),
+        None => &[],
+    }
+}
+
+/// How many odd units are in a share.
+fn odd_word(odd: bool) -> &'static str
+    ensures { result.now ≡ odd_word odd }
+{
+    if odd { "1" } else { "0" }
+}
+
+impl Sheet {
+    /// The first words of the line of a share. Pots count from 0, boards from 1.
+    #[tactic(auto, using(crate::proofs::SheetFacts::word_steps), unfolding(crate::specs::Settles::part_title))]
+    fn part_title(&mut self, k: u64, share: &PartShare) -> Result<(), AllocError>
+        ensures { OnOk result (self.new ≡ with_words self.old (part_title k share.now)) }
+    {
+        self.text("part")?;
+        self.number(k)?;
+        self.number(u64::from(share.board))?;
+        self.text(side_word(share.side))
+    }
+
+    /// What the winner gets.
+    #[tactic(auto, using(crate::proofs::SheetFacts::word_steps), unfolding(crate::specs::Settles::units_words))]
+    fn units_words(&mut self, hundredths: bool, share: &PartShare) -> Result<(), AllocError>
+        ensures { OnOk result (self.new
+            ≡ with_words self.old (units_words hundredths share.now)) }
+    {
+        self.text("units")?;
+        self.money(hundredths, u128::from(share.units))?;
+        self.text("odd")?;
+        self.text(odd_word(share.odd))
+    }
+
+    /// The line of a share. Pots count from 0.
+    #[tactic(auto, using(crate::proofs::SheetFacts::sheet_steps), unfolding(crate::specs::Settles::part_line))]
+    fn part_line(
+        &mut self,
+        hundredths: bool,
+        names: &Names,
+        k: u64,
+        share: &PartShare,
+    ) -> Result<(), AllocError>
+        requires { IsBetweenLines self.old }
+        ensures { OnOk result (self.new
+            ≡ with_line self.old (part_line hundredths names.now k share.now)) }
+    {
+        self.part_title(k, share)?;
+        self.units_words(hundredths, share)?;
+        self.end_with(name_text(names, share.seat))
+    }
+
+    /// What a player is due of a pot and what he got. Pots count from 0.
+    #[tactic(auto, using(crate::proofs::SheetFacts::sheet_steps), unfolding(crate::specs::Settles::share_line))]
+    fn share_line(
+        &mut self,
+        hundredths: bool,
+        names: &Names,
+        k: u64,
+        pay: &Payment,
+    ) -> Result<(), AllocError>
+        requires { IsBetweenLines self.old }
+        ensures { OnOk result (self.new
+            ≡ with_line self.old (share_line hundredths names.now k pay.now)) }
+    {
+        self.text("share")?;
+        self.number(k)?;
+        self.text("due")?;
+        self.money(hundredths, u128::from(pay.due))?;
+        self.text("got")?;
+        self.money(hundredths, u128::from(pay.got))?;
+        self.end_with(name_text(names, pay.seat))
+    }
+
+    /// The same, or only what he got of a pot of which it isn't known who wins it.
+    #[tactic(auto, unfolding(crate::specs::Settles::given_line))]
+    fn given_line(
+        &mut self,
+        hundredths: bool,
+        names: &Names,
+        k: u64,
+        checked: bool,
+        pay: &Payment,
+    ) -> Result<(), AllocError>
+        requires { IsBetweenLines self.old }
+        ensures { OnOk result (self.new
+            ≡ with_line self.old (given_line hundredths names.now k checked pay.now)) }
+    {
+        if checked {
+            return self.share_line(hundredths, names, k, pay);
+        }
+        self.paid_line(hundredths, names, checked, pay)
+    }
+
+    /// The lines of some shares, in their order.
+    fn part_lines(
+        &mut self,
+        hundredths: bool,
+        names: &Names,
+        k: u64,
+        shares: &[PartShare],
+    ) -> Result<(), AllocError>
+        requires { IsBetweenLines self.old }
+        ensures { OnOk result (self.new ≡ with_lines self.old
+            (part_lines self.old.form hundredths names.now k shares.now)) }
+    {
+        for share in shares {
+            self.part_line(hundredths, names, k, share)?;
+        }
+        Ok(())
+    }
+
+    /// The lines of some payments, in their order.
+    fn given_lines(
+        &mut self,
+        hundredths: bool,
+        names: &Names,
+        k: u64,
+        checked: bool,
+        payments: &[Payment],
+    ) -> Result<(), AllocError>
+        requires { IsBetweenLines self.old }
+        ensures { OnOk result (self.new ≡ with_lines self.old
+            (given_lines self.old.form hundredths names.now k checked payments.now)) }
+    {
+        for pay in payments {
+            self.given_line(hundredths, names, k, checked, pay)?;
+        }
+        Ok(())
+    }
+
+    /// A pot, the shares of its parts, and what each player is due and got of it. Pots count from 0.
+    #[tactic(auto, using(crate::proofs::SheetFacts::sheet_steps, crate::proofs::SheetFacts::lines_more), unfolding(crate::specs::Settles::settled_pot))]
+    fn settled_pot(
+        &mut self,
+        settlement: &Settlement,
+        names: &Names,
+        shares: &[PartShare],
+        k: u64,
+        pot: &PotLine,
+    ) -> Result<(), AllocError>
+        requires { IsBetweenLines self.old }
+        ensures { OnOk result (self.new ≡ with_lines self.old
+            (settled_pot self.old.form settlement.now.hundredths settlement.now.fits names.now
+            shares.now k pot.now)) }
+    {
+        let Settlement {
+            hundredths,
+            fits,
+            ..
+        } = *settlement;
+        self.pot_line(hundredths, fits, k, pot)?;
+        self.part_lines(hundredths, names, k, shares)?;
+        self.given_lines(hundredths, names, k, pot.checked, pot.paid.items())
+    }
+
+    /// The pots of a hand, the first of which is number 0.
+    fn settled_pots(
+        &mut self,
+        settlement: &Settlement,
+        names: &Names,
+        parts: &[PartShares],
+    ) -> Result<(), AllocError>
+        requires { IsBetweenLines self.old }
+        ensures { OnOk result (self.new ≡ with_lines self.old
+            (settled_pots_from self.old.form settlement.now.hundredths settlement.now.fits
+            names.now parts.now 0 settlement.now.pots)) }
+    {
+        for (k, pot) in settlement.pots.items().iter().enumerate() {
+            self.settled_pot(settlement, names, shares_at(parts, k), k as u64, pot)?;
+        }
+        Ok(())
+    }
+
+    /// What a player is still to get, or to give back.
+    #[tactic(auto, using(crate::proofs::SheetFacts::sheet_steps), unfolding(crate::specs::Settles::settle_line))]
+    fn settle_line(
+        &mut self,
+        hundredths: bool,
+        names: &Names,
+        due: u128,
+        got: u128,
+        seat: u8,
+    ) -> Result<(), AllocError>
+        requires { IsBetweenLines self.old }
+        ensures { OnOk result (self.new
+            ≡ with_line self.old (settle_line hundredths names.now due got seat)) }
+    {
+        self.text("settle")?;
+        self.difference(hundredths, due, got)?;
+        self.end_with(name_text(names, seat))
+    }
+
+    /// The same of the player of a seat, where what he is due of all pots isn't what he got.
+    #[tactic(auto, using(crate::proofs::SheetFacts::no_lines), unfolding(crate::specs::Settles::settle_lines_of))]
+    fn settle_line_of(
+        &mut self,
+        settlement: &Settlement,
+        names: &Names,
+        seat: u8,
+    ) -> Result<(), AllocError>
+        requires { IsBetweenLines self.old }
+        ensures { OnOk result (self.new ≡ with_lines self.old
+            (settle_lines_of self.old.form settlement.now names.now seat)) }
+    {
+        let due = due_of(settlement, seat);
+        let got = got_of(settlement, seat);
+        if due == got {
+            return Ok(());
+        }
+        self.settle_line(settlement.hundredths, names, due, got, seat)
+    }
+
+    /// Those of all players, by rising seat.
+    fn settle_each(
+        &mut self,
+        settlement: &Settlement,
+        names: &Names,
+        players: PlayerSet,
+    ) -> Result<(), AllocError>
+        requires { IsBetweenLines self.old }
+        ensures { OnOk result (self.new ≡ with_lines self.old
+            (flat_map (settle_lines_of self.old.form settlement.now names.now)
+            (seats_in players))) }
+    {
+        for seat in 1..11u8 {
+            if !players.has(seat) {
+                continue;
+            }
+            self.settle_line_of(settlement, names, seat)?;
+        }
+        Ok(())
+    }
+
+    /// The same, where it is known who wins each pot.
+    #[tactic(auto, using(crate::proofs::SheetFacts::no_lines), unfolding(crate::specs::Settles::settle_lines))]
+    fn settle_lines(
+        &mut self,
+        settlement: &Settlement,
+        names: &Names,
+        players: u16,
+    ) -> Result<(), AllocError>
+        requires { IsBetweenLines self.old }
+        ensures { OnOk result (self.new ≡ with_lines self.old
+            (settle_lines self.old.form settlement.now names.now players)) }
+    {
+        if !are_checked(settlement.pots.items()) {
+            return Ok(());
+        }
+        self.settle_each(settlement, names, PlayerSet::of(players))
+    }
+
+    /// The lines of a hand that can be settled, behind its first.
+    #[tactic(auto, using(crate::proofs::SheetFacts::lines_more), unfolding(crate::specs::Settles::settled_lines))]
+    fn settled_lines(
+        &mut self,
+        settlement: &Settlement,
+        names: &Names,
+        players: u16,
+        parts: &[PartShares],
+    ) -> Result<(), AllocError>
+        requires { IsBetweenLines self.old }
+        ensures { OnOk result (self.new ≡ with_lines self.old
+            (settled_lines self.old.form settlement.now names.now players parts.now)) }
+    {
+        self.settled_pots(settlement, names, parts)?;
+        self.settle_lines(settlement, names, players)
+    }
+
+    /// The settlement of a hand in which no line departs.
+    #[tactic(auto, using(crate::proofs::SheetFacts::lines_more), unfolding(crate::specs::Settles::accepted_settlement))]
+    fn accepted_settlement(
+        &mut self,
+        number: &[u8],
+        settlement: &Settlement,
+        names: &Names,
+        players: u16,
+        parts: &[PartShares],
+    ) -> Result<(), AllocError>
+        requires { IsBetweenLines self.old }
+        ensures { OnOk result (self.new ≡ with_lines self.old
+            (accepted_settlement self.old.form number.now settlement.now names.now players
+            parts.now)) }
+    {
+        if !settlement.fits {
+            return self.accepted_hand(number, settlement, names);
+        }
+        self.accepted_line(number, settlement)?;
+        self.settled_lines(settlement, names, players, parts)
+    }
+
+    /// The settlement of a hand that is rejected for its payments alone; nothing of another.
+    #[tactic(auto, using(crate::proofs::SheetFacts::no_lines))]
+    fn split_lines(
+        &mut self,
+        split: &Option<SplitHand>,
+        parts: &[PartShares],
+    ) -> Result<(), AllocError>
+        requires { IsBetweenLines self.old }
+        ensures { OnOk result (self.new ≡ with_lines self.old
+            (split_lines self.old.form split.now parts.now)) }
+    {
+        match split {
+            None => Ok(()),
+            Some(hand) => {
+                let SplitHand {
+                    settlement,
+                    names,
+                    players,
+                } = hand;
+                self.settled_lines(settlement, names, *players, parts)
+            }
+        }
+    }
+
+    /// The settlement of a hand.
+    #[tactic(auto, using(crate::proofs::SheetFacts::lines_more))]
+    fn settlement(&mut self, number: &[u8], hand: &AuditedShares) -> Result<(), AllocError>
+        requires { IsBetweenLines self.old }
+        ensures { OnOk result (self.new ≡ with_lines self.old
+            (settle_block self.old.form number.now hand.now.audit hand.now.split
+            hand.now.parts.items)) }
+    {
+        match &hand.audit {
+            HandAudit::Rejected {
+                line,
+                cause,
+                hundredths,
+            } => {
+                self.rejected_hand(number, *line, *hundredths, cause)?;
+                self.split_lines(&hand.split, &hand.parts)
+            }
+            HandAudit::Accepted {
+                settlement,
+                names,
+                players,
+                ..
+            } => self.accepted_settlement(number, settlement, names, *players, &hand.parts),
+        }
+    }
+}
+
+/// Appends the settlement of a hand. Its first line is that of the verdict. Where the hand is accepted and the names
+/// of the collections fit its pots, or it is rejected for its payments alone, there follow its pots: of one of which
+/// it is known who wins it what each winner of a side of each part gets, and what each player is due and got; of
+/// another what each player got. Behind them stands, where it is known who wins each pot, what each player is still
+/// to get, or to give back. A hand whose names don't fit has the lines that `write_hand` writes of its payments, and
+/// one that is rejected for another cause no line more. The number is that of the hand's header, digit by digit. Out
+/// of memory leaves `out` as it was.
+pub fn write_settlement(
+    out: &mut Vec<u8>,
+    number: &[u8],
+    hand: &AuditedShares,
+    form: Form,
+) -> Result<(), Memory>
+    ensures block { OnOk result (out.new.items ≡ out.old.items
+        ++ settle_block form number.now hand.now.audit hand.now.split hand.now.parts.items) }
+    ensures memory { OnErr result (out.new.items ≡ out.old.items) }
+{
+    let mut sheet = Sheet::new(*out.allocator(), form);
+    sheet.settlement(number, hand)?;
+    out.extend_from_slice(sheet.bytes())?;
+    Ok(())
+}
