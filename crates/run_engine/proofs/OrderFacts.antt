@@ -1,14 +1,10 @@
 -- What is written before what is read.
 use Rattle.std.proofs.Common.{◌≡◌, ℕ, ◌+◌, ◌<◌, ◌≤◌, Bool, true, false, List, [], ◌∷◌, ◌++◌, length, take, drop, Option, Some, None, Result, Ok, Err, inl, inr, refl, sym, ap, subst, ◌∙◌, arith, append_assoc, append-nil, length-append}
-use Rattle.std.specs.List.{concat, filter_map}
-use Rattle.std.specs.Prelude.{count_by, not}
+use Rattle.std.specs.List.{concat}
 use Rattle.card_sets.specs.declared.Memory.{Memory}
-use Rattle.hand_audit.specs.declared.verdicts.HandAudit.{HandAudit}
 use Rattle.hand_cuts.specs.declared.units.CutKind.TheVariants.{Hands}
-use Rattle.report_table.specs.Totals.{is_accepted, totals_block}
-use Rattle.run_engine.specs.Histories.{verdict_of}
-use Rattle.run_engine.specs.UnitSums.{SumsInOrder}
-use Rattle.run_engine.proofs.TotalsFacts.{its_rejects, one_block}
+use Rattle.report_table.specs.declared.equity.Form.{Form}
+use Rattle.run_engine.specs.UnitSums.{IsOneBlock, SumsInOrder}
 use Rattle.std.proofs.Math.Seq.{take-append_seam}
 use Rattle.byte_ends.specs.Ends.{WritesOn, WritesOut}
 use Rattle.byte_ends.specs.declared.Failed.{Failed as Fault}
@@ -31,7 +27,6 @@ use Rattle.run_engine.specs.Units.{is_whole, left_over, started}
 use Rattle.run_engine.specs.Writing.{one_if}
 use Rattle.run_engine.specs.Command.{reads_input}
 use Rattle.run_engine.specs.declared.command.Command.{Command}
-use Rattle.run_engine.specs.declared.command.Mode.TheVariants as mode
 use Rattle.run_engine.specs.declared.listed.Listed.{Listed}
 use Rattle.run_engine.specs.declared.reading.Ending.{Ending}
 use Rattle.run_engine.specs.declared.reading.Ending.TheVariants.{Whole, Failed, TooLong, Open}
@@ -328,17 +323,17 @@ reads_all reads limit kind done s0 ending0 bytes0 (read ∷ first) old ending by
     (f.0, f.1, f.2, f.3, f.4, reads_all reads limit kind done f.0 f.1 (with_read limit bytes0 read) first old ending bytes made new ending' bytes' f.5 r)
 
 -- what is read while nothing is due goes before
-all_before : {S K : Type 0} (reads : S → S → Option (List ℕ) → Type 0) (writes : K → K → Option (List ℕ) → Type 0) (limit : ℕ) (asked : Command) (is : asked.mode ≡ mode.Totals)
+all_before : {S K : Type 0} (reads : S → S → Option (List ℕ) → Type 0) (writes : K → K → Option (List ℕ) → Type 0) (limit : ℕ) (asked : Command) (waits : has_blocks asked.mode ≡ false)
     (s : S) (ending : Ending) (bytes : List ℕ) (made : List (Option (List ℕ))) (mid : S) (ending' : Ending) (bytes' : List ℕ) (k : K) (status : ℕ) (s' : S) (k' : K)
     → ReadsAll reads limit s ending bytes made mid ending' bytes' → GoesOn reads writes limit asked ending' bytes' [] mid k status s' k'
     → GoesOn reads writes limit asked ending bytes [] s k status s' k'
-all_before {S} {K} reads writes limit asked is s ending bytes [] mid ending' bytes' k status s' k' r g =
+all_before {S} {K} reads writes limit asked waits s ending bytes [] mid ending' bytes' k status s' k' r g =
     let a = subst (λ (m : S). GoesOn reads writes limit asked ending' bytes' [] m k status s' k') r.0 g in
     let b = subst (λ (e : Ending). GoesOn reads writes limit asked e bytes' [] s k status s' k') r.1 a in
     subst (λ (bs : List ℕ). GoesOn reads writes limit asked ending bs [] s k status s' k') r.2 b
-all_before {S} {K} reads writes limit asked is s ending bytes (read ∷ later) mid ending' bytes' k status s' k' r g =
-    let rest = all_before reads writes limit asked is r.0 r.1 (with_read limit bytes read) later mid ending' bytes' k status s' k' r.5 g in
-    let nothing : [] ≡ due asked Open bytes = rw is refl in
+all_before {S} {K} reads writes limit asked waits s ending bytes (read ∷ later) mid ending' bytes' k status s' k' r g =
+    let rest = all_before reads writes limit asked waits r.0 r.1 (with_read limit bytes read) later mid ending' bytes' k status s' k' r.5 g in
+    let nothing : [] ≡ due asked Open bytes = rw waits refl in
     record {
       events = Reading read ∷ rest.events;
       went = (r.0, r.3, rest.went);
@@ -351,39 +346,44 @@ due_ended asked Failed bytes e = refl
 due_ended asked TooLong bytes e = refl
 due_ended asked Open bytes e = absurd (e refl)
 
-totals_due : (asked : Command) (ending : Ending) (bytes block : List ℕ) → asked.mode ≡ mode.Totals → (ending ≡ Open → ⊥) → block ≡ totals_block asked.form (filter_map verdict_of (units_in Hands (is_whole ending) 1 bytes)) → block ≡ due asked ending bytes
+sums_due : {Sums : Type 0} (asked : Command) (sums_of : List UnitLines → Sums) (block : Form → Sums → List ℕ) (rejects : Sums → ℕ) → IsOneBlock asked sums_of block rejects
+    → (ending : Ending) (bytes : List ℕ) → (ending ≡ Open → ⊥) → block asked.form (sums_of (units_in Hands (is_whole ending) 1 bytes)) ≡ due asked ending bytes
 unfolding report
-totals_due asked ending bytes block is ended made =
-    made ∙ sym (append-nil (totals_block asked.form (filter_map verdict_of (units_in Hands (is_whole ending) 1 bytes))))
-    ∙ sym (due_ended asked ending bytes ended ∙ ap concat (one_block asked ending bytes (units_in Hands (is_whole ending) 1 bytes) is refl))
+sums_due asked sums_of block rejects one ending bytes ended =
+    sym (append-nil (block asked.form (sums_of (units_in Hands (is_whole ending) 1 bytes))))
+    ∙ sym (due_ended asked ending bytes ended ∙ ap concat (one.blocks ending bytes))
 
--- the totals are written
-pub totals_ordered : {S K Sums : Type 0} (reads : S → S → Option (List ℕ) → Type 0) (writes : K → K → Option (List ℕ) → Type 0) (sums_of : List HandAudit → Sums) (limit : ℕ) (asked : Command) (s new : S) (k now : K) (ending : Ending) (sums : Sums) (rejected : ℕ) (block : List ℕ)
-    → asked.mode ≡ mode.Totals → (o : SumsInOrder reads sums_of limit s new ending sums (Ok tt))
-    → block ≡ totals_block asked.form (filter_map verdict_of (units_in Hands (is_whole o.behind) 1 o.bytes)) → rejected ≡ count_by (λ hand. not (is_accepted hand)) (filter_map verdict_of (units_in Hands (is_whole o.behind) 1 o.bytes))
-    → WritesOut writes k now block (Ok tt) → GoesOn reads writes limit asked Open [] [] s k (written_status ending rejected) new now
+-- the block of the sums is written
+pub sums_written : {S K Sums : Type 0} (reads : S → S → Option (List ℕ) → Type 0) (writes : K → K → Option (List ℕ) → Type 0) (limit : ℕ) (asked : Command)
+    (sums_of : List UnitLines → Sums) (block : Form → Sums → List ℕ) (rejected_in : Sums → ℕ) → IsOneBlock asked sums_of block rejected_in
+    → (s new : S) (k now : K) (ending : Ending) (sums : Sums) → (o : SumsInOrder reads sums_of limit s new ending sums (Ok tt))
+    → WritesOut writes k now (block asked.form sums) (Ok tt) → GoesOn reads writes limit asked Open [] [] s k (written_status ending (rejected_in sums)) new now
 unfolding rejects
-totals_ordered {S} {K} {Sums} reads writes sums_of limit asked s new k now ending sums rejected block is o made count written =
-    let status = written_status ending rejected in
-    let due_is = totals_due asked o.behind o.bytes block is o.summed.1 made in
-    let all : rejects asked (reported asked.mode o.behind o.bytes) ≡ rejected = its_rejects asked o.behind o.bytes (units_in Hands (is_whole o.behind) 1 o.bytes) is refl ∙ sym count in
-    let same : status ≡ written_status o.behind (rejects asked (reported asked.mode o.behind o.bytes)) = ap (λ (e : Ending). written_status e rejected) o.summed.0 ∙ ap (written_status o.behind) (sym all) in
-    all_before reads writes limit asked is s Open [] o.made new o.behind o.bytes k status new now o.order
-    (block_before reads writes limit asked o.behind o.bytes [] block new k now status new now ([], sym due_is ∙ sym (append-nil block)) written
+sums_written reads writes limit asked sums_of block rejected_in one s new k now ending sums o written =
+    let text = block asked.form sums in
+    let status = written_status ending (rejected_in sums) in
+    let due_is : text ≡ due asked o.behind o.bytes = ap (block asked.form) o.summed.2 ∙ sums_due asked sums_of block rejected_in one o.behind o.bytes o.summed.1 in
+    let all : rejects asked (reported asked.mode o.behind o.bytes) ≡ rejected_in sums = one.rejects o.behind o.bytes ∙ ap rejected_in (sym o.summed.2) in
+    let same : status ≡ written_status o.behind (rejects asked (reported asked.mode o.behind o.bytes)) = ap (λ (e : Ending). written_status e (rejected_in sums)) o.summed.0 ∙ ap (written_status o.behind) (sym all) in
+    all_before reads writes limit asked one.waits s Open [] o.made new o.behind o.bytes k status new now o.order
+    (block_before reads writes limit asked o.behind o.bytes [] text new k now status new now ([], sym due_is ∙ sym (append-nil text)) written
     (record { events = []; went = (refl, refl); follows = inl (o.summed.1, due_is, same) }))
 
--- or their write fails
-pub totals_stuck : {S K Sums : Type 0} (reads : S → S → Option (List ℕ) → Type 0) (writes : K → K → Option (List ℕ) → Type 0) (sums_of : List HandAudit → Sums) (limit : ℕ) (asked : Command) (s new : S) (k now : K) (ending : Ending) (sums : Sums) (block : List ℕ) (fault : Fault)
-    → asked.mode ≡ mode.Totals → (o : SumsInOrder reads sums_of limit s new ending sums (Ok tt))
-    → block ≡ totals_block asked.form (filter_map verdict_of (units_in Hands (is_whole o.behind) 1 o.bytes))
-    → WritesOut writes k now block (Err fault) → GoesOn reads writes limit asked Open [] [] s k 4 new now
-totals_stuck reads writes sums_of limit asked s new k now ending sums block fault is o made written =
-    let due_is = totals_due asked o.behind o.bytes block is o.summed.1 made in
-    all_before reads writes limit asked is s Open [] o.made new o.behind o.bytes k 4 new now o.order
-    (block_fails reads writes limit asked o.behind o.bytes [] block new k now fault ([], sym due_is ∙ sym (append-nil block)) written)
+-- or its write fails
+pub sums_stuck : {S K Sums : Type 0} (reads : S → S → Option (List ℕ) → Type 0) (writes : K → K → Option (List ℕ) → Type 0) (limit : ℕ) (asked : Command)
+    (sums_of : List UnitLines → Sums) (block : Form → Sums → List ℕ) (rejected_in : Sums → ℕ) → IsOneBlock asked sums_of block rejected_in
+    → (s new : S) (k now : K) (ending : Ending) (sums : Sums) (fault : Fault) → (o : SumsInOrder reads sums_of limit s new ending sums (Ok tt))
+    → WritesOut writes k now (block asked.form sums) (Err fault) → GoesOn reads writes limit asked Open [] [] s k 4 new now
+sums_stuck reads writes limit asked sums_of block rejected_in one s new k now ending sums fault o written =
+    let text = block asked.form sums in
+    let due_is : text ≡ due asked o.behind o.bytes = ap (block asked.form) o.summed.2 ∙ sums_due asked sums_of block rejected_in one o.behind o.bytes o.summed.1 in
+    all_before reads writes limit asked one.waits s Open [] o.made new o.behind o.bytes k 4 new now o.order
+    (block_fails reads writes limit asked o.behind o.bytes [] text new k now fault ([], sym due_is ∙ sym (append-nil text)) written)
 
 -- or memory runs out before
-pub totals_unmade : {S K Sums : Type 0} (reads : S → S → Option (List ℕ) → Type 0) (writes : K → K → Option (List ℕ) → Type 0) (sums_of : List HandAudit → Sums) (limit : ℕ) (asked : Command) (s new : S) (k : K) (ending : Ending) (sums : Sums) (result : Result (Unit {0}) Memory)
-    → asked.mode ≡ mode.Totals → SumsInOrder reads sums_of limit s new ending sums result → GoesOn reads writes limit asked Open [] [] s k 6 new k
-totals_unmade {S} {K} {Sums} reads writes sums_of limit asked s new k ending sums result is o =
-    all_before reads writes limit asked is s Open [] o.made new o.behind o.bytes k 6 new k o.order (record { events = []; went = (refl, refl); follows = inr (refl, 0, refl) })
+pub sums_unmade : {S K Sums : Type 0} (reads : S → S → Option (List ℕ) → Type 0) (writes : K → K → Option (List ℕ) → Type 0) (limit : ℕ) (asked : Command)
+    (sums_of : List UnitLines → Sums) (block : Form → Sums → List ℕ) (rejected_in : Sums → ℕ) → IsOneBlock asked sums_of block rejected_in
+    → (s new : S) (k : K) (ending : Ending) (sums : Sums) (result : Result (Unit {0}) Memory)
+    → SumsInOrder reads sums_of limit s new ending sums result → GoesOn reads writes limit asked Open [] [] s k 6 new k
+sums_unmade reads writes limit asked sums_of block rejected_in one s new k ending sums result o =
+    all_before reads writes limit asked one.waits s Open [] o.made new o.behind o.bytes k 6 new k o.order (record { events = []; went = (refl, refl); follows = inr (refl, 0, refl) })

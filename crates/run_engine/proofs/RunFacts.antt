@@ -8,7 +8,7 @@ use Rattle.hand_cuts.specs.Units.{units_in}
 use Rattle.hand_cuts.proofs.CallerLemmas.{closed_units_stay}
 use Rattle.run_engine.specs.declared.command.Command.{Command}
 use Rattle.run_engine.specs.declared.command.Mode.{Mode}
-use Rattle.run_engine.specs.declared.command.Mode.TheVariants.{Spots, Ranges, Check, Audit, Streets, Results, Totals, Made}
+use Rattle.run_engine.specs.declared.command.Mode.TheVariants.{Spots, Ranges, Check, Audit, Streets, Results, Totals, Balance, Made}
 use Rattle.run_engine.specs.declared.listed.Holding.TheVariants as held
 use Rattle.run_engine.specs.declared.listed.Told.TheVariants.{Verdict, AllIn, LaterStreets}
 use Rattle.run_engine.specs.declared.listed.Listed.{Listed}
@@ -37,6 +37,7 @@ listed_of Audit has = (each.Hands AllIn, refl)
 listed_of Streets has = (each.Hands LaterStreets, refl)
 listed_of Results has = (each.Results, refl)
 listed_of Totals has = absurd (true≢false (sym has))
+listed_of Balance has = absurd (true≢false (sym has))
 listed_of Made has = absurd (true≢false (sym has))
 
 pub closed_stays : ClosedBlocksStay
@@ -105,6 +106,7 @@ made_mode Audit none = absurd (true≢false none)
 made_mode Streets none = absurd (true≢false none)
 made_mode Results none = absurd (true≢false none)
 made_mode Totals none = absurd (true≢false none)
+made_mode Balance none = absurd (true≢false none)
 made_mode Made none = refl
 
 -- what is made is what such a command reports of no bytes

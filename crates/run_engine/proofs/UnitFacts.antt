@@ -9,7 +9,6 @@ use Rattle.hand_cuts.proofs.CallerLemmas.{closed_hands_by_bytes}
 use Rattle.line_text.specs.Lines.{lines, closed as closed_lines}
 use Rattle.report_table.specs.declared.equity.Form.{Form}
 use Rattle.run_engine.specs.Closed.{closed}
-use Rattle.run_engine.specs.Command.{reads_input}
 use Rattle.run_engine.specs.Histories.{hand_block, hand_results, is_rejected_hand}
 use Rattle.run_engine.specs.Laws.{has_blocks}
 use Rattle.run_engine.specs.Reading.{reported}
@@ -138,6 +137,7 @@ blocks_by_units asked mode.Results listed ending bytes e =
     subst (λ (l : Listed). blocks_in mode.Results asked (reported mode.Results ending bytes) ≡ unit_blocks asked.form l 1 (units_in (listed_kind l) (is_whole ending) 1 bytes)) (some_same Results listed e)
     (sym (ap (unit_blocks asked.form Results 1) (hands_reported mode.Results ending bytes refl) ∙ results_units asked.form 1 (hands_from 1 (lines (reported mode.Results ending bytes)))))
 blocks_by_units asked mode.Totals listed ending bytes e = none_some listed e
+blocks_by_units asked mode.Balance listed ending bytes e = none_some listed e
 blocks_by_units asked mode.Made listed ending bytes e = none_some listed e
 
 pub rejects_by_units : (asked : Command) (m : Mode) (listed : Listed) (ending : Ending) (bytes : List ℕ) → listed_in m ≡ Some listed
@@ -161,6 +161,7 @@ rejects_by_units asked mode.Results listed ending bytes e =
     subst (λ (l : Listed). rejects_in mode.Results asked (reported mode.Results ending bytes) ≡ rejected_units l (units_in (listed_kind l) (is_whole ending) 1 bytes)) (some_same Results listed e)
     (sym (ap (rejected_units Results) (hands_reported mode.Results ending bytes refl) ∙ rejected_results (hands_from 1 (lines (reported mode.Results ending bytes)))))
 rejects_by_units asked mode.Totals listed ending bytes e = none_some listed e
+rejects_by_units asked mode.Balance listed ending bytes e = none_some listed e
 rejects_by_units asked mode.Made listed ending bytes e = none_some listed e
 
 -- a mode in which something has a block each
@@ -172,6 +173,7 @@ listed_blocks mode.Audit listed e = refl
 listed_blocks mode.Streets listed e = refl
 listed_blocks mode.Results listed e = refl
 listed_blocks mode.Totals listed e = none_some listed e
+listed_blocks mode.Balance listed e = none_some listed e
 listed_blocks mode.Made listed e = none_some listed e
 
 pub listed_unit_kind : (m : Mode) (listed : Listed) → listed_in m ≡ Some listed → unit_kind m ≡ listed_kind listed
@@ -182,15 +184,5 @@ listed_unit_kind mode.Audit listed e = ap listed_kind (some_same (Hands AllIn) l
 listed_unit_kind mode.Streets listed e = ap listed_kind (some_same (Hands LaterStreets) listed e)
 listed_unit_kind mode.Results listed e = ap listed_kind (some_same Results listed e)
 listed_unit_kind mode.Totals listed e = none_some listed e
+listed_unit_kind mode.Balance listed e = none_some listed e
 listed_unit_kind mode.Made listed e = none_some listed e
-
--- of the modes that read their input totals alone have one block for all
-pub only_totals : (m : Mode) → reads_input m ≡ true → listed_in m ≡ None → m ≡ mode.Totals
-only_totals mode.Spots some none = absurd (cc)
-only_totals mode.Ranges some none = absurd (cc)
-only_totals mode.Check some none = absurd (cc)
-only_totals mode.Audit some none = absurd (cc)
-only_totals mode.Streets some none = absurd (cc)
-only_totals mode.Results some none = absurd (cc)
-only_totals mode.Totals some none = refl
-only_totals mode.Made some none = absurd (cc)

@@ -1,9 +1,10 @@
 -- The block of a hand in the report.
-use Rattle.std.specs.Prelude.{◌≡◌, ℕ, Bool, true, false, List, [], ◌∷◌, ◌++◌, Option, Some, None}
+use Rattle.std.specs.Prelude.{◌≡◌, ℕ, Bool, true, false, List, [], ◌∷◌, ◌++◌, Option, Some, None, option_map}
 use Rattle.std.specs.List.{slice_range}
 use Rattle.hand_cuts.specs.Units.{UnitLines}
 use Rattle.history_text.specs.Headers.{hand_number}
 use Rattle.hand_audit.specs.SeatChips.{chips_of}
+use Rattle.hand_audit.specs.declared.seat_chips.AuditedChips.{AuditedChips}
 use Rattle.hand_audit.specs.Streets.{states_in, streets_of}
 use Rattle.hand_audit.specs.declared.streets.StreetState.{StreetState}
 use Rattle.hand_audit.specs.Verdict.{audit_of}
@@ -24,6 +25,13 @@ number_text (line ∷ later) = slice_range line (hand_number line).0 (hand_numbe
 -- the verdict on a hand
 unfoldable pub verdict_of : UnitLines → Option HandAudit
 verdict_of hand = audit_of hand.first hand.lines
+
+-- the same with the chips of its seats
+abbrev pub with_chips : List (List ℕ) → HandAudit → AuditedChips
+with_chips lines audit = record { audit = audit; chips = chips_of audit lines }
+
+unfoldable pub chips_hand : UnitLines → Option AuditedChips
+chips_hand hand = option_map (with_chips hand.lines) (verdict_of hand)
 
 -- whether the equity of an all-in is told
 abbrev pub tells_all_in : Told → Bool

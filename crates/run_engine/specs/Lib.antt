@@ -16,6 +16,7 @@ pub use Rattle.report_table.specs.HandEquities
 pub use Rattle.report_table.specs.Results
 pub use Rattle.report_table.specs.Streets as StreetLines
 pub use Rattle.report_table.specs.Totals
+pub use Rattle.report_table.specs.Balance
 pub use Rattle.report_table.specs.Made
 pub use Rattle.made_hands.specs.Made as MadeText
 pub use Rattle.line_text.specs.Amounts

@@ -2,21 +2,23 @@
 use Rattle.std.specs.Prelude.{ℕ, ◌+◌, ◌-◌, Bool, ◌&&◌, not, if◌then◌else◌, List, [], ◌∷◌, map, count_by}
 use Rattle.std.specs.List.{concat, filter_map}
 use Rattle.std.specs.Result.{is_err}
+use Rattle.hand_audit.specs.declared.seat_chips.AuditedChips.{AuditedChips}
 use Rattle.hand_audit.specs.declared.verdicts.HandAudit.{HandAudit}
 use Rattle.hand_cuts.specs.Units.{hands_from}
 use Rattle.hand_ranges.specs.Blocks.{ranges_block}
 use Rattle.hand_ranges.specs.RangeSpot.{ranges_of}
 use Rattle.line_text.specs.Lines.{lines}
 use Rattle.made_hands.specs.Made.{made_text}
+use Rattle.report_table.specs.Balance.{balance_block}
 use Rattle.report_table.specs.Made.{made_block}
 use Rattle.report_table.specs.Spots.{spot_block}
 use Rattle.report_table.specs.Totals.{is_accepted, totals_block}
 use Rattle.report_table.specs.declared.equity.Form.{Form}
-use Rattle.run_engine.specs.Histories.{hand_block, hand_results, is_rejected_hand, verdict_of}
+use Rattle.run_engine.specs.Histories.{chips_hand, hand_block, hand_results, is_rejected_hand, verdict_of}
 use Rattle.run_engine.specs.RangeLines.{is_rejected_range}
 use Rattle.run_engine.specs.declared.command.Command.{Command}
 use Rattle.run_engine.specs.declared.command.Mode.{Mode}
-use Rattle.run_engine.specs.declared.command.Mode.TheVariants.{Spots, Ranges, Check, Audit, Streets, Results, Totals, Made}
+use Rattle.run_engine.specs.declared.command.Mode.TheVariants.{Spots, Ranges, Check, Audit, Streets, Results, Totals, Balance, Made}
 use Rattle.run_engine.specs.declared.listed.Holding.{Holding}
 use Rattle.run_engine.specs.declared.listed.Holding.TheVariants as held
 use Rattle.run_engine.specs.declared.listed.Told.{Told}
@@ -62,9 +64,13 @@ rejected_hands bytes = count_by is_rejected_hand (hands_from 1 (lines bytes))
 abbrev pub verdicts : List ℕ → List HandAudit
 verdicts bytes = filter_map verdict_of (hands_from 1 (lines bytes))
 
+-- the same with the chips of their seats
+abbrev pub chips_hands : List ℕ → List AuditedChips
+chips_hands bytes = filter_map chips_hand (hands_from 1 (lines bytes))
+
 -- the blocks of a command in a mode: one for each spot, with cards or with ranges; one for each hand, where an audit is a check
 -- with the equity of each all-in, streets go on with that of each counted all-in on each later street, and results are what
--- each player netted; or one for the totals over all hands of the bytes, or over all hands that are made
+-- each player netted; or one for the totals or the balance over all hands of the bytes, or over all hands that are made
 abbrev pub blocks_in : Mode → Command → List ℕ → List (List ℕ)
 blocks_in Spots asked bytes = spots_from asked.form held.Cards 1 1 (lines bytes)
 blocks_in Ranges asked bytes = spots_from asked.form held.Ranges 1 1 (lines bytes)
@@ -73,6 +79,7 @@ blocks_in Audit asked bytes = hand_blocks asked.form AllIn bytes
 blocks_in Streets asked bytes = hand_blocks asked.form LaterStreets bytes
 blocks_in Results asked bytes = result_blocks asked.form bytes
 blocks_in Totals asked bytes = totals_block asked.form (verdicts bytes) ∷ []
+blocks_in Balance asked bytes = balance_block asked.form (chips_hands bytes) ∷ []
 blocks_in Made asked bytes =
     made_block asked.form asked.hands (verdicts (made_text asked.seed asked.hands)) ∷ []
 
@@ -92,6 +99,7 @@ rejects_in Audit asked bytes = rejected_hands bytes
 rejects_in Streets asked bytes = rejected_hands bytes
 rejects_in Results asked bytes = rejected_hands bytes
 rejects_in Totals asked bytes = count_by (λ hand. not (is_accepted hand)) (verdicts bytes)
+rejects_in Balance asked bytes = count_by (λ hand. not (is_accepted hand.audit)) (chips_hands bytes)
 rejects_in Made asked bytes =
     asked.hands - count_by is_accepted (verdicts (made_text asked.seed asked.hands))
 

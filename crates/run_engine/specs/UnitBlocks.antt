@@ -7,7 +7,7 @@ use Rattle.report_table.specs.declared.equity.Form.{Form}
 use Rattle.run_engine.specs.Histories.{hand_block, hand_results, is_rejected_hand}
 use Rattle.run_engine.specs.Report.{is_rejected_spot, line_block}
 use Rattle.run_engine.specs.declared.command.Mode.{Mode}
-use Rattle.run_engine.specs.declared.command.Mode.TheVariants.{Check, Audit, Streets, Totals, Made}
+use Rattle.run_engine.specs.declared.command.Mode.TheVariants.{Check, Audit, Streets, Totals, Balance, Made}
 use Rattle.run_engine.specs.declared.command.Mode.TheVariants as mode
 use Rattle.run_engine.specs.declared.listed.Holding.{Holding}
 use Rattle.run_engine.specs.declared.listed.Holding.TheVariants.{Cards, Ranges}
@@ -25,6 +25,7 @@ listed_in Audit = Some (Hands AllIn)
 listed_in Streets = Some (Hands LaterStreets)
 listed_in mode.Results = Some Results
 listed_in Totals = None
+listed_in Balance = None
 listed_in Made = None
 
 -- what it is cut from the input as

@@ -1,6 +1,6 @@
 //! The report of the input, written while it is read.
 
-ghost use Rattle.std.specs.Prelude.{◌≡◌, ◌<◌, ◌≤◌, ◌+◌, ◌^◌, [], true, IfOk, Some, length};
+ghost use Rattle.std.specs.Prelude.{◌≡◌, ◌<◌, ◌≤◌, ◌+◌, ◌^◌, [], true, IfOk, Some, None, length};
 ghost use Rattle.hand_audit.specs.Departs.{begins_hand};
 ghost use Rattle.hand_cuts.specs.declared.units.CutKind.TheVariants.{Hands};
 ghost use Rattle.line_text.specs.Lines.{lines};
@@ -11,18 +11,18 @@ ghost use Rattle.run_engine.specs.UnitBlocks.{MakesBlock, listed_in, listed_kind
 ghost use Rattle.run_engine.specs.Units.{started, unit_kind};
 ghost use Rattle.run_engine.specs.declared.reading.Ending.TheVariants.{Open};
 
-use crate::command::Command;
+use crate::command::{Command, Mode};
 use crate::counter::{Counter, Desk};
 use crate::hands::{write_lines, write_result_lines};
 use crate::listed::{Listed, Numbers, listed_in};
 use crate::reading::{Input, next_unit};
 use crate::spots::write_spot_line;
-use crate::totals::write_totals;
+use crate::totals::write_sums;
 use crate::write_fault::WriteFault;
 use byte_ends::{Sink, Source, write_all};
 use card_sets::Memory;
 use hand_cuts::INPUT_MAX;
-use report_table::Form;
+use report_table::{Balance, Form, Totals};
 use std::alloc::Global;
 
 /// Appends the block of a hand or a line, and answers whether the hand or the spot is rejected; none where
@@ -108,6 +108,42 @@ fn write_blocks<C: Counter, S: Source, K: Sink>(
     }
 }
 
+/// Writes the report of a command whose report is one block for all hands. Answers how many hands are
+/// rejected.
+fn write_summed<C: Counter, S: Source, K: Sink>(
+    alloc: Global,
+    asked: Command,
+    source: &mut S,
+    input: &mut Input,
+    desk: &mut Desk<C>,
+    sink: &mut K,
+) -> Result<u64, WriteFault>
+    requires ready { C.ready }
+    requires reads { reads_input asked.mode ≡ true }
+    requires listed { listed_in asked.mode ≡ None }
+    requires start { input.old ≡ started (unit_kind asked.mode) }
+    ensures { GoesOn S.reads K.writes INPUT_MAX asked Open [] [] source.old sink.old
+        (told_status input.new.ending result) source.new sink.new }
+{
+    match asked.mode {
+        Mode::Totals => {
+            let mut totals = Totals::new(alloc);
+            write_sums(alloc, asked, source, input, desk, sink, &mut totals)
+        }
+        Mode::Balance => {
+            let mut balance = Balance::new(alloc);
+            write_sums(alloc, asked, source, input, desk, sink, &mut balance)
+        }
+        Mode::Check
+        | Mode::Audit
+        | Mode::Streets
+        | Mode::Results
+        | Mode::Spots
+        | Mode::Ranges
+        | Mode::Made => unreachable!(),
+    }
+}
+
 /// Writes the report of a command that reads its input. Answers how many spots or hands are rejected.
 pub(crate) fn write_report<C: Counter, S: Source, K: Sink>(
     alloc: Global,
@@ -124,7 +160,7 @@ pub(crate) fn write_report<C: Counter, S: Source, K: Sink>(
         (told_status input.new.ending result) source.new sink.new }
 {
     let Some(listed) = listed_in(asked.mode) else {
-        return write_totals(alloc, asked, source, input, desk, sink);
+        return write_summed(alloc, asked, source, input, desk, sink);
     };
     write_blocks(alloc, asked, listed, source, input, desk, sink)
 }

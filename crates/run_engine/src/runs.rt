@@ -165,8 +165,13 @@ fn unit_kind(mode: Mode) -> CutKind
 {
     match mode {
         Mode::Spots | Mode::Ranges => CutKind::Lines,
-        Mode::Check | Mode::Audit | Mode::Streets | Mode::Results | Mode::Totals | Mode::Made =>
-            CutKind::Hands,
+        Mode::Check
+        | Mode::Audit
+        | Mode::Streets
+        | Mode::Results
+        | Mode::Totals
+        | Mode::Balance
+        | Mode::Made => CutKind::Hands,
     }
 }
 

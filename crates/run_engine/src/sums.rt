@@ -1,16 +1,17 @@
 //! Sums over hands, of whatever kind: one loop over the hands serves all.
 
-ghost use Rattle.std.specs.Prelude.{◌≡◌, ◌<◌, ◌≤◌, ◌+◌, ◌^◌, ◌++◌, ◌∷◌, [], ℕ, List, OnOk, IsTrue, length, option_to_list, true, refl};
+ghost use Rattle.std.specs.Prelude.{◌≡◌, ◌<◌, ◌≤◌, ◌+◌, ◌^◌, ◌++◌, ◌∷◌, [], ℕ, List, OnOk, IsTrue, length, true};
+ghost use Rattle.std.specs.List.{filter_map};
 ghost use Rattle.hand_audit.specs.Departs.{begins_hand};
-ghost use Rattle.hand_audit.specs.declared.verdicts.HandAudit.{HandAudit};
+ghost use Rattle.hand_cuts.specs.Units.{UnitLines, hands_from};
 ghost use Rattle.line_text.specs.Lines.{lines};
-ghost use Rattle.report_table.specs.Equities.{IsOfHand, is_asked};
+ghost use Rattle.report_table.specs.Balance.{balance_lines, balance_of};
 ghost use Rattle.report_table.specs.Made.{made_sums};
-ghost use Rattle.report_table.specs.Totals.{totals_of};
-ghost use Rattle.run_engine.specs.Histories.{verdict_of};
+ghost use Rattle.report_table.specs.Totals.{run_block, totals_of};
+ghost use Rattle.report_table.specs.declared.equity.Form.{Form as FormOf};
+ghost use Rattle.run_engine.specs.Histories.{chips_hand, verdict_of};
 ghost use Rattle.hand_cuts.specs.declared.units.CutKind.TheVariants.{Hands as HandUnits};
-ghost use Rattle.run_engine.specs.Report.{verdicts};
-ghost use Rattle.run_engine.specs.UnitSums.{SumsInOrder};
+ghost use Rattle.run_engine.specs.UnitSums.{SumsInOrder, few_told};
 ghost use Rattle.run_engine.specs.Units.{started};
 
 use crate::counter::{Counter, Desk};
@@ -18,74 +19,140 @@ use crate::reading::{Input, next_unit};
 use crate::text_source::TextSource;
 use byte_ends::Source;
 use card_sets::Memory;
-use hand_audit::{HandAudit, audit_hand};
+use hand_audit::{audit_hand, audit_with_chips};
 use hand_cuts::{CutKind, INPUT_MAX};
-use report_table::{Equity, MadeSums, Totals};
+use report_table::{Balance, Form, MadeSums, Totals};
 use std::alloc::Global;
 
 /// Sums over some hands, to which one hand after the other is added.
 pub(crate) trait HandSums {
     // the sums of some hands, and how many hands some sums are of
-    ghost sums_of: { List HandAudit → Self };
+    ghost sums_of: { List UnitLines → Self };
 
     ghost count: { Self → ℕ };
 
-    /// Adds a hand, by its verdict and the equity of its all-in.
-    fn add_hand(&mut self, audit: &HandAudit, equity: &Equity) -> Result<(), Memory>
-        requires asked { is_asked equity.now ≡ true }
-        requires equity { IsOfHand audit.now equity.now }
+    /// Adds a hand, whose lines the bytes are; its header line comes first and has the number `first`.
+    fn add_lines<C: Counter>(
+        &mut self,
+        alloc: Global,
+        bytes: &[u8],
+        first: u32,
+        desk: &mut Desk<C>,
+    ) -> Result<(), Memory>
+        requires ready { C.ready }
+        requires header { IsTrue (begins_hand (lines bytes.now)) }
+        requires numbers { first + length (lines bytes.now) < 2 ^ 32 }
         requires few { count self.old < 2 ^ 32 }
-        ensures { (hands : List HandAudit) → self.old ≡ sums_of hands
-            → OnOk result (self.new ≡ sums_of (hands ++ audit.now ∷ [])) };
+        ensures { (hands : List UnitLines) → self.old ≡ sums_of hands
+            → OnOk result (self.new
+            ≡ sums_of (hands ++ (record { first = first; lines = lines bytes.now }) ∷ [])) };
 
-    ghost counted: { (hands : List HandAudit) → count (sums_of hands) ≡ length hands };
+    ghost counted: { (hands : List UnitLines) → count (sums_of hands) ≤ length hands };
+}
+
+/// Sums that are written as one block.
+pub(crate) trait BlockSums: HandSums {
+    // the block of some sums, and how many of their hands are rejected
+    ghost block: { FormOf → Self → List ℕ };
+
+    ghost rejects: { Self → ℕ };
+
+    /// Appends the block.
+    fn write_block(&self, out: &mut Vec<u8>, form: Form) -> Result<(), Memory>
+        ensures { OnOk result (out.new.items ≡ out.old.items ++ block form self.now) };
+
+    /// How many of the hands are rejected.
+    fn rejected_hands(&self) -> u64
+        ensures { result ≡ rejects self.now };
 }
 
 impl HandSums for Totals {
-    ghost sums_of = { totals_of };
+    ghost sums_of = { λ hands. totals_of (filter_map verdict_of hands) };
 
     ghost count = { λ totals. totals.hands };
 
-    fn add_hand(&mut self, audit: &HandAudit, equity: &Equity) -> Result<(), Memory> {
-        self.add(audit, equity)
+    fn add_lines<C: Counter>(
+        &mut self,
+        alloc: Global,
+        bytes: &[u8],
+        first: u32,
+        desk: &mut Desk<C>,
+    ) -> Result<(), Memory> {
+        let audit = audit_hand(alloc, bytes, first)?;
+        desk.ask_hand(true, &audit)?;
+        self.add(&audit, &desk.equity)
     }
 
-    ghost counted = { λ hands. refl };
+    ghost counted = { few_told verdict_of };
+}
+
+impl BlockSums for Totals {
+    ghost block = { run_block };
+
+    ghost rejects = { λ totals. totals.rejected };
+
+    fn write_block(&self, out: &mut Vec<u8>, form: Form) -> Result<(), Memory> {
+        self.write(out, form)
+    }
+
+    fn rejected_hands(&self) -> u64 {
+        self.rejected()
+    }
+}
+
+impl HandSums for Balance {
+    ghost sums_of = { λ hands. balance_of (filter_map chips_hand hands) };
+
+    ghost count = { λ balance. balance.hands };
+
+    fn add_lines<C: Counter>(
+        &mut self,
+        alloc: Global,
+        bytes: &[u8],
+        first: u32,
+        desk: &mut Desk<C>,
+    ) -> Result<(), Memory> {
+        let hand = audit_with_chips(alloc, bytes, first)?;
+        desk.ask_hand(true, &hand.audit)?;
+        self.add(&hand, &desk.equity)
+    }
+
+    ghost counted = { few_told chips_hand };
+}
+
+impl BlockSums for Balance {
+    ghost block = { balance_lines };
+
+    ghost rejects = { λ balance. balance.rejected };
+
+    fn write_block(&self, out: &mut Vec<u8>, form: Form) -> Result<(), Memory> {
+        self.write(out, form)
+    }
+
+    fn rejected_hands(&self) -> u64 {
+        self.rejected()
+    }
 }
 
 impl HandSums for MadeSums {
-    ghost sums_of = { made_sums };
+    ghost sums_of = { λ hands. made_sums (filter_map verdict_of hands) };
 
     ghost count = { λ sums. sums.hands };
 
-    fn add_hand(&mut self, audit: &HandAudit, equity: &Equity) -> Result<(), Memory> {
-        self.add(audit, equity);
+    fn add_lines<C: Counter>(
+        &mut self,
+        alloc: Global,
+        bytes: &[u8],
+        first: u32,
+        desk: &mut Desk<C>,
+    ) -> Result<(), Memory> {
+        let audit = audit_hand(alloc, bytes, first)?;
+        desk.ask_hand(true, &audit)?;
+        self.add(&audit, &desk.equity);
         Ok(())
     }
 
-    ghost counted = { λ hands. refl };
-}
-
-/// Adds a hand, whose lines the bytes are; its header line comes first and has the number `first`.
-#[tactic(auto, unfolding(crate::specs::Histories::verdict_of))]
-fn add_lines<C: Counter, H: HandSums>(
-    alloc: Global,
-    bytes: &[u8],
-    first: u32,
-    desk: &mut Desk<C>,
-    sums: &mut H,
-) -> Result<(), Memory>
-    requires ready { C.ready }
-    requires header { IsTrue (begins_hand (lines bytes.now)) }
-    requires numbers { first + length (lines bytes.now) < 2 ^ 32 }
-    requires few { H.count sums.old < 2 ^ 32 }
-    ensures { (hands : List HandAudit) → sums.old ≡ H.sums_of hands
-        → OnOk result (sums.new ≡ H.sums_of (hands
-        ++ option_to_list (verdict_of (record { first = first; lines = lines bytes.now })))) }
-{
-    let audit = audit_hand(alloc, bytes, first)?;
-    desk.ask_hand(true, &audit)?;
-    sums.add_hand(&audit, &desk.equity)
+    ghost counted = { few_told verdict_of };
 }
 
 /// Adds all hands of the input to the sums of none.
@@ -111,7 +178,7 @@ pub(crate) fn add_units<C: Counter, S: Source, H: HandSums>(
             return Ok(());
         };
         let hand = &input.cutter.held()[unit.first..unit.end];
-        match add_lines(alloc, hand, unit.first_line, desk, sums) {
+        match sums.add_lines(alloc, hand, unit.first_line, desk) {
             Ok(()) => {}
             Err(Memory) => return Err(Memory),
         }
@@ -128,7 +195,7 @@ pub(crate) fn add_hands<C: Counter, H: HandSums>(
     requires ready { C.ready }
     requires small { length text.now ≤ INPUT_MAX }
     requires none { sums.old ≡ H.sums_of [] }
-    ensures { OnOk result (sums.new ≡ H.sums_of (verdicts text.now)) }
+    ensures { OnOk result (sums.new ≡ H.sums_of (hands_from 1 (lines text.now))) }
 {
     let mut source = TextSource { left: text };
     let mut input = Input::start(alloc, CutKind::Hands);

@@ -1,5 +1,4 @@
 use Rattle.std.proofs.Common.{◌++◌, sym, ap, ◌∙◌}
-use Rattle.hand_audit.specs.SeatChips.{chips_of}
 use Rattle.hand_cuts.specs.Units.{UnitLines}
 use Rattle.line_text.specs.Lines.{lines}
 use Rattle.report_table.specs.Results.{results_block}

@@ -62,7 +62,7 @@ pub hands-preserved : goal.hands-preserved
 hands-preserved g c =
     let o = c.hands.invariant in
     let p : PullsOne g.S.Source.reads INPUT_MAX c.hands.source c.next_unit.new.source Hands c.hands.input c.next_unit.new.input o.bytes o.done (Ok (Some c.in-Some.unit)) = rw c.in-Some.is at (c.in-Ok.ensures Hands o.bytes o.done o.cuts) in
-    sums_ordered_more g.S.Source.reads g.H.HandSums.sums_of INPUT_MAX _ _ _ c.hands.input c.next_unit.new.input c.hands.sums c.add_lines.new.sums c.in-Some.unit o p (rw c.held.ensures.bytes at c.in-Ok-add_lines.ensures)
+    sums_ordered_more g.S.Source.reads g.H.HandSums.sums_of INPUT_MAX _ _ _ c.hands.input c.next_unit.new.input c.hands.sums c.add_lines.new.self c.in-Some.unit o p (rw c.held.ensures.bytes at c.in-Ok-add_lines.ensures)
 
 pub returns-in-Err : goal.returns-in-Err
 returns-in-Err g c =
