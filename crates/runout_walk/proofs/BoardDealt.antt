@@ -3,7 +3,7 @@ use Rattle.std.proofs.Common.{◌≡◌, ℕ, ◌+◌, ◌*◌, ◌/◌, ◌%◌
 use Rattle.std.specs.Prelude.{slice_index}
 use Rattle.std.specs.List.{count_by}
 use Rattle.std.proofs.lemmas.List.Sums.{sum_by-append}
-use Rattle.card_sets.specs.Cards.{union, IsCardSet, rank_of, suit_of}
+use Rattle.card_sets.specs.Cards.{union, IsCardSet, IsRising, rank_of, suit_of}
 use Rattle.card_sets.specs.Disjoint.{apart}
 use Rattle.card_sets.specs.Games.{has_board, own_size}
 use Rattle.card_sets.specs.Rising.{rising-IsCardSet, IsRising-cards_where}
@@ -194,6 +194,27 @@ row_there deal pot taken low high place row s of_row at =
     let choice = set_of_member deal.state (taken ++ low ∷ high ∷ []) s.alone s.member in
     let under : row.least ≤ rank_of low = of_row.from_least low (high ∷ []) choice.1 in
     of_row.right place ((taken ++ low ∷ high ∷ []) ∷ []) (omega arith) (omega arith) (omega arith) (rw (q, r) (dealt_with deal.state taken row.ranks low high s of_row.of_ranks))
+
+-- the ranks of a pair rise, and aren't below the least
+pub ranks_there : (st : State) (taken : List ℕ) (low high place least : ℕ) → IsScene st (taken ++ low ∷ high ∷ []) → ((card : ℕ) (more : List ℕ) → IsRising (taken ++ card ∷ more) → least ≤ rank_of card) → place ≡ 13 * rank_of low + rank_of high → (least ≤ place / 13) × (place / 13 ≤ place % 13)
+ranks_there st taken low high place least s from at =
+    let rises = pair_rises st taken low high s.alone s.member in
+    let up : low < high = rises.0 in
+    let top : high < 52 = rises.1 in
+    let q : place / 13 ≡ rank_of low = omega arith in
+    let r : place % 13 ≡ rank_of high = omega arith in
+    let choice = set_of_member st (taken ++ low ∷ high ∷ []) s.alone s.member in
+    let under : least ≤ rank_of low = from low (high ∷ []) choice.1 in
+    (omega arith, omega arith)
+
+pub dealt_there : (st : State) (taken ranks : List ℕ) (low high place : ℕ) → IsScene st (taken ++ low ∷ high ∷ []) → AreRanksOf ranks taken → place ≡ 13 * rank_of low + rank_of high → IsDealtWith st ranks (place / 13) (place % 13) ((taken ++ low ∷ high ∷ []) ∷ [])
+dealt_there st taken ranks low high place s of_ranks at =
+    let rises = pair_rises st taken low high s.alone s.member in
+    let up : low < high = rises.0 in
+    let top : high < 52 = rises.1 in
+    let q : place / 13 ≡ rank_of low = omega arith in
+    let r : place % 13 ≡ rank_of high = omega arith in
+    rw (q, r) (dealt_with st taken ranks low high s of_ranks)
 
 pub outcome_of : (deal : Showdown) (pot : ℕ) (set : List ℕ) → Keeps → IsScene deal.state set → AreBelow (length deal.state.hands) (eligible_in deal pot) → side_outcome High deal pot (set ∷ []) ≡ best_set (high_of deal.state (set ∷ [])) (eligible_in deal pot)
 outcome_of deal pot set keeps s below = outcome_best deal pot (length deal.state.hands) (set ∷ []) keeps s.game (λ h l. full_of deal.state set h s l) below

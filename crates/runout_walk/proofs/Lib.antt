@@ -16,9 +16,10 @@ pub mod BestHands
 pub mod BoardDealt
 pub mod FirstRanks
 pub mod RowSets
+pub mod PackedSums
+pub mod CodeSets
 pub mod PairCounts
-pub mod WaitingRunouts
-pub mod RankPairs
+pub mod CodedPairs
 pub mod BoardLeaf
 pub mod NoTable
 pub mod DrawLists

@@ -1,5 +1,5 @@
 -- Rows that are kept, and what flushes change.
-use Rattle.std.specs.Prelude.{◌≡◌, ◌<◌, ◌≤◌, ℕ, zero, suc, ◌+◌, ◌==◌, ◌&&◌, true, if◌then◌else◌, List, [], ◌∷◌, ◌++◌, length, max, slice_get, slice_index, slice_index_or, count_by, Option, Some, MatchOption, ◌^◌}
+use Rattle.std.specs.Prelude.{◌≡◌, ◌<◌, ◌≤◌, ℕ, ◌+◌, ◌==◌, ◌&&◌, true, if◌then◌else◌, List, [], ◌∷◌, ◌++◌, length, max, slice_get, slice_index, slice_index_or, count_by, Option, Some, MatchOption}
 use Rattle.card_sets.specs.Cards.{IsRising, rank_of}
 use Rattle.card_sets.specs.Disjoint.{apart}
 use Rattle.card_sets.specs.Games.{has_side}
@@ -88,10 +88,6 @@ abbrev pub row_place : Row → Side → ℕ → ℕ
 row_place row High place = slice_index row.mains place
 row_place row Low place = slice_index row.lows place
 
--- how many of the runouts that wait at a place of a row are to be counted at a number
-abbrev pub waiting : Row → Side → ℕ → ℕ → ℕ → ℕ
-waiting row side place times number = if row_place row side place == number then times else 0
-
 -- where a runout with a pair as the last two cards of the board is counted
 abbrev pub pair_place : Showdown → List ℕ → ℕ → Side → Pair → ℕ
 pair_place deal taken pot side pair = count_place deal pot side ((taken ++ cards_of_pair pair) ∷ [])
@@ -104,23 +100,3 @@ CellsGrow deal taken pot side pairs old new = (place : ℕ) → place < 2048 →
 abbrev pub PairsGrow : Showdown → List ℕ → List Pair → List (List ℕ) → List (List ℕ) → Type 0
 PairsGrow deal taken pairs old new = (pot place : ℕ) (side : Side) → pot < length deal.pots → has_side side deal.state.game ≡ true → place < 2048
     → count_at new pot side place ≡ count_at old pot side place + count_by (λ pair. pair_place deal taken pot side pair == place) pairs
-
--- how many of the runouts that wait, so many at each of the first places of a row, are to be counted at a number
-unfoldable pub waits_below : Row → Side → List ℕ → ℕ → ℕ → ℕ
-waits_below row side times number zero = 0
-waits_below row side times number (suc place) = waits_below row side times number place + waiting row side place (slice_index times place) number
-
--- the same where some of them wait at the places of the rows
-abbrev pub PairsWait : Showdown → List ℕ → List Row → List Pair → List ℕ → List ℕ → List (List ℕ) → List (List ℕ) → Type 0
-PairsWait deal taken rows pairs was now old new = (pot number : ℕ) (side : Side) (row : Row) → pot < length deal.pots → has_side side deal.state.game ≡ true → number < 2048 → slice_get rows pot ≡ Some row
-    → count_at new pot side number + waits_below row side now number 169 ≡ count_at old pot side number + waits_below row side was number 169 + count_by (λ pair. pair_place deal taken pot side pair == number) pairs
-
--- and there is room for those that wait and so many more
-abbrev pub AllFit : Showdown → List Row → List ℕ → List (List ℕ) → ℕ → Type 0
-AllFit deal rows times counts more = (pot number : ℕ) (side : Side) (row : Row) → pot < length deal.pots → has_side side deal.state.game ≡ true → number < 2048 → slice_get rows pot ≡ Some row
-    → count_at counts pot side number + waits_below row side times number 169 + more < 2 ^ 32
-
--- there is room for those that wait at one place, and for so many more
-abbrev pub WaitsFit : Showdown → List Row → ℕ → ℕ → List (List ℕ) → ℕ → Type 0
-WaitsFit deal rows at times counts more = (pot number : ℕ) (side : Side) (row : Row) → pot < length deal.pots → has_side side deal.state.game ≡ true → number < 2048 → slice_get rows pot ≡ Some row
-    → count_at counts pot side number + waiting row side at times number + more < 2 ^ 32

@@ -32,7 +32,8 @@ pub mod Pairs
 pub mod Branches
 pub mod OneMore
 pub mod KeptRows
-pub mod RankPairs
+pub mod Fields
+pub mod Codes
 pub mod KeptFlushes
 pub mod Worth
 pub mod Draws

@@ -1,23 +1,26 @@
-//! The last two cards of a board at once.
+//! The last two cards of a board, pair by pair.
 
-ghost use Rattle.std.specs.Prelude.{◌≡◌, ℕ, ◌+◌, ◌*◌, ◌^◌, ◌<◌, ◌≤◌, ◌++◌, [], ◌∷◌, length, slice_index};
+ghost use Rattle.std.specs.Prelude.{◌≡◌, ℕ, ◌+◌, ◌*◌, ◌^◌, ◌<◌, ◌≤◌, ◌++◌, [], ◌∷◌, List, length, slice_index, IsTrue};
 ghost use Rattle.card_sets.specs.State.{state_of};
 ghost use Rattle.runout_ranges.specs.Runouts.{HasMember};
 ghost use Rattle.showdown_tally.specs.Deals.{deal_of};
 ghost use Rattle.showdown_tally.specs.SideCounts.{CountsFit};
 ghost use Rattle.showdown_tally.specs.Tallies.{runouts_after};
+ghost use Rattle.runout_walk.specs.Codes.{AreCodesFor, IsPairSummed, PairsSum};
 ghost use Rattle.runout_walk.specs.KeptFlushes.{AreFlushes};
-ghost use Rattle.runout_walk.specs.KeptRows.{AllFit, AreRowsOf, CellsGrow, IsFlushPart, IsRowFor, PairsGrow, PairsWait, pair_place};
+ghost use Rattle.runout_walk.specs.KeptRows.{AreRowsOf, CellsGrow, IsFlushPart, IsRowFor, PairsGrow, pair_place};
 ghost use Rattle.runout_walk.specs.Pairs.{cards_of_pair};
-ghost use Rattle.runout_walk.specs.Suits.{AreFivesWith};
+ghost use Rattle.runout_walk.specs.Suits.{AreAllShort, AreFivesWith};
 
 use crate::bests::{all_are_hands, are_hands};
+use crate::codes::Codes;
 use crate::flush::Suited;
 use crate::flushes::Flushes;
 use crate::front::Front;
+use crate::packed::put_sum;
 use crate::pair::Pair;
-use crate::places::{add_place, add_times, put_waits};
-use crate::row::{PLACES, Row};
+use crate::places::{add_place, put_runout};
+use crate::row::Row;
 use crate::spot::BoardSpot;
 use crate::suited::{suited_part, suited_place};
 use card_sets::{CardSet, Side};
@@ -65,8 +68,7 @@ fn count_suited(
     }
 }
 
-/// Counts a runout with a pair as the last two cards, for each pot. Where the pair makes nobody a flush it waits at the place of its
-/// ranks.
+/// Counts a runout with a pair as the last two cards, for each pot.
 #[inline]
 fn count_pair(
     spot: &BoardSpot,
@@ -74,7 +76,6 @@ fn count_pair(
     front: &Front,
     rows: &[Row],
     pair: &Pair,
-    waits: &mut [u32],
     counts: &mut [[u32; 2048]],
 )
     // Where the front's table of suits names none, no two cards of these suits make anybody a flush.
@@ -87,29 +88,21 @@ fn count_pair(
     requires member { HasMember (runouts_after (state_of spot.now.table.known))
         ((front.now.taken ++ cards_of_pair pair.now) ∷ []) }
 
-    // What is kept of flushes is right where it bears the deal's number.
+    // What is kept of flushes is right where it bears the deal's number, and each count has room for one more.
     requires flushes { AreFlushes (deal_of spot.now.table) flushes.old }
-
-    // A deck has fewer pairs than may wait at a place; each count has room for those that it will get, and for one more.
-    requires waits { length waits.old ≡ 169 }
-    requires few { (place : ℕ) → slice_index waits.old place < 2000 }
     requires counts { 2 * spot.now.table.pots ≤ length counts.old }
-    requires fits { AllFit (deal_of spot.now.table) rows.now waits.old counts.old 1 }
+    requires fits { CountsFit (deal_of spot.now.table) counts.old 1 }
 
-    // The pair is counted, or waits where the rows say who wins; a place gets one more at the most.
-    ensures counts { PairsWait (deal_of spot.now.table) front.now.taken rows.now
-        (pair.now ∷ []) waits.old waits.new counts.old counts.new }
+    // The pair is counted, and what is kept stays right.
+    ensures counts { PairsGrow (deal_of spot.now.table) front.now.taken
+        (pair.now ∷ []) counts.old counts.new }
     ensures same { length counts.new ≡ length counts.old }
-    ensures waits { length waits.new ≡ 169 }
-    ensures few { (place : ℕ) → slice_index waits.new place ≤ slice_index waits.old place + 1 }
-
-    // What is kept stays right.
     ensures flushes { AreFlushes (deal_of spot.now.table) flushes.new }
 {
     law_values_keep_order();
     all_are_hands(&spot.table);
     let Some(part) = suited_part(spot, front, pair) else {
-        add_times(waits, u16::from(pair.ranks), 1);
+        put_runout(spot, rows, usize::from(pair.ranks), counts);
         return;
     };
     count_suited(spot, flushes, front.taken, rows, pair, &part, counts);
@@ -137,9 +130,6 @@ fn count_pairs<L: Ledger>(
         → HasMember (runouts_after (state_of spot.now.table.known))
         ((front.now.taken ++ cards_of_pair pair) ∷ []) }
 
-    // A deck has fewer pairs than 2,000.
-    requires few { length pairs.now < 2000 }
-
     // What is kept of flushes is right where it bears the deal's number, and each count has room for all pairs.
     requires flushes { AreFlushes (deal_of spot.now.table) flushes.old }
     requires counts { 2 * spot.now.table.pots ≤ length counts.old }
@@ -152,12 +142,10 @@ fn count_pairs<L: Ledger>(
     ensures flushes { AreFlushes (deal_of spot.now.table) flushes.new }
     ensures steps { steps.new ≡ steps.old + length pairs.now }
 {
-    let mut waits = [0; PLACES];
     for pair in pairs {
         steps.tick();
-        count_pair(spot, flushes, front, rows, pair, &mut waits, counts);
+        count_pair(spot, flushes, front, rows, pair, counts);
     }
-    put_waits(spot, rows, &waits, counts);
 }
 
 /// Where a runout is counted for the only pot of a game with one side, with a pair as the last two cards.
@@ -234,17 +222,66 @@ fn count_one_pot<L: Ledger>(
     }
 }
 
-/// Counts first cards with each of some pairs as the last two. It takes a step a pair.
+/// How many pairs a field of a sum has room for.
+const PIECE: usize = 511;
+
+/// Where a pair makes nobody a flush, a one in the field of the code of its ranks. Else it is counted for each pot, and none is given.
 #[inline]
-pub(crate) fn count_front<L: Ledger>(
+fn one_of_pair(
     spot: &BoardSpot,
     flushes: &mut Flushes,
     front: &Front,
     rows: &[Row],
+    codes: &Codes,
+    pair: &Pair,
+    counts: &mut [[u32; 2048]],
+) -> u64
+    // Where the front's table of suits names none, no two cards of these suits make anybody a flush.
+    requires suits { AreFivesWith spot.now.most front.now.taken front.now.suits }
+    requires places { length front.now.suits ≡ 16 }
+
+    // Each pot has a row for the first cards, and with the pair these are a runout.
+    requires rows { AreRowsOf (deal_of spot.now.table) front.now.taken rows.now }
+    requires pots { length rows.now ≡ spot.now.table.pots }
+    requires member { HasMember (runouts_after (state_of spot.now.table.known))
+        ((front.now.taken ++ cards_of_pair pair.now) ∷ []) }
+
+    // The codes are those of the first cards, one for each outcome.
+    requires codes { AreCodesFor (deal_of spot.now.table) front.now.taken codes.now }
+    requires enough { IsTrue codes.now.enough }
+
+    // What is kept of flushes is right where it bears the deal's number, and each count has room for one more.
+    requires flushes { AreFlushes (deal_of spot.now.table) flushes.old }
+    requires counts { 2 * spot.now.table.pots ≤ length counts.old }
+    requires fits { CountsFit (deal_of spot.now.table) counts.old 1 }
+
+    // The pair is counted, or else in the field of the number; what is kept stays right.
+    ensures counts { IsPairSummed (deal_of spot.now.table) front.now.taken codes.now pair.now result counts.old counts.new }
+    ensures same { length counts.new ≡ length counts.old }
+    ensures flushes { AreFlushes (deal_of spot.now.table) flushes.new }
+{
+    law_values_keep_order();
+    all_are_hands(&spot.table);
+    let Some(part) = suited_part(spot, front, pair) else {
+        return codes.adds[usize::from(pair.ranks)];
+    };
+    count_suited(spot, flushes, front.taken, rows, pair, &part, counts);
+    0
+}
+
+/// Counts first cards with each of up to 511 pairs as the last two, for each pot: those that make nobody a flush in the fields of a
+/// sum. It takes a step a pair.
+#[inline(never)]
+fn sum_piece<L: Ledger>(
+    spot: &BoardSpot,
+    flushes: &mut Flushes,
+    front: &Front,
+    rows: &[Row],
+    codes: &Codes,
     pairs: &[Pair],
     counts: &mut [[u32; 2048]],
     steps: &mut Steps<L>,
-)
+) -> u64
     // Where the front's table of suits names none, no two cards of these suits make anybody a flush.
     requires suits { AreFivesWith spot.now.most front.now.taken front.now.suits }
     requires places { length front.now.suits ≡ 16 }
@@ -256,11 +293,175 @@ pub(crate) fn count_front<L: Ledger>(
         → HasMember (runouts_after (state_of spot.now.table.known))
         ((front.now.taken ++ cards_of_pair pair) ∷ []) }
 
-    // What is kept of flushes is right where it bears the deal's number.
-    requires flushes { AreFlushes (deal_of spot.now.table) flushes.old }
+    // The codes are those of the first cards, one for each outcome.
+    requires codes { AreCodesFor (deal_of spot.now.table) front.now.taken codes.now }
+    requires enough { IsTrue codes.now.enough }
 
-    // A deck has fewer pairs than 2,000, and each count has room for all of these.
-    requires few { length pairs.now < 2000 }
+    // What is kept of flushes is right where it bears the deal's number, and each count has room for all pairs.
+    requires flushes { AreFlushes (deal_of spot.now.table) flushes.old }
+    requires counts { 2 * spot.now.table.pots ≤ length counts.old }
+    requires fits { CountsFit (deal_of spot.now.table) counts.old (length pairs.now) }
+
+    // A field has room for all pairs.
+    requires few { length pairs.now < 512 }
+
+    // Each pair is counted for each pot, or else in a field of the sum; what is kept stays right.
+    ensures counts { PairsSum (deal_of spot.now.table) front.now.taken codes.now pairs.now result counts.old counts.new }
+    ensures same { length counts.new ≡ length counts.old }
+    ensures flushes { AreFlushes (deal_of spot.now.table) flushes.new }
+    ensures steps { steps.new ≡ steps.old + length pairs.now }
+{
+    let mut sum = 0u64;
+    for pair in pairs {
+        steps.tick();
+        sum += one_of_pair(spot, flushes, front, rows, codes, pair, counts);
+    }
+    sum
+}
+
+/// A one in the field of the code of a pair's ranks, where no two cards make anybody a flush.
+#[inline]
+fn one_plain(spot: &BoardSpot, taken: CardSet, codes: &Codes, pair: &Pair) -> u64
+    // No two cards make anybody a flush with the first cards, and with the pair these are a runout.
+    requires short { AreAllShort spot.now.most taken }
+    requires member { HasMember (runouts_after (state_of spot.now.table.known))
+        ((taken ++ cards_of_pair pair.now) ∷ []) }
+
+    // The codes are those of the first cards, one for each outcome.
+    requires codes { AreCodesFor (deal_of spot.now.table) taken codes.now }
+    requires enough { IsTrue codes.now.enough }
+
+    // The pair is counted in the field of the number, whatever the counts are.
+    ensures { (counts : List (List ℕ)) → IsPairSummed
+        (deal_of spot.now.table) taken codes.now pair.now result counts counts }
+{
+    law_values_keep_order();
+    all_are_hands(&spot.table);
+    codes.adds[usize::from(pair.ranks)]
+}
+
+/// Counts first cards, with which no two cards make anybody a flush, with each of up to 511 pairs as the last two, in the fields of a
+/// sum. It takes a step a pair.
+#[inline(never)]
+fn sum_plain<L: Ledger>(
+    spot: &BoardSpot,
+    taken: CardSet,
+    codes: &Codes,
+    pairs: &[Pair],
+    steps: &mut Steps<L>,
+) -> u64
+    // No two cards make anybody a flush with the first cards, and with each pair these are a runout.
+    requires short { AreAllShort spot.now.most taken }
+    requires pairs { (pair : Pair) → HasMember pairs.now pair
+        → HasMember (runouts_after (state_of spot.now.table.known))
+        ((taken ++ cards_of_pair pair) ∷ []) }
+
+    // The codes are those of the first cards, one for each outcome.
+    requires codes { AreCodesFor (deal_of spot.now.table) taken codes.now }
+    requires enough { IsTrue codes.now.enough }
+
+    // A field has room for all pairs.
+    requires few { length pairs.now < 512 }
+
+    // Each pair is counted in a field of the sum, whatever the counts are.
+    ensures sum { (counts : List (List ℕ)) → PairsSum
+        (deal_of spot.now.table) taken codes.now pairs.now result counts counts }
+    ensures steps { steps.new ≡ steps.old + length pairs.now }
+{
+    let mut sum = 0u64;
+    for pair in pairs {
+        steps.tick();
+        sum += one_plain(spot, taken, codes, pair);
+    }
+    sum
+}
+
+/// Counts first cards with each of up to 511 pairs as the last two, for each pot. It takes a step a pair.
+#[inline]
+fn count_piece<L: Ledger>(
+    spot: &BoardSpot,
+    flushes: &mut Flushes,
+    front: &Front,
+    rows: &[Row],
+    codes: &Codes,
+    pairs: &[Pair],
+    counts: &mut [[u32; 2048]],
+    steps: &mut Steps<L>,
+)
+    // Where the front's table of suits names none, no two cards of these suits make anybody a flush.
+    requires suits { AreFivesWith spot.now.most front.now.taken front.now.suits }
+    requires places { length front.now.suits ≡ 16 }
+
+    // Where the front is plain, no two cards make anybody a flush.
+    requires plain { IsTrue front.now.plain → AreAllShort spot.now.most front.now.taken }
+
+    // Each pot has a row for the first cards, and with each pair these are a runout.
+    requires rows { AreRowsOf (deal_of spot.now.table) front.now.taken rows.now }
+    requires pots { length rows.now ≡ spot.now.table.pots }
+    requires pairs { (pair : Pair) → HasMember pairs.now pair
+        → HasMember (runouts_after (state_of spot.now.table.known))
+        ((front.now.taken ++ cards_of_pair pair) ∷ []) }
+
+    // The codes are those of the first cards, one for each outcome.
+    requires codes { AreCodesFor (deal_of spot.now.table) front.now.taken codes.now }
+    requires enough { IsTrue codes.now.enough }
+
+    // What is kept of flushes is right where it bears the deal's number, and each count has room for all pairs.
+    requires flushes { AreFlushes (deal_of spot.now.table) flushes.old }
+    requires counts { 2 * spot.now.table.pots ≤ length counts.old }
+    requires fits { CountsFit (deal_of spot.now.table) counts.old (length pairs.now) }
+
+    // A field has room for all pairs.
+    requires few { length pairs.now < 512 }
+
+    // Each pair is counted for each pot, and what is kept stays right.
+    ensures counts { PairsGrow
+        (deal_of spot.now.table) front.now.taken pairs.now counts.old counts.new }
+    ensures same { length counts.new ≡ length counts.old }
+    ensures flushes { AreFlushes (deal_of spot.now.table) flushes.new }
+    ensures steps { steps.new ≡ steps.old + length pairs.now }
+{
+    codes.seven();
+    if front.plain {
+        let sum = sum_plain(spot, front.taken, codes, pairs, steps);
+        put_sum(spot, codes, sum, counts);
+        return;
+    }
+    let sum = sum_piece(spot, flushes, front, rows, codes, pairs, counts, steps);
+    put_sum(spot, codes, sum, counts);
+}
+
+/// Counts first cards with each of some pairs as the last two, for each pot, by codes. It takes a step a pair.
+fn count_coded<L: Ledger>(
+    spot: &BoardSpot,
+    flushes: &mut Flushes,
+    front: &Front,
+    rows: &[Row],
+    codes: &Codes,
+    pairs: &[Pair],
+    counts: &mut [[u32; 2048]],
+    steps: &mut Steps<L>,
+)
+    // Where the front's table of suits names none, no two cards of these suits make anybody a flush.
+    requires suits { AreFivesWith spot.now.most front.now.taken front.now.suits }
+    requires places { length front.now.suits ≡ 16 }
+
+    // Where the front is plain, no two cards make anybody a flush.
+    requires plain { IsTrue front.now.plain → AreAllShort spot.now.most front.now.taken }
+
+    // Each pot has a row for the first cards, and with each pair these are a runout.
+    requires rows { AreRowsOf (deal_of spot.now.table) front.now.taken rows.now }
+    requires pots { length rows.now ≡ spot.now.table.pots }
+    requires pairs { (pair : Pair) → HasMember pairs.now pair
+        → HasMember (runouts_after (state_of spot.now.table.known))
+        ((front.now.taken ++ cards_of_pair pair) ∷ []) }
+
+    // The codes are those of the first cards, one for each outcome.
+    requires codes { AreCodesFor (deal_of spot.now.table) front.now.taken codes.now }
+    requires enough { IsTrue codes.now.enough }
+
+    // What is kept of flushes is right where it bears the deal's number, and each count has room for all pairs.
+    requires flushes { AreFlushes (deal_of spot.now.table) flushes.old }
     requires counts { 2 * spot.now.table.pots ≤ length counts.old }
     requires fits { CountsFit (deal_of spot.now.table) counts.old (length pairs.now) }
 
@@ -271,6 +472,70 @@ pub(crate) fn count_front<L: Ledger>(
     ensures flushes { AreFlushes (deal_of spot.now.table) flushes.new }
     ensures steps { steps.new ≡ steps.old + length pairs.now }
 {
+    let mut at = 0;
+    while at < pairs.len() {
+        let end = pairs.len().min(at + PIECE);
+        count_piece(
+            spot,
+            flushes,
+            front,
+            rows,
+            codes,
+            &pairs[at..end],
+            counts,
+            steps,
+        );
+        at = end;
+    }
+}
+
+/// Counts first cards with each of some pairs as the last two. It takes a step a pair.
+#[inline]
+pub(crate) fn count_front<L: Ledger>(
+    spot: &BoardSpot,
+    flushes: &mut Flushes,
+    front: &Front,
+    rows: &[Row],
+    codes: &Codes,
+    pairs: &[Pair],
+    counts: &mut [[u32; 2048]],
+    steps: &mut Steps<L>,
+)
+    // Where the front's table of suits names none, no two cards of these suits make anybody a flush.
+    requires suits { AreFivesWith spot.now.most front.now.taken front.now.suits }
+    requires places { length front.now.suits ≡ 16 }
+
+    // Where the front is plain, no two cards make anybody a flush.
+    requires plain { IsTrue front.now.plain → AreAllShort spot.now.most front.now.taken }
+
+    // Each pot has a row for the first cards, and with each pair these are a runout.
+    requires rows { AreRowsOf (deal_of spot.now.table) front.now.taken rows.now }
+    requires pots { length rows.now ≡ spot.now.table.pots }
+    requires pairs { (pair : Pair) → HasMember pairs.now pair
+        → HasMember (runouts_after (state_of spot.now.table.known))
+        ((front.now.taken ++ cards_of_pair pair) ∷ []) }
+
+    // The codes are those of the first cards.
+    requires codes { AreCodesFor (deal_of spot.now.table) front.now.taken codes.now }
+
+    // What is kept of flushes is right where it bears the deal's number.
+    requires flushes { AreFlushes (deal_of spot.now.table) flushes.old }
+
+    // Each count has room for all pairs.
+    requires counts { 2 * spot.now.table.pots ≤ length counts.old }
+    requires fits { CountsFit (deal_of spot.now.table) counts.old (length pairs.now) }
+
+    // Each pair is counted for each pot, and what is kept stays right.
+    ensures counts { PairsGrow
+        (deal_of spot.now.table) front.now.taken pairs.now counts.old counts.new }
+    ensures same { length counts.new ≡ length counts.old }
+    ensures flushes { AreFlushes (deal_of spot.now.table) flushes.new }
+    ensures steps { steps.new ≡ steps.old + length pairs.now }
+{
+    if codes.enough {
+        count_coded(spot, flushes, front, rows, codes, pairs, counts, steps);
+        return;
+    }
     if spot.table.pots == 1 && !spot.table.known.game.has_side(Side::Low) {
         let cells = &mut counts[0];
         count_one_pot(spot, flushes, front, &rows[0], pairs, cells, steps);

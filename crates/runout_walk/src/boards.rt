@@ -1,4 +1,4 @@
-//! Runouts that are boards, the last two cards at once.
+//! Runouts that are boards, by their last two cards.
 
 ghost use Rattle.std.specs.Prelude.{◌≡◌, IsTrue};
 ghost use Rattle.card_sets.specs.State.{state_of};
@@ -6,16 +6,18 @@ ghost use Rattle.runout_ranges.specs.Shapes.{IsShapeOf, slots_of};
 ghost use Rattle.runout_ranges.specs.Slots.{unseen};
 ghost use Rattle.showdown_tally.specs.Deals.{deal_of};
 ghost use Rattle.runout_walk.specs.Boards.{are_boards, board_lacks};
+ghost use Rattle.runout_walk.specs.Codes.{AreAllCodes};
 ghost use Rattle.runout_walk.specs.KeptRows.{AreRows};
 ghost use Rattle.runout_walk.specs.KeptFlushes.{AreFlushes};
 
 use crate::board_leaf::count_front;
+use crate::coded_rows::CodedRows;
 use crate::deal::same_deal;
 use crate::flushes::Flushes;
 use crate::front::Front;
 use crate::leaf::{Leaf, Tail};
 use crate::pairs::Pairs;
-use crate::rank_pairs::{count_by_ranks, is_whole, take_steps};
+use crate::row::{last_rank, ranks_of};
 use crate::rows::Rows;
 use crate::spot::BoardSpot;
 use card_sets::{CardSet, Memory};
@@ -42,7 +44,8 @@ pub fn are_boards(table: &Table, shape: &Shape) -> bool
     table.known.game.has_board() && 2 <= board_lacks(shape)
 }
 
-/// The room that boards are counted in. It asks for up to 320 kB of the heap, of which rows are written where a count wants them first.
+/// The room that boards are counted in. It asks for up to 640 kB of the heap, of which rows and codes are written where a count wants
+/// them first.
 /// It is made once, and keeps what the next count of the same deal can use; what it held before makes no other difference.
 #[derive(Drop)]
 pub struct Boards {
@@ -52,6 +55,7 @@ pub struct Boards {
     cards: CardSet,
     pairs: Pairs,
     rows: Rows,
+    codes: CodedRows,
     flushes: Flushes,
     /// The table once more, with what is looked up at each pair.
     ghost same: { spot.table ≡ table },
@@ -59,6 +63,8 @@ pub struct Boards {
     ghost all: { cards ≡ unseen (state_of table.known) },
     /// The rows are the deal's.
     ghost right: { AreRows (deal_of spot.table) rows.rows.items },
+    /// The codes are the deal's.
+    ghost coded: { AreAllCodes (deal_of spot.table) codes.list.items },
     /// The flushes are the deal's.
     ghost best: { AreFlushes (deal_of spot.table) flushes },
 }
@@ -70,6 +76,7 @@ impl Boards {
         let spot = BoardSpot::none();
         let pairs = Pairs::none(alloc)?;
         let rows = Rows::none(alloc)?;
+        let codes = CodedRows::none(alloc)?;
         let flushes = Flushes::none(alloc)?;
         Ok(Boards {
             table: spot.table,
@@ -77,6 +84,7 @@ impl Boards {
             cards: CardSet::empty(),
             pairs,
             rows,
+            codes,
             flushes,
         })
     }
@@ -91,6 +99,7 @@ impl Boards {
             return;
         }
         self.rows.clear();
+        self.codes.clear();
         self.flushes.clear();
         self.cards = shape.unseen;
         self.spot = BoardSpot::of(table, shape);
@@ -118,17 +127,16 @@ impl Leaf for Boards {
     ) {
         tail.rest.rising();
         let spot = &self.spot;
-        let base = self.rows.ready(&spot.table, tail.taken);
+        let ranks = ranks_of(tail.taken);
+        let least = last_rank(tail.taken);
+        let base = self.rows.ready(&spot.table, tail.taken, &ranks, least);
         let rows = self.rows.stretch(base, spot.table.pots);
+        let place = self.codes.ready(spot, base, rows, &ranks, least);
+        let codes = self.codes.codes_at(place);
         let first = Front::of(spot, tail.taken);
-        if first.plain && is_whole(tail.rest, lo, hi) {
-            take_steps(steps, hi - lo);
-            count_by_ranks(spot, rows, tail.taken, tail.rest, counts);
-            return;
-        }
         self.pairs.serve(self.cards);
         let pairs = self.pairs.stretch(tail.rest, lo, hi);
         let flushes = &mut self.flushes;
-        count_front(spot, flushes, &first, rows, pairs, counts, steps);
+        count_front(spot, flushes, &first, rows, codes, pairs, counts, steps);
     }
 }

@@ -1,4 +1,4 @@
-//! The last cards of a runout, which are counted at once.
+//! The last cards of a runout, and what counts them.
 
 ghost use Rattle.std.specs.Prelude.{◌≡◌, ℕ, suc, ◌+◌, ◌-◌, ◌*◌, ◌<◌, ◌≤◌, ◌++◌, [], ◌∷◌, List, length, map};
 ghost use Rattle.std.specs.List.{slice_range};

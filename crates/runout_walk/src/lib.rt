@@ -1,7 +1,7 @@
 //! How many runouts each set of hands wins each side of each pot with, in one walk over a range of the listing.
 //!
 //! [`count_runouts_of`] goes through the listing slot after slot, card after card, and leaves out what lies before or behind the
-//! range. It hands the last cards of a runout to a [`Leaf`], which counts all of them at once and takes a step for each.
+//! range. It hands the last cards of a runout to a [`Leaf`], which counts them and takes a step for each.
 //!
 //! **Boards** ([`Boards`]: hold'em and Omaha Hi/Lo, where the board alone lacks two cards or more). The walk deals all but the last
 //! two cards; then there are up to 1,176 pairs behind them.
@@ -9,11 +9,12 @@
 //! 1. *A row by ranks.* Suits aside, who wins depends on the ranks of the pair alone: for the first cards' ranks a row of each pot
 //!    has, at 13 times the lower rank and the higher, who wins the high and the low. A row is filled where its ranks are met first,
 //!    and kept: at most 91 places, each of which costs a value a hand and side. Before the flop there are 455 rows.
-//! 2. *No flush.* Where no two cards can make anybody five of a suit, pairs aren't looked at one by one. There are as many of two
-//!    ranks as the product of how many cards are left of each, and they are added where the row says: about ten pairs an addition.
-//! 3. *A flush.* Elsewhere a table of sixteen bytes says, by the suits of the two, of which suit somebody may have a flush. The best
-//!    flush of the pot with the board's cards of that suit is looked up by their ranks, and is compared with the best by ranks. Each
-//!    is worked out once while the deal is the same; a new deal gets a new number, and nothing is cleared.
+//! 2. *A code.* The outcomes of a row, each of all pots and sides together, are numbered: up to seven codes. Each pair of last cards
+//!    is looked up by its ranks, and adds a one to its code's field, one of nine bits, of a sum, with a step. The fields go to the counts
+//!    after 511 pairs at most. Where a row has more than seven outcomes, each pair is added to the counts themselves.
+//! 3. *A flush.* Where some two cards can make somebody five of a suit, a table of sixteen bytes says, by the suits of the two, of which
+//!    suit that may be. The best flush of the pot with the board's cards of that suit is looked up by their ranks, and is compared with
+//!    the best by ranks. Each is worked out once while the deal is the same; a new deal gets a new number, and nothing is cleared.
 //! 4. *More pots.* What a hand is worth, by ranks or as a flush, is worked out once for all pots.
 //!
 //! **Rivers** ([`Rivers`]: the same games, where the board lacks one card). By ranks there are thirteen boards, each worked out where
@@ -40,6 +41,8 @@ mod board_leaf;
 mod boards;
 mod branch;
 mod card_list;
+mod coded_rows;
+mod codes;
 mod counts;
 mod deal;
 mod draws;
@@ -54,12 +57,12 @@ mod last;
 mod leaf;
 mod numbers;
 mod orders;
+mod packed;
 mod pair;
 mod pairs;
 mod places;
 mod plain;
 mod range;
-mod rank_pairs;
 mod rivals;
 mod rivers;
 mod row;

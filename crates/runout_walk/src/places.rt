@@ -3,8 +3,8 @@
 ghost use Rattle.std.specs.Prelude.{◌≡◌, ℕ, ◌+◌, ◌*◌, ◌^◌, ◌<◌, ◌≤◌, ◌==◌, if◌then◌else◌, length, slice_get, slice_index, Some, true, IsTrue};
 ghost use Rattle.card_sets.specs.Games.{has_side};
 ghost use Rattle.showdown_tally.specs.Deals.{deal_of};
-ghost use Rattle.showdown_tally.specs.SideCounts.{count_at};
-ghost use Rattle.runout_walk.specs.KeptRows.{AllFit, WaitsFit, so_many, waiting, waits_below};
+ghost use Rattle.showdown_tally.specs.SideCounts.{CountsFit, count_at};
+ghost use Rattle.runout_walk.specs.KeptRows.{row_place, so_many};
 
 use crate::row::Row;
 use crate::spot::BoardSpot;
@@ -67,71 +67,32 @@ pub(crate) fn add_place(
     }
 }
 
-/// So many runouts that wait to be counted at a place of the rows: those of pairs of the same ranks.
-#[derive(Clone, Copy)]
-pub(crate) struct Wait {
-    /// The place.
-    pub(crate) ranks: usize,
-    /// How many they are.
-    pub(crate) times: u32,
-}
-
-/// Counts the runouts that wait, for each pot.
+/// Counts a runout at a place of the rows, for each pot.
 #[inline]
-pub(crate) fn put_wait(spot: &BoardSpot, rows: &[Row], wait: Wait, counts: &mut [[u32; 2048]])
+pub(crate) fn put_runout(spot: &BoardSpot, rows: &[Row], ranks: usize, counts: &mut [[u32; 2048]])
     // Each pot has a row, and this is one of its places.
     requires pots { length rows.now ≡ spot.now.table.pots }
-    requires inside { wait.ranks < 169 }
+    requires inside { ranks < 169 }
 
-    // Each pot has its two rows of counts, with room for those that wait.
+    // Each pot has its two rows of counts, with room for one more.
     requires counts { 2 * spot.now.table.pots ≤ length counts.old }
-    requires fits { WaitsFit (deal_of spot.now.table) rows.now wait.ranks wait.times counts.old 0 }
+    requires fits { CountsFit (deal_of spot.now.table) counts.old 1 }
 
-    // For each pot they are counted where its row says who wins there.
+    // For each pot it is counted where its row says who wins there.
     ensures counts { (pot number : ℕ) (side : Side) (row : Row)
         → pot < length (deal_of spot.now.table).pots
         → has_side side spot.now.table.known.game ≡ true → slice_get rows.now pot ≡ Some row
         → count_at counts.new pot side number
-        ≡ count_at counts.old pot side number + waiting row side wait.ranks wait.times number }
+        ≡ count_at counts.old pot side number
+        + (if row_place row side ranks == number then 1 else 0) }
     ensures same { length counts.new ≡ length counts.old }
 {
     let two_sides = spot.table.known.game.has_side(Side::Low);
     for pot in 0..spot.table.pots {
         let row = &rows[usize::from(pot)];
-        let main = row.mains[wait.ranks];
-        let low = row.lows[wait.ranks];
+        let main = row.mains[ranks];
+        let low = row.lows[ranks];
         let place = Place { main, low };
-        add_place(counts, two_sides, pot, place, wait.times);
-    }
-}
-
-/// Counts the runouts that wait, so many at each place of the rows, for each pot.
-pub(crate) fn put_waits(spot: &BoardSpot, rows: &[Row], waits: &[u32], counts: &mut [[u32; 2048]])
-    // Each pot has a row, with as many places as there are numbers of those that wait.
-    requires pots { length rows.now ≡ spot.now.table.pots }
-    requires waits { length waits.now ≡ 169 }
-
-    // Each pot has its two rows of counts, with room for all that wait.
-    requires counts { 2 * spot.now.table.pots ≤ length counts.old }
-    requires fits { AllFit (deal_of spot.now.table) rows.now waits.now counts.old 0 }
-
-    // For each pot those of each place are counted where its row says who wins there.
-    ensures counts { (pot number : ℕ) (side : Side) (row : Row)
-        → pot < length (deal_of spot.now.table).pots
-        → has_side side spot.now.table.known.game ≡ true → number < 2048
-        → slice_get rows.now pot ≡ Some row
-        → count_at counts.new pot side number
-        ≡ count_at counts.old pot side number + waits_below row side waits.now number 169 }
-    ensures same { length counts.new ≡ length counts.old }
-{
-    for (ranks, times) in waits.iter().enumerate() {
-        if *times == 0 {
-            continue;
-        }
-        let wait = Wait {
-            ranks,
-            times: *times,
-        };
-        put_wait(spot, rows, wait, counts);
+        add_place(counts, two_sides, pot, place, 1);
     }
 }

@@ -1,17 +1,17 @@
 //! Rows that are kept from one count to the next.
 
-ghost use Rattle.std.specs.Prelude.{◌≡◌, ℕ, ◌+◌, ◌<◌, ◌≤◌, ◌∷◌, ◌++◌, [], List, length, slice_get, slice_index_or, vec_capacity, Some, IfOk, IsTrue};
+ghost use Rattle.std.specs.Prelude.{◌≡◌, ℕ, ◌+◌, ◌<◌, ◌≤◌, ◌∷◌, ◌++◌, [], List, length, slice_get, slice_index, slice_index_or, vec_capacity, Some, IfOk, IsTrue};
 ghost use Rattle.card_sets.specs.Cards.{IsRising, rank_of};
 ghost use Rattle.card_sets.specs.Games.{has_board, own_size};
 ghost use Rattle.card_sets.specs.State.{state_of};
 ghost use Rattle.showdown_tally.specs.Deals.{deal_of};
 ghost use Rattle.showdown_tally.specs.Showdown.{Showdown};
 ghost use Rattle.runout_walk.specs.Boards.{AreFirst};
-ghost use Rattle.runout_walk.specs.KeptRows.{AreRows, AreRowsFor, IsAway};
+ghost use Rattle.runout_walk.specs.KeptRows.{AreRows, AreRowsFor, IsAway, IsNamed};
 ghost use Rattle.runout_walk.specs.SideRows.{AreRanksOf};
 
 use crate::fill::fill_rows;
-use crate::row::{Row, last_rank, ranks_of};
+use crate::row::Row;
 use card_sets::{CardSet, Memory};
 use showdown_tally::Table;
 use std::alloc::Global;
@@ -116,7 +116,13 @@ impl Rows {
 
     /// Makes a row of each pot for first cards of the board stand in its place, where it isn't kept, and gives the place of the first.
     #[inline]
-    pub(crate) fn ready(&mut self, table: &Table, taken: CardSet) -> usize
+    pub(crate) fn ready(
+        &mut self,
+        table: &Table,
+        taken: CardSet,
+        ranks: &[u8; 3],
+        least: u8,
+    ) -> usize
         // The game has a board, which lacks two cards behind the first ones; the hands are full, and the rows are right.
         requires dealt { IsTrue (has_board table.now.known.game) }
         requires right { AreRows (deal_of table.now) self.old.rows.items }
@@ -125,19 +131,26 @@ impl Rows {
             → length (slice_index_or (state_of table.now.known).hands h [])
             ≡ own_size table.now.known.game }
 
-        // From that place on there is a row for each pot, with these first cards, and the rows are right.
+        // The ranks are those of the first cards, and no card that may follow them has a rank below the least.
+        requires ranks { AreRanksOf ranks.now taken }
+        requires second { (place : ℕ) → slice_index ranks.now place < 14 }
+        requires least { (card : ℕ) (more : List ℕ) → IsRising (taken ++ card ∷ more)
+            → least ≤ rank_of card }
+
+        // From that place on there is a row for each pot, with these first cards and named for them, and the rows are right.
         ensures place { result + table.now.pots ≤ length self.new.rows.items }
         ensures rows { AreRowsFor (deal_of table.now) table.now.pots taken self.new.rows.items result }
+        ensures names { (pot : ℕ) (row : Row) → pot < table.now.pots
+            → slice_get self.new.rows.items (result + pot) ≡ Some row
+            → IsNamed row pot ranks.now least }
         ensures right { AreRows (deal_of table.now) self.new.rows.items }
     {
-        let ranks = ranks_of(taken);
-        let least = last_rank(taken);
         let group = row_group(ranks[1], ranks[2], table.pots);
         let base = usize::from(self.bases[group]);
-        if self.has_all(base, table.pots, &ranks, least) {
+        if self.has_all(base, table.pots, ranks, least) {
             return base;
         }
-        self.put(group, table, taken, ranks, least)
+        self.put(group, table, taken, *ranks, least)
     }
 
     /// Makes room for some rows more: where there is none, all rows are dropped.
@@ -223,9 +236,11 @@ impl Rows {
         requires least { (card : ℕ) (more : List ℕ) → IsRising (taken ++ card ∷ more)
             → least ≤ rank_of card }
 
-        // From the place on each pot's row is one for the first cards, and the rows are right.
+        // From the place on each pot's row is one for the first cards and named for them, and the rows are right.
         ensures place { result + table.now.pots ≤ length self.new.rows.items }
         ensures rows { AreRowsFor (deal_of table.now) table.now.pots taken self.new.rows.items result }
+        ensures names { (pot : ℕ) (row : Row) → pot < table.now.pots
+            → slice_get self.new.rows.items (result + pot) ≡ Some row → IsNamed row pot ranks least }
         ensures right { AreRows (deal_of table.now) self.new.rows.items }
     {
         let base = self.place_for(group, table.pots);

@@ -1,21 +1,18 @@
-use Rattle.std.proofs.Common.{◌<◌, ◌++◌, ℕ, List, ◌∙◌, sym, arith}
+use Rattle.std.proofs.Common.{◌++◌, ℕ, List, ◌∙◌, sym, arith}
 use Rattle.card_sets.specs.State.{State, state_of}
 use Rattle.showdown_tally.specs.Deals.{deal_of}
 use Rattle.showdown_tally.specs.Showdown.{Showdown}
 use Rattle.runout_walk.specs.Pairs.{cards_of_pair}
 use Rattle.runout_walk.proofs.BoardDealt.{IsScene, pair_inside, scene_of}
-use Rattle.runout_walk.proofs.PairCounts.{row_pair}
-use Rattle.runout_walk.proofs.WaitingRunouts.{fits_at_once, pair_counted, pair_waits}
+use Rattle.runout_walk.proofs.PairCounts.{row_counted, row_pair}
 use Rattle.runout_walk.proofs.board_leaf.count_pair.Goals as goal
 
-pub add_times-requires-clause-inside : goal.add_times-requires-clause-inside
-add_times-requires-clause-inside c =
+pub put_runout-requires-clause-inside : goal.put_runout-requires-clause-inside
+put_runout-requires-clause-inside c =
     let st : State = state_of c.args.spot.now.table.known in
     let set : List ℕ = c.args.front.now.taken ++ cards_of_pair c.args.pair.now in
     let scene : IsScene st set = scene_of c.args.spot.now set c.requires.member in
-    let inside : c.from.result < 169 = pair_inside st c.args.front.now.taken c.args.pair.now.low c.args.pair.now.high c.from.result scene (c.from.ensures ∙ c.args.pair.now.by_rank) in
-    let n = c.requires.waits in
-    omega arith
+    pair_inside st c.args.front.now.taken c.args.pair.now.low c.args.pair.now.high c.from.result scene (c.from.ensures ∙ c.args.pair.now.by_rank)
 
 pub returns-in_default-clause-counts : goal.returns-in_default-clause-counts
 returns-in_default-clause-counts c =
@@ -23,12 +20,6 @@ returns-in_default-clause-counts c =
     let deal : Showdown = deal_of c.args.spot.now.table in
     let set : List ℕ = c.args.front.now.taken ++ cards_of_pair c.args.pair.now in
     let scene : IsScene st set = scene_of c.args.spot.now set c.requires.member in
-    let inside : c.from.result < 169 = pair_inside st c.args.front.now.taken c.args.pair.now.low c.args.pair.now.high c.from.result scene (c.from.ensures ∙ c.args.pair.now.by_rank) in
-    pair_waits deal c.args.front.now.taken c.args.rows.now c.args.pair.now c.from.result c.args.waits.now c.add_times.new.cells c.args.counts.now inside c.add_times.ensures.counts
+    row_counted deal c.args.front.now.taken c.args.rows.now c.args.pair.now c.from.result c.args.counts.now c.put_runout.new.counts (c.requires.pots ∙ sym c.args.spot.now.pots)
     (λ pot side row p found. row_pair deal pot c.args.front.now.taken c.args.pair.now c.from.result row side c.law_values_keep_order.ensures scene (c.all_are_hands.ensures pot (let n = c.args.spot.now.pots in omega arith)) (c.requires.rows pot row found) (c.from.ensures ∙ c.args.pair.now.by_rank) c.in_default.ensures)
-
-pub count_suited-requires-clause-fits : goal.count_suited-requires-clause-fits
-count_suited-requires-clause-fits c = fits_at_once (deal_of c.args.spot.now.table) c.args.rows.now c.args.waits.now c.args.counts.now (c.requires.pots ∙ sym c.args.spot.now.pots) c.requires.fits
-
-pub returns-clause-counts : goal.returns-clause-counts
-returns-clause-counts c = pair_counted (deal_of c.args.spot.now.table) c.args.front.now.taken c.args.rows.now c.args.pair.now c.args.waits.now c.args.counts.now c.count_suited.new.counts c.count_suited.ensures.counts
+    c.put_runout.ensures.counts

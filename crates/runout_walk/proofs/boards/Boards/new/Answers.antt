@@ -7,5 +7,6 @@ invariant_of-result c = record {
   same = refl;
   all = c.empty.ensures ∙ sym c.none-spot.ensures;
   right = c.in_ok-rows.ensures (deal_of c.none-spot.result.table);
+  coded = c.in_ok-codes.ensures (deal_of c.none-spot.result.table);
   best = c.in_ok-flushes.ensures (deal_of c.none-spot.result.table);
 }

@@ -6,5 +6,6 @@ invariant_of-self c = record {
   same = c.of-self.ensures;
   all = c.requires.shape.cards;
   right = c.clear.ensures.right (deal_of c.of-self.result.table);
-  best = c.clear-2.ensures (deal_of c.of-self.result.table);
+  coded = c.clear-2.ensures.right (deal_of c.of-self.result.table);
+  best = c.clear-3.ensures (deal_of c.of-self.result.table);
 }

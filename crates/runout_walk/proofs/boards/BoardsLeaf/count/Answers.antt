@@ -1,4 +1,4 @@
-use Rattle.std.proofs.Common.{◌≡◌, ◌≤◌, ℕ, ◌-◌, List, [], ◌∷◌, ◌++◌, length, map, sym, ap, ◌∙◌, arith, subst}
+use Rattle.std.proofs.Common.{◌≡◌, ℕ, ◌-◌, List, [], ◌∷◌, ◌++◌, length, map, sym, ap, ◌∙◌, arith, subst}
 use Rattle.std.specs.List.{slice_range}
 use Rattle.card_sets.specs.Choose.{choose}
 use Rattle.card_sets.specs.State.{state_of}
@@ -8,13 +8,13 @@ use Rattle.showdown_tally.specs.Deals.{deal_of}
 use Rattle.showdown_tally.specs.SideCounts.{CountsFit, CountsGrow}
 use Rattle.showdown_tally.specs.Tallies.{runouts_after}
 use Rattle.showdown_tally.specs.declared.table.Table.{Table}
+use Rattle.runout_walk.specs.Codes.{AreCodesFor}
 use Rattle.runout_walk.specs.KeptRows.{AreRowsOf, PairsGrow}
 use Rattle.runout_walk.specs.Pairs.{cards_of_pair}
-use Rattle.runout_walk.specs.Suits.{AreAllShort}
 use Rattle.runout_walk.proofs.BoardLeaf.{IsLeafOf, end_of_all, leaf_of}
-use Rattle.runout_walk.proofs.BoardRunouts.{stretch-length, stretch-member, whole_range}
-use Rattle.runout_walk.proofs.PairCounts.{grow_choices, grow_of}
-use Rattle.runout_walk.proofs.PairListing.{few_of_set}
+use Rattle.runout_walk.proofs.BoardRunouts.{stretch-length, stretch-member}
+use Rattle.runout_walk.proofs.CodedPairs.{codes_for, right_as}
+use Rattle.runout_walk.proofs.PairCounts.{grow_of}
 use Rattle.runout_walk.proofs.boards.BoardsLeaf.count.Goals as goal
 
 pub ready-base-requires-clause-first : goal.ready-base-requires-clause-first
@@ -51,14 +51,6 @@ count_front-requires-clause-fits g c =
     let Q : ℕ → Type 0 = λ n. CountsFit (deal_of c.args.self.now.spot.table) c.args.counts.now n in
     subst Q (sym size) (subst P (sym c.args.self.now.same) c.requires.fits)
 
-pub count_front-requires-clause-few : goal.count_front-requires-clause-few
-count_front-requires-clause-few g c =
-    let more : length (choose c.args.tail.left c.args.tail.rest) ≡ length (choose 2 c.args.tail.rest) = ap (λ n. length (choose n c.args.tail.rest)) c.requires.deep in
-    let size : length c.stretch-pairs.result.now ≡ c.args.hi - c.args.lo = stretch-length c.stretch-pairs.result.now c.args.tail.rest c.args.lo c.args.hi c.stretch-pairs.ensures c.requires.order (let i = c.requires.inside in omega arith) in
-    let few : length (choose 2 c.args.tail.rest) ≤ 1326 = few_of_set c.args.tail.rest c.rising.ensures.rising in
-    let i = c.requires.inside in
-    omega (arith, size, few, more)
-
 pub returns-clause-counts : goal.returns-clause-counts
 returns-clause-counts g c =
     let table = c.args.self.now.spot.table in
@@ -77,35 +69,23 @@ returns-clause-steps g c =
     let size : length c.stretch-pairs.result.now ≡ c.args.hi - c.args.lo = stretch-length c.stretch-pairs.result.now c.args.tail.rest c.args.lo c.args.hi c.stretch-pairs.ensures c.requires.order (let i = c.requires.inside in omega arith) in
     omega (arith, c.count_front.ensures.steps, size)
 
-pub count_by_ranks-requires-clause-short : goal.count_by_ranks-requires-clause-short
-count_by_ranks-requires-clause-short g c =
-    let P : List ℕ → Type 0 = λ taken. AreAllShort c.args.self.now.spot.most taken in
-    subst P c.of-first.ensures.taken (c.of-first.ensures.plain c.if-first.true)
+pub ranks_of-ranks-requires : goal.ranks_of-ranks-requires
+ranks_of-ranks-requires g c =
+    let first = (leaf_of c.args.self.now.spot c.args.self.now.table c.args.front.now c.args.tail.taken c.args.tail.rest c.args.tail.left c.args.lo c.args.hi c.args.self.now.same c.requires.last c.requires.deep c.requires.members c.requires.order c.requires.inside).first in
+    let size = first.size in
+    omega arith
 
-pub count_by_ranks-requires-clause-rows : goal.count_by_ranks-requires-clause-rows
-count_by_ranks-requires-clause-rows g c = λ pot row at. let r = c.stretch-rows.ensures.rows pot row at in c.ready-base.ensures.rows pot row r.0 r.1
+pub ready-place-requires-clause-rows : goal.ready-place-requires-clause-rows
+ready-place-requires-clause-rows g c = λ pot row at.
+    let r = c.stretch-rows.ensures.rows pot row at in
+    let named = c.ready-base.ensures.names pot row r.0 r.1 in
+    right_as (deal_of c.args.self.now.spot.table) pot c.ranks_of-ranks.result c.last_rank-least.result row named (c.ready-base.ensures.rows pot row r.0 r.1).right
 
-pub count_by_ranks-requires-clause-members : goal.count_by_ranks-requires-clause-members
-count_by_ranks-requires-clause-members g c =
-    (leaf_of c.args.self.now.spot c.args.self.now.table c.args.front.now c.args.tail.taken c.args.tail.rest c.args.tail.left c.args.lo c.args.hi c.args.self.now.same c.requires.last c.requires.deep c.requires.members c.requires.order c.requires.inside).members
-
-pub count_by_ranks-requires-clause-fits : goal.count_by_ranks-requires-clause-fits
-count_by_ranks-requires-clause-fits g c =
-    let whole = c.is_whole.ensures c.if-is_whole.true in
-    let size : c.args.hi - c.args.lo ≡ length (choose 2 c.args.tail.rest) = (let a = whole.0 in let b = whole.1 in omega arith) in
-    let P : Table → Type 0 = λ t. CountsFit (deal_of t) c.args.counts.now (c.args.hi - c.args.lo) in
-    let Q : ℕ → Type 0 = λ n. CountsFit (deal_of c.args.self.now.spot.table) c.args.counts.now n in
-    subst Q size (subst P (sym c.args.self.now.same) c.requires.fits)
-
-pub returns-then-is_whole-clause-counts : goal.returns-then-is_whole-clause-counts
-returns-then-is_whole-clause-counts g c =
-    let table = c.args.self.now.spot.table in
-    let leaf : IsLeafOf c.args.self.now.spot c.args.front.now c.args.tail.taken c.args.tail.rest =
-    leaf_of c.args.self.now.spot c.args.self.now.table c.args.front.now c.args.tail.taken c.args.tail.rest c.args.tail.left c.args.lo c.args.hi c.args.self.now.same c.requires.last c.requires.deep c.requires.members c.requires.order c.requires.inside in
-    let whole = c.is_whole.ensures c.if-is_whole.true in
-    let range : slice_range (choose 2 c.args.tail.rest) c.args.lo c.args.hi ≡ choose 2 c.args.tail.rest = whole_range (choose 2 c.args.tail.rest) c.args.lo c.args.hi c.requires.order (let b = whole.1 in omega arith) (let a = whole.0 in let b = whole.1 in omega arith) in
-    let all : CountsGrow (deal_of table) (map (λ more. c.args.front.now ++ (c.args.tail.taken ++ more) ∷ []) (slice_range (choose 2 c.args.tail.rest) c.args.lo c.args.hi)) c.args.counts.now c.count_by_ranks.new.counts =
-    grow_choices (deal_of table) c.args.front.now c.args.tail.taken c.args.tail.rest c.args.lo c.args.hi c.args.counts.now c.count_by_ranks.new.counts leaf.none range c.count_by_ranks.ensures.counts in
-    let T : Table → Type 0 = λ t. CountsGrow (deal_of t) (map (λ more. c.args.front.now ++ (c.args.tail.taken ++ more) ∷ []) (slice_range (choose 2 c.args.tail.rest) c.args.lo c.args.hi)) c.args.counts.now c.count_by_ranks.new.counts in
-    let L : ℕ → Type 0 = λ n. CountsGrow (deal_of c.args.self.now.table) (map (λ more. c.args.front.now ++ (c.args.tail.taken ++ more) ∷ []) (slice_range (choose n c.args.tail.rest) c.args.lo c.args.hi)) c.args.counts.now c.count_by_ranks.new.counts in
-    subst L (sym c.requires.deep) (subst T c.args.self.now.same all)
+pub count_front-requires-clause-codes : goal.count_front-requires-clause-codes
+count_front-requires-clause-codes g c =
+    let at = c.codes_at-codes.ensures in
+    let place = c.ready-place.ensures in
+    let P : List ℕ → Type 0 = λ taken. AreCodesFor (deal_of c.args.self.now.spot.table) taken c.codes_at-codes.result.now in
+    subst P (sym c.of-first.ensures.taken)
+    (codes_for (deal_of c.args.self.now.spot.table) c.args.tail.taken c.ranks_of-ranks.result c.last_rank-least.result c.codes_at-codes.result.now (place.right c.ready-place.result c.codes_at-codes.result.now at) (place.ranks c.codes_at-codes.result.now at) (place.least c.codes_at-codes.result.now at)
+    c.ranks_of-ranks.ensures.ranks c.last_rank-least.ensures)

@@ -1,8 +1,8 @@
-use Rattle.std.proofs.Common.{◌≡◌, ◌+◌, ℕ, List, Some, ap, sym, ◌∙◌, inl, inr, subst}
+use Rattle.std.proofs.Common.{◌≡◌, ◌+◌, ◌<◌, ℕ, List, Some, ap, sym, ◌∙◌, inl, inr, subst}
 use Rattle.std.specs.Prelude.{slice_get}
 use Rattle.showdown_tally.specs.Deals.{deal_of}
 use Rattle.showdown_tally.specs.Showdown.{Showdown}
-use Rattle.runout_walk.specs.KeptRows.{AreRows, AreRowsFor}
+use Rattle.runout_walk.specs.KeptRows.{AreRows, AreRowsFor, IsNamed}
 use Rattle.runout_walk.specs.declared.row.Row.{Row}
 use Rattle.runout_walk.proofs.RowSets.{row_for, row_right, within, written}
 use Rattle.runout_walk.proofs.rows.Rows.put.Goals as goal
@@ -15,6 +15,12 @@ returns-clause-rows c =
     let named = c.fill_rows.ensures.names pot row lt at in
     let is = row_right (deal_of c.args.table.now) pot c.args.ranks c.args.least row named.pot_is named.ranks_are named.least_is (c.fill_rows.ensures.rows pot row lt at) in
     row_for (deal_of c.args.table.now) pot c.args.taken c.args.ranks c.args.least row is named.pot_is named.ranks_are named.least_is c.requires.ranks c.requires.least)
+
+pub returns-clause-names : goal.returns-clause-names
+returns-clause-names c =
+    let P : List Row → Type 0 = λ rows. (pot : ℕ) (row : Row) → pot < c.args.table.now.pots → slice_get rows (c.place_for-base.result + pot) ≡ Some row → IsNamed row pot c.args.ranks c.args.least in
+    let was = c.place_for-base.new.self.rows in
+    subst P (sym (written was.len c.fill_rows.new.rows was.items (c.fill_rows.ensures.places ∙ c.as_mut_slice-rows.ensures.len))) c.fill_rows.ensures.names
 
 pub returns-clause-right : goal.returns-clause-right
 returns-clause-right c =
