@@ -1,7 +1,7 @@
 # Completion of the words of equity for bash: modes, options and their values.
 _equity() {
     local word="${COMP_WORDS[COMP_CWORD]}" before="${COMP_WORDS[COMP_CWORD - 1]}"
-    local modes="audit check streets results totals balance spots ranges made"
+    local modes="audit check streets results settle totals balance spots ranges made"
     case "$before" in
     --format) mapfile -t COMPREPLY < <(compgen -W "text csv" -- "$word") ;;
     --workers | --seed | --hands) COMPREPLY=() ;;

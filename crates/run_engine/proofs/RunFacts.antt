@@ -8,7 +8,7 @@ use Rattle.hand_cuts.specs.Units.{units_in}
 use Rattle.hand_cuts.proofs.CallerLemmas.{closed_units_stay}
 use Rattle.run_engine.specs.declared.command.Command.{Command}
 use Rattle.run_engine.specs.declared.command.Mode.{Mode}
-use Rattle.run_engine.specs.declared.command.Mode.TheVariants.{Spots, Ranges, Check, Audit, Streets, Results, Totals, Balance, Made}
+use Rattle.run_engine.specs.declared.command.Mode.TheVariants.{Spots, Ranges, Check, Audit, Streets, Results, Settle, Totals, Balance, Made}
 use Rattle.run_engine.specs.declared.listed.Holding.TheVariants as held
 use Rattle.run_engine.specs.declared.listed.Told.TheVariants.{Verdict, AllIn, LaterStreets}
 use Rattle.run_engine.specs.declared.listed.Listed.{Listed}
@@ -36,6 +36,7 @@ listed_of Check has = (each.Hands Verdict, refl)
 listed_of Audit has = (each.Hands AllIn, refl)
 listed_of Streets has = (each.Hands LaterStreets, refl)
 listed_of Results has = (each.Results, refl)
+listed_of Settle has = (each.Settle, refl)
 listed_of Totals has = absurd (true≢false (sym has))
 listed_of Balance has = absurd (true≢false (sym has))
 listed_of Made has = absurd (true≢false (sym has))
@@ -105,6 +106,7 @@ made_mode Check none = absurd (true≢false none)
 made_mode Audit none = absurd (true≢false none)
 made_mode Streets none = absurd (true≢false none)
 made_mode Results none = absurd (true≢false none)
+made_mode Settle none = absurd (true≢false none)
 made_mode Totals none = absurd (true≢false none)
 made_mode Balance none = absurd (true≢false none)
 made_mode Made none = refl

@@ -9,7 +9,7 @@ use Rattle.hand_cuts.proofs.CallerLemmas.{closed_hands_by_bytes}
 use Rattle.line_text.specs.Lines.{lines, closed as closed_lines}
 use Rattle.report_table.specs.declared.equity.Form.{Form}
 use Rattle.run_engine.specs.Closed.{closed}
-use Rattle.run_engine.specs.Histories.{hand_block, hand_results, is_rejected_hand}
+use Rattle.run_engine.specs.Histories.{hand_block, hand_results, hand_settlement, is_rejected_hand}
 use Rattle.run_engine.specs.Laws.{has_blocks}
 use Rattle.run_engine.specs.Reading.{reported}
 use Rattle.run_engine.specs.Report.{blocks_in, is_rejected_spot, line_block, rejects_in, spots_from}
@@ -24,7 +24,7 @@ use Rattle.run_engine.specs.declared.listed.Holding.TheVariants.{Cards, Ranges}
 use Rattle.run_engine.specs.declared.listed.Told.{Told}
 use Rattle.run_engine.specs.declared.listed.Told.TheVariants.{Verdict, AllIn, LaterStreets}
 use Rattle.run_engine.specs.declared.listed.Listed.{Listed}
-use Rattle.run_engine.specs.declared.listed.Listed.TheVariants.{Spots, Hands, Results}
+use Rattle.run_engine.specs.declared.listed.Listed.TheVariants.{Spots, Hands, Results, Settle}
 use Rattle.run_engine.specs.declared.reading.Ending.{Ending}
 use Rattle.run_engine.specs.declared.reading.Ending.TheVariants.{Whole, Failed, TooLong, Open}
 use Rattle.spot_text.specs.Words.{is_blank}
@@ -87,6 +87,17 @@ rejected_results (u ∷ us) =
     ∙ ap (λ n. cond (is_rejected_hand u) 1 0 + n) (rejected_results us)
     ∙ sym (sum_by-cons (λ x. cond (is_rejected_hand x) 1 0) u us)
 
+settlement_units : (form : Form) (place : ℕ) (us : List UnitLines) → unit_blocks form Settle place us ≡ map (hand_settlement form) us
+settlement_units form place [] = refl
+settlement_units form place (u ∷ us) = ap (λ bs. hand_settlement form u ∷ bs) (settlement_units form (place + 1) us)
+
+rejected_settlements : (us : List UnitLines) → rejected_units Settle us ≡ count_by is_rejected_hand us
+rejected_settlements [] = refl
+rejected_settlements (u ∷ us) =
+    sum_by-cons (λ v. cond (is_rejected_unit Settle v) 1 0) u us
+    ∙ ap (λ n. cond (is_rejected_hand u) 1 0 + n) (rejected_settlements us)
+    ∙ sym (sum_by-cons (λ x. cond (is_rejected_hand x) 1 0) u us)
+
 rejected_all : (told : Told) (us : List UnitLines) → rejected_units (Hands told) us ≡ count_by is_rejected_hand us
 rejected_all told [] = refl
 rejected_all told (u ∷ us) =
@@ -136,6 +147,9 @@ blocks_by_units asked mode.Streets listed ending bytes e =
 blocks_by_units asked mode.Results listed ending bytes e =
     subst (λ (l : Listed). blocks_in mode.Results asked (reported mode.Results ending bytes) ≡ unit_blocks asked.form l 1 (units_in (listed_kind l) (is_whole ending) 1 bytes)) (some_same Results listed e)
     (sym (ap (unit_blocks asked.form Results 1) (hands_reported mode.Results ending bytes refl) ∙ results_units asked.form 1 (hands_from 1 (lines (reported mode.Results ending bytes)))))
+blocks_by_units asked mode.Settle listed ending bytes e =
+    subst (λ (l : Listed). blocks_in mode.Settle asked (reported mode.Settle ending bytes) ≡ unit_blocks asked.form l 1 (units_in (listed_kind l) (is_whole ending) 1 bytes)) (some_same Settle listed e)
+    (sym (ap (unit_blocks asked.form Settle 1) (hands_reported mode.Settle ending bytes refl) ∙ settlement_units asked.form 1 (hands_from 1 (lines (reported mode.Settle ending bytes)))))
 blocks_by_units asked mode.Totals listed ending bytes e = none_some listed e
 blocks_by_units asked mode.Balance listed ending bytes e = none_some listed e
 blocks_by_units asked mode.Made listed ending bytes e = none_some listed e
@@ -160,6 +174,9 @@ rejects_by_units asked mode.Streets listed ending bytes e =
 rejects_by_units asked mode.Results listed ending bytes e =
     subst (λ (l : Listed). rejects_in mode.Results asked (reported mode.Results ending bytes) ≡ rejected_units l (units_in (listed_kind l) (is_whole ending) 1 bytes)) (some_same Results listed e)
     (sym (ap (rejected_units Results) (hands_reported mode.Results ending bytes refl) ∙ rejected_results (hands_from 1 (lines (reported mode.Results ending bytes)))))
+rejects_by_units asked mode.Settle listed ending bytes e =
+    subst (λ (l : Listed). rejects_in mode.Settle asked (reported mode.Settle ending bytes) ≡ rejected_units l (units_in (listed_kind l) (is_whole ending) 1 bytes)) (some_same Settle listed e)
+    (sym (ap (rejected_units Settle) (hands_reported mode.Settle ending bytes refl) ∙ rejected_settlements (hands_from 1 (lines (reported mode.Settle ending bytes)))))
 rejects_by_units asked mode.Totals listed ending bytes e = none_some listed e
 rejects_by_units asked mode.Balance listed ending bytes e = none_some listed e
 rejects_by_units asked mode.Made listed ending bytes e = none_some listed e
@@ -172,6 +189,7 @@ listed_blocks mode.Check listed e = refl
 listed_blocks mode.Audit listed e = refl
 listed_blocks mode.Streets listed e = refl
 listed_blocks mode.Results listed e = refl
+listed_blocks mode.Settle listed e = refl
 listed_blocks mode.Totals listed e = none_some listed e
 listed_blocks mode.Balance listed e = none_some listed e
 listed_blocks mode.Made listed e = none_some listed e
@@ -183,6 +201,7 @@ listed_unit_kind mode.Check listed e = ap listed_kind (some_same (Hands Verdict)
 listed_unit_kind mode.Audit listed e = ap listed_kind (some_same (Hands AllIn) listed e)
 listed_unit_kind mode.Streets listed e = ap listed_kind (some_same (Hands LaterStreets) listed e)
 listed_unit_kind mode.Results listed e = ap listed_kind (some_same Results listed e)
+listed_unit_kind mode.Settle listed e = ap listed_kind (some_same Settle listed e)
 listed_unit_kind mode.Totals listed e = none_some listed e
 listed_unit_kind mode.Balance listed e = none_some listed e
 listed_unit_kind mode.Made listed e = none_some listed e

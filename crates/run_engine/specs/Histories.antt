@@ -4,6 +4,7 @@ use Rattle.std.specs.List.{slice_range}
 use Rattle.hand_cuts.specs.Units.{UnitLines}
 use Rattle.history_text.specs.Headers.{hand_number}
 use Rattle.hand_audit.specs.SeatChips.{chips_of}
+use Rattle.hand_audit.specs.SplitHands.{parts_given, split_of}
 use Rattle.hand_audit.specs.declared.seat_chips.AuditedChips.{AuditedChips}
 use Rattle.hand_audit.specs.Streets.{states_in, streets_of}
 use Rattle.hand_audit.specs.declared.streets.StreetState.{StreetState}
@@ -12,6 +13,7 @@ use Rattle.hand_audit.specs.declared.verdicts.HandAudit.{HandAudit}
 use Rattle.hand_audit.specs.declared.verdicts.HandAudit.TheVariants.{Rejected, Accepted}
 use Rattle.report_table.specs.HandEquities.{hand_block as audit_block}
 use Rattle.report_table.specs.Results.{results_block}
+use Rattle.report_table.specs.Settles.{settle_block}
 use Rattle.report_table.specs.Streets.{street_blocks}
 use Rattle.report_table.specs.declared.equity.Form.{Form}
 use Rattle.run_engine.specs.declared.listed.Told.{Told}
@@ -71,6 +73,16 @@ results_by form hand (Some audit) =
 -- the results of a hand in a form: what each player had, put in, got and netted
 unfoldable pub hand_results : Form → UnitLines → List ℕ
 hand_results form hand = results_by form hand (verdict_of hand)
+
+-- the settlement of a hand, by its verdict
+abbrev pub settlement_by : Form → UnitLines → Option HandAudit → List ℕ
+settlement_by form hand None = []
+settlement_by form hand (Some audit) =
+    settle_block form (number_text hand.lines) audit (split_of audit hand.lines) (parts_given audit hand.lines)
+
+-- the settlement of a hand in a form: what the rules give of its pots, and what each player is still to get, or to give back
+unfoldable pub hand_settlement : Form → UnitLines → List ℕ
+hand_settlement form hand = settlement_by form hand (verdict_of hand)
 
 -- whether a line of the hand departs from the rules
 abbrev pub is_rejection : HandAudit → Bool

@@ -7,6 +7,7 @@ pub use Rattle.hand_cuts.specs.CutterState
 pub use Rattle.hand_cuts.specs.Cutters
 pub use Rattle.hand_audit.specs.Verdict
 pub use Rattle.hand_audit.specs.SeatChips
+pub use Rattle.hand_audit.specs.SplitHands
 pub use Rattle.hand_audit.specs.Streets
 pub use Rattle.spot_text.specs.Words
 pub use Rattle.spot_text.specs.Spot
@@ -14,6 +15,7 @@ pub use Rattle.report_table.specs.Spots
 pub use Rattle.report_table.specs.Hands
 pub use Rattle.report_table.specs.HandEquities
 pub use Rattle.report_table.specs.Results
+pub use Rattle.report_table.specs.Settles
 pub use Rattle.report_table.specs.Streets as StreetLines
 pub use Rattle.report_table.specs.Totals
 pub use Rattle.report_table.specs.Balance

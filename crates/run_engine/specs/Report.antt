@@ -14,11 +14,11 @@ use Rattle.report_table.specs.Made.{made_block}
 use Rattle.report_table.specs.Spots.{spot_block}
 use Rattle.report_table.specs.Totals.{is_accepted, totals_block}
 use Rattle.report_table.specs.declared.equity.Form.{Form}
-use Rattle.run_engine.specs.Histories.{chips_hand, hand_block, hand_results, is_rejected_hand, verdict_of}
+use Rattle.run_engine.specs.Histories.{chips_hand, hand_block, hand_results, hand_settlement, is_rejected_hand, verdict_of}
 use Rattle.run_engine.specs.RangeLines.{is_rejected_range}
 use Rattle.run_engine.specs.declared.command.Command.{Command}
 use Rattle.run_engine.specs.declared.command.Mode.{Mode}
-use Rattle.run_engine.specs.declared.command.Mode.TheVariants.{Spots, Ranges, Check, Audit, Streets, Results, Totals, Balance, Made}
+use Rattle.run_engine.specs.declared.command.Mode.TheVariants.{Spots, Ranges, Check, Audit, Streets, Results, Settle, Totals, Balance, Made}
 use Rattle.run_engine.specs.declared.listed.Holding.{Holding}
 use Rattle.run_engine.specs.declared.listed.Holding.TheVariants as held
 use Rattle.run_engine.specs.declared.listed.Told.{Told}
@@ -56,6 +56,10 @@ hand_blocks form told bytes = map (hand_block form told) (hands_from 1 (lines by
 abbrev pub result_blocks : Form → List ℕ → List (List ℕ)
 result_blocks form bytes = map (hand_results form) (hands_from 1 (lines bytes))
 
+-- their settlements
+abbrev pub settlement_blocks : Form → List ℕ → List (List ℕ)
+settlement_blocks form bytes = map (hand_settlement form) (hands_from 1 (lines bytes))
+
 -- how many hands are rejected
 abbrev pub rejected_hands : List ℕ → ℕ
 rejected_hands bytes = count_by is_rejected_hand (hands_from 1 (lines bytes))
@@ -69,8 +73,9 @@ abbrev pub chips_hands : List ℕ → List AuditedChips
 chips_hands bytes = filter_map chips_hand (hands_from 1 (lines bytes))
 
 -- the blocks of a command in a mode: one for each spot, with cards or with ranges; one for each hand, where an audit is a check
--- with the equity of each all-in, streets go on with that of each counted all-in on each later street, and results are what
--- each player netted; or one for the totals or the balance over all hands of the bytes, or over all hands that are made
+-- with the equity of each all-in, streets go on with that of each counted all-in on each later street, results are what
+-- each player netted, and settlements what the rules give of each pot; or one for the totals or the balance over all hands
+-- of the bytes, or over all hands that are made
 abbrev pub blocks_in : Mode → Command → List ℕ → List (List ℕ)
 blocks_in Spots asked bytes = spots_from asked.form held.Cards 1 1 (lines bytes)
 blocks_in Ranges asked bytes = spots_from asked.form held.Ranges 1 1 (lines bytes)
@@ -78,6 +83,7 @@ blocks_in Check asked bytes = hand_blocks asked.form Verdict bytes
 blocks_in Audit asked bytes = hand_blocks asked.form AllIn bytes
 blocks_in Streets asked bytes = hand_blocks asked.form LaterStreets bytes
 blocks_in Results asked bytes = result_blocks asked.form bytes
+blocks_in Settle asked bytes = settlement_blocks asked.form bytes
 blocks_in Totals asked bytes = totals_block asked.form (verdicts bytes) ∷ []
 blocks_in Balance asked bytes = balance_block asked.form (chips_hands bytes) ∷ []
 blocks_in Made asked bytes =
@@ -98,6 +104,7 @@ rejects_in Check asked bytes = rejected_hands bytes
 rejects_in Audit asked bytes = rejected_hands bytes
 rejects_in Streets asked bytes = rejected_hands bytes
 rejects_in Results asked bytes = rejected_hands bytes
+rejects_in Settle asked bytes = rejected_hands bytes
 rejects_in Totals asked bytes = count_by (λ hand. not (is_accepted hand)) (verdicts bytes)
 rejects_in Balance asked bytes = count_by (λ hand. not (is_accepted hand.audit)) (chips_hands bytes)
 rejects_in Made asked bytes =

@@ -4,7 +4,7 @@ use Rattle.hand_cuts.specs.Units.{UnitLines}
 use Rattle.hand_cuts.specs.declared.units.CutKind.{CutKind}
 use Rattle.hand_cuts.specs.declared.units.CutKind.TheVariants as cut
 use Rattle.report_table.specs.declared.equity.Form.{Form}
-use Rattle.run_engine.specs.Histories.{hand_block, hand_results, is_rejected_hand}
+use Rattle.run_engine.specs.Histories.{hand_block, hand_results, hand_settlement, is_rejected_hand}
 use Rattle.run_engine.specs.Report.{is_rejected_spot, line_block}
 use Rattle.run_engine.specs.declared.command.Mode.{Mode}
 use Rattle.run_engine.specs.declared.command.Mode.TheVariants.{Check, Audit, Streets, Totals, Balance, Made}
@@ -13,7 +13,7 @@ use Rattle.run_engine.specs.declared.listed.Holding.{Holding}
 use Rattle.run_engine.specs.declared.listed.Holding.TheVariants.{Cards, Ranges}
 use Rattle.run_engine.specs.declared.listed.Told.TheVariants.{Verdict, AllIn, LaterStreets}
 use Rattle.run_engine.specs.declared.listed.Listed.{Listed}
-use Rattle.run_engine.specs.declared.listed.Listed.TheVariants.{Spots, Hands, Results}
+use Rattle.run_engine.specs.declared.listed.Listed.TheVariants.{Spots, Hands, Results, Settle}
 use Rattle.spot_text.specs.Words.{is_blank}
 
 -- what has a block each in the report of a mode
@@ -24,6 +24,7 @@ listed_in Check = Some (Hands Verdict)
 listed_in Audit = Some (Hands AllIn)
 listed_in Streets = Some (Hands LaterStreets)
 listed_in mode.Results = Some Results
+listed_in mode.Settle = Some Settle
 listed_in Totals = None
 listed_in Balance = None
 listed_in Made = None
@@ -33,6 +34,7 @@ abbrev pub listed_kind : Listed → CutKind
 listed_kind (Spots holding) = cut.Lines
 listed_kind (Hands told) = cut.Hands
 listed_kind Results = cut.Hands
+listed_kind Settle = cut.Hands
 
 -- the block of a line, the first of some; a line with no word has none
 abbrev pub first_block : Form → Holding → ℕ → ℕ → List (List ℕ) → Option (List ℕ)
@@ -49,11 +51,13 @@ abbrev pub unit_block : Form → Listed → ℕ → UnitLines → Option (List �
 unit_block form (Spots holding) place unit = first_block form holding place unit.first unit.lines
 unit_block form (Hands told) place unit = Some (hand_block form told unit)
 unit_block form Results place unit = Some (hand_results form unit)
+unit_block form Settle place unit = Some (hand_settlement form unit)
 
 abbrev pub is_rejected_unit : Listed → UnitLines → Bool
 is_rejected_unit (Spots holding) unit = is_rejected_first holding unit.lines
 is_rejected_unit (Hands told) unit = is_rejected_hand unit
 is_rejected_unit Results unit = is_rejected_hand unit
+is_rejected_unit Settle unit = is_rejected_hand unit
 
 -- the place behind a unit by its block, and the block in front of others
 abbrev pub place_behind : ℕ → Option (List ℕ) → ℕ

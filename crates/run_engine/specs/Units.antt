@@ -6,7 +6,7 @@ use Rattle.hand_cuts.specs.declared.units.CutKind.{CutKind}
 use Rattle.hand_cuts.specs.declared.units.CutKind.TheVariants.{Hands, Lines}
 use Rattle.hand_cuts.specs.declared.units.Unit.{Unit as UnitPlace}
 use Rattle.run_engine.specs.declared.command.Mode.{Mode}
-use Rattle.run_engine.specs.declared.command.Mode.TheVariants.{Spots, Ranges, Check, Audit, Streets, Results, Totals, Balance, Made}
+use Rattle.run_engine.specs.declared.command.Mode.TheVariants.{Spots, Ranges, Check, Audit, Streets, Results, Settle, Totals, Balance, Made}
 use Rattle.run_engine.specs.declared.reading.Ending.{Ending}
 use Rattle.run_engine.specs.declared.reading.Ending.TheVariants.{Whole, Failed, TooLong, Open}
 use Rattle.run_engine.specs.declared.reading.Input.{Input}
@@ -19,6 +19,7 @@ unit_kind Check = Hands
 unit_kind Audit = Hands
 unit_kind Streets = Hands
 unit_kind Results = Hands
+unit_kind Settle = Hands
 unit_kind Totals = Hands
 unit_kind Balance = Hands
 unit_kind Made = Hands

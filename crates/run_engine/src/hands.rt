@@ -8,17 +8,18 @@ ghost use Rattle.report_table.specs.Streets.{street_block, street_blocks};
 ghost use Rattle.hand_audit.specs.Departs.{begins_hand};
 ghost use Rattle.line_text.specs.Lines.{lines};
 ghost use Rattle.hand_cuts.specs.Units.{UnitLines};
-ghost use Rattle.run_engine.specs.Histories.{hand_block, hand_results, is_rejected_hand, is_rejection, number_text, streets_told, tells_all_in, HasStreets};
+ghost use Rattle.run_engine.specs.Histories.{hand_block, hand_results, hand_settlement, is_rejected_hand, is_rejection, number_text, streets_told, tells_all_in, HasStreets};
 
 use crate::counter::{Counter, Desk};
 use crate::listed::Told;
 use card_sets::Memory;
 use hand_audit::{
-    AuditedStreets, HandAudit, StreetState, audit_hand, audit_with_chips, audit_with_streets,
+    AuditedStreets, HandAudit, StreetState, audit_hand, audit_with_chips, audit_with_shares,
+    audit_with_streets,
 };
 use history_text::hand_number;
 use line_text::next_line;
-use report_table::{Form, has_counted, write_hand, write_results, write_street};
+use report_table::{Form, has_counted, write_hand, write_results, write_settlement, write_street};
 use std::alloc::Global;
 
 /// The part of a line between two places.
@@ -184,5 +185,27 @@ pub(crate) fn write_result_lines<C: Counter>(
     desk.ask_hand(true, &hand.audit)?;
     let number = number_text(bytes);
     write_results(block, number, &hand.audit, &hand.chips, &desk.equity, form)?;
+    Ok(is_rejection(&hand.audit))
+}
+
+/// Appends the settlement of a hand, and answers whether the hand is rejected. The bytes are the lines of the
+/// hand, its header line first, which has the number `first`. No equity is counted.
+pub(crate) fn write_settlement_lines(
+    alloc: Global,
+    form: Form,
+    bytes: &[u8],
+    first: u32,
+    block: &mut Vec<u8>,
+) -> Result<bool, Memory>
+    requires header { IsTrue (begins_hand (lines bytes.now)) }
+    requires numbers { first + length (lines bytes.now) < 2 ^ 32 }
+    ensures block { OnOk result (block.new.items ≡ block.old.items
+        ++ hand_settlement form (record { first = first; lines = lines bytes.now })) }
+    ensures rejected { IfOk result (λ rejected. rejected
+        ≡ is_rejected_hand (record { first = first; lines = lines bytes.now })) }
+{
+    let hand = audit_with_shares(alloc, bytes, first)?;
+    let number = number_text(bytes);
+    write_settlement(block, number, &hand, form)?;
     Ok(is_rejection(&hand.audit))
 }

@@ -13,7 +13,7 @@ ghost use Rattle.run_engine.specs.declared.reading.Ending.TheVariants.{Open};
 
 use crate::command::{Command, Mode};
 use crate::counter::{Counter, Desk};
-use crate::hands::{write_lines, write_result_lines};
+use crate::hands::{write_lines, write_result_lines, write_settlement_lines};
 use crate::listed::{Listed, Numbers, listed_in};
 use crate::reading::{Input, next_unit};
 use crate::spots::write_spot_line;
@@ -53,6 +53,10 @@ fn write_unit<C: Counter>(
         }
         Listed::Results => {
             let rejected = write_result_lines(alloc, form, bytes, numbers.line, desk, block)?;
+            Ok(Some(rejected))
+        }
+        Listed::Settle => {
+            let rejected = write_settlement_lines(alloc, form, bytes, numbers.line, block)?;
             Ok(Some(rejected))
         }
     }

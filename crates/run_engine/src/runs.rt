@@ -169,6 +169,7 @@ fn unit_kind(mode: Mode) -> CutKind
         | Mode::Audit
         | Mode::Streets
         | Mode::Results
+        | Mode::Settle
         | Mode::Totals
         | Mode::Balance
         | Mode::Made => CutKind::Hands,
