@@ -1,8 +1,8 @@
 //! The blocks of the report: what is printed of a spot and of a hand, and of all hands of a run together.
 //!
-//! `write_spot`, `write_hand`, `write_street`, `write_results`, `write_settlement` and `Totals::write` each append one block to the bytes that they are lent:
-//! all of it, or, for want of memory, nothing. The crate knows of no input and of no output, and it counts
-//! nothing: equities come with what it is to write.
+//! `write_spot`, `write_hand`, `write_street`, `write_results`, `write_settlement`, `Totals::write` and
+//! `Balance::write` each append one block to the bytes that they are lent: all of it, or, out of memory, nothing.
+//! The crate knows of no input and of no output, and it counts nothing: equities come with what it is to write.
 //!
 //! 1. *A block is whole or not there.* It is put together in a `Sheet` of its own, word by word, and appended
 //!    when it is whole. The lines of the totals are appended one by one, and taken back when out of memory, so
@@ -11,7 +11,7 @@
 //!    no line is written twice in the code.
 //! 3. *A number is rounded once.* What a hand may expect is added up in 1/5040 of a unit over all pots, and
 //!    then divided.
-//! 4. *Totals* (`player_rows`, `players`). A row for each name and unit of money with its sums, in the order in
+//! 4. *Totals and balance* (`sums`, `player_rows`, `players`). One store for sums of either kind: a row for each name and unit of money with its sums, in the order in
 //!    which names were added, and beside the rows an ordered map from a name to its place, so that no choice of
 //!    names makes a look-up long. For a hand all that takes memory is done first, the keys and then the new
 //!    names, which are taken back when out of memory. Then the sums are added, which takes none. That is a

@@ -142,6 +142,7 @@ fn write_summed<C: Counter, S: Source, K: Sink>(
         | Mode::Audit
         | Mode::Streets
         | Mode::Results
+        | Mode::Settle
         | Mode::Spots
         | Mode::Ranges
         | Mode::Made => unreachable!(),
