@@ -11,11 +11,12 @@
 //!    no line is written twice in the code.
 //! 3. *A number is rounded once.* What a hand may expect is added up in 1/5040 of a unit over all pots, and
 //!    then divided.
-//! 4. *Totals and balance* (`sums`, `player_rows`, `players`). One store for sums of either kind: a row for each name and unit of money with its sums, in the order in
-//!    which names were added, and beside the rows an ordered map from a name to its place, so that no choice of
-//!    names makes a look-up long. For a hand all that takes memory is done first, the keys and then the new
-//!    names, which are taken back when out of memory. Then the sums are added, which takes none. That is a
-//!    few look-ups for each seat line, however many hands there were.
+//! 4. *Totals and balance* (`sums`, `player_rows`, `players`). One store keeps sums of either kind: a row for
+//!    each name and unit of money with its sums, in the order in which names were added, and beside the rows an
+//!    ordered map from a name to its place, so that no choice of names makes a look-up long. For a hand all that
+//!    takes memory is done first, the keys and then the new names, which are taken back when out of memory. Then
+//!    the sums are added, which takes none. That is a few look-ups for each seat line, however many hands there
+//!    were.
 #![tactic(auto)]
 
 mod alone;
