@@ -67,6 +67,10 @@ CREATE INDEX parts_of_hands ON parts (file, line);
 CREATE TABLE expectations (file INTEGER, line INTEGER, expected INTEGER, name TEXT);
 CREATE INDEX expectations_of_hands ON expectations (file, line);
 
+-- what the player of an accepted hand, or of one that is rejected for its payments alone, is still to get, or with a sign to give back.
+CREATE TABLE settlements (file INTEGER, line INTEGER, units INTEGER, name TEXT);
+CREATE INDEX settlements_of_hands ON settlements (file, line);
+
 -- Each hand once: of those with one number an accepted one before a rejected one, and then the first by path and line. measure: how
 -- many units are 1 of its money.
 CREATE VIEW first_told AS
@@ -174,6 +178,11 @@ FROM payments p JOIN first_told h USING (file, line) JOIN files f USING (file) W
 UNION ALL
 SELECT f.path, r.line, r.number, 'rejected', NULL, NULL, NULL, NULL, r.carried
 FROM rejections r JOIN first_told h USING (file, line) JOIN files f USING (file) WHERE r.cause = 'Split';
+
+-- Who is still to get what, or to give it back, in units, by the split that the rules give.
+CREATE VIEW to_settle AS
+SELECT f.path, s.line, h.number, h.verdict, s.name, s.units
+FROM settlements s JOIN first_told h USING (file, line) JOIN files f USING (file);
 
 CREATE VIEW rejected AS
 SELECT f.path, r.line, r.number, r.cause_line, r.cause, r.carried
