@@ -4,23 +4,31 @@ const files = (() => {
     // as much text is read by one call of the program, so that there is something to say meanwhile
     const PIECE = 1 << 20;
 
-    const entryFiles = async (entry) => {
+    // all files of a folder, by its handle, or where the browser gives none by its entry
+    const ofHandle = async (handle) => {
+        if (handle.kind === 'file') return [await handle.getFile()];
+        const all = [];
+        for await (const it of handle.values()) all.push(...await ofHandle(it));
+        return all;
+    };
+    const ofEntry = async (entry) => {
         if (entry.isFile) return [await new Promise((yes, no) => entry.file(yes, no))];
         const reader = entry.createReader(), all = [];
         for (;;) {
             const some = await new Promise((yes, no) => reader.readEntries(yes, no));
             if (!some.length) return all;
-            for (const it of some) all.push(...await entryFiles(it));
+            for (const it of some) all.push(...await ofEntry(it));
         }
     };
 
-    // the files of a drop, those of folders among them
+    // the files of a drop, those of folders among them. A drop is told at once, so nothing is waited for before all of it was asked
     const dropped = async (transfer) => {
-        const entries = [...transfer.items].map((it) => it.webkitGetAsEntry && it.webkitGetAsEntry()).filter((it) => it);
-        if (!entries.length) return [...transfer.files];
-        const all = [];
-        for (const it of entries) all.push(...await entryFiles(it));
-        return all;
+        const asked = [...transfer.items].filter((it) => it.kind === 'file').map((it) => {
+            const entry = it.webkitGetAsEntry ? it.webkitGetAsEntry() : null;
+            if (!entry || !entry.isDirectory) return [it.getAsFile()];
+            return it.getAsFileSystemHandle ? it.getAsFileSystemHandle().then(ofHandle) : ofEntry(entry);
+        });
+        return (await Promise.all(asked)).flat().filter((it) => it);
     };
 
     const STATUS = { 2: 'the words are in no form', 3: 'a read failed', 5: 'there is more than 1 GiB', 6: 'memory ran out', 7: 'the words are no text', 8: 'memory ran out' };
@@ -31,9 +39,11 @@ const files = (() => {
         return report;
     };
 
-    // The hands of a file, in order. With each part that was done, told(part) is called, from 0 to 1.
-    const read = async (file, told) => {
-        const bytes = new Uint8Array(await file.arrayBuffer()), places = texts.cut(bytes), decoder = new TextDecoder(), all = [];
+    // Adds the hands of a file, in order, piece by piece. Behind each piece goesOn(part, count) is told which part was done, from 0 to 1, and
+    // how many hands were found, and answers whether to go on.
+    const read = async (file, all, goesOn) => {
+        const bytes = new Uint8Array(await file.arrayBuffer()), places = texts.cut(bytes), decoder = new TextDecoder();
+        if (!goesOn(0, 0)) return false;
         for (let from = 0; from < places.length;) {
             let to = from + 1;
             while (to < places.length && places[to].end - places[from].start < PIECE) to++;
@@ -48,9 +58,9 @@ const files = (() => {
                     ...texts.facts(decoder.decode(bytes.subarray(place.start, place.end))), word: hand.game });
             });
             from = to;
-            told(places[to - 1].end / bytes.length, all.length);
+            if (!goesOn(places[to - 1].end / bytes.length, to)) return false;
         }
-        return all;
+        return true;
     };
 
     return { dropped, read, run };

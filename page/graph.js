@@ -19,7 +19,8 @@ const graph = (() => {
                 rows.push([new Date(`${day}T12:00:00`), ...row()]);
             }
         });
-        return byDay ? rows : [[0, 0, 0, 0], ...rows];
+        // the last step has its length too
+        return byDay ? rows : [[0, 0, 0, 0], ...rows, [played.length + Math.max(0.5, played.length / 40), ...row()]];
     };
 
     const draw = (place, played, byDay) => {

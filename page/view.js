@@ -100,10 +100,10 @@
         const chosen = $('player').value, names = sums.names(hands);
         $('player').replaceChildren(...names.map(([name, count]) => new Option(`${name} (${count})`, name)));
         if (names.some(([name]) => name === chosen)) $('player').value = chosen;
+        $('shown').hidden = false;
         units();
         const rejected = hands.filter((it) => !it.accepted).length, again = all.length - hands.length;
         $('heads').textContent = `${hands.length} hands, ${rejected} of them rejected.${again ? ` ${again} were told twice and count once.` : ''}`;
-        $('shown').hidden = false;
     };
 
     const units = () => {
@@ -124,9 +124,11 @@
             const began = performance.now();
             let done = 0;
             for (const file of given) {
-                if (stopped) break;
-                const found = await files.read(file, (part, count) => say(`${file.name}: ${Math.round(100 * part)} %, ${count} hands; file ${done + 1} of ${given.length}`));
-                all = all.concat(found);
+                const goesOn = (part, count) => {
+                    say(`${file.name}: ${Math.round(100 * part)} %, ${count} hands; file ${done + 1} of ${given.length}`);
+                    return !stopped;
+                };
+                if (!await files.read(file, all, goesOn)) throw new Error('stopped');
                 done++;
             }
             if (all.length) show();
@@ -194,6 +196,8 @@
     for (const name of ['dragenter', 'dragover']) addEventListener(name, (event) => { event.preventDefault(); $('drop').classList.add('over'); });
     addEventListener('dragleave', () => $('drop').classList.remove('over'));
     addEventListener('drop', async (event) => { event.preventDefault(); $('drop').classList.remove('over'); take(await files.dropped(event.dataTransfer)); });
+
+    addEventListener('resize', () => { if (!$('shown').hidden) graph.draw($('graph'), played(), $('by').value === 'day'); });
 
     // for page/test
     globalThis.page = { ready, take, keep, stop, open, answer, hands: () => hands, all: () => all, isReading: () => reading };
