@@ -58,5 +58,20 @@ const reports = (() => {
         return all;
     };
 
-    return { records, hands, settlements, units, written };
+    // the counted all-in of one hand of a report of `audit`: its street, what its pots hold, and which part of each a name may expect; or none
+    const allIn = (csv) => {
+        let found = null;
+        const gross = new Map();
+        for (const words of records(csv)) {
+            if (words[0] === 'pot' && words[2] === 'gross') gross.set(words[1], words[3]);
+            else if (words[0] === 'all-in' && words[2] === 'runouts') found = { street: words[1], parts: new Map() };
+            else if (words[0] === 'pot' && words[2] === 'ev' && found) {
+                if (!found.parts.has(words[12])) found.parts.set(words[12], []);
+                found.parts.get(words[12]).push({ gross: gross.get(words[1]), part: words[3] });
+            }
+        }
+        return found;
+    };
+
+    return { records, hands, settlements, allIn, units, written };
 })();

@@ -14,7 +14,10 @@ const sums = (() => {
         return hands.filter((hand) => first.get(hand.number) === hand);
     };
 
-    const none = () => ({ hands: 0, got: 0n, net: 0n, even: 0n, unknown: 0, rake: 0 });
+    // whether a player was in the hand's showdown, by its text
+    const isShown = (hand, player) => hand.showdown && !hand.folded.has(player.name);
+
+    const none = () => ({ hands: 0, got: 0n, net: 0n, even: 0n, shown: 0n, unknown: 0, rake: 0 });
 
     // a hand more of a player; even is the net where even luck isn't known. Of the rake he has the part that he has of what all got
     const add = (sum, hand, player) => {
@@ -22,6 +25,7 @@ const sums = (() => {
         sum.got += player.got;
         sum.net += player.net;
         sum.even += player.even === null ? player.net : player.even;
+        if (isShown(hand, player)) sum.shown += player.net;
         if (player.even === null) sum.unknown++;
         const all = hand.players.reduce((before, it) => before + it.got, 0n);
         if (all > 0n) sum.rake += Number(hand.rake) * Number(player.got) / Number(all);
@@ -49,5 +53,5 @@ const sums = (() => {
         return [...counts].sort((a, b) => b[1] - a[1] || (a[0] < b[0] ? -1 : 1));
     };
 
-    return { unitOf, once, none, add, of, by, names };
+    return { unitOf, once, isShown, none, add, of, by, names };
 })();

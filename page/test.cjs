@@ -88,6 +88,28 @@ const written = Object.keys(made).map((it) => path.join(work, it));
             expect(there === [row[3], row[5], row[7], row[9], row[11]].join(' '), `the sums of ${name}: ${there} and ${row.join(' ')}`);
         }
         expect(rows.length > 10, 'there are names');
+        // with a showdown and without: by the summaries, where the page goes by what the players did
+        for (const name of ['kim', 'lou', 'max', 'zoe', 'sam']) {
+            const [all, shown] = await chrome.run(`(() => { const own = sums.of(page.hands(), ${JSON.stringify(name)}); return [own.map(({ hand, player }) => [hand.number, String(player.net)]),
+                String(own.reduce((before, { hand, player }) => sums.add(before, hand, player), sums.none()).shown)]; })()`);
+            let sum = 0n;
+            for (const [number, net] of all) {
+                const text = once.find((it) => new RegExp(`#${number}\\b`).test(it));
+                if (/SHOW DOWN/.test(text) && !new RegExp(`^Seat [0-9]+: ${name}( \\([a-z ]*\\))* folded`, 'm').test(text)) sum += BigInt(net);
+            }
+            expect(shown === String(sum), `what ${name} won with a showdown: ${shown} and ${sum}`);
+        }
+        // the all-ins with most luck have the program's figures of their pots
+        await chrome.run(`new Promise((done) => { const look = () => [...document.querySelectorAll('#luck tr')].slice(1).every((it) => it.children[5].textContent) ? done(0) : setTimeout(look, 20); look(); })`);
+        const player = await chrome.run('document.getElementById("player").value');
+        const lucky = await chrome.run(`[...document.querySelectorAll('#luck tr')].slice(1).map((it) => [...it.children].map((cell) => cell.textContent))`);
+        expect(lucky.length > 0, 'there are all-ins');
+        for (const [number, , , , , street, pots, parts] of lucky) {
+            const records = own(once.find((it) => new RegExp(`#${number}\\b`).test(it)), 'audit', '--format', 'csv').stdout.toString().trim().split('\n').map((it) => it.split(','));
+            const his = records.filter((it) => it[2] === 'ev' && it[12] === player);
+            const there = [records.find((it) => it[0] === 'all-in')[1], his.map((it) => records.find((pot) => pot[2] === 'gross' && pot[1] === it[1])[3]).join(', '), his.map((it) => it[3]).join(', ')];
+            expect([street, pots, parts].join(' ') === there.join(' '), `the all-in of ${number}: ${[street, pots, parts]} and ${there}`);
+        }
         await shoot('dropped.png');
         await chrome.send('Emulation.setDeviceMetricsOverride', { width: 360, height: 1400, deviceScaleFactor: 1, mobile: true });
         await shoot('narrow.png');
@@ -107,6 +129,22 @@ const written = Object.keys(made).map((it) => path.join(work, it));
             await chrome.run(`(document.getElementById('spot').value = ${JSON.stringify(line)}, page.answer().then(() => 0))`);
             expect(await chrome.run('document.getElementById("answer").textContent') === own(`${line}\n`, mode).stdout.toString(), `the answer to ${line}`);
         }
+
+        // ranges from the picture: by clicks, and by keys
+        await chrome.run(`(document.getElementById('spot').value = 'holdem  - AsAh -- 2c 7d 9h', document.getElementById('spot').oninput(), document.getElementById('choose').open = true, 0)`);
+        const press = (name) => chrome.run(`([...document.querySelectorAll('#grid button')].find((it) => it.textContent === ${JSON.stringify(name)}).click(), 0)`);
+        for (const name of ['TT', 'JJ', 'QQ', 'KK', 'AA', 'AKs', 'AQs', '72o']) await press(name);
+        await press('72o');
+        await chrome.run(`([...document.querySelectorAll('#grid button')].find((it) => it.textContent === '72o').focus(), 0)`);
+        for (const key of ['ArrowRight', 'ArrowUp', 'Enter']) for (const type of ['keyDown', 'keyUp']) {
+            await chrome.send('Input.dispatchKeyEvent', { type, key, code: key, windowsVirtualKeyCode: key === 'Enter' ? 13 : key === 'ArrowUp' ? 38 : 39, ...key === 'Enter' && type === 'keyDown' ? { text: '\r' } : {} });
+        }
+        const line = await chrome.run('document.getElementById("spot").value');
+        expect(line === 'holdem TT+,AQs+,63o - AsAh -- 2c 7d 9h', `the line of the picture: ${line}`);
+        expect(await chrome.run('document.getElementById("chosen").textContent') === '50 of 1326 hands', 'the picture counts the hands');
+        await chrome.run('page.answer().then(() => 0)');
+        expect(await chrome.run('document.getElementById("answer").textContent') === own(`${line}\n`, 'ranges').stdout.toString(), 'the answer to the line of the picture');
+        await shoot('ranges.png');
 
         // the example with one click, hostile texts, a file that is cut off, one without a hand
         await fresh();

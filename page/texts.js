@@ -1,6 +1,6 @@
 'use strict';
 // What the text of a history says beside the rules, which the program passes over: where hands begin, when and where they were played,
-// for what stakes, and whose cards it shows. What can't be read is empty. Nothing of this is proved.
+// for what stakes, whose cards it shows, and who was in a showdown. What can't be read is empty. Nothing of this is proved.
 const texts = (() => {
     const HEADER = /^(\uFEFF)?PokerStars [A-Za-z ]*(Hand|Game) #[0-9]/;
     const GAMES = ["Hold'em", 'Omaha Hi/Lo', 'Omaha', '7 Card Stud Hi/Lo', '7 Card Stud', 'Razz', 'Single Draw 2-7 Lowball', 'Triple Draw 2-7 Lowball', '5 Card Draw'];
@@ -49,14 +49,16 @@ const texts = (() => {
         const clock = /([12][0-9]{3})\/([01][0-9])\/([0-3][0-9]) (?:- )?([0-9]{1,2}:[0-5][0-9]:[0-5][0-9])/.exec(header);
         const tournament = /Tournament #([0-9]+)/.exec(header), table = /^Table '(.*)' [0-9]+-max/m.exec(text) || /^Table '(.*)'/m.exec(text);
         const board = /^(?:FIRST )?Board \[([^\]]*)\]/m.exec(text);
-        const cards = new Map();
+        const cards = new Map(), folded = new Set();
         for (const line of lines) {
-            const dealt = /^Dealt to (.*?) \[([^\]]*)\]/.exec(line), shown = /^(.*): shows \[([^\]]*)\]/.exec(line);
+            const dealt = /^Dealt to (.*?) \[([^\]]*)\]/.exec(line), shown = /^(.*): shows \[([^\]]*)\]/.exec(line), gone = /^(.*): folds(?: \[.*\])?\s*$/.exec(line);
             if (shown) cards.set(shown[1], shown[2]);
             else if (dealt && dealt[2].includes(' ') && !cards.has(dealt[1])) cards.set(dealt[1], dealt[2]);
+            else if (gone) folded.add(gone[1]);
         }
+        const showdown = /^\*\*\* (?:FIRST |SECOND )?SHOW DOWN \*\*\*/m.test(text);
         return { ...stakes(header), day: clock ? `${clock[1]}-${clock[2]}-${clock[3]}` : '', second: clock ? clock[4].padStart(8, '0') : '',
-            tournament: tournament ? tournament[1] : '', table: table ? table[1] : '', board: board ? board[1] : '', cards };
+            tournament: tournament ? tournament[1] : '', table: table ? table[1] : '', board: board ? board[1] : '', cards, showdown, folded };
     };
 
     return { cut, alone, facts };

@@ -25,23 +25,35 @@
     // the hands of the chosen player in the chosen unit
     const played = () => sums.of(hands, $('player').value).filter(({ hand }) => sums.unitOf(hand) === $('unit').value);
 
-    const amounts = (sum, money) => [String(sum.hands), reports.written(sum.net, money), reports.written(sum.even, money),
-        reports.written(sum.net - sum.even, money), money ? (sum.rake / 100).toFixed(2) : sum.rake.toFixed(0), String(sum.unknown)];
+    const WORDS = ['hands', 'won', 'with even luck', 'luck', 'with showdown', 'without showdown', 'rake paid', 'luck not known of'];
+    const amounts = (sum, money) => [String(sum.hands), ...[sum.net, sum.even, sum.net - sum.even, sum.shown, sum.net - sum.shown].map((it) => reports.written(it, money)),
+        money ? (sum.rake / 100).toFixed(2) : sum.rake.toFixed(0), String(sum.unknown)];
 
     const figures = () => {
         const own = played(), money = own.length > 0 && own[0].hand.money, sum = own.reduce((before, { hand, player }) => sums.add(before, hand, player), sums.none());
-        const words = ['hands', 'won', 'with even luck', 'luck', 'rake paid', 'luck not known of'];
         const values = amounts(sum, money);
-        $('figures').replaceChildren(...words.flatMap((word, at) => [node('dt', word), node('dd', values[at])]));
-        graph.draw($('graph'), own, $('by').value === 'day');
+        $('figures').replaceChildren(...WORDS.flatMap((word, at) => [node('dt', word), node('dd', values[at])]));
+        draw(own);
         groups(own, money);
         luck(own, money);
     };
 
+    // the lines of the graph that are shown
+    const lines = graph.LINES.map((line) => {
+        const label = node('label', line), box = node('input');
+        box.type = 'checkbox';
+        box.checked = line !== 'luck';
+        box.onchange = () => draw(played());
+        label.prepend(box, ' ');
+        $('lines').append(label);
+        return box;
+    });
+    const draw = (own) => graph.draw($('graph'), own, $('by').value === 'day', lines.map((box) => box.checked));
+
     const groups = (own, money) => {
         const rows = [...sums.by(own, GROUPS[$('group').value])].map(([key, sum]) => ({ key, sum, texts: [key, ...amounts(sum, money)] }));
-        const heads = [$('group').value, 'hands', 'won', 'with even luck', 'luck', 'rake paid', 'luck not known of'];
-        const value = ({ key, sum }, at) => at === 0 ? key : [sum.hands, Number(sum.net), Number(sum.even), Number(sum.net - sum.even), sum.rake, sum.unknown][at - 1];
+        const heads = [$('group').value, ...WORDS];
+        const value = ({ key, sum }, at) => at === 0 ? key : [sum.hands, sum.net, sum.even, sum.net - sum.even, sum.shown, sum.net - sum.shown, sum.rake, sum.unknown][at - 1];
         const at = sorted.key === null ? 0 : sorted.key;
         rows.sort((a, b) => (value(a, at) < value(b, at) ? -1 : value(a, at) > value(b, at) ? 1 : 0) * (sorted.down ? 1 : -1));
         const it = letter.table(heads, rows.map((row) => row.texts));
@@ -57,10 +69,31 @@
     const luck = (own, money) => {
         const size = ({ player }) => player.even === null ? 0n : player.net - player.even;
         const most = own.filter((it) => size(it) !== 0n).sort((a, b) => { const x = size(a) < 0n ? -size(a) : size(a), y = size(b) < 0n ? -size(b) : size(b); return x > y ? -1 : x < y ? 1 : 0; }).slice(0, 12);
-        const it = letter.table(['hand', 'luck', 'won', 'cards', 'board'], most.map(({ hand, player }) => [hand.number, reports.written(player.net - player.even, money),
-            reports.written(player.net, money), hand.cards.get(player.name) || '', hand.board]));
-        [...it.querySelectorAll('tr')].slice(1).forEach((row, at) => link(row.firstChild, most[at].hand));
+        const it = letter.table(['hand', 'luck', 'won', 'cards', 'board', 'all-in', 'pots', 'part of each'], most.map(({ hand, player }) => [hand.number, reports.written(player.net - player.even, money),
+            reports.written(player.net, money), hand.cards.get(player.name) || '', hand.board, '', '', '']));
+        const rows = [...it.querySelectorAll('tr')].slice(1);
+        rows.forEach((row, at) => link(row.firstChild, most[at].hand));
         $('luck').replaceChildren(most.length ? it : node('p', 'No all-in of his is counted.'));
+        equities(rows, most);
+    };
+
+    // Where each of these all-ins came, what its pots held and which part of each was the player's: by the program, one after the other.
+    let listed = 0;
+    const equities = async (rows, most) => {
+        const number = ++listed, decoder = new TextDecoder();
+        for (let at = 0; at < most.length; at++) {
+            const { hand, player } = most[at];
+            let it = null;
+            try {
+                it = reports.allIn(decoder.decode(await files.run('audit', 'csv', texts.alone(hand.bytes, hand.place, hand.place))));
+            } catch (error) {
+                if (number === listed) say(error.message, true);
+            }
+            if (number !== listed) return;
+            const parts = it && it.parts.get(player.name) || [];
+            [it ? it.street : '', parts.map(({ gross }) => gross).join(', '), parts.map(({ part }) => part).join(', ')]
+                .forEach((text, column) => { rows[at].children[5 + column].textContent = text; });
+        }
     };
 
     // a cell that opens a hand
@@ -164,7 +197,24 @@
         return parts;
     };
 
-    // a line for a spot or for ranges, answered as it is typed
+    // a line for a spot or for ranges, answered as it is typed, and the picture from which a range of it is chosen
+    const range = () => grid.split($('spot').value).ranges[Number($('whose').value)] || '';
+    const choose = (text) => {
+        const line = grid.split($('spot').value), at = Number($('whose').value);
+        while (line.ranges.length <= at) line.ranges.push('');
+        line.ranges[at] = text;
+        $('spot').value = grid.joined(line);
+        chosen();
+        later();
+    };
+    const chosen = () => {
+        const it = grid.read(range());
+        $('chosen').textContent = `${grid.count(it)} of 1326 hands${it.others.length ? `, and ${it.others.join(', ')}` : ''}`;
+    };
+    const mark = grid.show($('grid'), range, choose);
+    const shift = () => { mark(); chosen(); };
+    chosen();
+
     let asked = 0;
     const answer = async () => {
         const number = ++asked, line = $('spot').value.trim();
@@ -189,7 +239,10 @@
     $('print').onclick = () => print();
     for (const [id, mode, form] of [['audit', 'audit', 'text'], ['csv', 'audit', 'csv'], ['results', 'results', 'csv'], ['settle', 'settle', 'text']]) $(`keep-${id}`).onclick = () => keep(mode, form);
     let soon;
-    $('spot').oninput = () => { clearTimeout(soon); soon = setTimeout(answer, 250); };
+    const later = () => { clearTimeout(soon); soon = setTimeout(answer, 250); };
+    $('spot').oninput = () => { shift(); later(); };
+    $('whose').onchange = shift;
+    $('clear').onclick = () => { choose(''); mark(); };
     $('files').onchange = () => take([...$('files').files]);
     $('folder').onchange = () => take([...$('folder').files]);
     $('example').onclick = () => take([new File([$('histories').textContent.replace(/^\n/, '')], 'example.txt')]);
@@ -197,7 +250,7 @@
     addEventListener('dragleave', () => $('drop').classList.remove('over'));
     addEventListener('drop', async (event) => { event.preventDefault(); $('drop').classList.remove('over'); take(await files.dropped(event.dataTransfer)); });
 
-    addEventListener('resize', () => { if (!$('shown').hidden) graph.draw($('graph'), played(), $('by').value === 'day'); });
+    addEventListener('resize', () => { if (!$('shown').hidden) draw(played()); });
 
     // for page/test
     globalThis.page = { ready, take, keep, stop, open, answer, hands: () => hands, all: () => all, isReading: () => reading };
