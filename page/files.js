@@ -42,7 +42,8 @@ const files = (() => {
     // Adds the hands of a file, in order, piece by piece. Behind each piece goesOn(part, count) is told which part was done, from 0 to 1, and
     // how many hands were found, and answers whether to go on.
     const read = async (file, all, goesOn) => {
-        const bytes = new Uint8Array(await file.arrayBuffer()), places = texts.cut(bytes), decoder = new TextDecoder();
+        if (!goesOn(0, 0)) return false;
+        const bytes = new Uint8Array(await file.arrayBuffer()), places = await texts.cut(bytes), decoder = new TextDecoder();
         if (!goesOn(0, 0)) return false;
         for (let from = 0; from < places.length;) {
             let to = from + 1;

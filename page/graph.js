@@ -27,15 +27,15 @@ const graph = (() => {
         return byDay ? rows : [[0, 0, 0, 0, 0, 0], ...rows, [played.length + Math.max(0.5, played.length / 40), ...row()]];
     };
 
-    // shown says of each line whether it is drawn
-    const draw = (place, played, byDay, shown) => {
+    // shown says of each line whether it is drawn; what the lines are at the pointer stands in another place
+    const draw = (place, played, byDay, shown, legend) => {
         place.replaceChildren();
         const rows = points(played, byDay);
         if (rows.length < 2) return;
         const series = Object.fromEntries(LINES.map((line, at) => [line, { strokePattern: DASHES[at] }]));
         new Dygraph(place, rows, { labels: [byDay ? 'day' : 'hand', ...LINES], colors: COLORS, visibility: shown, series, stepPlot: !byDay, strokeWidth: 2,
-            legend: 'always', labelsSeparateLines: false, axisLabelFontSize: 12, digitsAfterDecimal: 2, rightGap: 12 });
+            legend: 'always', labelsDiv: legend, labelsSeparateLines: false, axisLabelFontSize: 12, digitsAfterDecimal: 2, rightGap: 12 });
     };
 
-    return { draw, points, LINES };
+    return { draw, points, LINES, COLORS };
 })();

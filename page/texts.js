@@ -7,10 +7,17 @@ const texts = (() => {
     const LIMITS = ['No Limit', 'Pot Limit', 'Limit'];
     const NEWLINE = 10;
 
+    // as many bytes are gone through before the page may do something else
+    const STRETCH = 1 << 22;
+
     // the hands of a file, each by its first line's number and its bytes' places
-    const cut = (bytes) => {
+    const cut = async (bytes) => {
         const decoder = new TextDecoder(), hands = [];
-        for (let at = 0, line = 1; at < bytes.length; line++) {
+        for (let at = 0, line = 1, next = STRETCH; at < bytes.length; line++) {
+            if (at > next) {
+                next = at + STRETCH;
+                await new Promise((done) => setTimeout(done));
+            }
             let end = bytes.indexOf(NEWLINE, at);
             if (end < 0) end = bytes.length;
             // only a line that begins as a header does is read
@@ -48,7 +55,9 @@ const texts = (() => {
         const lines = text.split(/\r?\n/), header = lines[0];
         const clock = /([12][0-9]{3})\/([01][0-9])\/([0-3][0-9]) (?:- )?([0-9]{1,2}:[0-5][0-9]:[0-5][0-9])/.exec(header);
         const tournament = /Tournament #([0-9]+)/.exec(header), table = /^Table '(.*)' [0-9]+-max/m.exec(text) || /^Table '(.*)'/m.exec(text);
-        const board = /^(?:FIRST )?Board \[([^\]]*)\]/m.exec(text);
+        // the summary has the whole board, and where it hasn't the last marker of a street has; of two boards the first
+        const board = /^(?:FIRST )?Board \[([^\]]*)\]/m.exec(text), streets = [...text.matchAll(/^\*\*\* (?:FIRST )?(?:FLOP|TURN|RIVER) \*\*\* (.*)/gm)];
+        const marked = streets.length ? streets[streets.length - 1][1].replace(/[[\]]/g, '').trim() : '';
         const cards = new Map(), folded = new Set();
         for (const line of lines) {
             const dealt = /^Dealt to (.*?) \[([^\]]*)\]/.exec(line), shown = /^(.*): shows \[([^\]]*)\]/.exec(line), gone = /^(.*): folds(?: \[.*\])?\s*$/.exec(line);
@@ -58,7 +67,7 @@ const texts = (() => {
         }
         const showdown = /^\*\*\* (?:FIRST |SECOND )?SHOW DOWN \*\*\*/m.test(text);
         return { ...stakes(header), day: clock ? `${clock[1]}-${clock[2]}-${clock[3]}` : '', second: clock ? clock[4].padStart(8, '0') : '',
-            tournament: tournament ? tournament[1] : '', table: table ? table[1] : '', board: board ? board[1] : '', cards, showdown, folded };
+            tournament: tournament ? tournament[1] : '', table: table ? table[1] : '', board: board ? board[1] : marked, cards, showdown, folded };
     };
 
     return { cut, alone, facts };

@@ -4,7 +4,7 @@
     const { node } = letter;
     const $ = (id) => document.getElementById(id);
     const say = (text, bad) => { $('note').textContent = text; $('note').className = bad ? 'bad' : ''; };
-    const SHOWN = 200;
+    const SHOWN = 200, NAMES = 200;
     let all = [], hands = [], stopped = false, reading = false, sorted = { key: null, down: true };
 
     const ready = engine.start().catch((error) => {
@@ -39,16 +39,17 @@
     };
 
     // the lines of the graph that are shown
-    const lines = graph.LINES.map((line) => {
+    const lines = graph.LINES.map((line, at) => {
         const label = node('label', line), box = node('input');
         box.type = 'checkbox';
         box.checked = line !== 'luck';
+        box.style.accentColor = graph.COLORS[at];
         box.onchange = () => draw(played());
         label.prepend(box, ' ');
         $('lines').append(label);
         return box;
     });
-    const draw = (own) => graph.draw($('graph'), own, $('by').value === 'day', lines.map((box) => box.checked));
+    const draw = (own) => graph.draw($('graph'), own, $('by').value === 'day', lines.map((box) => box.checked), $('legend'));
 
     const groups = (own, money) => {
         const rows = [...sums.by(own, GROUPS[$('group').value])].map(([key, sum]) => ({ key, sum, texts: [key, ...amounts(sum, money)] }));
@@ -128,13 +129,25 @@
         $('hand').showModal();
     };
 
+    // the player of a name, who is put into the list if he isn't there
+    let counts = new Map();
+    const pick = (name) => {
+        if (!counts.has(name)) { say(`There is no ${name} in these hands.`, true); return; }
+        if (![...$('player').options].some((it) => it.value === name)) $('player').prepend(new Option(`${name} (${counts.get(name)})`, name));
+        $('player').value = name;
+        units();
+    };
+
     const show = () => {
         hands = sums.once(all);
-        const chosen = $('player').value, names = sums.names(hands);
-        $('player').replaceChildren(...names.map(([name, count]) => new Option(`${name} (${count})`, name)));
-        if (names.some(([name]) => name === chosen)) $('player').value = chosen;
+        const chosen = $('player').value;
+        counts = new Map(sums.names(hands));
+        // a list of all names could be longer than anybody looks through
+        $('player').replaceChildren(...[...counts].slice(0, NAMES).map(([name, count]) => new Option(`${name} (${count})`, name)));
+        $('others').hidden = counts.size <= NAMES;
         $('shown').hidden = false;
-        units();
+        if (counts.has(chosen)) pick(chosen);
+        else units();
         const rejected = hands.filter((it) => !it.accepted).length, again = all.length - hands.length;
         $('heads').textContent = `${hands.length} hands, ${rejected} of them rejected.${again ? ` ${again} were told twice and count once.` : ''}`;
     };
@@ -230,6 +243,7 @@
     };
 
     $('player').onchange = units;
+    $('other').onchange = () => pick($('other').value.trim());
     $('unit').onchange = figures;
     $('by').onchange = figures;
     $('group').onchange = () => { sorted = { key: null, down: true }; figures(); };
