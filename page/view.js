@@ -267,5 +267,5 @@
     addEventListener('resize', () => { if (!$('shown').hidden) draw(played()); });
 
     // for page/test
-    globalThis.page = { ready, take, keep, stop, open, answer, hands: () => hands, all: () => all, isReading: () => reading };
+    globalThis.page = { ready, call: engine.call, take, keep, stop, open, answer, hands: () => hands, all: () => all, isReading: () => reading };
 })();
