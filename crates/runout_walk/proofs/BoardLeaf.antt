@@ -1,6 +1,7 @@
 -- What a leaf of boards is given.
-use Rattle.std.proofs.Common.{Bool, true, false, cond, ◌≡◌, ℕ, suc, ◌<◌, ◌≤◌, List, [], ◌∷◌, ◌++◌, length, refl, sym, ap, arith, subst}
+use Rattle.std.proofs.Common.{Bool, true, false, cond, ◌≡◌, ℕ, suc, ◌<◌, ◌≤◌, List, [], ◌∷◌, ◌++◌, length, map, refl, sym, ap, arith, subst}
 use Rattle.std.specs.Prelude.{nat_le}
+use Rattle.std.specs.List.{slice_range}
 use Rattle.card_sets.specs.Choose.{choose}
 use Rattle.card_sets.specs.Games.{has_board, own_size}
 use Rattle.card_sets.specs.State.{State, state_of}
@@ -10,6 +11,8 @@ use Rattle.runout_ranges.specs.Slots.{same_receiver, slots}
 use Rattle.runout_ranges.specs.declared.shapes.Receiver.TheVariants.{Board}
 use Rattle.runout_ranges.specs.declared.shapes.Shape.{Shape}
 use Rattle.runout_ranges.specs.declared.shapes.Slot.{Slot}
+use Rattle.showdown_tally.specs.Deals.{deal_of}
+use Rattle.showdown_tally.specs.SideCounts.{CountsGrow}
 use Rattle.showdown_tally.specs.Tallies.{runouts_after}
 use Rattle.showdown_tally.specs.declared.table.Table.{Table}
 use Rattle.std.proofs.lemmas.Bool.{and_parts}
@@ -73,3 +76,12 @@ boards_slots table shape st boards same =
     let two : nat_le 2 (board_lacks (slots_of shape)) ≡ true = (and_parts (has_board table.known.game) (nat_le 2 (board_lacks (slots_of shape))) boards).1 in
     let P : List Slot → Type 0 = λ some. (0 < length some) × (2 ≤ last_count some) in
     subst P same (one_slot (slots_of shape) (grind (arith, two)))
+
+-- what a leaf is to count, as first cards with a pair
+pub leaf_grow : (spot : BoardSpot) (table : Table) (front : List (List ℕ)) (taken rest : List ℕ) (left lo hi : ℕ) (old new : List (List ℕ)) → spot.table ≡ table → front ≡ [] → left ≡ 2 → CountsGrow (deal_of spot.table) (map (λ more. (taken ++ more) ∷ []) (slice_range (choose 2 rest) lo hi)) old new
+    → CountsGrow (deal_of table) (map (λ more. front ++ (taken ++ more) ∷ []) (slice_range (choose left rest) lo hi)) old new
+leaf_grow spot table front taken rest left lo hi old new same none two grown =
+    let F : List (List ℕ) → Type 0 = λ f. CountsGrow (deal_of spot.table) (map (λ more. f ++ (taken ++ more) ∷ []) (slice_range (choose 2 rest) lo hi)) old new in
+    let T : Table → Type 0 = λ t. CountsGrow (deal_of t) (map (λ more. front ++ (taken ++ more) ∷ []) (slice_range (choose 2 rest) lo hi)) old new in
+    let L : ℕ → Type 0 = λ n. CountsGrow (deal_of table) (map (λ more. front ++ (taken ++ more) ∷ []) (slice_range (choose n rest) lo hi)) old new in
+    subst L (sym two) (subst T same (subst F (sym none) grown))

@@ -71,7 +71,7 @@ pub hand_apart : (st : State) (set : List ℕ) (h : ℕ) → Within set (unseen 
 hand_apart st set h w = λ k x y. (unseen_free st k (w k y)).1 (any-index k st.hands h x)
 
 -- a range of all members is the whole
-take_itself : {X : Type 0} (xs : List X) → take (length xs) xs ≡ xs
+pub take_itself : {X : Type 0} (xs : List X) → take (length xs) xs ≡ xs
 take_itself [] = refl
 take_itself (x ∷ xs) = ap (λ l. x ∷ l) (take_itself xs)
 

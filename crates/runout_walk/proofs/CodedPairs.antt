@@ -34,7 +34,7 @@ of_side High main low = main
 of_side Low main low = low
 
 -- a code has its number back
-code_back : (code : ℕ) → code < 7 → code_of (field code) ≡ code
+pub code_back : (code : ℕ) → code < 7 → code_of (field code) ≡ code
 code_back zero l = refl
 code_back (suc zero) l = refl
 code_back (suc (suc zero)) l = refl
@@ -44,7 +44,7 @@ code_back (suc (suc (suc (suc (suc zero))))) l = refl
 code_back (suc (suc (suc (suc (suc (suc zero)))))) l = refl
 code_back (suc (suc (suc (suc (suc (suc (suc n))))))) l = absurd (omega arith)
 
-code_small : (add : ℕ) → code_of add < 7
+pub code_small : (add : ℕ) → code_of add < 7
 code_small add = go (add == 1) (add == 512) (add == 262144) (add == 134217728) (add == 68719476736) (add == 35184372088832)
   where
     go : (a b d e f h : Bool) → cond a 0 (cond b 1 (cond d 2 (cond e 3 (cond f 4 (cond h 5 6))))) < 7
@@ -200,7 +200,7 @@ take_none : {X : Type 0} (n : ℕ) → take {A = X} n [] ≡ []
 take_none zero = refl
 take_none (suc n) = refl
 
-take_range : {X : Type 0} (xs : List X) (at end : ℕ) → at ≤ end → take end xs ≡ take at xs ++ slice_range xs at end
+pub take_range : {X : Type 0} (xs : List X) (at end : ℕ) → at ≤ end → take end xs ≡ take at xs ++ slice_range xs at end
 take_range [] at end l = rw (take_none end, take_none at, range-none at end) refl
 take_range (x ∷ xs) zero end l = let e : end - 0 ≡ end = omega arith in rw e refl
 take_range (x ∷ xs) (suc at) zero l = absurd (omega arith)

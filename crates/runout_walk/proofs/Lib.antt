@@ -20,6 +20,8 @@ pub mod PackedSums
 pub mod CodeSets
 pub mod PairCounts
 pub mod CodedPairs
+pub mod SieveLists
+pub mod PlainPairs
 pub mod BoardLeaf
 pub mod NoTable
 pub mod DrawLists

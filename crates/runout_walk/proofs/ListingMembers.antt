@@ -42,7 +42,7 @@ without_members M taken rest others card (suc k) some first all more m =
     all more (subst Q (sym first) (member-right (choose (suc k) (card ∷ others)) (map (λ l. card ∷ l) (choose k others)) (choose (suc k) others) more refl m))
 
 -- a member of a part
-in_take : {X : Type 0} (n : ℕ) (xs : List X) (x : X) → HasMember (take n xs) x → HasMember xs x
+pub in_take : {X : Type 0} (n : ℕ) (xs : List X) (x : X) → HasMember (take n xs) x → HasMember xs x
 in_take n xs x m = go n xs m.0 m.1 m.2
   where
     go : (n : ℕ) (xs front back : List _) → take n xs ≡ front ++ x ∷ back → HasMember xs x

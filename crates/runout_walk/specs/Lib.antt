@@ -29,11 +29,14 @@ pub mod Bests
 pub mod Boards
 pub mod SideRows
 pub mod Pairs
+pub mod Sieves
+pub mod KeptSieves
 pub mod Branches
 pub mod OneMore
 pub mod KeptRows
 pub mod Fields
 pub mod Codes
+pub mod PlainRanks
 pub mod KeptFlushes
 pub mod Worth
 pub mod Draws

@@ -17,7 +17,7 @@ use crate::codes::Codes;
 use crate::flush::Suited;
 use crate::flushes::Flushes;
 use crate::front::Front;
-use crate::packed::put_sum;
+use crate::packed::{PIECE, put_sum};
 use crate::pair::Pair;
 use crate::places::{add_place, put_runout};
 use crate::row::Row;
@@ -110,7 +110,7 @@ fn count_pair(
 
 /// Counts first cards with each of some pairs as the last two, for each pot. It takes a step a pair.
 #[inline(never)]
-fn count_pairs<L: Ledger>(
+pub(crate) fn count_pairs<L: Ledger>(
     spot: &BoardSpot,
     flushes: &mut Flushes,
     front: &Front,
@@ -221,9 +221,6 @@ fn count_one_pot<L: Ledger>(
         cells[usize::from(place)] += 1;
     }
 }
-
-/// How many pairs a field of a sum has room for.
-const PIECE: usize = 511;
 
 /// Where a pair makes nobody a flush, a one in the field of the code of its ranks. Else it is counted for each pot, and none is given.
 #[inline]

@@ -10,15 +10,14 @@ ghost use Rattle.runout_walk.specs.Codes.{AreAllCodes};
 ghost use Rattle.runout_walk.specs.KeptRows.{AreRows};
 ghost use Rattle.runout_walk.specs.KeptFlushes.{AreFlushes};
 
-use crate::board_leaf::count_front;
 use crate::coded_rows::CodedRows;
 use crate::deal::same_deal;
 use crate::flushes::Flushes;
-use crate::front::Front;
 use crate::leaf::{Leaf, Tail};
 use crate::pairs::Pairs;
 use crate::row::{last_rank, ranks_of};
 use crate::rows::Rows;
+use crate::sieve_leaf::{count_sieved, count_whole};
 use crate::spot::BoardSpot;
 use card_sets::{CardSet, Memory};
 use runout_ranges::{Receiver, Shape};
@@ -44,8 +43,8 @@ pub fn are_boards(table: &Table, shape: &Shape) -> bool
     table.known.game.has_board() && 2 <= board_lacks(shape)
 }
 
-/// The room that boards are counted in. It asks for up to 640 kB of the heap, of which rows and codes are written where a count wants
-/// them first.
+/// The room that boards are counted in. It asks for up to 830 kB of the heap, of which rows, codes and sieves are written where a count
+/// wants them first.
 /// It is made once, and keeps what the next count of the same deal can use; what it held before makes no other difference.
 #[derive(Drop)]
 pub struct Boards {
@@ -133,10 +132,17 @@ impl Leaf for Boards {
         let rows = self.rows.stretch(base, spot.table.pots);
         let place = self.codes.ready(spot, base, rows, &ranks, least);
         let codes = self.codes.codes_at(place);
-        let first = Front::of(spot, tail.taken);
-        self.pairs.serve(self.cards);
-        let pairs = self.pairs.stretch(tail.rest, lo, hi);
         let flushes = &mut self.flushes;
-        count_front(spot, flushes, &first, rows, codes, pairs, counts, steps);
+        self.pairs.serve(self.cards);
+        let pairs = &mut self.pairs;
+        if tail.taken == CardSet::empty() {
+            count_whole(
+                spot, flushes, rows, codes, pairs, &tail, lo, hi, counts, steps,
+            );
+            return;
+        }
+        count_sieved(
+            spot, flushes, rows, codes, pairs, &tail, lo, hi, counts, steps,
+        );
     }
 }

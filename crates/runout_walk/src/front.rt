@@ -1,6 +1,6 @@
 //! First cards of a board, and where somebody may have a flush with two more.
 
-ghost use Rattle.std.specs.Prelude.{◌≡◌, length, IsTrue};
+ghost use Rattle.std.specs.Prelude.{◌≡◌, false, length, IsTrue};
 ghost use Rattle.runout_walk.specs.Suits.{AreAllShort, AreFivesWith};
 
 use crate::spot::BoardSpot;
@@ -41,6 +41,23 @@ fn suit_bits(cards: CardSet) -> [u32; 4] {
 }
 
 impl Front {
+    /// First cards of a board, with the table of suits for so many cards of each.
+    #[inline]
+    pub(crate) fn with(spot: &BoardSpot, taken: CardSet, suits: &[u8; 16]) -> Front
+        requires suits { AreFivesWith spot.now.most taken suits.now }
+        requires places { length suits.now ≡ 16 }
+        ensures taken { result.taken ≡ taken }
+        ensures plain { result.plain ≡ false }
+        ensures suits { result.suits ≡ suits.now }
+    {
+        Front {
+            taken,
+            plain: false,
+            suits: *suits,
+            tags: suit_bits(spot.table.known.board.union(taken)),
+        }
+    }
+
     /// First cards of a board.
     #[inline]
     pub(crate) fn of(spot: &BoardSpot, taken: CardSet) -> Front

@@ -13,8 +13,11 @@
 //!    is looked up by its ranks, and adds a one to its code's field, one of nine bits, of a sum, with a step. The fields go to the counts
 //!    after 511 pairs at most. Where a row has more than seven outcomes, each pair is added to the counts themselves.
 //! 3. *A flush.* Where some two cards can make somebody five of a suit, a table of sixteen bytes says, by the suits of the two, of which
-//!    suit that may be. The best flush of the pot with the board's cards of that suit is looked up by their ranks, and is compared with
-//!    the best by ranks. Each is worked out once while the deal is the same; a new deal gets a new number, and nothing is cleared.
+//!    suit that may be. Where the board lacks more than two cards, all pairs are parted by that table once for each count of suits of the
+//!    first cards, of which there are up to twenty: into the ranks of those that make nobody a flush, and the others. The pairs of first
+//!    cards are a stretch of each part, and only the others are settled with flushes. After a flop each pair is asked its suits. The
+//!    best flush of the pot with the board's cards of the suit is looked up by their ranks, and is compared with the best by ranks. Each
+//!    is worked out once while the deal is the same; a new deal gets a new number, and nothing is cleared.
 //! 4. *More pots.* What a hand is worth, by ranks or as a flush, is worked out once for all pots.
 //!
 //! **Rivers** ([`Rivers`]: the same games, where the board lacks one card). By ranks there are thirteen boards, each worked out where
@@ -62,12 +65,16 @@ mod pair;
 mod pairs;
 mod places;
 mod plain;
+mod plain_ranks;
 mod range;
 mod rivals;
 mod rivers;
 mod row;
 mod rows;
 mod sides;
+mod sieve;
+mod sieve_leaf;
+mod sieves;
 mod spot;
 mod suited;
 mod suits;

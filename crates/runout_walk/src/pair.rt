@@ -36,4 +36,12 @@ impl Pair {
             suits: 4 * low.suit() + high.suit(),
         }
     }
+
+    /// Some pair.
+    pub(crate) fn any() -> Pair {
+        let Some(card) = Card::new(0, 0) else {
+            unreachable!();
+        };
+        Pair::of(card, card)
+    }
 }

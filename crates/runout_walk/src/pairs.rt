@@ -1,20 +1,21 @@
 //! All pairs of the cards that may come, in the order of the listing of choices.
 
-ghost use Rattle.std.specs.Prelude.{◌≡◌, ℕ, ◌+◌, ◌-◌, ◌<◌, ◌≤◌, ◌++◌, [], ◌∷◌, List, length, map, take, IfOk};
+ghost use Rattle.std.specs.Prelude.{◌≡◌, ℕ, ◌+◌, ◌-◌, ◌<◌, ◌≤◌, ◌++◌, [], ◌∷◌, List, length, map, slice_get, slice_index, take, Some, IfOk};
 ghost use Rattle.std.specs.List.{slice_range};
 ghost use Rattle.card_sets.specs.Choose.{choose};
 ghost use Rattle.runout_ranges.specs.Ways.{binomial};
+ghost use Rattle.runout_walk.specs.KeptSieves.{AreSieves, IsSieve};
 ghost use Rattle.runout_walk.specs.Listing.{IsEndOf};
 ghost use Rattle.runout_walk.specs.Pairs.{cards_of_pair};
+ghost use Rattle.runout_walk.specs.declared.sieve.Sieve.{Sieve};
 
 use crate::filled::filled;
 use crate::pair::Pair;
+use crate::sieve::{PAIRS_MAX, Sieve};
+use crate::sieves::Sieves;
 use card_sets::{Card, CardSet, Memory};
 use runout_ranges::count_choices;
 use std::alloc::Global;
-
-/// How many pairs of 52 cards there are.
-const PAIRS_MAX: usize = 1326;
 
 /// All pairs of some cards, in the order of the listing of choices: room for those of a deck, on the heap.
 #[derive(Drop)]
@@ -22,15 +23,28 @@ pub(crate) struct Pairs {
     /// The cards.
     pub(crate) cards: CardSet,
     /// How many pairs there are.
-    used: usize,
+    pub(crate) used: usize,
     /// The pairs, and others behind them.
-    pairs: Vec<Pair>,
+    pub(crate) pairs: Vec<Pair>,
+    /// Their sieves.
+    pub(crate) sieves: Sieves,
     /// There are so many places,
     pub(crate) ghost sized: { length pairs.items ≡ 1326 },
     /// which are enough for all.
     pub(crate) ghost few: { used ≤ 1326 },
     /// They are all choices of two of the cards.
     pub(crate) ghost listed: { map cards_of_pair (take used pairs.items) ≡ choose 2 cards },
+    /// The sieves part them.
+    pub(crate) ghost parted: { AreSieves (take used pairs.items) sieves.list.items },
+}
+
+/// A stretch of a listing, from one place to another.
+#[derive(Clone, Copy)]
+pub(crate) struct Stretch {
+    /// The first place.
+    pub(crate) start: usize,
+    /// The place after the last one.
+    pub(crate) end: usize,
 }
 
 /// Puts the pairs of a card with each of some others behind the first `used` ones, and gives how many there are then.
@@ -68,35 +82,28 @@ fn put_all_pairs(pairs: &mut [Pair], cards: CardSet) -> usize
     used
 }
 
-/// Some pair.
-fn any_pair() -> Pair {
-    let Some(card) = Card::new(0, 0) else {
-        unreachable!();
-    };
-    Pair::of(card, card)
-}
-
-/// The last pairs of a listing, those of so many cards, by their places among these.
+/// Where the last pairs of a listing stand, those of so many cards, by their places among these.
 #[inline]
-fn last_pairs(listed: &[Pair], count: u32, lo: u64, hi: u64) -> &[Pair]
+fn last_pairs(size: usize, count: u32, lo: u64, hi: u64) -> Stretch
     // So many cards have a pair, and the listing has as many pairs as they have, or more, up to those of a deck.
     requires deck { count ≤ 52 }
     requires two { 2 ≤ count }
-    requires enough { binomial count 2 ≤ length listed.now }
-    requires few { length listed.now ≤ 1326 }
+    requires enough { binomial count 2 ≤ size }
+    requires few { size ≤ 1326 }
 
     // The places are among the pairs of so many cards.
     requires order { lo < hi }
     requires inside { hi ≤ binomial count 2 }
 
     // The pairs of the last cards of a listing are its last ones, since lower cards come first.
-    ensures { let before = length listed.now - binomial count 2 in
-        result.now ≡ slice_range listed.now (before + lo) (before + hi) }
+    ensures start { result.start ≡ (size - binomial count 2) + lo }
+    ensures end { result.end ≡ (size - binomial count 2) + hi }
 {
-    let before = listed.len() - count_choices(count, 2) as usize;
-    let start = before + lo as usize;
-    let end = before + hi as usize;
-    &listed[start..end]
+    let before = size - count_choices(count, 2) as usize;
+    Stretch {
+        start: before + lo as usize,
+        end: before + hi as usize,
+    }
 }
 
 impl Pairs {
@@ -104,11 +111,13 @@ impl Pairs {
     pub(crate) fn none(alloc: Global) -> Result<Pairs, Memory>
         ensures { IfOk result (λ pairs. pairs.cards ≡ []) }
     {
-        let pairs = filled(alloc, any_pair(), PAIRS_MAX)?;
+        let pairs = filled(alloc, Pair::any(), PAIRS_MAX)?;
+        let sieves = Sieves::none(alloc)?;
         Ok(Pairs {
             cards: CardSet::empty(),
             used: 0,
             pairs,
+            sieves,
         })
     }
 
@@ -119,20 +128,58 @@ impl Pairs {
         if self.cards == cards {
             return;
         }
+        self.sieves.clear();
         self.used = put_all_pairs(self.pairs.as_mut_slice(), cards);
         self.cards = cards;
     }
 
-    /// The pairs of the last cards of all, by their places in the listing of these pairs.
+    /// Where the pairs of the last cards of all stand, by their places in the listing of these pairs.
     #[inline]
-    pub(crate) fn stretch(&self, rest: CardSet, lo: u64, hi: u64) -> &[Pair]
+    pub(crate) fn stretch(&self, rest: CardSet, lo: u64, hi: u64) -> Stretch
         requires end { IsEndOf rest self.now.cards }
         requires order { lo < hi }
         requires inside { hi ≤ length (choose 2 rest) }
-        ensures { map cards_of_pair result.now ≡ slice_range (choose 2 rest) lo hi }
+        ensures order { result.start ≤ result.end }
+        ensures inside { result.end ≤ self.now.used }
+        ensures pairs { map cards_of_pair
+            (slice_range (take self.now.used self.now.pairs.items) result.start result.end)
+            ≡ slice_range (choose 2 rest) lo hi }
     {
         self.cards.rising();
         rest.rising();
-        last_pairs(&self.pairs[..self.used], rest.count(), lo, hi)
+        last_pairs(self.used, rest.count(), lo, hi)
+    }
+
+    /// The pairs.
+    #[inline]
+    pub(crate) fn listed(&self) -> &[Pair]
+        ensures pairs { result.now ≡ take self.now.used self.now.pairs.items }
+        ensures few { length result.now ≤ 1326 }
+        ensures count { length result.now ≡ self.now.used }
+    {
+        &self.pairs[..self.used]
+    }
+
+    /// Makes a sieve for so many cards of each suit stand in its place, where it isn't kept, and gives it.
+    #[inline]
+    pub(crate) fn ready(&mut self, counts: &[u32; 4]) -> usize
+        requires counts { (s : ℕ) → slice_index counts.now s ≤ 156 }
+        ensures place { result < length self.new.sieves.list.items }
+        ensures counts { (sieve : Sieve) → slice_get self.new.sieves.list.items result ≡ Some sieve
+            → sieve.counts ≡ counts.now }
+        ensures cards { self.new.cards ≡ self.old.cards }
+    {
+        let listed = &self.pairs[..self.used];
+        self.sieves.ready(listed, counts)
+    }
+
+    /// The sieve in a place.
+    #[inline]
+    pub(crate) fn sieve_at(&self, place: usize) -> &Sieve
+        requires { place < length self.now.sieves.list.items }
+        ensures there { slice_get self.now.sieves.list.items place ≡ Some result.now }
+        ensures parted { IsSieve (take self.now.used self.now.pairs.items) result.now }
+    {
+        self.sieves.sieve_at(place)
     }
 }

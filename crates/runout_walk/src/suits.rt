@@ -140,7 +140,7 @@ fn first_five(counts: [u32; 4], a: u8, b: u8) -> u8
 
 /// For each pair of suits the one of which so many cards of each may be five with two more of these suits, or else 4.
 #[inline]
-fn five_suits(counts: [u32; 4]) -> [u8; 16]
+pub(crate) fn five_suits(counts: [u32; 4]) -> [u8; 16]
     requires { (s : ℕ) → slice_index counts s ≤ 156 }
     ensures suits { AreFives counts result }
     ensures length { length result ≡ 16 }
@@ -150,6 +150,18 @@ fn five_suits(counts: [u32; 4]) -> [u8; 16]
         suits[usize::from(place)] = first_five(counts, place / 4, place % 4);
     }
     suits
+}
+
+/// The most cards for a flush of each suit that a hand has with the known board and first cards, by the most that one has with the known
+/// board alone.
+#[inline]
+pub(crate) fn most_with(most: [u32; 4], taken: CardSet) -> [u32; 4]
+    requires { (s : ℕ) → slice_index most s ≤ 104 }
+    ensures value { (s : ℕ) → s < 4
+        → slice_index result s ≡ slice_index most s + count_of_suit taken s }
+    ensures bound { (s : ℕ) → slice_index result s ≤ 156 }
+{
+    sums(most, suit_counts(taken))
 }
 
 /// Whether there are so few cards of each suit that two more never are five of one.
@@ -169,8 +181,7 @@ pub(crate) fn suits_for(most: [u32; 4], taken: CardSet) -> Option<[u8; 16]>
     ensures { MatchOption result (AreAllShort most taken)
         (λ suits. AreFivesWith most taken suits × (length suits ≡ 16)) }
 {
-    let counts = suit_counts(taken);
-    let together = sums(most, counts);
+    let together = most_with(most, taken);
     if are_few(together) {
         return None;
     }

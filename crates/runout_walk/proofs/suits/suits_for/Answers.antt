@@ -5,6 +5,6 @@ pub returns : goal.returns
 returns c = (
   λ a b suit la lb at big s ls.
       let short = c.five_suits.ensures.suits a b suit la lb at big s ls in
-      omega (arith, short, c.sums-together.ensures.value s ls, c.suit_counts-counts.ensures.value s ls),
+      omega (arith, short, c.most_with-together.ensures.value s ls),
   c.five_suits.ensures.length,
 )

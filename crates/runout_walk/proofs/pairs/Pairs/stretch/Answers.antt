@@ -1,5 +1,8 @@
-use Rattle.std.proofs.Common.{◌≡◌, ◌≤◌, sym, ap, ◌∙◌, arith, length, take, map}
+use Rattle.std.proofs.Common.{◌≡◌, ◌+◌, ◌-◌, ◌≤◌, ℕ, List, sym, ap, ◌∙◌, arith, length, take, map}
+use Rattle.std.specs.List.{slice_range}
+use Rattle.std.proofs.lemmas.List.{length-take-le}
 use Rattle.runout_walk.specs.Pairs.{cards_of_pair}
+use Rattle.runout_walk.specs.declared.pair.Pair.{Pair}
 use Rattle.card_sets.specs.Choose.{choose}
 use Rattle.runout_ranges.specs.Ways.{binomial}
 use Rattle.runout_ranges.proofs.CallerLemmas.{length_choose, enough_for}
@@ -13,18 +16,37 @@ last_pairs-requires-clause-two c =
 
 pub last_pairs-requires-clause-enough : goal.last_pairs-requires-clause-enough
 last_pairs-requires-clause-enough c =
-    let listed : map cards_of_pair (take c.args.self.now.used c.deref.result.now) ≡ choose 2 c.args.self.now.cards = ap (λ l. map cards_of_pair (take c.args.self.now.used l)) c.deref.ensures.value ∙ c.args.self.now.listed in
-    let fits = stretch_fits (take c.args.self.now.used c.deref.result.now) c.args.self.now.cards c.requires.end.0 c.args.rest c.requires.end.1 listed in
-    let size : binomial c.count.result 2 ≡ length (choose 2 c.args.rest) = ap (λ n. binomial n 2) c.count.ensures.value ∙ sym (length_choose 2 c.args.rest) in
-    omega (arith, fits, size)
+    let all : List Pair = take c.args.self.now.used c.args.self.now.pairs.items in
+    let size : length all ≡ c.args.self.now.used = length-take-le c.args.self.now.used c.args.self.now.pairs.items (let f = c.args.self.now.few in let s = c.args.self.now.sized in omega arith) in
+    let fits = stretch_fits all c.args.self.now.cards c.requires.end.0 c.args.rest c.requires.end.1 c.args.self.now.listed in
+    let few : binomial c.count.result 2 ≡ length (choose 2 c.args.rest) = ap (λ n. binomial n 2) c.count.ensures.value ∙ sym (length_choose 2 c.args.rest) in
+    omega (arith, fits, few, size)
 
 pub last_pairs-requires-clause-inside : goal.last_pairs-requires-clause-inside
 last_pairs-requires-clause-inside c =
-    let size : binomial c.count.result 2 ≡ length (choose 2 c.args.rest) = ap (λ n. binomial n 2) c.count.ensures.value ∙ sym (length_choose 2 c.args.rest) in
-    omega (arith, size, c.requires.inside)
+    let few : binomial c.count.result 2 ≡ length (choose 2 c.args.rest) = ap (λ n. binomial n 2) c.count.ensures.value ∙ sym (length_choose 2 c.args.rest) in
+    omega (arith, few, c.requires.inside)
 
-pub returns : goal.returns
-returns c =
-    let listed : map cards_of_pair (take c.args.self.now.used c.deref.result.now) ≡ choose 2 c.args.self.now.cards = ap (λ l. map cards_of_pair (take c.args.self.now.used l)) c.deref.ensures.value ∙ c.args.self.now.listed in
-    let size : binomial c.count.result 2 ≡ length (choose 2 c.args.rest) = ap (λ n. binomial n 2) c.count.ensures.value ∙ sym (length_choose 2 c.args.rest) in
-    ap (λ l. map cards_of_pair l) c.last_pairs.ensures ∙ stretch_is (take c.args.self.now.used c.deref.result.now) c.args.self.now.cards c.requires.end.0 c.args.rest (binomial c.count.result 2) c.args.lo c.args.hi c.requires.end.1 listed size
+pub returns-clause-order : goal.returns-clause-order
+returns-clause-order c = (let s = c.last_pairs.ensures.start in let e = c.last_pairs.ensures.end in let o = c.requires.order in omega arith)
+
+pub returns-clause-inside : goal.returns-clause-inside
+returns-clause-inside c =
+    let all : List Pair = take c.args.self.now.used c.args.self.now.pairs.items in
+    let size : length all ≡ c.args.self.now.used = length-take-le c.args.self.now.used c.args.self.now.pairs.items (let f = c.args.self.now.few in let s = c.args.self.now.sized in omega arith) in
+    let fits = stretch_fits all c.args.self.now.cards c.requires.end.0 c.args.rest c.requires.end.1 c.args.self.now.listed in
+    let few : binomial c.count.result 2 ≡ length (choose 2 c.args.rest) = ap (λ n. binomial n 2) c.count.ensures.value ∙ sym (length_choose 2 c.args.rest) in
+    let e = c.last_pairs.ensures.end in
+    omega (arith, fits, few, size, c.requires.inside)
+
+pub returns-clause-pairs : goal.returns-clause-pairs
+returns-clause-pairs c =
+    let all : List Pair = take c.args.self.now.used c.args.self.now.pairs.items in
+    let most : ℕ = binomial c.count.result 2 in
+    let size : length all ≡ c.args.self.now.used = length-take-le c.args.self.now.used c.args.self.now.pairs.items (let f = c.args.self.now.few in let s = c.args.self.now.sized in omega arith) in
+    let few : most ≡ length (choose 2 c.args.rest) = ap (λ n. binomial n 2) c.count.ensures.value ∙ sym (length_choose 2 c.args.rest) in
+    let start : c.last_pairs.result.start ≡ (length all - most) + c.args.lo = c.last_pairs.ensures.start ∙ ap (λ n. (n - most) + c.args.lo) (sym size) in
+    let end : c.last_pairs.result.end ≡ (length all - most) + c.args.hi = c.last_pairs.ensures.end ∙ ap (λ n. (n - most) + c.args.hi) (sym size) in
+    ap (λ n. map cards_of_pair (slice_range all n c.last_pairs.result.end)) start
+    ∙ ap (λ n. map cards_of_pair (slice_range all ((length all - most) + c.args.lo) n)) end
+    ∙ stretch_is all c.args.self.now.cards c.requires.end.0 c.args.rest most c.args.lo c.args.hi c.requires.end.1 c.args.self.now.listed few
