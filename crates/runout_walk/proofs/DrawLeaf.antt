@@ -1,5 +1,5 @@
 -- The runouts of a leaf of draws: each gives the last hand a draw, and the others what they have.
-use Rattle.std.proofs.Common.{◌≡◌, ℕ, suc, ◌+◌, ◌<◌, ◌≤◌, ◌==◌, ◌&&◌, not, Bool, true, false, cond, List, [], ◌∷◌, ◌++◌, length, length-append, map, take, refl, sym, ap, ◌∙◌, arith, subst, inl, inr}
+use Rattle.std.proofs.Common.{◌≡◌, ℕ, suc, ◌+◌, ◌<◌, ◌≤◌, ◌==◌, ◌&&◌, not, Bool, true, false, cond, List, [], ◌∷◌, ◌++◌, length, map, take, refl, sym, ap, ◌∙◌, arith, subst, inl, inr}
 use Rattle.std.specs.Prelude.{slice_index, nat_le, nat_lt}
 use Rattle.std.specs.List.{count_by, slice_range}
 use Rattle.std.proofs.lemmas.Bool.{cases_eq, cases_lt, and_parts}
@@ -20,7 +20,6 @@ use Rattle.runout_ranges.specs.Runouts.{HasMember}
 use Rattle.runout_ranges.specs.Slots.{counts_of, dealt, slots, unseen}
 use Rattle.runout_ranges.specs.declared.shapes.Receiver.TheVariants.{Hand}
 use Rattle.runout_ranges.specs.declared.shapes.Slot.{Slot}
-use Rattle.runout_ranges.proofs.CallerLemmas.{choose_length}
 use Rattle.showdown_tally.proofs.CallerLemmas.{Deals, runout_deals, hand_of, hand_IsFull}
 use Rattle.showdown_tally.specs.Laws.{IsFull}
 use Rattle.showdown_tally.specs.Showdown.{Showdown, has_two_sides, own_after, board_after, eligible_in}
@@ -32,7 +31,7 @@ use Rattle.runout_walk.specs.Draws.{last_hand, most_draw}
 use Rattle.runout_walk.specs.Listing.{last_count}
 use Rattle.runout_walk.specs.Rivals.{count_both, value_with}
 use Rattle.runout_walk.specs.Worth.{IsDraw, AreNumbers, full_worth, number_of, worth, worth_after}
-use Rattle.runout_walk.proofs.ListingMembers.{count_map, count_same, in_range, some_member}
+use Rattle.runout_walk.proofs.ListingMembers.{count_map, count_same, in_range}
 use Rattle.runout_walk.proofs.DrawLists.{map_same}
 use Rattle.runout_walk.proofs.DrawSlots.{IsLastOf, last_deal, last_of_hands, last_set, no_board_slots, other_set}
 use Rattle.runout_walk.proofs.DrawWinners.{outcome_is, set_same, value_same}
@@ -109,14 +108,6 @@ leaf_draw game count hands board dead front draw disjoint fits none sets board_s
       others = λ h ne. ap (union (hand_of st h)) (other_set (slots st) front draw h size ne);
       is_draw = record { rising = dealt_last.1; full = ap length (sym last) ∙ (full (last_hand (slots st)) inside.0).own_size };
     }
-
--- the last slot has no card before its draw
-pub taken_none : (taken rest : List ℕ) (left depth lo hi : ℕ) → left ≡ depth → lo < hi → hi ≤ length (choose left rest) → ((more : List ℕ) → HasMember (choose left rest) more → length (taken ++ more) ≡ depth) → taken ≡ []
-taken_none [] rest left depth lo hi e l h all = refl
-taken_none (card ∷ taken) rest left depth lo hi e l h all =
-    let m = some_member (choose left rest) (omega arith) in
-    let size : length m.0 ≡ left = choose_length left rest m.0 m.1.0 m.1.1 m.1.2 in
-    absurd (omega (arith, all m.0 m.1, length-append taken m.0))
 
 -- what the others have on a side, as numbers
 abbrev pub AreOthers : Side → State → List (List ℕ) → List ℕ → Type 0

@@ -196,7 +196,7 @@ pub pair_numbers : (rows : List (List ℕ)) (base low from : ℕ) (part : List �
 pair_numbers rows base low from part same = ap (λ k. map (slice_index (slice_index_or rows (base + k) [])) part) same ∙ sym (map-map (number_at rows base) (λ high. low ∷ high ∷ []) part)
 
 -- one number more
-map_take : (f : ℕ → ℕ) (xs : List ℕ) (i d : ℕ) → i < length xs → map f (take (i + 1) xs) ≡ map f (take i xs) ++ f (get_or xs i d) ∷ []
+pub map_take : {Y : Type 0} (f : ℕ → Y) (xs : List ℕ) (i d : ℕ) → i < length xs → map f (take (i + 1) xs) ≡ map f (take i xs) ++ f (get_or xs i d) ∷ []
 map_take f [] i d h = absurd (omega arith)
 map_take f (x ∷ xs) zero d h = refl
 map_take f (x ∷ xs) (suc i) d h =

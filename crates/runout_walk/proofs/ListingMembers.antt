@@ -1,10 +1,11 @@
 -- Members of listings.
-use Rattle.std.proofs.Common.{◌≡◌, ℕ, zero, suc, ◌+◌, ◌-◌, ◌<◌, ◌≤◌, Bool, cond, List, [], ◌∷◌, ◌++◌, length, map, take, drop, refl, sym, ap, ◌∙◌, arith, subst, append_assoc}
+use Rattle.std.proofs.Common.{◌≡◌, ℕ, zero, suc, ◌+◌, ◌-◌, ◌<◌, ◌≤◌, Bool, cond, List, [], ◌∷◌, ◌++◌, length, length-append, get_or, map, take, drop, refl, sym, ap, ◌∙◌, arith, subst, append_assoc}
 use Rattle.std.specs.List.{count_by, slice_range}
 use Rattle.std.proofs.lemmas.List.{length-take, length-drop}
 use Rattle.std.proofs.lemmas.List.Sums.{sum_by-cons}
 use Rattle.card_sets.specs.Choose.{choose}
 use Rattle.runout_ranges.specs.Runouts.{HasMember}
+use Rattle.runout_ranges.proofs.CallerLemmas.{choose_length}
 
 pub member-map : {X Y : Type 0} (f : X → Y) (xs : List X) (x : X) → HasMember xs x → HasMember (map f xs) (f x)
 member-map f xs x m = (map f m.0, map f m.1, ap (map f) m.2 ∙ go m.0 m.1)
@@ -65,6 +66,20 @@ in_range xs lo hi x m = in_drop lo xs x (in_take (hi - lo) (drop lo xs) x m)
 pub some_member : {X : Type 0} (xs : List X) → 0 < length xs → (x : X) × HasMember xs x
 some_member [] h = absurd (omega arith)
 some_member (x ∷ xs) h = (x, ([], xs, refl))
+
+-- so has each place of a list
+pub member_at : (xs : List ℕ) (i d : ℕ) → i < length xs → HasMember xs (get_or xs i d)
+member_at [] i d h = absurd (omega arith)
+member_at (x ∷ xs) zero d h = ([], xs, refl)
+member_at (x ∷ xs) (suc i) d h = let m = member_at xs i d (omega arith) in (x ∷ m.0, m.1, ap (λ l. x ∷ l) m.2)
+
+-- where each choice fills the last slot, it has no card before them
+pub taken_none : (taken rest : List ℕ) (left depth lo hi : ℕ) → left ≡ depth → lo < hi → hi ≤ length (choose left rest) → ((more : List ℕ) → HasMember (choose left rest) more → length (taken ++ more) ≡ depth) → taken ≡ []
+taken_none [] rest left depth lo hi e l h all = refl
+taken_none (card ∷ taken) rest left depth lo hi e l h all =
+    let m = some_member (choose left rest) (omega arith) in
+    let size : length m.0 ≡ left = choose_length left rest m.0 m.1.0 m.1.1 m.1.2 in
+    absurd (omega (arith, all m.0 m.1, length-append taken m.0))
 
 -- counts of members
 pub count_same : {X : Type 0} (p q : X → Bool) (xs : List X) → ((x : X) → HasMember xs x → p x ≡ q x) → count_by p xs ≡ count_by q xs

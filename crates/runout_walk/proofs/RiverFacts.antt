@@ -1,8 +1,8 @@
 -- Boards that lack one card.
-use Rattle.std.proofs.Common.{◌≡◌, ℕ, suc, ◌+◌, ◌<◌, ◌≤◌, ◌==◌, List, [], ◌∷◌, ◌++◌, length, refl, sym, ap, ◌∙◌, cond, arith, subst, Bool, true, Option, Some, None, set, inl, inr, get_or-set_same, get_or-set_other}
-use Rattle.std.specs.Prelude.{slice_get, slice_index}
+use Rattle.std.proofs.Common.{◌≡◌, ℕ, suc, ◌+◌, ◌<◌, ◌≤◌, ◌==◌, List, [], ◌∷◌, ◌++◌, length, map, take, get_or, refl, sym, ap, ◌∙◌, cond, arith, subst, Bool, true, set, inl, inr, get_or-set_same, get_or-set_other}
+use Rattle.std.specs.Prelude.{slice_index}
 use Rattle.std.proofs.lemmas.Bool.{cases_eq, cases_lt, and_parts}
-use Rattle.std.specs.List.{count_by}
+use Rattle.std.specs.List.{count_by, slice_range}
 use Rattle.card_sets.specs.Cards.{rank_of, suit_of, union}
 use Rattle.card_sets.specs.Choose.{choose}
 use Rattle.card_sets.specs.Games.{has_board}
@@ -18,6 +18,7 @@ use Rattle.runout_ranges.specs.Slots.{slots, unseen}
 use Rattle.runout_ranges.specs.declared.shapes.Shape.{Shape}
 use Rattle.showdown_tally.specs.Settling.{number_of}
 use Rattle.showdown_tally.specs.Showdown.{Showdown, own_after, board_after, eligible_in}
+use Rattle.showdown_tally.specs.SideCounts.{CountsGrow}
 use Rattle.showdown_tally.specs.Sides.{side_outcome}
 use Rattle.showdown_tally.specs.Tallies.{runouts_after}
 use Rattle.showdown_tally.specs.declared.table.Table.{Table}
@@ -38,7 +39,11 @@ use Rattle.runout_walk.proofs.BoardLeaf.{front_none}
 use Rattle.runout_walk.proofs.BoardRunouts.{board_alone, board_apart, count-union, own_alone, set_of_member}
 use Rattle.runout_walk.proofs.HighLaws.{high_of_few, same_low, same_plain}
 use Rattle.runout_walk.proofs.PairCounts.{count_one}
-use Rattle.runout_walk.proofs.NoCardLeaf.{only_member}
+use Rattle.runout_walk.proofs.DrawLists.{map_take}
+use Rattle.runout_walk.proofs.GrowingCounts.{grow_more}
+use Rattle.runout_walk.proofs.ListingMembers.{member-map, taken_none}
+use Rattle.runout_walk.proofs.ListingRanges.{map-map, range-map}
+use Rattle.runout_walk.proofs.PairListing.{choose-one}
 
 -- how many cards of the board pass a test with a last card
 card-count : (f : ℕ → Bool) (st : State) (card : ℕ) → IsScene st (card ∷ []) → count_by f (board_after st ((card ∷ []) ∷ [])) ≡ count_by f st.board + cond (f card) 1 0
@@ -110,37 +115,63 @@ pub each_high : (deal : Showdown) (pot card won : ℕ) → Keeps → IsScene dea
     → won ≡ side_outcome High deal pot ((card ∷ []) ∷ [])
 each_high deal pot card won keeps s below w = w ∙ sym (outcome_of deal pot (card ∷ []) keeps s below)
 
--- the only runout of a leaf is a last card
-pub record IsRiver (spot : BoardSpot) (front : List (List ℕ)) (taken : List ℕ) : Type 0 where
+-- the runouts of a leaf are single cards of the rest
+pub record IsRiver (spot : BoardSpot) (front : List (List ℕ)) (taken rest : List ℕ) : Type 0 where
   pub none : front ≡ []
-  pub card : ℕ
-  pub is : taken ≡ card ∷ []
-  pub member : HasMember (runouts_after (state_of spot.table.known)) ((card ∷ []) ∷ [])
+  pub first : taken ≡ []
+  pub members : (card : ℕ) → HasMember rest card → HasMember (runouts_after (state_of spot.table.known)) ((card ∷ []) ∷ [])
 
-one_card : (cards : List ℕ) → length cards ≡ 1 → (card : ℕ) × (cards ≡ card ∷ [])
-one_card [] one = absurd (omega arith)
-one_card (card ∷ []) one = (card, refl)
-one_card (card ∷ next ∷ more) one = absurd (omega arith)
+one_choice : (rest : List ℕ) (card : ℕ) → HasMember rest card → HasMember (choose 1 rest) (card ∷ [])
+one_choice rest card m =
+    let P : List (List ℕ) → Type 0 = λ l. HasMember l (card ∷ []) in
+    subst P (sym (choose-one rest)) (member-map (λ x. x ∷ []) rest card m)
 
-pub river_of : (spot : BoardSpot) (table : Table) (front : List (List ℕ)) (taken rest : List ℕ) (left : ℕ) → spot.table ≡ table → board_lacks (slots (state_of spot.table.known)) ≡ 1 → suc (length front) ≡ length (slots (state_of table.known)) → left ≡ 0
-    → ((more : List ℕ) → HasMember (choose left rest) more → HasMember (runouts_after (state_of table.known)) (front ++ (taken ++ more) ∷ [])) → IsRiver spot front taken
-river_of spot table front taken rest left same one last none_left all =
+pub river_of : (spot : BoardSpot) (table : Table) (front : List (List ℕ)) (taken rest : List ℕ) (left lo hi : ℕ) → spot.table ≡ table → board_lacks (slots (state_of spot.table.known)) ≡ 1 → suc (length front) ≡ length (slots (state_of table.known)) → left ≡ 1
+    → ((more : List ℕ) → HasMember (choose left rest) more → HasMember (runouts_after (state_of table.known)) (front ++ (taken ++ more) ∷ [])) → lo < hi → hi ≤ length (choose left rest) → IsRiver spot front taken rest
+river_of spot table front taken rest left lo hi same one last deep all order inside =
+    let st : State = state_of spot.table.known in
     let S : Table → Type 0 = λ t. suc (length front) ≡ length (slots (state_of t.known)) in
-    let none : front ≡ [] = front_none (state_of spot.table.known) front spot.alone (subst S (sym same) last) in
-    let T : List ℕ → Type 0 = λ cards. HasMember (runouts_after (state_of table.known)) (front ++ cards ∷ []) in
-    let M : Table → Type 0 = λ t. HasMember (runouts_after (state_of t.known)) (front ++ taken ∷ []) in
-    let F : List (List ℕ) → Type 0 = λ f. HasMember (runouts_after (state_of spot.table.known)) (f ++ taken ∷ []) in
-    let member : F [] = subst F none (subst M (sym same) (only_member T taken rest left none_left all)) in
-    let scene : IsScene (state_of spot.table.known) taken = scene_of spot taken member in
-    let size : length taken ≡ 1 = (set_of_member (state_of spot.table.known) taken scene.alone scene.member).0 ∙ one in
-    let single = one_card taken size in
-    let C : List ℕ → Type 0 = λ cards. HasMember (runouts_after (state_of spot.table.known)) (cards ∷ []) in
+    let none : front ≡ [] = front_none st front spot.alone (subst S (sym same) last) in
+    let M : Table → Type 0 = λ t. (more : List ℕ) → HasMember (choose left rest) more → HasMember (runouts_after (state_of t.known)) (front ++ (taken ++ more) ∷ []) in
+    let L : ℕ → Type 0 = λ n. (more : List ℕ) → HasMember (choose n rest) more → HasMember (runouts_after st) (front ++ (taken ++ more) ∷ []) in
+    let F : List (List ℕ) → Type 0 = λ f. (more : List ℕ) → HasMember (choose 1 rest) more → HasMember (runouts_after st) (f ++ (taken ++ more) ∷ []) in
+    let members : F [] = subst F none (subst L deep (subst M (sym same) all)) in
+    let size : (more : List ℕ) → HasMember (choose 1 rest) more → length (taken ++ more) ≡ 1 = (λ more m.
+    let scene : IsScene st (taken ++ more) = scene_of spot (taken ++ more) (members more m) in
+    (set_of_member st (taken ++ more) scene.alone scene.member).0 ∙ one) in
+    let count : length (choose left rest) ≡ length (choose 1 rest) = ap (λ n. length (choose n rest)) deep in
+    let first : taken ≡ [] = taken_none taken rest 1 1 lo hi refl order (omega (arith, inside, count)) size in
+    let T : List ℕ → Type 0 = λ t. (more : List ℕ) → HasMember (choose 1 rest) more → HasMember (runouts_after st) ((t ++ more) ∷ []) in
+    let alone : T [] = subst T first members in
     record {
       none = none;
-      card = single.0;
-      is = single.1;
-      member = subst C single.1 member;
+      first = first;
+      members = λ card m. alone (card ∷ []) (one_choice rest card m);
     }
+
+-- counts that grow by cards of the rest grow by the runouts of the leaf
+pub grow_rivers : (deal : Showdown) (front : List (List ℕ)) (taken rest cards : List ℕ) (left lo hi : ℕ) (old new : List (List ℕ)) → left ≡ 1 → front ≡ [] → taken ≡ [] → cards ≡ rest
+    → CountsGrow deal (map (λ card. (card ∷ []) ∷ []) (slice_range cards lo hi)) old new → CountsGrow deal (map (λ more. front ++ (taken ++ more) ∷ []) (slice_range (choose left rest) lo hi)) old new
+grow_rivers deal front taken rest cards left lo hi old new deep none first all grown =
+    let P : List (List (List ℕ)) → Type 0 = λ l. CountsGrow deal l old new in
+    let same : map (λ more. front ++ (taken ++ more) ∷ []) (slice_range (choose left rest) lo hi) ≡ map (λ card. (card ∷ []) ∷ []) (slice_range cards lo hi) =
+    ap (λ n. map (λ more. front ++ (taken ++ more) ∷ []) (slice_range (choose n rest) lo hi)) deep
+    ∙ ap (λ f. map (λ more. f ++ (taken ++ more) ∷ []) (slice_range (choose 1 rest) lo hi)) none
+    ∙ ap (λ (t : List ℕ). map (λ more. (t ++ more) ∷ []) (slice_range (choose 1 rest) lo hi)) first
+    ∙ ap (λ l. map (λ more. more ∷ []) (slice_range l lo hi)) (choose-one rest)
+    ∙ ap (map (λ more. more ∷ [])) (range-map (λ x. x ∷ []) rest lo hi)
+    ∙ map-map (λ more. more ∷ []) (λ x. x ∷ []) (slice_range rest lo hi)
+    ∙ ap (λ l. map (λ card. (card ∷ []) ∷ []) (slice_range l lo hi)) (sym all) in
+    subst P (sym same) grown
+
+-- one card more
+pub river_more : (deal : Showdown) (cards : List ℕ) (i card : ℕ) (a b c : List (List ℕ)) → i < length cards → card ≡ get_or cards i card → CountsGrow deal (map (λ card. (card ∷ []) ∷ []) (take i cards)) a b
+    → CountsGrow deal (((card ∷ []) ∷ []) ∷ []) b c → CountsGrow deal (map (λ card. (card ∷ []) ∷ []) (take (i + 1) cards)) a c
+river_more deal cards i card a b c inside is before here =
+    let P : List (List (List ℕ)) → Type 0 = λ l. CountsGrow deal l a c in
+    let same : map (λ card. (card ∷ []) ∷ []) (take (i + 1) cards) ≡ map (λ card. (card ∷ []) ∷ []) (take i cards) ++ ((card ∷ []) ∷ []) ∷ [] =
+    map_take (λ card. (card ∷ []) ∷ []) cards i card inside ∙ ap (λ k. map (λ card. (card ∷ []) ∷ []) (take i cards) ++ ((k ∷ []) ∷ []) ∷ []) (sym is) in
+    subst P (sym same) (grow_more deal (map (λ card. (card ∷ []) ∷ []) (take i cards)) (((card ∷ []) ∷ []) ∷ []) a b c before here)
 
 -- the board of such a table lacks one card
 pub lacks_one : (table : Table) (shape : Shape) (st : State) → are_rivers table shape ≡ true → slots_of shape ≡ slots st → board_lacks (slots st) ≡ 1
@@ -152,16 +183,6 @@ lacks_one table shape st rivers same =
 -- there is no card of the rank of none
 pub no_rank : (spot : BoardSpot) (card : ℕ) → rank_of card ≡ 13 → HasMember (runouts_after (state_of spot.table.known)) ((card ∷ []) ∷ []) → ⊥
 no_rank spot card none member = let deck = in_deck (state_of spot.table.known) card (scene_of spot (card ∷ []) member) in omega arith
-
--- the first card of one
-pub some_first : (taken : List ℕ) (card : ℕ) (found : Option ℕ) → taken ≡ card ∷ [] → found ≡ slice_get taken 0 → found ≡ Some card
-some_first taken card found is value = value ∙ ap (λ (l : List ℕ). slice_get l 0) is
-
-pub no_first : (taken : List ℕ) (card : ℕ) (found : Option ℕ) → taken ≡ card ∷ [] → found ≡ slice_get taken 0 → found ≡ None → ⊥
-no_first taken card found is value none = let e : ◌≡◌ {A = Option ℕ} (Some card) None = sym (some_first taken card found is value) ∙ none in cc
-
-pub first_is : (taken : List ℕ) (card first : ℕ) (found : Option ℕ) → taken ≡ card ∷ [] → found ≡ slice_get taken 0 → found ≡ Some first → card ≡ first
-first_is taken card first found is value some = let e : ◌≡◌ {A = Option ℕ} (Some card) (Some first) = sym (some_first taken card found is value) ∙ some in cc
 
 -- one place more is written
 pub few_set : (xs : List ℕ) (i v bound p : ℕ) → ((p : ℕ) → slice_index xs p < bound) → v < bound → i < length xs → slice_index (set xs i v) p < bound

@@ -19,8 +19,9 @@ ghost use Rattle.runout_walk.specs.Worth.{AreNumbers, full_worth, number_of};
 
 use crate::card_list::CardList;
 use crate::filled::filled;
-use crate::last::{DRAWS, Range, TWOS, put_draws, put_lows};
+use crate::last::{DRAWS, Range, TWOS, put_draws};
 use crate::leaf::{Leaf, Tail};
+use crate::low_draws::put_lows;
 use crate::numbers::{Lows, Numbers, full_worth};
 use crate::rivals::{count_highs, count_lows, count_pots};
 use card_sets::{Card, CardSet, Game, Known, Memory, Side};
@@ -302,7 +303,7 @@ fn write_draws<L: Ledger>(
     put_draws(numbers, cards, range, values.as_mut_slice(), steps);
 }
 
-/// Writes the numbers of the same draws as lows, where they have one or two cards. They take no second steps.
+/// Writes the numbers of the same draws as lows, where they have one or two cards. They took their steps as highs.
 fn write_lows(lows: &Lows, cards: &[Card], range: Range, values: &mut Vec<u32>)
     // The numbers are of draws of one or two cards, out of those of a deck.
     requires some { 1 ≤ lows.now.count }

@@ -6,11 +6,10 @@ ghost use Rattle.card_sets.specs.Choose.{choose};
 ghost use Rattle.runout_walk.specs.Worth.{number_at, number_of};
 
 use crate::card_list::DECK;
-use crate::numbers::{Lows, Numbers, plane_base};
+use crate::numbers::{Numbers, plane_base};
 use card_sets::Card;
 use runout_ranges::count_choices;
-use std::marker::Brand;
-use std::sync::ledger::{Blank, Ledger};
+use std::sync::ledger::Ledger;
 use step_count::Steps;
 
 /// How many draws of three cards there are of a whole deck.
@@ -238,60 +237,4 @@ pub(crate) fn put_draws<L: Ledger>(
     } else {
         put_triples(planes, cards, range, values, steps);
     }
-}
-
-/// The same of lows, of which there are draws of one or two cards, with a counter of its own.
-#[tactic(auto, using(crate::proofs::DrawLists::one_length))]
-fn put_on<L: Ledger>(lows: &Lows, cards: &[Card], range: Range, values: &mut [u32], blank: Blank)
-    // The blank makes the counter that `L` names.
-    requires name { blank.name ≡ L.name }
-    requires parts { blank.parts ≡ L.parts }
-    requires one { 0 < blank.parts }
-
-    // The numbers are of draws of one or two cards, out of those of a deck.
-    requires some { 1 ≤ lows.now.count }
-    requires few { lows.now.count ≤ 2 }
-    requires short { length cards.now ≤ 52 }
-
-    // Both places lie in the listing of the draws, and there is room for the numbers of those between them.
-    requires order { range.lo ≤ range.hi }
-    requires inside { range.hi ≤ length (choose lows.now.count cards.now) }
-    requires room { range.hi - range.lo ≤ length values.old }
-
-    // A table of three cards isn't looked at, whichever it is.
-    ensures numbers { (planes : List (List ℕ))
-        → take (range.hi - range.lo) values.new
-        ≡ map (number_of lows.now.rows.items planes)
-        (slice_range (choose lows.now.count cards.now) range.lo range.hi) }
-    ensures room { length values.new ≡ length values.old }
-{
-    let rows = lows.rows.as_slice();
-    let mut steps = Steps::<L>::new(blank);
-    if lows.count == 1 {
-        put_singles(rows, cards, range, values, &mut steps);
-    } else {
-        put_twos(rows, cards, range, values, &mut steps);
-    }
-}
-
-/// Puts the numbers of the same draws as lows at the front, where they have one or two cards. They take no second steps.
-pub(crate) fn put_lows(lows: &Lows, cards: &[Card], range: Range, values: &mut [u32])
-    // The numbers are of draws of one or two cards, out of those of a deck.
-    requires some { 1 ≤ lows.now.count }
-    requires few { lows.now.count ≤ 2 }
-    requires short { length cards.now ≤ 52 }
-
-    // Both places lie in the listing of the draws, and there is room for the numbers of those between them.
-    requires order { range.lo ≤ range.hi }
-    requires inside { range.hi ≤ length (choose lows.now.count cards.now) }
-    requires room { range.hi - range.lo ≤ length values.old }
-
-    // A table of three cards isn't looked at, whichever it is.
-    ensures numbers { (planes : List (List ℕ))
-        → take (range.hi - range.lo) values.new
-        ≡ map (number_of lows.now.rows.items planes)
-        (slice_range (choose lows.now.count cards.now) range.lo range.hi) }
-    ensures room { length values.new ≡ length values.old }
-{
-    put_on::<Brand>(lows, cards, range, values, Blank::new(1));
 }

@@ -20,14 +20,14 @@
 //!    is worked out once while the deal is the same; a new deal gets a new number, and nothing is cleared.
 //! 4. *More pots.* What a hand is worth, by ranks or as a flush, is worked out once for all pots.
 //!
-//! **Rivers** ([`Rivers`]: the same games, where the board lacks one card). By ranks there are thirteen boards, each worked out where
-//! its rank is met first. Cards with which somebody has five of a suit are settled hand by hand.
+//! **Rivers** ([`Rivers`]: the same games, where the board lacks one card). All last cards are counted in one loop. By ranks there are
+//! thirteen boards, each worked out where its rank is met first. Cards with which somebody has five of a suit are settled hand by hand.
 //!
 //! **Draws** ([`Draws`]: games without a board whose last slot takes one to three cards, or one or two where there are two sides). What
 //! the last hand is worth with each draw stands in a table, filled once a spot. The numbers of a whole range are copied into a row,
 //! which is compared once for each pot with the best of the others. A game of two sides has a table and a row for each; a hand without
-//! a low has the number 0 there, and the high is counted by pairs of numbers, since its places tell whether somebody has a low. For
-//! the lows of three cards there is no room: 380 kB more.
+//! a low has the number 0 there, and the high is counted by pairs of numbers, since its places tell whether somebody has a low. A draw
+//! takes its step where its high is looked up. For the lows of three cards there is no room: 380 kB more.
 //!
 //! **One by one** ([`Plain`]: any other deal). Each hand's value on a side is computed once a runout, for all pots.
 //!
@@ -58,6 +58,7 @@ mod front;
 mod high;
 mod last;
 mod leaf;
+mod low_draws;
 mod numbers;
 mod orders;
 mod packed;

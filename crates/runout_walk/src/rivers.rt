@@ -1,6 +1,6 @@
 //! Boards that lack one card.
 
-ghost use Rattle.std.specs.Prelude.{◌≡◌, ℕ, ◌+◌, ◌*◌, ◌^◌, ◌<◌, ◌≤◌, ◌==◌, [], ◌∷◌, List, length, slice_index, slice_index_or, IsTrue};
+ghost use Rattle.std.specs.Prelude.{◌≡◌, ℕ, ◌+◌, ◌*◌, ◌^◌, ◌<◌, ◌≤◌, ◌==◌, [], ◌∷◌, List, length, map, slice_index, slice_index_or, IsTrue};
 ghost use Rattle.card_sets.specs.Cards.{rank_of, union};
 ghost use Rattle.card_sets.specs.Disjoint.{apart};
 ghost use Rattle.card_sets.specs.Games.{has_board, own_size};
@@ -23,6 +23,7 @@ ghost use Rattle.runout_walk.specs.Values.{one_of};
 
 use crate::bests::{all_are_hands, are_hands, pot_best, ten_places};
 use crate::boards::board_lacks;
+use crate::card_list::CardList;
 use crate::counts::{add_one, ten_pots};
 use crate::high::plain_value;
 use crate::leaf::{Leaf, Tail};
@@ -245,13 +246,44 @@ impl Rivers {
     }
 }
 
+impl Rivers {
+    /// Counts the runout of each of some last cards for each pot. It takes a step a card.
+    fn count_cards<L: Ledger>(
+        &mut self,
+        cards: &[Card],
+        counts: &mut [[u32; 2048]],
+        steps: &mut Steps<L>,
+    )
+        // Each card completes a runout.
+        requires members { (card : ℕ) → HasMember cards.now card
+            → HasMember (runouts_after (state_of self.old.spot.table.known)) ((card ∷ []) ∷ []) }
+
+        // Each pot has its two rows, and each of their counts has room for all cards.
+        requires places { 2 * length (deal_of self.old.spot.table).pots ≤ length counts.old }
+        requires fits { CountsFit (deal_of self.old.spot.table) counts.old (length cards.now) }
+
+        // The runouts of these cards are counted, and no others.
+        ensures counts { CountsGrow (deal_of self.old.spot.table)
+            (map (λ card. (card ∷ []) ∷ []) cards.now) counts.old counts.new }
+        ensures places { length counts.new ≡ length counts.old }
+        ensures steps { steps.new ≡ steps.old + length cards.now }
+        ensures table { self.new.table ≡ self.old.table }
+    {
+        for card in cards {
+            steps.tick();
+            self.keep(*card);
+            count_river(&self.spot, &self.won, *card, counts);
+        }
+    }
+}
+
 impl Leaf for Rivers {
     ghost deal = { λ r. deal_of r.table };
 
-    ghost depth = { λ _. 0 };
+    ghost depth = { λ _. 1 };
 
     fn depth(&self) -> u32 {
-        0
+        1
     }
 
     fn count<L: Ledger>(
@@ -263,11 +295,9 @@ impl Leaf for Rivers {
         hi: u64,
         steps: &mut Steps<L>,
     ) {
-        steps.tick();
-        let Some(card) = tail.taken.first() else {
-            unreachable!();
-        };
-        self.keep(card);
-        count_river(&self.spot, &self.won, card, counts);
+        let cards = CardList::of(tail.rest);
+        let all = cards.as_slice();
+        let some = &all[lo as usize..hi as usize];
+        self.count_cards(some, counts, steps);
     }
 }

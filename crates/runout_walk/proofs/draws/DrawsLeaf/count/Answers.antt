@@ -22,8 +22,8 @@ use Rattle.runout_walk.specs.Draws.{last_hand}
 use Rattle.runout_walk.specs.Listing.{last_count}
 use Rattle.runout_walk.specs.Rivals.{count_both, value_with}
 use Rattle.runout_walk.specs.Worth.{number_of, worth}
-use Rattle.runout_walk.proofs.DrawLeaf.{AreOthers, IsLeafDraw, last_inside, leaf_counts, leaf_draw, leaf_highs, leaf_lows, leaf_values, taken_none}
-use Rattle.runout_walk.proofs.ListingMembers.{in_range}
+use Rattle.runout_walk.proofs.DrawLeaf.{AreOthers, IsLeafDraw, last_inside, leaf_counts, leaf_draw, leaf_highs, leaf_lows, leaf_values}
+use Rattle.runout_walk.proofs.ListingMembers.{in_range, taken_none}
 use Rattle.runout_walk.proofs.DrawLists.{few_draws, few_twos}
 use Rattle.runout_walk.proofs.DrawWinners.{only_one}
 use Rattle.runout_walk.proofs.draws.DrawsLeaf.count.Goals as goal

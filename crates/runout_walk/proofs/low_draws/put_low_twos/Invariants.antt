@@ -1,0 +1,17 @@
+use Rattle.std.proofs.Common.{◌≡◌, ◌≤◌, [], length}
+use Rattle.std.specs.List.{slice_range}
+use Rattle.card_sets.specs.Choose.{choose}
+use Rattle.runout_walk.specs.Worth.{number_at}
+use Rattle.runout_walk.proofs.DrawLists.{IsFilling}
+use Rattle.runout_walk.proofs.low_draws.put_low_twos.Given as goal
+
+abbrev pub decreases-loop-rest : goal.decreases-loop-rest
+decreases-loop-rest l = length l.rest
+
+abbrev pub invariant-loop-rest : goal.invariant-loop-rest
+invariant-loop-rest l = record {
+  way : IsFilling (number_at l.rows 0) [] (slice_range (choose 2 l.fn.cards) l.fn.range.lo l.fn.range.hi) (slice_range (choose 2 l.rest) l.lo l.hi) l.used l.values;
+  room : length l.values ≡ length l.fn.values;
+  order : l.lo ≤ l.hi;
+  inside : l.hi ≤ length (choose 2 l.rest);
+}
