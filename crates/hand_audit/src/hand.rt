@@ -232,6 +232,10 @@ impl AuditState {
             Ok(e) => e,
             Err(fault) => return Ok(Some(Cause::Text(*fault))),
         };
+        if let Event::Remark = *e {
+            // It may stand anywhere, and changes nothing that is kept.
+            return Ok(None);
+        }
         let amiss = self.total_cause(e);
         let begun = self.replay.later_begun(e);
         if let Err(fault) = self.replay.step(e) {
