@@ -6,6 +6,8 @@ pub use Rattle.betting_replay.proofs.lemmas.seats.SeatStates.{chips_are, acts_ar
 -- A step that answers `Ok` found no fault. Then the event passed each test, and none of them failed. Its seat is below 11.
 pub use Rattle.betting_replay.proofs.lemmas.steps.PassedTests.{no_fault, not_failed, passed}
 pub use Rattle.betting_replay.proofs.lemmas.steps.NextTable.{seat_below}
+-- A remark fails no test, and leaves the table as it is.
+pub use Rattle.betting_replay.proofs.lemmas.steps.RemarkSteps.{remark_kept, remark_stands}
 -- Accepted events keep each seat's chips.
 pub use Rattle.betting_replay.proofs.lemmas.chips.ChipsStay.{chips_stay}
 -- A game with a board has no draw, and so no discard begins a street; behind a showdown or the summary no street comes.

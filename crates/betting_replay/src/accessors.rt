@@ -3,22 +3,12 @@
 ghost use Rattle.std.specs.Prelude.{◌≡◌, ℕ, ◌+◌, ◌^◌, ◌<◌, ◌≤◌};
 ghost use Rattle.card_sets.specs.PlayerSets.{has_player};
 ghost use Rattle.betting_replay.specs.Accounts.{paid_by, stack_at, contenders};
-ghost use Rattle.betting_replay.specs.Table.{seat_at};
 
 use crate::replay::Replay;
-use crate::seats::SeatState;
 use history_text::Street;
 use pot_layers::Paid;
 
 impl Replay {
-    /// What a seat has, and what its player has done.
-    pub(crate) fn seat_at(&self, seat: u8) -> SeatState
-        requires { seat < 11 }
-        ensures { result ≡ seat_at self.now seat }
-    {
-        self.seats[seat as usize]
-    }
-
     /// What a seat has put in over the hand, in units, and whether its player is one who hasn't folded.
     #[tactic(auto, unfolding(crate::specs::Accounts::paid_by))]
     pub fn paid(&self, seat: u8) -> Paid

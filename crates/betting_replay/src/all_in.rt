@@ -28,14 +28,14 @@ impl Replay {
         PlayerSet::passing(11, |seat| self.is_contender(seat) && self.has_chips(seat)).count()
     }
 
-    /// Whether nobody can bet any more and cards are to come.
+    /// Whether nobody can bet any more and cards are to come. Mostly two have chips left, so that is looked at first.
     #[tactic(auto, unfolding(crate::specs::AllIn::is_point))]
     fn is_point(&self) -> bool
         ensures { result ≡ is_point self.now }
     {
         self.course.opened
-            && self.contender_count() >= 2
             && self.funded_count() <= 1
+            && self.contender_count() >= 2
             && self.owes().is_none()
             && !self.course.last_begun
     }

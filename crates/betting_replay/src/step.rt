@@ -10,7 +10,7 @@ ghost use Rattle.betting_replay.specs.Counting.{moves_cards, paid_after, dealt_a
 ghost use Rattle.betting_replay.specs.Faults.{verdict, legal, fault_at};
 
 use crate::boards::{Board, board_after, second_after};
-use crate::counting::seat_paid;
+use crate::counting::pay_seat;
 use crate::course::{Course, course_after};
 use crate::dealing::seat_dealt;
 use crate::faults::BetFault;
@@ -76,11 +76,10 @@ impl Replay {
         requires legal { fault_at self.old e.now ≡ None }
         ensures { self.new ≡ paid_after self.old e.now }
     {
-        let place = seat_of(e);
+        let place = seat_of(e) as usize;
         let big = self.header.big;
         let posted = self.course.small_posted;
-        let seat = seat_paid(big, posted, e, self.seat_at(place));
-        self.seats[place as usize] = seat;
+        pay_seat(big, posted, e, &mut self.seats[place]);
     }
 
     /// The event counts for the cards of its seat, and for those that lie open.

@@ -126,7 +126,7 @@ impl Replay {
         self.is_played() && self.is_owing(seat, self.greatest())
     }
 
-    /// Whether the seat may act.
+    /// Whether the seat may act. Most haven't acted on the street, so that is looked at first.
     #[tactic(auto, unfolding(crate::specs::Turns::may_act))]
     pub(crate) fn may_act(&self, seat: u8) -> bool
         requires { seat < 11 }
@@ -135,7 +135,7 @@ impl Replay {
         self.is_open()
             && self.is_contender(seat)
             && self.has_chips(seat)
-            && (self.owes_act(seat) || !self.seats[seat as usize].acts.acted)
+            && (!self.seats[seat as usize].acts.acted || self.owes_act(seat))
     }
 
     /// The first seat from one on, and below an end, that owes an act.

@@ -1,6 +1,9 @@
 -- What is kept of the lines so far.
-use Rattle.std.specs.Prelude.{◌≡◌, ℕ, ◌+◌, ◌≤◌, ◌<◌, ◌^◌, true, false, List, [], ◌∷◌, length, Result, Ok, Err, Option, Some, None, All, IfOk}
+use Rattle.std.specs.Prelude.{◌≡◌, ℕ, ◌+◌, ◌≤◌, ◌<◌, ◌^◌, true, false, List, [], ◌∷◌, length, drop, slice_range, Result, Ok, Err, Option, Some, None, All, IfOk}
 use Rattle.std.specs.List.{list_any}
+use Rattle.line_text.specs.declared.lines.Line.{Line}
+use Rattle.line_text.specs.Lines.{lines}
+use Rattle.line_text.specs.Places.{IsWithin}
 use Rattle.history_text.specs.declared.events.Header.{Header}
 use Rattle.history_text.specs.declared.events.Event.{Event}
 use Rattle.history_text.specs.declared.events.Event.TheVariants.{Seat}
@@ -18,6 +21,7 @@ use Rattle.betting_replay.specs.TableAfter.{StandsFor}
 use Rattle.hand_audit.specs.declared.cause.Cause.{Cause}
 use Rattle.hand_audit.specs.declared.cause.Cause.TheVariants.{Text}
 use Rattle.hand_audit.specs.declared.hand.AuditState.{AuditState}
+use Rattle.hand_audit.specs.declared.hand.LineReading.{LineReading}
 use Rattle.hand_audit.specs.declared.follow.Followed.{Followed}
 use Rattle.hand_audit.specs.declared.follow.Followed.TheVariants.{Departs, Ends}
 use Rattle.hand_audit.specs.Lines.{SoFar, part_of, part_after, named_by, with_event, nothing}
@@ -51,17 +55,36 @@ abbrev pub part_by : Result Event TextFault → Part → Part
 part_by (Ok e) part = part_after e part
 part_by (Err fault) part = part
 
--- the first of some lines were read, each behind those before it
-abbrev pub AreReads : Header → List (ℕ × List ℕ) → Part → List (Result Event TextFault) → List (List ℕ) → Type 0
-AreReads header names part [] lines = Unit {0}
-AreReads header names part (said ∷ reads) [] = true ≡ false
-AreReads header names part (said ∷ reads) (line ∷ lines) =
-    IsRead names header part line said × AreReads header (names_by said line names) (part_by said part) reads lines
+-- a line has these places in the bytes, where it begins at this one: what stands between them is its text, and the other lines follow
+pub record StandsAt (bytes : List ℕ) (at : ℕ) (line : Line) : Type 0 where
+  pub within : IsWithin at (length bytes) line
+  pub texts : lines (drop at bytes) ≡ slice_range bytes line.first line.end ∷ lines (drop line.next bytes)
 
--- the first of some reads and those behind it; none of none
-abbrev pub IsCut : List (Result Event TextFault) → Option (Result Event TextFault) → List (Result Event TextFault) → Type 0
+-- the line that begins at this place was read, and stands where the read says
+pub record IsReadAt (header : Header) (bytes : List ℕ) (names : List (ℕ × List ℕ)) (part : Part) (at : ℕ) (read : LineReading) : Type 0 where
+  pub stands : StandsAt bytes at read.place
+  pub said : IsRead names header part (slice_range bytes read.place.first read.place.end) read.said
+
+-- the first of the lines from a place on were read, each after those before it
+abbrev pub AreReads : Header → List ℕ → List (ℕ × List ℕ) → Part → List LineReading → ℕ → Type 0
+AreReads header bytes names part [] at = Unit {0}
+AreReads header bytes names part (read ∷ reads) at =
+    IsReadAt header bytes names part at read
+    × AreReads header bytes (names_by read.said (slice_range bytes read.place.first read.place.end) names) (part_by read.said part) reads read.place.next
+
+-- the first of some reads and those after it; none of none
+abbrev pub IsCut : List LineReading → Option LineReading → List LineReading → Type 0
 IsCut reads None others = (reads ≡ []) × (others ≡ [])
-IsCut reads (Some said) others = reads ≡ said ∷ others
+IsCut reads (Some read) others = reads ≡ read ∷ others
+
+-- the first of some reads, if there is one, stands at this place, and is of this line
+abbrev pub FirstStands : List ℕ → ℕ → List LineReading → Type 0
+FirstStands bytes at [] = Unit {0}
+FirstStands bytes at (read ∷ reads) = StandsAt bytes at read.place
+
+abbrev pub IsFirst : List LineReading → Line → Type 0
+IsFirst [] line = Unit {0}
+IsFirst (read ∷ reads) line = line ≡ read.place
 
 -- what is kept stands for the lines so far of a hand with this header and these players
 pub record Keeps (hand : AuditState) (header : Header) (players : ℕ) (so_far : SoFar) : Type 0 where

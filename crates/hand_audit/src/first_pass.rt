@@ -16,7 +16,7 @@ ghost use Rattle.hand_audit.specs.Passing.{HasNumbers, HasReads, Notes, Passes, 
 use crate::hand::{LineReading, part_after, read, seat_name};
 use card_sets::{Memory, PlayerSet};
 use history_text::{Event, Header, Names, Part, seat_digits};
-use line_text::next_line;
+use line_text::{Line, next_line};
 use std::alloc::{AllocError, Global};
 use std::collections::BTreeSet;
 
@@ -37,16 +37,16 @@ pub(crate) struct PlayerScan<'a> {
     pub(crate) players: PlayerSet,
     /// The numbers of the seat lines that stood, digit by digit: they may be of any length.
     pub(crate) seats: BTreeSet<&'a [u8]>,
-    /// What the first lines were found to say, at most `READS_MAX`.
+    /// The first lines, and what they were found to say, at most `READS_MAX`.
     pub(crate) reads: Vec<LineReading>,
 }
 
-/// What the first pass finds: who plays, and what the first lines say.
+/// What the first pass finds: who plays, and where the first lines stand and what they say.
 #[derive(Drop)]
 pub(crate) struct PlayersFound {
     /// Bit s for seat s.
     pub(crate) players: u16,
-    /// What the first lines say.
+    /// The first lines.
     pub(crate) reads: Vec<LineReading>,
 }
 
@@ -134,12 +134,12 @@ fn with_player_of(players: PlayerSet, e: &Event) -> PlayerSet
     }
 }
 
-/// What a line says is kept, where there is room for it.
-fn keep_read(reads: &mut Vec<LineReading>, said: LineReading) -> Result<(), AllocError>
-    ensures { OnOk result (reads.new.items ≡ with_read reads.old.items said) }
+/// A line that was read is kept, where there is room for it.
+fn keep_read(reads: &mut Vec<LineReading>, read: LineReading) -> Result<(), AllocError>
+    ensures { OnOk result (reads.new.items ≡ with_read reads.old.items read) }
 {
     if reads.len() < READS_MAX {
-        reads.push(said)?;
+        reads.push(read)?;
     }
     Ok(())
 }
@@ -148,8 +148,8 @@ impl<'a> PlayerScan<'a> {
     /// Of no line.
     fn new(alloc: Global) -> Result<PlayerScan<'a>, AllocError>
         ensures passes { IfOk result (λ pass. Passes pass nothing []) }
-        ensures reads { IfOk result (λ pass. (header : Header) (left : List (List ℕ))
-            → HasReads pass header left left) }
+        ensures reads { IfOk result (λ pass. (header : Header) (bytes : List ℕ) (start : ℕ)
+            → HasReads pass header bytes start start) }
     {
         Ok(PlayerScan {
             names: Names::new(alloc),
@@ -160,14 +160,15 @@ impl<'a> PlayerScan<'a> {
         })
     }
 
-    /// Goes on by a line, and says whether it is a second seat line of its number. A line that can't be read
-    /// adds nothing.
-    fn take(&mut self, header: &Header, line: &'a [u8]) -> Result<bool, Memory>
+    /// Goes on by a line at this place, and says whether it is a second seat line of its number. A line that
+    /// can't be read adds nothing.
+    fn take(&mut self, header: &Header, place: Line, line: &'a [u8]) -> Result<bool, Memory>
         requires { All IsSeated self.old.names }
         ensures took { IfOk result (λ ends. (so_far : SoFar) (seats : List ℕ)
             → Passes self.old so_far seats
             → Took self.new header.now so_far seats line.now ends) }
-        ensures notes { IfOk result (λ ends. Notes self.old self.new header.now line.now ends) }
+        ensures notes { IfOk result (λ ends.
+            Notes self.old self.new header.now place line.now ends) }
     {
         let seat = seat_at(self.part, line);
         if is_again(&self.seats, seat) {
@@ -179,11 +180,17 @@ impl<'a> PlayerScan<'a> {
                 seat_name(&mut self.names, &e, line)?;
                 self.players = with_player_of(self.players, &e);
                 self.part = part_after(&e, self.part);
-                keep_read(&mut self.reads, Ok(e))?;
+                keep_read(&mut self.reads, LineReading { place, said: Ok(e) })?;
                 Ok(false)
             }
             Err(fault) => {
-                keep_read(&mut self.reads, Err(fault))?;
+                keep_read(
+                    &mut self.reads,
+                    LineReading {
+                        place,
+                        said: Err(fault),
+                    },
+                )?;
                 Ok(false)
             }
         }
@@ -200,7 +207,7 @@ impl<'a> PlayerScan<'a> {
     }
 }
 
-/// The players of a hand, by the lines from a place on, and what the first of these lines say.
+/// The players of a hand, by the lines from a place on, and what the first of these lines say and where they stand.
 pub(crate) fn players_of(
     alloc: Global,
     header: &Header,
@@ -211,12 +218,12 @@ pub(crate) fn players_of(
     ensures players { IfOk result (λ passed. passed.players
         ≡ players_of header.now (lines (drop start bytes.now))) }
     ensures reads { IfOk result (λ passed.
-        AreReads header.now [] Preamble passed.reads.items (lines (drop start bytes.now))) }
+        AreReads header.now bytes.now [] Preamble passed.reads.items start) }
 {
     let mut pass = PlayerScan::new(alloc)?;
     let mut at = start;
     'lines: while let Some(line) = next_line(bytes, at) {
-        if pass.take(header, &bytes[line.first..line.end])? {
+        if pass.take(header, line, &bytes[line.first..line.end])? {
             return Ok(pass.ends());
         }
         at = line.next;

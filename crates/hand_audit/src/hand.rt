@@ -26,6 +26,7 @@ use betting_replay::{
 };
 use card_sets::{Game, Memory};
 use history_text::{Event, Header, Names, Part, Street, TextFault, read_line};
+use line_text::Line;
 use pot_layers::law_a_folded_player_is_eligible_nowhere;
 use std::alloc::{AllocError, Global};
 
@@ -125,11 +126,20 @@ fn note(streets: &mut Vec<Street>, begun: Option<Street>) -> Result<(), AllocErr
 }
 
 /// What a line was found to say, or its fault.
-pub(crate) type LineReading = Result<Event, TextFault>;
+pub(crate) type LineSaid = Result<Event, TextFault>;
+
+/// A line that was read.
+#[derive(Drop)]
+pub(crate) struct LineReading {
+    /// Where it stands in the bytes of the hand.
+    pub(crate) place: Line,
+    /// What it was found to say, or its fault.
+    pub(crate) said: LineSaid,
+}
 
 /// What a line says. Its seat is one of the table's, its amounts are within the greatest, and its name
 /// within the line.
-pub(crate) fn read(names: &Names, header: &Header, part: Part, line: &[u8]) -> LineReading
+pub(crate) fn read(names: &Names, header: &Header, part: Part, line: &[u8]) -> LineSaid
     requires { All IsSeated names.now }
     ensures { IsRead names.now header.now part line.now result }
 {
@@ -207,7 +217,7 @@ impl AuditState {
         &mut self,
         header: &Header,
         line: &[u8],
-        said: &LineReading,
+        said: &LineSaid,
     ) -> Result<Option<Cause>, Memory>
         requires names { All IsSeated self.old.names }
         requires sound { IsSound self.old }
@@ -222,6 +232,10 @@ impl AuditState {
             Ok(e) => e,
             Err(fault) => return Ok(Some(Cause::Text(*fault))),
         };
+        if let Event::Remark = *e {
+            // It may stand anywhere, and changes nothing that is kept.
+            return Ok(None);
+        }
         let amiss = self.total_cause(e);
         let begun = self.replay.later_begun(e);
         if let Err(fault) = self.replay.step(e) {
@@ -239,25 +253,25 @@ impl AuditState {
         Ok(None)
     }
 
-    /// Goes on by a line, or says why it departs. What it says is given where it was read before.
+    /// Goes on by a line, or says why it departs. What it was found to say is given where it was read before.
     pub(crate) fn take_line(
         &mut self,
         header: &Header,
         line: &[u8],
-        said: Option<&LineReading>,
+        read_before: Option<&LineReading>,
     ) -> Result<Option<Cause>, Memory>
         requires names { All IsSeated self.old.names }
         requires sound { IsSound self.old }
-        requires said { IfSome said (λ said.
-            IsRead self.old.names header.now self.old.part line.now said.now) }
+        requires said { IfSome read_before (λ before.
+            IsRead self.old.names header.now self.old.part line.now before.now.said) }
         ensures sound { OnOk result (IsSound self.new) }
         ensures goes { IfOk result (λ cause. (players : ℕ) (so_far : SoFar)
             → Keeps self.old header.now players so_far
             → Goes self.new header.now players so_far line.now
             (read_at header.now so_far line.now) cause) }
     {
-        match said {
-            Some(said) => self.take_read(header, line, said),
+        match read_before {
+            Some(before) => self.take_read(header, line, &before.said),
             None => {
                 let said = read(&self.names, header, self.part, line);
                 self.take_read(header, line, &said)

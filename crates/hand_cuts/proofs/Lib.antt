@@ -2,7 +2,6 @@ pub mod LineParts
 pub mod HandLists
 pub mod ClosedFacts
 pub mod UnitLaws
-pub mod LineTexts
 pub mod ScanSteps
 pub mod HandScans
 pub mod LastHands

@@ -9,7 +9,7 @@ use Rattle.hand_cuts.specs.Units.{up_to_header}
 use Rattle.hand_cuts.specs.Scans.{EndsLine, LineAt, IsScan, IsHead, HeadIs, Finds, SearchesAll, passed, begun, gone_on, finished, number_at_end, number_bound}
 use Rattle.hand_cuts.specs.declared.scan.Head.{Head}
 use Rattle.hand_cuts.specs.declared.scan.Scan.{Scan}
-use Rattle.hand_cuts.proofs.LineParts.{front-slice, front_line-open, lines-split, ends-append, no_slice, slice-join, slice-all}
+use Rattle.hand_cuts.proofs.LineParts.{front-slice, lines-split, ends-append, no_slice, slice-join, slice-all}
 use Rattle.hand_cuts.proofs.HandLists.{passed-more}
 
 -- a line more behind a part
@@ -167,21 +167,12 @@ scan_finishes bytes s scan = record {
 }
 
 -- what the code reads of a line
-front_twice : (xs : List ℕ) → front_line (front_line xs) ≡ front_line xs
-front_twice [] = refl
-front_twice (x ∷ xs) = step (is_newline x) refl (front_twice xs)
-  where
-    step : (v : Bool) → is_newline x ≡ v → front_line (front_line xs) ≡ front_line xs → front_line (cond v [] (x ∷ front_line xs)) ≡ cond v [] (x ∷ front_line xs)
-    step true e same = refl
-    step false e same = rw e (ap (λ later. x ∷ later) same)
-
-pub read_text : (bytes told : List ℕ) (looked next : ℕ) (b : Bool) → EndsLine bytes looked (Some next) → told ≡ text_of (front_line (slice_range bytes looked (next - 1))) → b ≡ is_header told → is_header (text_of (front_line (drop looked bytes))) ≡ b
+pub read_text : (bytes told : List ℕ) (looked next : ℕ) (b : Bool) → EndsLine bytes looked (Some next) → told ≡ text_of (slice_range bytes looked (next - 1)) → b ≡ is_header told → is_header (text_of (front_line (drop looked bytes))) ≡ b
 read_text bytes told looked next b e t h =
-    sym (h ∙ ap is_header t ∙ ap (λ l. is_header (text_of (front_line l))) (front-slice bytes looked next e) ∙ ap (λ l. is_header (text_of l)) (front_twice (drop looked bytes)))
+    sym (h ∙ ap is_header t ∙ ap (λ l. is_header (text_of l)) (front-slice bytes looked next e))
 
-pub read_last : (bytes told : List ℕ) (looked : ℕ) (b : Bool) → has_newline (drop looked bytes) ≡ false → told ≡ text_of (front_line (slice_range bytes looked (length bytes))) → b ≡ is_header told → is_header (text_of (drop looked bytes)) ≡ b
-read_last bytes told looked b none t h =
-    sym (h ∙ ap is_header t ∙ ap (λ l. is_header (text_of (front_line l))) (slice-all bytes looked) ∙ ap (λ l. is_header (text_of l)) (front_line-open (drop looked bytes) none))
+pub read_last : (bytes told : List ℕ) (looked : ℕ) (b : Bool) → told ≡ text_of (slice_range bytes looked (length bytes)) → b ≡ is_header told → is_header (text_of (drop looked bytes)) ≡ b
+read_last bytes told looked b t h = sym (h ∙ ap is_header t ∙ ap (λ l. is_header (text_of l)) (slice-all bytes looked))
 
 pub head_of : (bytes : List ℕ) (at line looked : ℕ) (head : Option Head) (h : Head) → head ≡ Some h → HeadIs bytes at line looked head → IsHead bytes at line looked h
 head_of bytes at line looked head h e i = subst (λ (x : Option Head). HeadIs bytes at line looked x) e i

@@ -6,9 +6,9 @@ ghost use Rattle.hand_cuts.specs.declared.units.CutKind.TheVariants.{Hands};
 
 use crate::limits::INPUT_MAX;
 use crate::scan::{Head, Scan, end_of_line};
-use crate::texts::first_text;
 use crate::units::{CutKind, Unit};
 use history_text::is_header;
+use line_text::text_of;
 
 /// Hands out the next hand. One that no later header line closes counts only at the end.
 pub(crate) fn cut_hand(bytes: &[u8], closed: bool, scan: &mut Scan) -> Option<Unit>
@@ -68,7 +68,7 @@ fn next_head(bytes: &[u8], scan: &mut Scan) -> Option<Head>
             line: scan.number,
         };
         scan.pass(next);
-        if is_header(first_text(&bytes[here.at..next - 1])) {
+        if is_header(text_of(&bytes[here.at..next - 1])) {
             return Some(here);
         }
     }
@@ -95,7 +95,7 @@ fn last_hand(bytes: &[u8], closed: bool, scan: &mut Scan) -> Option<Unit>
     if !closed {
         return None;
     }
-    if is_header(first_text(&bytes[scan.looked..])) {
+    if is_header(text_of(&bytes[scan.looked..])) {
         let last = Unit {
             first: scan.looked,
             end: bytes.len(),

@@ -19,8 +19,8 @@
 //!    go down by as much.
 //!
 //! A line that is open isn't searched again from its start with each piece: each byte is searched for
-//! a newline twice, when it comes and when its line is asked whether it is a header line. It is moved only
-//! where something before it is dropped. No clause counts either.
+//! a newline once, when it comes. It is moved only where something before it is dropped. No clause counts
+//! either.
 #![tactic(auto)]
 
 mod cutter;
@@ -29,7 +29,6 @@ mod laws;
 mod limits;
 mod lines;
 mod scan;
-mod texts;
 mod units;
 
 pub use cutter::Cutter;

@@ -4,6 +4,8 @@ pub mod CardCounts
 pub mod HeaderPlaces
 pub mod OpeningLists
 pub mod LongestNames
+pub mod ShownPlaces
+pub mod BlankLines
 pub mod Within
 pub mod MarkerCards
 pub mod ExampleHands

@@ -139,6 +139,22 @@ fn longer<'a>(a: Option<NameFit<'a>>, b: Option<NameFit<'a>>) -> Option<NameFit<
     }
 }
 
+/// The longer of the name that was found so far and another, which mostly doesn't begin the text.
+fn longer_with<'a>(
+    best: Option<NameFit<'a>>,
+    who: &Seated,
+    text: &'a [u8],
+    mark: &[u8],
+) -> Option<NameFit<'a>>
+    ensures { option_map seen result
+        ≡ longer (option_map seen best.entry) (fit mark.now text.now (pair who.now)) }
+{
+    match fit(who, text, mark) {
+        Some(found) => longer(best, Some(found)),
+        None => best,
+    }
+}
+
 /// The longest of the names that begin the text with the mark behind them.
 #[tactic(auto, unfolding(crate::specs::Names::front_name))]
 fn longest<'a>(seats: &[Seated], text: &'a [u8], mark: &[u8]) -> Option<NameFit<'a>>
@@ -146,7 +162,7 @@ fn longest<'a>(seats: &[Seated], text: &'a [u8], mark: &[u8]) -> Option<NameFit<
 {
     let mut best = None;
     for who in seats {
-        best = longer(best, fit(who, text, mark));
+        best = longer_with(best, who, text, mark);
     }
     best
 }

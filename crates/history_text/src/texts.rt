@@ -6,12 +6,14 @@ ghost use Rattle.history_text.specs.Texts.{behind, first_place, last_place, cut_
 
 use memchr::memmem;
 
-/// Whether the two begin with different bytes, so that the text can't begin with the front.
+/// Whether the first two bytes differ, or the first alone where there is one, so that the text can't begin with
+/// the front.
 #[inline]
 fn begin_apart(text: &[u8], front: &[u8]) -> bool
     ensures { result ≡ true → starts_with nat_eq text.now front.now ≡ false }
 {
     match (text, front) {
+        ([mine, next, ..], [other, after, ..]) => mine != other || next != after,
         ([mine, ..], [other, ..]) => mine != other,
         _ => false,
     }

@@ -1,7 +1,7 @@
 -- Where the text of a line stands in it: behind the mark, and before the blanks at the end.
 use Rattle.std.proofs.Common.{◌≡◌, ℕ, ◌+◌, ◌-◌, ◌<◌, ◌≤◌, Bool, true, false, ◌&&◌, cond, List, [], ◌∷◌, ◌++◌, length, take, drop, refl, ap, sym, ◌∙◌, arith, length-drop, length-take, nat_eq, get_or}
 use Rattle.std.proofs.lemmas.Bool.{cond_both}
-use Rattle.std.proofs.lemmas.List.{take-append-le, drop-append-le, take_more}
+use Rattle.std.proofs.lemmas.List.{take-append-le, drop-append-le, take_all, take_more}
 use Rattle.std.specs.List.{starts_with}
 use Rattle.line_text.specs.Lines.{is_blank, put_before, without_blanks, without_mark, mark, text_of}
 use Rattle.line_text.specs.Places.{mark_length}
@@ -104,3 +104,15 @@ pub text_of-le : (line : List ℕ) → mark_length line + length (text_of line) 
 text_of-le line =
     let n : mark_length line ≤ length line = mark_length-le line in
     omega (arith, without_blanks-le (without_mark line), ap length (without_mark-drop line), length-drop (mark_length line) line)
+
+-- what is cut out of a line behind its mark and before its blanks is its text
+pub text_of-cut : (line text : List ℕ) (marked kept : ℕ)
+    → marked ≡ mark_length line
+    → text ≡ take (length line - marked) (drop marked line)
+    → kept ≡ length (without_blanks text)
+    → take kept text ≡ text_of line
+text_of-cut line text marked kept m t k =
+    let behind_mark : text ≡ without_mark line =
+    t ∙ take_all (length line - marked) (drop marked line) (omega (arith, length-drop marked line))
+    ∙ ap (λ i. drop i line) m ∙ sym (without_mark-drop line) in
+    ap (λ n. take n text) k ∙ without_blanks-take text ∙ ap without_blanks behind_mark

@@ -5,7 +5,8 @@
 //! numbers and places: they copy no byte, take no memory, and look at no line but the one that is asked
 //! for. The bytes needn't be UTF-8. The crate knows no poker.
 //!
-//! A line costs one search for its newline, and a look at each blank at its end. An amount costs the
+//! A line costs one search for its newline, and a look at each blank at its end; one whose end is known
+//! is read by `text_of`, without a search. An amount costs the
 //! digits that it begins with and those behind its point. No clause counts either.
 #![tactic(auto)]
 
@@ -16,4 +17,4 @@ pub use amounts::{
     Amount, AmountFault, GREATEST, WrittenAmount, digit_count, law_written_amounts_are_read,
     number_of, read_amount, written,
 };
-pub use lines::{Line, law_closed_lines, law_lines_read_back, next_line};
+pub use lines::{Line, law_closed_lines, law_lines_read_back, next_line, text_of};

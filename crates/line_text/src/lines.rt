@@ -5,7 +5,7 @@
 //! returns at its end.
 
 ghost use Rattle.std.specs.Prelude.{◌≡◌, ◌≤◌, ◌↔◌, [], ◌∷◌, length, drop, slice_range, IsNone, IfSome, MatchOption};
-ghost use Rattle.line_text.specs.Lines.{front_line, is_blank, lines, without_blanks};
+ghost use Rattle.line_text.specs.Lines.{front_line, is_blank, lines, text_of, without_blanks};
 ghost use Rattle.line_text.specs.Places.{IsWithin, line_at, mark_length};
 ghost use Rattle.line_text.specs.Laws.{TextsHoldNoNewline, PlainTextsReadBack, AllCloseLines};
 
@@ -48,6 +48,15 @@ pub fn next_line(bytes: &[u8], at: usize) -> Option<Line>
         end: first + length_without_blanks(&line[marked..]),
         next: (at + line.len() + 1).min(bytes.len()),
     })
+}
+
+/// What a line says whose end is known: these are all its bytes without its newline, and none is
+/// searched for.
+pub fn text_of(line: &[u8]) -> &[u8]
+    ensures { result.now ≡ text_of line.now }
+{
+    let text = &line[mark_length(line)..];
+    &text[..length_without_blanks(text)]
 }
 
 /// How many bytes stand before the first newline.

@@ -11,7 +11,7 @@ invariant-lines l = record {
   counted : l.count + length (lines (drop l.at l.bytes)) ≡ length (lines (drop l.fn.start l.bytes));
   sound : IsSound l.state;
   going : Going l.state l.header l.players (lines (drop l.fn.start l.bytes)) (lines (drop l.at l.bytes)) l.count;
-  ahead : AreReads l.header l.state.names l.state.part l.left (lines (drop l.at l.bytes));
+  ahead : AreReads l.header l.bytes l.state.names l.state.part l.left l.at;
 }
 
 abbrev pub decreases-lines : goal.decreases-lines

@@ -1,21 +1,22 @@
 -- What one line makes of what is kept of a hand, and what its end does.
-use Rattle.std.proofs.Common.{◌≡◌, ℕ, ◌+◌, ◌==◌, List, ◌∷◌, ◌++◌, refl, sym, ap, ◌∙◌, subst, true, false, ◌||◌}
-use Rattle.std.specs.Prelude.{Option, Some, None, Result, Ok, Err, All, Bool, not, if◌then◌else◌}
+use Rattle.std.proofs.Common.{◌≡◌, ℕ, ◌+◌, ◌==◌, append-nil, List, [], ◌∷◌, ◌++◌, refl, sym, ap, ◌∙◌, subst, true, false, ◌||◌}
+use Rattle.std.specs.Prelude.{Option, Some, None, is_some, Result, Ok, Err, All, Bool, ◌&&◌, not, if◌then◌else◌}
 use Rattle.std.specs.List.{list_any}
 use Rattle.std.proofs.lemmas.List.Elements.{All-push}
 use Rattle.history_text.specs.declared.events.Header.{Header}
 use Rattle.history_text.specs.declared.events.Event.{Event}
-use Rattle.history_text.specs.declared.events.Event.TheVariants.{Seat, Total}
+use Rattle.history_text.specs.declared.events.Event.TheVariants.{Remark, Seat, Total}
 use Rattle.history_text.specs.declared.events.TextFault.{TextFault}
 use Rattle.history_text.specs.Lines.{line_event}
 use Rattle.betting_replay.specs.declared.faults.BetFault.{BetFault}
 use Rattle.betting_replay.specs.Events.{SeatFits}
 use Rattle.betting_replay.specs.CardLaws.{MarkerFits, MarkersFit}
-use Rattle.betting_replay.specs.Later.{listed, later_begun}
+use Rattle.betting_replay.specs.Later.{listed, later_begun, later_by}
 use Rattle.betting_replay.specs.Limits.{Fits}
 use Rattle.betting_replay.specs.TableAfter.{StandsFor, table_of}
 use Rattle.betting_replay.specs.Faults.{legal, verdict}
-use Rattle.betting_replay.proofs.CallerLemmas.{no_fault}
+use Rattle.betting_replay.specs.Turns.{any_shown}
+use Rattle.betting_replay.proofs.CallerLemmas.{no_fault, remark_kept, remark_stands}
 use Rattle.history_text.specs.declared.events.Part.TheVariants.{Summary as SummaryPart}
 use Rattle.betting_replay.specs.Accepted.{IsAccepted}
 use Rattle.betting_replay.specs.Table.{ReplayState}
@@ -111,6 +112,23 @@ goes_on new hand g players so_far line e u k is bet total fits marker stands nam
         markers = (marker, k.markers);
       },
     )
+
+-- a remark begins no street
+none_listed : (t : ReplayState) → listed (later_begun t Remark) ≡ []
+none_listed t = by (is_some t.point) (any_shown t.course.showdowns)
+  where
+    by : (a b : Bool) → listed (if a && not b then later_by t.header.game t.course.street Remark else None) ≡ []
+    by true true = refl
+    by true false = refl
+    by false b = refl
+
+-- a remark may stand anywhere, and what is kept stands for it too
+pub goes_remark : (hand : AuditState) (g : Header) (players : ℕ) (so_far : SoFar) (line : List ℕ) → Keeps hand g players so_far
+    → line_event hand.names g hand.part line ≡ Ok Remark → Fits Remark → MarkerFits g.game Remark → Goes hand g players so_far line (read_at g so_far line) None
+goes_remark hand g players so_far line k is fits marker =
+    goes_on hand hand g players so_far line Remark tt k is (ap verdict (remark_stands (table_of g players so_far.events))) refl fits marker
+    (remark_kept hand.replay g players so_far.events k.stands) refl refl (sym (append-nil hand.collections.items))
+    (sym (ap (λ xs. hand.streets.items ++ xs) (none_listed hand.replay) ∙ append-nil hand.streets.items)) refl refl
 
 -- a line that departs for what it says doesn't depart for a payment
 total_no_split : (put taken : ℕ) (e : Event) (c : Cause) → total_cause put taken e ≡ Some c → is_split c ≡ false

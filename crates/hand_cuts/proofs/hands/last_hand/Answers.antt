@@ -19,7 +19,7 @@ returns-in_default-clause-some c =
     let s = c.args.scan.now in
     let e : c.args.closed ≡ true = c.if-not-closed.false in
     let none = none_left bytes s c.requires.scan c.requires.all in
-    let header : is_header (text_of (drop s.looked bytes)) ≡ true = read_last bytes c.first_text.result.now s.looked true none c.first_text.ensures c.if-is_header.ensures in
+    let header : is_header (text_of (drop s.looked bytes)) ≡ true = read_last bytes c.text_of.result.now s.looked true c.text_of.ensures c.if-is_header.ensures in
     rw (c.finish.ensures, e) (hands_out_only bytes s c.requires.scan c.in_default.is none header)
 
 pub returns-then-is_header-clause-scan : goal.returns-then-is_header-clause-scan
@@ -32,7 +32,7 @@ returns-then-is_header-clause-some c =
     let scan = c.requires.scan in
     let e : c.args.closed ≡ true = c.if-not-closed.false in
     let none = none_left bytes s scan c.requires.all in
-    let header : is_header (text_of (drop s.looked bytes)) ≡ true = read_last bytes c.first_text.result.now s.looked true none c.first_text.ensures c.if-is_header.ensures in
+    let header : is_header (text_of (drop s.looked bytes)) ≡ true = read_last bytes c.text_of.result.now s.looked true c.text_of.ensures c.if-is_header.ensures in
     let head = head_of bytes s.at s.line s.looked s.head c.in-Some.head c.in-Some.is scan.head in
     rw (c.go_on.ensures, e) (hands_out_later true bytes s _ _ c.in-Some.head _ scan.counted (let a = scan.ahead in let w = scan.within in omega arith) head
     (begins_last bytes s.looked none header) header refl refl refl)
@@ -43,7 +43,7 @@ returns-in_default-head-clause-none c =
     let s = c.args.scan.now in
     let e : c.args.closed ≡ true = c.if-not-closed.false in
     let none = none_left bytes s c.requires.scan c.requires.all in
-    let other : is_header (text_of (drop s.looked bytes)) ≡ false = read_last bytes c.first_text.result.now s.looked false none c.first_text.ensures c.if-is_header.ensures in
+    let other : is_header (text_of (drop s.looked bytes)) ≡ false = read_last bytes c.text_of.result.now s.looked false c.text_of.ensures c.if-is_header.ensures in
     record { none = rw e (none_whole bytes s c.requires.scan c.in_default-head.is none other); at = refl; line = refl }
 
 pub returns-clause-some : goal.returns-clause-some
@@ -52,6 +52,6 @@ returns-clause-some c =
     let s = c.args.scan.now in
     let e : c.args.closed ≡ true = c.if-not-closed.false in
     let none = none_left bytes s c.requires.scan c.requires.all in
-    let other : is_header (text_of (drop s.looked bytes)) ≡ false = read_last bytes c.first_text.result.now s.looked false none c.first_text.ensures c.if-is_header.ensures in
+    let other : is_header (text_of (drop s.looked bytes)) ≡ false = read_last bytes c.text_of.result.now s.looked false c.text_of.ensures c.if-is_header.ensures in
     let head = head_of bytes s.at s.line s.looked s.head c.in-Some-head.head c.in-Some-head.is c.requires.scan.head in
     rw (c.finish-2.ensures, e) (hands_out_last bytes s c.in-Some-head.head c.requires.scan head none other)

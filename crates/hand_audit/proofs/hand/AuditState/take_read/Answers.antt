@@ -1,7 +1,13 @@
-use Rattle.std.proofs.Common.{◌≡◌, ◌∙◌, ◌++◌, ap, sym, ◌||◌, arith}
+use Rattle.std.proofs.Common.{◌≡◌, ◌∙◌, ◌++◌, ap, sym, subst, ◌||◌, arith}
+use Rattle.std.specs.Prelude.{Ok}
+use Rattle.history_text.specs.declared.events.Event.{Event}
+use Rattle.history_text.specs.declared.events.Event.TheVariants.{Remark}
+use Rattle.history_text.specs.Lines.{line_event}
+use Rattle.betting_replay.specs.CardLaws.{MarkerFits}
+use Rattle.betting_replay.specs.Limits.{Fits}
 use Rattle.betting_replay.specs.Later.{listed}
 use Rattle.hand_audit.specs.Departs.{is_total}
-use Rattle.hand_audit.proofs.lemmas.lines.LineSteps.{goes_text, goes_bet, goes_total, goes_on}
+use Rattle.hand_audit.proofs.lemmas.lines.LineSteps.{goes_text, goes_bet, goes_total, goes_on, goes_remark}
 use Rattle.hand_audit.proofs.lemmas.lines.ReadOnce.{ok_of}
 use Rattle.hand_audit.proofs.lemmas.lines.KeptInvariant.{sound_more}
 use Rattle.hand_audit.proofs.hand.AuditState.take_read.Goals as goal
@@ -19,6 +25,17 @@ step-requires-clause-amounts c = (ok_of _ _ _ c.in-Ok.is c.requires.said.fits).a
 pub returns-in-Err : goal.returns-in-Err
 returns-in-Err c = record { sound = c.requires.sound; goes = λ players so_far k. goes_text _ c.args.self.now c.args.header.now players so_far c.args.line.now c.in-Err.fault k (sym c.requires.said.value ∙ c.in-Err.is) }
 
+pub returns-in-Remark : goal.returns-in-Remark
+returns-in-Remark c =
+    let said : line_event c.args.self.now.names c.args.header.now c.args.self.now.part c.args.line.now ≡ Ok Remark = sym c.requires.said.value ∙ c.in-Ok.is ∙ ap (λ (e : Event). Ok e) c.in-Remark.is in
+    record {
+      sound = c.requires.sound;
+      goes = λ players so_far k.
+          goes_remark c.args.self.now c.args.header.now players so_far c.args.line.now k said
+          (subst (λ (e : Event). Fits e) c.in-Remark.is (ok_of _ _ _ c.in-Ok.is c.requires.said.fits))
+          (subst (λ (e : Event). MarkerFits c.args.header.now.game e) c.in-Remark.is (ok_of _ _ _ c.in-Ok.is c.requires.said.cards));
+    }
+
 pub returns-in-Err-step : goal.returns-in-Err-step
 returns-in-Err-step c = record {
   sound = record { part = c.requires.sound.part; room = c.requires.sound.room };
@@ -32,7 +49,7 @@ returns-in-Some c = record {
   sound = record { part = c.requires.sound.part; room = c.requires.sound.room };
   goes = λ players so_far k.
       goes_total _ c.args.self.now c.args.header.now players so_far c.args.line.now c.in-Ok.e _ c.in-Some.cause k (sym c.requires.said.value ∙ c.in-Ok.is)
-      (sym (c.step.ensures.verdict c.args.header.now players so_far.events k.stands) ∙ c.in_default.is) (sym c.total_cause-amiss.ensures ∙ c.in-Some.is);
+      (sym (c.step.ensures.verdict c.args.header.now players so_far.events k.stands) ∙ c.in_default-step.is) (sym c.total_cause-amiss.ensures ∙ c.in-Some.is);
 }
 
 pub returns : goal.returns
@@ -46,7 +63,7 @@ returns c =
           c.part_after-self.ensures c.in_ok-collect.ensures total;
       goes = λ players so_far k.
           goes_on _ c.args.self.now c.args.header.now players so_far c.args.line.now c.in-Ok.e _ k (sym c.requires.said.value ∙ c.in-Ok.is)
-          (sym (c.step.ensures.verdict c.args.header.now players so_far.events k.stands) ∙ c.in_default.is) (sym c.total_cause-amiss.ensures ∙ c.in_default-amiss.is)
-          (ok_of _ _ _ c.in-Ok.is c.requires.said.fits) (ok_of _ _ _ c.in-Ok.is c.requires.said.cards) (c.in_default.ensures.ok c.args.header.now players so_far.events k.stands) c.in_ok-seat_name.ensures c.part_after-self.ensures c.in_ok-collect.ensures
+          (sym (c.step.ensures.verdict c.args.header.now players so_far.events k.stands) ∙ c.in_default-step.is) (sym c.total_cause-amiss.ensures ∙ c.in_default-amiss.is)
+          (ok_of _ _ _ c.in-Ok.is c.requires.said.fits) (ok_of _ _ _ c.in-Ok.is c.requires.said.cards) (c.in_default-step.ensures.ok c.args.header.now players so_far.events k.stands) c.in_ok-seat_name.ensures c.part_after-self.ensures c.in_ok-collect.ensures
           (c.in_ok-note.ensures ∙ ap (λ o. c.args.self.now.streets.items ++ listed o) c.later_begun-begun.ensures) c.rake_by-self.ensures total;
     }
