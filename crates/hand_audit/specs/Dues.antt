@@ -1,12 +1,14 @@
 -- What the rules give each seat of a hand: by its parts, and beside what was paid.
 use Rattle.std.specs.Prelude.{◌≡◌, ℕ, ◌+◌, ◌≤◌, ◌==◌, true, if◌then◌else◌, List, find, sum_by}
 use Rattle.std.specs.Option.{option_map_or}
+use Rattle.card_sets.specs.PlayerSets.{seats_in}
 use Rattle.pot_layers.specs.declared.paid.Pot.{Pot}
 use Rattle.hand_audit.specs.Chips.{over_seats}
 use Rattle.hand_audit.specs.Nets.{got_of}
 use Rattle.hand_audit.specs.Parts.{is_contested, part_shares}
 use Rattle.hand_audit.specs.Settle.{Showing, due_of_seat, is_checked, net_of, pot_line, shares_of_pot}
 use Rattle.hand_audit.specs.declared.parts.PartShare.{PartShare}
+use Rattle.hand_audit.specs.declared.parts.SplitHand.{SplitHand}
 use Rattle.hand_audit.specs.declared.pot_names.Source.{Source}
 use Rattle.hand_audit.specs.declared.settlement.Payment.{Payment}
 use Rattle.hand_audit.specs.declared.settlement.Settlement.{Settlement}
@@ -33,3 +35,13 @@ PartsGiveDues = (s : Showing) (source : Source) (pot : Pot) (p : ℕ) → is_che
 -- all seats are due what they got together
 abbrev pub DuesAddUp : Settlement → Type 0
 DuesAddUp settlement = over_seats (due_of settlement) ≡ over_seats (got_of settlement)
+
+-- the players of a hand are due what they got together: nobody else is due anything, or got anything
+abbrev pub PlayersAreDue : Settlement → ℕ → Type 0
+PlayersAreDue settlement players = sum_by (due_of settlement) (seats_in players) ≡ sum_by (got_of settlement) (seats_in players)
+
+-- so it is of a hand that is rejected for its payments alone, whose names fit the pots
+pub record SplitAddsUp (split : SplitHand) : Type 0 where
+  pub fits : split.settlement.fits ≡ true
+  pub dues : DuesAddUp split.settlement
+  pub players : PlayersAreDue split.settlement split.players

@@ -5,13 +5,16 @@ ghost use Rattle.history_text.specs.Headers.{header_of};
 ghost use Rattle.history_text.specs.declared.events.Header.{Header};
 ghost use Rattle.hand_audit.specs.Before.{Stand};
 ghost use Rattle.hand_audit.specs.Chips.{KeepsChips};
-ghost use Rattle.hand_audit.specs.Dues.{DuesAddUp, PartsGiveDues};
+ghost use Rattle.hand_audit.specs.Dues.{DuesAddUp, PartsGiveDues, PlayersAreDue, SplitAddsUp};
 ghost use Rattle.hand_audit.specs.Lines.{nothing, players_of};
 ghost use Rattle.hand_audit.specs.declared.cause.Cause.{Cause};
 ghost use Rattle.hand_audit.specs.Showings.{showing_of};
+ghost use Rattle.hand_audit.specs.SplitHands.{split_of};
 ghost use Rattle.hand_audit.specs.Splits.{IsSplitRightly, IsWonBySomebody, LoneAreDueAll, PotsGoByBoards};
 ghost use Rattle.hand_audit.specs.Verdict.{audit_of, events_of};
+ghost use Rattle.hand_audit.specs.declared.parts.SplitHand.{SplitHand};
 ghost use Rattle.hand_audit.specs.declared.verdicts.AllIn.{AllIn};
+ghost use Rattle.hand_audit.specs.declared.verdicts.HandAudit.{HandAudit};
 ghost use Rattle.hand_audit.specs.declared.verdicts.HandAudit.TheVariants.{Accepted, Rejected};
 ghost use Rattle.hand_audit.specs.CardsKnown.{KnowsCards, all_known_at};
 ghost use Rattle.hand_audit.specs.LaterCards.{IsKnownOn};
@@ -122,6 +125,29 @@ pub fn law_dues_add_up_to_what_was_paid()
         → (settlement : Settlement) (all_in : AllIn) (names : List (ℕ × List ℕ)) (players : ℕ)
         → audit_of number (line ∷ lines) ≡ Some (Accepted settlement all_in names players)
         → settlement.fits ≡ true → DuesAddUp settlement }
+{
+    law_a_list_orders_its_seats();
+    law_values_keep_order();
+    law_fives_have_five_cards();
+    law_places_are_apart();
+    law_cards_belong();
+    law_whole_boards();
+    law_a_table_shows_each_seat();
+    law_a_folded_player_is_eligible_nowhere();
+}
+
+/// A law on players' dues. Of a hand that is accepted and whose pot names fit, and of one that is rejected for its
+/// payments alone, whose names always fit: its players are due together what they got together. So what some of
+/// them are still to get is what others are to give back.
+pub fn law_players_are_due_what_they_got()
+    ensures accepted { (number : ℕ) (line : List ℕ) (lines : List (List ℕ)) (header : Header)
+        → header_of line ≡ Ok header
+        → (settlement : Settlement) (all_in : AllIn) (names : List (ℕ × List ℕ)) (players : ℕ)
+        → audit_of number (line ∷ lines) ≡ Some (Accepted settlement all_in names players)
+        → settlement.fits ≡ true → PlayersAreDue settlement players }
+    ensures split { (number : ℕ) (lines : List (List ℕ)) (audit : HandAudit) (split : SplitHand)
+        → audit_of number lines ≡ Some audit → split_of audit lines ≡ Some split
+        → SplitAddsUp split }
 {
     law_a_list_orders_its_seats();
     law_values_keep_order();

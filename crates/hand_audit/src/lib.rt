@@ -57,8 +57,8 @@ pub use laws::{
     law_a_table_has_the_pots_of_the_hand, law_all_in_cards, law_checked_pots_are_won,
     law_chips_are_kept, law_dues_add_up_to_what_was_paid, law_later_streets_come_in_order,
     law_later_streets_know_cards, law_lines_before_stand, law_nets_add_up_to_the_rake,
-    law_parts_give_what_is_due, law_pots_add_up, law_pots_are_split_by_the_rules,
-    law_pots_go_by_boards, law_unknown_all_ins_have_unknown_cards,
+    law_parts_give_what_is_due, law_players_are_due_what_they_got, law_pots_add_up,
+    law_pots_are_split_by_the_rules, law_pots_go_by_boards, law_unknown_all_ins_have_unknown_cards,
 };
 pub use parts::{AuditedShares, PartShare, PartShares, SplitHand};
 pub use seat_chips::{AuditedChips, SeatChips};

@@ -92,9 +92,11 @@ fn settle_pots(
     requires ready { IsReady standings.now }
     requires each { each_taken count number layers.now all.now ≡ true }
     requires numbers { number + length layers.now < 2 ^ 64 }
-    ensures { IfOk result (λ first. (s : Showing) → Tells standings.now s → AreDecided s layers.now
+    ensures value { IfOk result (λ first. (s : Showing) → Tells standings.now s → AreDecided s layers.now
         → s.collections ≡ all.now
         → AreOfPots s count number layers.now lines.old.items lines.new.items first) }
+    ensures many { IfOk result (λ first.
+        length lines.new.items ≡ length lines.old.items + length layers.now) }
 {
     match layers {
         [] => Ok(None),
@@ -134,6 +136,7 @@ pub(crate) fn settle(
     most: u64,
 ) -> Result<HandSettled, Memory>
     requires ready { IsReady standings.now }
+    requires few { length layers.now ≤ 10 }
     requires taken { taken_from (counts_from Source.Any) all.now ≤ most }
     ensures { IfOk result (λ one. (s : Showing) → Tells standings.now s → AreDecided s layers.now
         → s.collections ≡ all.now → pots s.paid ≡ layers.now → IsOfHand s one) }

@@ -8,3 +8,4 @@ pub mod HandVerdict
 pub mod AcceptedLines
 pub mod AcceptedHand
 pub mod LinesBefore
+pub mod SplitLines

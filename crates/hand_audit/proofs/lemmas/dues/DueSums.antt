@@ -35,7 +35,7 @@ use Rattle.hand_audit.proofs.lemmas.pot_sums.PaymentSums.{due_by_all, got_by_all
 use Rattle.hand_audit.proofs.lemmas.seats.SeatSums.{sum_plus}
 
 -- term by term, over the seats that are summed
-sum_in : (f g : ℕ → ℕ) (p n : ℕ) → ((q : ℕ) → p ≤ q → q < p + n → f q ≡ g q) → sum_from f p n ≡ sum_from g p n
+pub sum_in : (f g : ℕ → ℕ) (p n : ℕ) → ((q : ℕ) → p ≤ q → q < p + n → f q ≡ g q) → sum_from f p n ≡ sum_from g p n
 sum_in f g p zero h = refl
 sum_in f g p (suc n) h =
     let here : f p ≡ g p = h p (omega arith) (omega arith) in

@@ -34,7 +34,7 @@ paid_here f pay later q is = let here : (pay.seat == q) ≡ true = grind (arith,
 paid_later : (f : Payment → ℕ) (pay : Payment) (later : List Payment) (q : ℕ) → (pay.seat == q) ≡ false → of_payment f (pay ∷ later) q ≡ of_payment f later q
 paid_later f pay later q other = rw other refl
 
-paid_none : (f : Payment → ℕ) (pay : ℕ → Payment) → OwnSeats pay → (p n q : ℕ) → q < p → of_payment f (payments_from pay p n) q ≡ 0
+pub paid_none : (f : Payment → ℕ) (pay : ℕ → Payment) → OwnSeats pay → (p n q : ℕ) → q < p → of_payment f (payments_from pay p n) q ≡ 0
 paid_none f pay own p zero q l = refl
 paid_none f pay own p (suc n) q l = by (is_payment (pay p)) (paid_none f pay own (p + 1) n q (omega (arith, l)))
   where
