@@ -3,7 +3,7 @@ use Rattle.std.proofs.Common.{◌≡◌, ℕ, ◌+◌, ◌-◌, ◌<◌, ◌≤�
 use Rattle.std.specs.Prelude.{slice_range, IfNone, IfSome, is_some}
 use Rattle.std.proofs.lemmas.Bool.{ltb-true}
 use Rattle.history_text.specs.Headers.{is_header}
-use Rattle.line_text.specs.Lines.{lines, text_of, front_line, has_newline, is_newline}
+use Rattle.line_text.specs.Lines.{lines, text_of, front_line, has_newline}
 use Rattle.line_text.specs.Laws.{EndsInNewline}
 use Rattle.hand_cuts.specs.Units.{up_to_header}
 use Rattle.hand_cuts.specs.Scans.{EndsLine, LineAt, IsScan, IsHead, HeadIs, Finds, SearchesAll, passed, begun, gone_on, finished, number_at_end, number_bound}

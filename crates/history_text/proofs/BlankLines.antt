@@ -1,6 +1,6 @@
 -- A line of no byte is a remark, whatever part it stands in.
-use Rattle.std.proofs.Common.{◌≡◌, ℕ, ◌==◌, Bool, true, List, [], ◌∷◌, codes, length, refl, sym, ap, ◌∙◌, arith}
-use Rattle.std.specs.Prelude.{Option, Some, None, option_map, option_and_then, Result, Ok}
+use Rattle.std.proofs.Common.{◌≡◌, ℕ, List, [], ◌∷◌, codes, length, refl, ap, ◌∙◌, arith}
+use Rattle.std.specs.Prelude.{None, option_map, option_and_then, Ok}
 use Rattle.history_text.specs.declared.events.Event.TheVariants.{Remark}
 use Rattle.history_text.specs.declared.events.Header.{Header}
 use Rattle.history_text.specs.declared.events.Part.{Part}

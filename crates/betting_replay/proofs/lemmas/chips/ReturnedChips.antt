@@ -1,6 +1,6 @@
 -- What comes back of a bet is within what was put in.
 use Rattle.std.proofs.Common.{◌≡◌, ℕ, zero, suc, ◌+◌, ◌-◌, ◌≤◌, List, refl, sym, ap, Bool, true, false, ◌==◌, ◌&&◌, ◌||◌, arith, subst}
-use Rattle.std.specs.Prelude.{Option, Some, None, nat_lt, if◌then◌else◌}
+use Rattle.std.specs.Prelude.{Option, Some, None, if◌then◌else◌}
 use Rattle.pot_layers.specs.declared.paid.Paid.{Paid}
 use Rattle.pot_layers.specs.Uncalled.{is_reached, rival, alone_in, uncalled}
 use Rattle.betting_replay.specs.Accounts.{paid_by}

@@ -1,10 +1,10 @@
-use Rattle.std.proofs.Common.{◌≡◌, ◌∙◌, ap, rules, subst, sym, length, ℕ, arith}
+use Rattle.std.proofs.Common.{◌≡◌, ◌∙◌, ap, rules, subst, sym, length, arith}
 use Rattle.std.specs.Prelude.{◌<◌, slice_index_or}
 use Rattle.std.proofs.lemmas.List.{get_or_default}
 use Rattle.betting_replay.specs.Table.{no_seat}
 use Rattle.betting_replay.specs.declared.seats.SeatState.{SeatState}
 use Rattle.betting_replay.specs.Events.{seat_of}
-use Rattle.betting_replay.specs.Limits.{InLimits, ChipsInLimits, Affords}
+use Rattle.betting_replay.specs.Limits.{InLimits, Affords}
 use Rattle.betting_replay.specs.TableAfter.{ReplayState, seat_at, chips_at}
 use Rattle.betting_replay.proofs.lemmas.chips.AffordedChips.{affords}
 use Rattle.betting_replay.proofs.replay.Replay.count_chips.Goals as goal
