@@ -31,19 +31,6 @@ use Rattle.runout_walk.specs.Rivals.{others_of, value_with, pick, winner_by}
 use Rattle.runout_walk.specs.Worth.{or_zero, full_worth, worth_after}
 use Rattle.runout_walk.proofs.BoardRunouts.{union-none}
 
--- the numbers of all but one hand
-best-append : (v : ℕ → ℕ) (xs ys : List ℕ) → best_value v (xs ++ ys) ≡ max (best_value v xs) (best_value v ys)
-best-append v [] ys = omega arith
-best-append v (x ∷ xs) ys = let ih : best_value v (xs ++ ys) ≡ max (best_value v xs) (best_value v ys) = best-append v xs ys in omega arith
-
--- one hand more
-pub top_more : (v : ℕ → ℕ) (mask n : ℕ) → best_value v (hands_below mask (suc n)) ≡ max (best_value v (hands_below mask n)) (cond (has_player mask n) (v n) 0)
-top_more v mask n = best-append v (hands_below mask n) _ ∙ ap (λ m. max (best_value v (hands_below mask n)) m) (one (has_player mask n))
-  where
-    one : (b : Bool) → best_value v (cond b (n ∷ []) []) ≡ cond b (v n) 0
-    one true = omega arith
-    one false = refl
-
 -- the sum of the bits of the hands that pass
 abbrev bits_where : (ℕ → Bool) → List ℕ → ℕ
 bits_where p hands = set_of_players (filter p hands)

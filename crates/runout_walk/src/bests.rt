@@ -21,11 +21,11 @@ pub(crate) struct Best {
 
 /// The number of a hand of a set, and else 0.
 #[inline]
-fn value_at(values: &[u32; 10], hands: u16, hand: u8) -> u32
+fn value_at(values: &[u32; 10], hands: PlayerSet, hand: u8) -> u32
     requires { hand < 10 }
     ensures { result ≡ (if has_player hands hand then slice_index values.now hand else 0) }
 {
-    if PlayerSet::of(hands).has(hand) {
+    if hands.has(hand) {
         values[usize::from(hand)]
     } else {
         0
@@ -34,7 +34,7 @@ fn value_at(values: &[u32; 10], hands: u16, hand: u8) -> u32
 
 /// The greatest number of the first `count` hands that are in a set.
 #[inline]
-fn top_of(values: &[u32; 10], hands: u16, count: u8) -> u32
+fn top_of(values: &[u32; 10], hands: PlayerSet, count: u8) -> u32
     requires { count ≤ 10 }
     ensures { result ≡ best_value (slice_index values.now) (hands_below hands count) }
 {
@@ -46,7 +46,8 @@ fn top_of(values: &[u32; 10], hands: u16, count: u8) -> u32
 }
 
 /// The best of the first `count` hands that are in a set.
-fn best_of(values: &[u32; 10], hands: u16, count: u8) -> Best
+#[inline]
+pub(crate) fn best_of(values: &[u32; 10], hands: PlayerSet, count: u8) -> Best
     requires { count ≤ 10 }
     ensures top { result.top ≡ best_value (slice_index values.now) (hands_below hands count) }
     ensures set { result.set ≡ best_set (slice_index values.now) (hands_below hands count) }
@@ -55,7 +56,7 @@ fn best_of(values: &[u32; 10], hands: u16, count: u8) -> Best
     let top = top_of(values, hands, count);
     let mut set: u16 = 0;
     for hand in 0..count {
-        if PlayerSet::of(hands).has(hand) && values[usize::from(hand)] == top {
+        if hands.has(hand) && values[usize::from(hand)] == top {
             set += 1 << hand;
         }
     }
@@ -102,5 +103,6 @@ pub(crate) fn pot_best(table: &Table, pot: u8, values: &[u32; 10]) -> Best
     ensures small { result.set < 1024 }
 {
     ten_places(table);
-    best_of(values, table.eligible[pot as usize], table.known.count)
+    let hands = PlayerSet::of(table.eligible[pot as usize]);
+    best_of(values, hands, table.known.count)
 }

@@ -13,7 +13,7 @@ use showdown_tally::Table;
 
 /// The place of a side among the rows of a pot.
 #[inline]
-fn side_row(side: Side) -> usize
+pub(crate) fn side_row(side: Side) -> usize
     ensures value { result ≡ side_place side }
     ensures bound { result < 2 }
 {
@@ -69,7 +69,7 @@ pub fn clear_counts(counts: &mut [[u32; 2048]], table: &Table)
 
 /// One more at a place of a row.
 #[inline]
-fn add_at(row: &mut [u32], place: u16)
+pub(crate) fn add_at(row: &mut [u32], place: u16)
     requires inside { place < length row.old }
     requires fits { slice_index row.old place + 1 < 2 ^ 32 }
     ensures counts { (at : ℕ)
@@ -96,9 +96,9 @@ fn add_side(counts: &mut [[u32; 2048]], game: Game, side: Side, pot: u8, place: 
 
 /// What is added to the place of a high's set where a set wins the low: nothing where nobody has one.
 #[inline]
-fn low_mark(low: u16) -> u16
+pub(crate) fn low_mark(low: u16) -> u16
     ensures value { result ≡ low_mark low }
-    ensures bound { result ≤ 1024 }
+    ensures small { result ≤ 1024 }
 {
     if low == 0 { 0 } else { 1024 }
 }

@@ -10,14 +10,15 @@ ghost use Rattle.card_sets.specs.declared.games.Side.TheVariants.{Low};
 ghost use Rattle.runout_ranges.specs.Shapes.{IsShapeOf, slots_of};
 ghost use Rattle.runout_ranges.specs.Slots.{dealt, slots};
 ghost use Rattle.runout_ranges.specs.declared.shapes.Receiver.TheVariants.{Hand};
-ghost use Rattle.showdown_tally.specs.Cells.{side_place};
 ghost use Rattle.showdown_tally.specs.Deals.{deal_of};
 ghost use Rattle.showdown_tally.specs.Showdown.{has_two_sides};
 ghost use Rattle.runout_walk.specs.Draws.{are_draws, hand_at, last_hand, most_draw};
 ghost use Rattle.runout_walk.specs.Listing.{last_count};
 ghost use Rattle.runout_walk.specs.Worth.{AreNumbers, full_worth, number_of};
 
+use crate::bests::ten_places;
 use crate::card_list::CardList;
+use crate::counts::side_row;
 use crate::filled::filled;
 use crate::last::{DRAWS, Range, TWOS, put_draws};
 use crate::leaf::{Leaf, Tail};
@@ -251,28 +252,6 @@ fn numbers_with(side: Side, known: &Known, sets: &[CardSet]) -> [u32; 10]
         place += usize::from(own.count() < size);
     }
     numbers
-}
-
-/// The place of a side among the two of a pot.
-#[inline]
-fn side_row(side: Side) -> usize
-    ensures value { result ≡ side_place side }
-    ensures bound { result < 2 }
-{
-    match side {
-        Side::High => 0,
-        Side::Low => 1,
-    }
-}
-
-/// There are ten places for hands and for pots.
-#[inline]
-fn ten_places(table: &Table)
-    ensures hands { length table.now.known.hands ≡ 10 }
-    ensures pots { length table.now.eligible ≡ 10 }
-{
-    let _hands: &[CardSet] = &table.known.hands;
-    let _pots: &[u16] = &table.eligible;
 }
 
 /// Writes the numbers of the draws between two places of their listing to the front of the room for them. It takes a step a draw.

@@ -5,7 +5,7 @@ ghost use Rattle.std.specs.List.{count_by};
 ghost use Rattle.showdown_tally.specs.SideCounts.{low_mark};
 ghost use Rattle.runout_walk.specs.Rivals.{count_both, times_at, winner_by};
 
-use crate::sides::low_mark;
+use crate::counts::{add_at, low_mark};
 
 /// Who wins a pot, by how the number of the last hand stands to the greatest of the others: a set of hands each, as the number with
 /// their bits.
@@ -137,18 +137,6 @@ fn winner(rivals: &Rivals, value: u32) -> u16
     } else {
         rivals.above
     }
-}
-
-/// One more at a place of a row.
-#[inline]
-fn add_at(row: &mut [u32], place: u16)
-    requires inside { place < length row.old }
-    requires fits { slice_index row.old place + 1 < 2 ^ 32 }
-    ensures counts { (at : ℕ)
-        → slice_index row.new at ≡ slice_index row.old at + (if place == at then 1 else 0) }
-    ensures places { length row.new ≡ length row.old }
-{
-    row[usize::from(place)] += 1;
 }
 
 /// Counts who wins the high of a pot where the last hand has each of some numbers on the high side and on the low side: 1,024 places

@@ -9,83 +9,21 @@ ghost use Rattle.showdown_tally.specs.SideCounts.{low_mark};
 ghost use Rattle.runout_walk.specs.Bests.{best_set, best_value, some_set};
 ghost use Rattle.runout_walk.specs.Rivals.{count_both, value_with, winner_by};
 
+use crate::bests::{Best, best_of, ten_places};
 use crate::orders::{Rivals, count_marked, count_values};
-use card_sets::{CardSet, PlayerSet};
+use card_sets::PlayerSet;
 use showdown_tally::Table;
-
-/// The greatest number of some hands, and those that have it, as the number with their bits.
-#[derive(Clone, Copy)]
-struct Top {
-    /// The number, 0 for no hands.
-    number: u32,
-    /// The hands.
-    set: u16,
-}
-
-/// The number of a hand of a set, and else 0.
-#[inline]
-fn value_at(values: &[u32; 10], hands: PlayerSet, hand: u8) -> u32
-    requires { hand < 10 }
-    ensures { result ≡ (if has_player hands hand then slice_index values.now hand else 0) }
-{
-    if hands.has(hand) {
-        values[usize::from(hand)]
-    } else {
-        0
-    }
-}
-
-/// The greatest number of the first `count` hands that are in a set.
-#[inline]
-fn top_of(values: &[u32; 10], hands: PlayerSet, count: u8) -> u32
-    requires { count ≤ 10 }
-    ensures { result ≡ best_value (slice_index values.now) (hands_below hands count) }
-{
-    let mut top: u32 = 0;
-    for hand in 0..count {
-        top = top.max(value_at(values, hands, hand));
-    }
-    top
-}
-
-/// The best of the first `count` hands that are in a set.
-#[inline]
-fn best_of(values: &[u32; 10], hands: PlayerSet, count: u8) -> Top
-    requires { count ≤ 10 }
-    ensures number { result.number ≡ best_value (slice_index values.now) (hands_below hands count) }
-    ensures set { result.set ≡ best_set (slice_index values.now) (hands_below hands count) }
-    ensures small { result.set < 2 ^ count }
-{
-    let number = top_of(values, hands, count);
-    let mut set: u16 = 0;
-    for hand in 0..count {
-        if hands.has(hand) && values[usize::from(hand)] == number {
-            set += 1 << hand;
-        }
-    }
-    Top { number, set }
-}
-
-/// There are ten places for hands and for pots.
-#[inline]
-fn ten_places(table: &Table)
-    ensures hands { length table.now.known.hands ≡ 10 }
-    ensures pots { length table.now.eligible ≡ 10 }
-{
-    let _hands: &[CardSet] = &table.known.hands;
-    let _pots: &[u16] = &table.eligible;
-}
 
 /// The three sets that win a pot, where the best of the others is known and the last hand is eligible, or isn't.
 #[inline]
-fn sets_of(best: Top, last: u8, plays: bool) -> Rivals
+fn sets_of(best: Best, last: u8, plays: bool) -> Rivals
     // The last hand is one of ten, and so are the best of the others.
     requires last { last < 10 }
     requires room { 2 ^ last ≤ 512 }
     requires small { best.set < 1024 }
 
     // Who is best of the others wins below that number, shares at it, and loses above it to the last hand, if that plays.
-    ensures top { result.top ≡ best.number }
+    ensures top { result.top ≡ best.top }
     ensures below { result.below ≡ best.set }
     ensures equal { result.equal ≡ best.set + (if plays then 2 ^ last else 0) }
     ensures above { result.above ≡ (if plays then 2 ^ last else best.set) }
@@ -98,14 +36,14 @@ fn sets_of(best: Top, last: u8, plays: bool) -> Rivals
     let bit = 1u16 << last;
     if plays {
         Rivals {
-            top: best.number,
+            top: best.top,
             below: best.set,
             equal: best.set + bit,
             above: bit,
         }
     } else {
         Rivals {
-            top: best.number,
+            top: best.top,
             below: best.set,
             equal: best.set,
             above: best.set,
@@ -173,19 +111,19 @@ pub(crate) fn count_pots(
 
 /// The three sets that win the low of a pot, where 0 is the number of a hand without one: nobody where all have it.
 #[inline]
-fn low_sets_of(best: Top, last: u8, plays: bool) -> Rivals
+fn low_sets_of(best: Best, last: u8, plays: bool) -> Rivals
     // The last hand is one of ten, and so are the best of the others.
     requires last { last < 10 }
     requires room { 2 ^ last ≤ 512 }
     requires small { best.set < 1024 }
 
     // As of a high, but that nobody wins with the number 0.
-    ensures top { result.top ≡ best.number }
-    ensures below { result.below ≡ (if best.number == 0 then 0 else best.set) }
+    ensures top { result.top ≡ best.top }
+    ensures below { result.below ≡ (if best.top == 0 then 0 else best.set) }
     ensures equal { result.equal
-        ≡ (if best.number == 0 then 0 else best.set + (if plays then 2 ^ last else 0)) }
+        ≡ (if best.top == 0 then 0 else best.set + (if plays then 2 ^ last else 0)) }
     ensures above { result.above
-        ≡ (if plays then 2 ^ last else (if best.number == 0 then 0 else best.set)) }
+        ≡ (if plays then 2 ^ last else (if best.top == 0 then 0 else best.set)) }
 
     // Each of the sets is a place of a row.
     ensures below_small { result.below < 2048 }
@@ -193,7 +131,7 @@ fn low_sets_of(best: Top, last: u8, plays: bool) -> Rivals
     ensures above_small { result.above < 2048 }
 {
     let sets = sets_of(best, last, plays);
-    if best.number == 0 {
+    if best.top == 0 {
         return Rivals {
             top: 0,
             below: 0,

@@ -6,7 +6,6 @@ ghost use Rattle.card_sets.specs.Games.{has_board, own_size};
 ghost use Rattle.card_sets.specs.State.{state_of};
 ghost use Rattle.showdown_tally.specs.Deals.{deal_of};
 ghost use Rattle.showdown_tally.specs.Settling.{number_of};
-ghost use Rattle.showdown_tally.specs.SideCounts.{low_mark};
 ghost use Rattle.runout_walk.specs.Boards.{AreFirst};
 ghost use Rattle.runout_walk.specs.BoardWith.{IsBoardWith, low_number};
 ghost use Rattle.runout_walk.specs.HighParts.{plain_number};
@@ -14,6 +13,7 @@ ghost use Rattle.runout_walk.specs.KeptRows.{AreWorthsAfter};
 ghost use Rattle.runout_walk.specs.SideRows.{IsBestOf};
 
 use crate::bests::pot_best;
+use crate::counts::low_mark;
 use crate::plain::winners_on;
 use crate::worth::worth_with;
 use card_sets::{CardSet, Known, Side};
@@ -76,15 +76,6 @@ pub(crate) fn worths_with(known: &Known, taken: CardSet, low: u8, high: u8) -> W
         lows[hand] = worth.low;
     }
     Worths { highs, lows }
-}
-
-/// What is added to the place of a high's set where a set wins the low.
-#[inline]
-pub(crate) fn low_mark(low: u16) -> u16
-    ensures value { result ≡ low_mark low }
-    ensures small { result ≤ 1024 }
-{
-    if low == 0 { 0 } else { 1024 }
 }
 
 /// Who wins both sides of a pot by what the hands are worth.

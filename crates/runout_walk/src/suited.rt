@@ -18,6 +18,7 @@ ghost use Rattle.runout_walk.specs.Pairs.{cards_of_pair};
 ghost use Rattle.runout_walk.specs.Suits.{AreFivesWith};
 
 use crate::bests::{are_hands, pot_best};
+use crate::counts::low_mark;
 use crate::flush::Suited;
 use crate::flushes::Flushes;
 use crate::front::Front;
@@ -25,7 +26,6 @@ use crate::high::high_value;
 use crate::pair::Pair;
 use crate::places::Place;
 use crate::row::Row;
-use crate::sides::low_mark;
 use crate::spot::BoardSpot;
 use card_sets::{Card, CardSet, Known, Side};
 use showdown_tally::{Table, flush_suit, law_values_keep_order};

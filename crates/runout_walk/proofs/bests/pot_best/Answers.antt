@@ -18,6 +18,6 @@ returns-clause-best c = λ value agree.
     let hands : eligible_in (deal_of c.args.table.now) c.args.pot ≡ hands_below (slice_index_or c.args.table.now.eligible c.args.pot 0) c.args.table.now.known.count =
     eligible_pot (deal_of c.args.table.now) c.args.table.now.pots c.args.table.now.eligible c.args.table.now.known.count c.args.pot refl inside c.args.table.now.in_hands c.args.table.now.known.few in
     let all : length (take c.args.table.now.known.count c.args.table.now.known.hands) ≡ c.args.table.now.known.count = omega (arith, length-take c.args.table.now.known.count c.args.table.now.known.hands, c.ten_places.ensures.hands, c.args.table.now.known.few) in (
-      c.best_of.ensures.top ∙ value-same (slice_index c.args.values.now) value count (hands_below mask count) (below_hands mask count) (λ h l. agree h (omega (arith, all, l))) ∙ ap (best_value value) (sym hands),
-      c.best_of.ensures.set ∙ set-same (slice_index c.args.values.now) value count (hands_below mask count) (below_hands mask count) (λ h l. agree h (omega (arith, all, l))) ∙ ap (best_set value) (sym hands),
+      c.best_of.ensures.top ∙ ap (λ k. best_value (slice_index c.args.values.now) (hands_below k count)) c.of-hands.ensures ∙ value-same (slice_index c.args.values.now) value count (hands_below mask count) (below_hands mask count) (λ h l. agree h (omega (arith, all, l))) ∙ ap (best_value value) (sym hands),
+      c.best_of.ensures.set ∙ ap (λ k. best_set (slice_index c.args.values.now) (hands_below k count)) c.of-hands.ensures ∙ set-same (slice_index c.args.values.now) value count (hands_below mask count) (below_hands mask count) (λ h l. agree h (omega (arith, all, l))) ∙ ap (best_set value) (sym hands),
     )

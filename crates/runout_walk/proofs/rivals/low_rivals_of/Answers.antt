@@ -19,12 +19,6 @@ low_sets_of-requires-clause-room c =
     let power : 2 ^ c.args.last ≤ 2 ^ 9 = pow-le-pow_right (let z : 0 < 2 = omega arith in z) (let l : c.args.last ≤ 9 = omega (arith, few, last) in l) in
     power
 
-pub low_sets_of-requires-clause-small : goal.low_sets_of-requires-clause-small
-low_sets_of-requires-clause-small c =
-    let power : 2 ^ c.args.table.now.known.count ≤ 2 ^ 10 = pow-le-pow_right (let z : 0 < 2 = omega arith in z) c.args.table.now.known.few in
-    let small = c.best_of-best.ensures.small in
-    omega (arith, power, small)
-
 pub returns-clause-winner : goal.returns-clause-winner
 returns-clause-winner c = λ value.
     let table = c.args.table.now in
@@ -38,9 +32,9 @@ returns-clause-winner c = λ value.
     let mask_is : c.of-hands.result ≡ mask = c.of-hands.ensures in
     let others : hands_below c.without.result count ≡ others_of last (hands_below mask count) = ap (λ k. hands_below k count) (c.without.ensures ∙ ap (λ k. without_player k last) mask_is) ∙ hands_without mask last count (omega (arith, few)) in
     let plays : c.has.result ≡ has_player mask last = c.has.ensures ∙ ap (λ k. has_player k last) mask_is in
-    let t : ℕ = c.best_of-best.result.number in
+    let t : ℕ = c.best_of-best.result.top in
     let s : ℕ = c.best_of-best.result.set in
-    let top : t ≡ best_value (slice_index values) (others_of last (hands_below mask count)) = c.best_of-best.ensures.number ∙ ap (best_value (slice_index values)) others in
+    let top : t ≡ best_value (slice_index values) (others_of last (hands_below mask count)) = c.best_of-best.ensures.top ∙ ap (best_value (slice_index values)) others in
     let set : s ≡ best_set (slice_index values) (others_of last (hands_below mask count)) = c.best_of-best.ensures.set ∙ ap (best_set (slice_index values)) others in
     ap (λ k. winner_by k c.low_sets_of.result.below c.low_sets_of.result.equal c.low_sets_of.result.above value) c.low_sets_of.ensures.top
     ∙ low_winner_is values mask last count t s c.low_sets_of.result.below c.low_sets_of.result.equal c.low_sets_of.result.above value c.requires.last top set

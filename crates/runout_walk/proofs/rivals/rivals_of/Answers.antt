@@ -19,12 +19,6 @@ sets_of-requires-clause-room c =
     let power : 2 ^ c.args.last ≤ 2 ^ 9 = pow-le-pow_right (let z : 0 < 2 = omega arith in z) (let l : c.args.last ≤ 9 = omega (arith, few, last) in l) in
     power
 
-pub sets_of-requires-clause-small : goal.sets_of-requires-clause-small
-sets_of-requires-clause-small c =
-    let power : 2 ^ c.args.table.now.known.count ≤ 2 ^ 10 = pow-le-pow_right (let z : 0 < 2 = omega arith in z) c.args.table.now.known.few in
-    let small = c.best_of-best.ensures.small in
-    omega (arith, power, small)
-
 pub returns-clause-winner : goal.returns-clause-winner
 returns-clause-winner c = λ value.
     let table = c.args.table.now in
@@ -40,17 +34,11 @@ returns-clause-winner c = λ value.
     let below = c.sets_of.ensures.below in
     let plays : c.has.result ≡ has_player mask last = c.has.ensures ∙ ap (λ k. has_player k last) mask_is in
     winner_is values mask last count c.sets_of.result.top c.sets_of.result.below c.sets_of.result.equal c.sets_of.result.above value c.requires.last
-    (c.sets_of.ensures.top ∙ c.best_of-best.ensures.number ∙ ap (best_value (slice_index values)) others)
+    (c.sets_of.ensures.top ∙ c.best_of-best.ensures.top ∙ ap (best_value (slice_index values)) others)
     (below ∙ c.best_of-best.ensures.set ∙ ap (best_set (slice_index values)) others)
     (c.sets_of.ensures.equal ∙ ap (λ n. n + cond c.has.result (2 ^ last) 0) (sym below) ∙ ap (λ b. c.sets_of.result.below + cond b (2 ^ last) 0) plays)
     (c.sets_of.ensures.above ∙ ap (λ n. cond c.has.result (2 ^ last) n) (sym below) ∙ ap (λ b. cond b (2 ^ last) c.sets_of.result.below) plays)
     ∙ ap (best_set (value_with values last value)) (sym hands)
-
-pub returns-clause-below : goal.returns-clause-below
-returns-clause-below c =
-    let power : 2 ^ c.args.table.now.known.count ≤ 2 ^ 10 = pow-le-pow_right (let z : 0 < 2 = omega arith in z) c.args.table.now.known.few in
-    let small = c.best_of-best.ensures.small in
-    omega (arith, power, small, c.sets_of.ensures.below)
 
 pub returns-clause-equal : goal.returns-clause-equal
 returns-clause-equal c =
