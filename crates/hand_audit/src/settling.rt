@@ -30,6 +30,8 @@ pub(crate) struct HandSettled {
     pub(crate) paid: Payments,
     /// The first payment beyond its tolerance.
     pub(crate) beyond: Option<Payment>,
+    /// There are ten pots at the most.
+    pub(crate) ghost few_pots: { length pots ≤ 10 },
 }
 
 /// What became of the chips of a pot, and its first payment that is beyond its tolerance.
