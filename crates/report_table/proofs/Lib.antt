@@ -14,7 +14,9 @@ pub mod MadeFacts
 pub mod RunFacts
 pub mod BalanceFacts
 pub mod TotalLaws
+pub mod BalanceLaws
 pub mod StreetFacts
 pub mod EvenFacts
 pub mod ResultFacts
+pub mod SettleFacts
 pub mod CallerLemmas

@@ -7,7 +7,7 @@ use Rattle.std.specs.Str.{bytes_eq}
 use Rattle.std.proofs.Common.{refl, sym}
 use Rattle.report_table.specs.Totals.{Player, same_player}
 
-same_bool : (a b : Bool) → beq a b ≡ true → a ≡ b
+pub same_bool : (a b : Bool) → beq a b ≡ true → a ≡ b
 same_bool true true h = refl
 same_bool true false h = sym h
 same_bool false true h = h

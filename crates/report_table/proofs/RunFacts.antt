@@ -28,7 +28,7 @@ use Rattle.report_table.specs.declared.player_sums.PlayerSums.{PlayerSums}
 use Rattle.report_table.proofs.LineupFacts.{given_none}
 
 -- a player stands among some exactly where he stands among them once each
-any_once : (player : Player) (players : List Player) → list_any (same_player player) (each_once players) ≡ list_any (same_player player) players
+pub any_once : (player : Player) (players : List Player) → list_any (same_player player) (each_once players) ≡ list_any (same_player player) players
 any_once player [] = refl
 any_once player (first ∷ later) = by (same_player player first) refl (any_once player later)
   where

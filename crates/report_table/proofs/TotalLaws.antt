@@ -53,12 +53,12 @@ apart_without player (first ∷ later) = by (same_player player first) refl (apa
     by true same apart = apart
     by false other apart = (other, apart)
 
-distinct_once : (players : List Player) → IsDistinct same_player (each_once players)
+pub distinct_once : (players : List Player) → IsDistinct same_player (each_once players)
 unfolding IsDistinct
 distinct_once [] = tt
 distinct_once (player ∷ later) = (apart_without player (each_once later), distinct_filtered (λ other. not (same_player player other)) (each_once later) (distinct_once later))
 
-keys_beside : (sums : Player → PlayerSums) (players : List Player) → keys_of (map (λ player. let entry : Player × PlayerSums = (player, sums player) in entry) players) ≡ players
+pub keys_beside : {S : Type 0} (sums : Player → S) (players : List Player) → keys_of (map (λ player. let entry : Player × S = (player, sums player) in entry) players) ≡ players
 keys_beside sums [] = refl
 keys_beside sums (player ∷ later) = ap (λ rest. player ∷ rest) (keys_beside sums later)
 

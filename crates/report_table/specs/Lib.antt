@@ -24,3 +24,5 @@ pub mod Balance
 pub mod BalanceSeen
 pub mod Streets
 pub mod Settles
+pub mod SettleLaws
+pub mod BalanceLaws

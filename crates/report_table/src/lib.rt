@@ -21,6 +21,7 @@
 
 mod alone;
 mod balance;
+mod balance_laws;
 mod balance_lines;
 mod balance_sums;
 mod causes;
@@ -37,6 +38,7 @@ mod player_rows;
 mod player_sums;
 mod players;
 mod results;
+mod settle_laws;
 mod settles;
 mod sheet;
 mod spot_blocks;
@@ -50,6 +52,10 @@ mod words;
 
 pub use alone::table_alone;
 pub use balance::Balance;
+pub use balance_laws::{
+    law_balances_add_up_to_the_rakes, law_no_name_is_balanced_over_two_units,
+    law_nobody_is_balanced_twice,
+};
 pub use equity::{Equity, Form};
 pub use hand_blocks::write_hand;
 pub use laws::{
@@ -58,6 +64,7 @@ pub use laws::{
 };
 pub use made_sums::{AllInSums, MadeSums};
 pub use results::write_results;
+pub use settle_laws::law_settle_lines_add_up;
 pub use settles::write_settlement;
 pub use sheet::Sheet;
 pub use spot_blocks::write_spot;
