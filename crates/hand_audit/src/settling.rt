@@ -30,8 +30,6 @@ pub(crate) struct HandSettled {
     pub(crate) paid: Payments,
     /// The first payment beyond its tolerance.
     pub(crate) beyond: Option<Payment>,
-    /// There are ten pots at the most.
-    pub(crate) ghost few_pots: { length pots ≤ 10 },
 }
 
 /// What became of the chips of a pot, and its first payment that is beyond its tolerance.
@@ -94,11 +92,9 @@ fn settle_pots(
     requires ready { IsReady standings.now }
     requires each { each_taken count number layers.now all.now ≡ true }
     requires numbers { number + length layers.now < 2 ^ 64 }
-    ensures value { IfOk result (λ first. (s : Showing) → Tells standings.now s → AreDecided s layers.now
+    ensures { IfOk result (λ first. (s : Showing) → Tells standings.now s → AreDecided s layers.now
         → s.collections ≡ all.now
         → AreOfPots s count number layers.now lines.old.items lines.new.items first) }
-    ensures many { IfOk result (λ first.
-        length lines.new.items ≡ length lines.old.items + length layers.now) }
 {
     match layers {
         [] => Ok(None),
@@ -138,7 +134,6 @@ pub(crate) fn settle(
     most: u64,
 ) -> Result<HandSettled, Memory>
     requires ready { IsReady standings.now }
-    requires few { length layers.now ≤ 10 }
     requires taken { taken_from (counts_from Source.Any) all.now ≤ most }
     ensures { IfOk result (λ one. (s : Showing) → Tells standings.now s → AreDecided s layers.now
         → s.collections ≡ all.now → pots s.paid ≡ layers.now → IsOfHand s one) }

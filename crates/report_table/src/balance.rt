@@ -16,6 +16,9 @@ use hand_audit::{AuditedChips, HandAudit};
 use std::alloc::{AllocError, Global};
 use std::marker::Model;
 
+/// The most pots that a hand has: one for each player.
+const POTS_MAX: usize = 10;
+
 /// What each player won and lost over all hands of a run: how many hands there are, and for each name in each
 /// unit, in the order of their first seat lines, what it got and put in, and what it would have got with even
 /// luck. Clauses see it as plain records.
@@ -72,8 +75,9 @@ impl Balance {
         self.rejected
     }
 
-    /// Adds a hand, by its verdict with the chips of its seats and the equity of its all-in. Out of memory the
-    /// balance stays as it was. A hand has ten pots at the most, so that the sums always have room.
+    /// Adds a hand, by its verdict with the chips of its seats and the equity of its all-in. Want of memory
+    /// leaves the balance as it was. A hand of more than ten pots, which no call of `hand_audit` answers, is
+    /// refused as if memory lacked, so that the sums always have room.
     pub fn add(&mut self, hand: &AuditedChips, equity: &Equity) -> Result<(), Memory>
         requires asked { is_asked equity.now ≡ true }
         requires equity { IsOfHand hand.now.audit equity.now }
@@ -92,7 +96,9 @@ impl Balance {
             self.rejected += 1;
             return Ok(());
         };
-        settlement.law_ten_pots();
+        if settlement.pots.items().len() > POTS_MAX {
+            return Err(Memory);
+        }
         let lineup = Lineup {
             hundredths: settlement.hundredths,
             names,

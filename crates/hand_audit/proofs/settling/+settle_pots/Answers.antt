@@ -1,20 +1,9 @@
-use Rattle.std.proofs.Common.{length, ap, length-append, length-drop, arith}
-use Rattle.std.proofs.lemmas.List.{length-take}
-use Rattle.pot_layers.specs.declared.paid.Pot.{Pot}
-use Rattle.hand_audit.specs.declared.settlement.PotLine.{PotLine}
 use Rattle.hand_audit.proofs.lemmas.splits.PotsBehind.{decided_first, decided_rest, pots_more}
 use Rattle.hand_audit.proofs.settling.+settle_pots.Goals as goal
 
 pub returns-in_ok-later-in-len1-up : goal.returns-in_ok-later-in-len1-up
-returns-in_ok-later-in-len1-up t c =
+returns-in_ok-later-in-len1-up t c s tells d same =
     let some = c.in-len1-up.len_at_least in
-    record {
-      value = λ s tells d same.
-          pots_more s c.args.count c.args.number c.args.layers.now _ c.args.lines.now.items _ _ _ _ _ some
-          (c.in_ok-line-in-len1-up.ensures s tells (decided_first s c.args.layers.now _ some d) same) (c.in_ok-later-in-len1-up.ensures.value s tells (decided_rest s c.args.layers.now some d) same)
-          c.in_ok-add_line-in-len1-up.ensures c.or.ensures;
-      many =
-          let later = c.in_ok-later-in-len1-up.ensures.many in
-          let added = ap length c.in_ok-add_line-in-len1-up.ensures in
-          omega (arith, some, later, added, length-append {A = PotLine}, length-drop {A = Pot}, length-take {A = Pot});
-    }
+    pots_more s c.args.count c.args.number c.args.layers.now _ c.args.lines.now.items _ _ _ _ _ some
+    (c.in_ok-line-in-len1-up.ensures s tells (decided_first s c.args.layers.now _ some d) same) (c.in_ok-later-in-len1-up.ensures s tells (decided_rest s c.args.layers.now some d) same)
+    c.in_ok-add_line-in-len1-up.ensures c.or.ensures
