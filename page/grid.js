@@ -34,7 +34,7 @@ const grid = (() => {
         return { cells, others };
     };
 
-    // runs of the second ranks below a first one, from the top: `K9+` for all from KQ to K9
+    // runs of the second ranks below a first one: where a run begins at the highest, one item with a plus says it
     const items = (lows, all, end) => {
         const parts = [];
         let count = 0;
