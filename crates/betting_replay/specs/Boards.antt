@@ -1,10 +1,10 @@
 -- The cards of a board, street by street, and of the second board of a hand that is run twice.
 use Rattle.std.specs.Prelude.{ℕ, Bool, true, false, if◌then◌else◌, List, [], ◌∷◌, Option, Some, None}
 use Rattle.card_sets.specs.Cards.{union}
-use Rattle.history_text.specs.declared.events.BoardNumber.{BoardNumber}
-use Rattle.history_text.specs.declared.events.BoardNumber.TheVariants as board
-use Rattle.history_text.specs.declared.events.Event.{Event}
-use Rattle.history_text.specs.declared.events.Event.TheVariants.{Street}
+use Rattle.hand_events.specs.declared.events.BoardNumber.{BoardNumber}
+use Rattle.hand_events.specs.declared.events.BoardNumber.TheVariants as board
+use Rattle.hand_events.specs.declared.events.Event.{Event}
+use Rattle.hand_events.specs.declared.events.Event.TheVariants.{Street}
 use Rattle.card_sets.specs.declared.streets.Street.{Street as StreetName}
 use Rattle.card_sets.specs.declared.streets.Street.TheVariants.{First, Flop, Turn, River}
 use Rattle.betting_replay.specs.declared.boards.Board.{Board}

@@ -5,10 +5,10 @@ use Rattle.card_sets.specs.Cards.{has_card, IsCardSet}
 use Rattle.card_sets.specs.Disjoint.{apart}
 use Rattle.card_sets.specs.Games.{own_size, board_size}
 use Rattle.card_sets.specs.Streets.{is_street, streets_of, board_count}
-use Rattle.history_text.specs.declared.events.Header.{Header}
-use Rattle.history_text.specs.declared.events.Event.{Event}
-use Rattle.history_text.specs.declared.events.Event.TheVariants.{Street}
-pub use Rattle.history_text.specs.MarkerCards.{HasCards, MarkerFits}
+use Rattle.hand_events.specs.declared.events.Header.{Header}
+use Rattle.hand_events.specs.declared.events.Event.{Event}
+use Rattle.hand_events.specs.declared.events.Event.TheVariants.{Street}
+pub use Rattle.hand_events.specs.MarkerCards.{HasCards, MarkerFits}
 use Rattle.card_sets.specs.declared.streets.Street.{Street as StreetName}
 use Rattle.betting_replay.specs.declared.points.Point.{Point}
 use Rattle.betting_replay.specs.Accepted.{IsAccepted}

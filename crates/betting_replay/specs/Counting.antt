@@ -4,9 +4,9 @@ use Rattle.card_sets.specs.declared.games.Game.{Game}
 use Rattle.card_sets.specs.declared.streets.Street.{Street as StreetName}
 use Rattle.card_sets.specs.Cards.{union, minus}
 use Rattle.card_sets.specs.Streets.{is_last}
-use Rattle.history_text.specs.declared.events.Event.{Event}
-use Rattle.history_text.specs.declared.events.Event.TheVariants.{Post, Deal, Street, Act, Show, SeatCards, Discard, Pat}
-use Rattle.history_text.specs.declared.events.BoardNumber.TheVariants as board
+use Rattle.hand_events.specs.declared.events.Event.{Event}
+use Rattle.hand_events.specs.declared.events.Event.TheVariants.{Post, Deal, Street, Act, Show, SeatCards, Discard, Pat}
+use Rattle.hand_events.specs.declared.events.BoardNumber.TheVariants as board
 use Rattle.betting_replay.specs.declared.course.Course.{Course}
 use Rattle.betting_replay.specs.declared.points.Showdowns.{Showdowns}
 use Rattle.betting_replay.specs.declared.seats.Chips.{Chips}

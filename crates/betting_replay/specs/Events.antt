@@ -1,11 +1,11 @@
 -- What an event says, whatever came before it.
 use Rattle.std.specs.Prelude.{ℕ, ◌+◌, ◌-◌, ◌≤◌, Bool, true, false, if◌then◌else◌, List, [], min}
-use Rattle.history_text.specs.declared.events.Event.{Event}
-use Rattle.history_text.specs.declared.events.Event.TheVariants.{Seat, Button, Post, Deal, Street, Act, Uncalled, Collect, Show, Muck, Total, SeatCards, Discard, Pat, Remark}
-use Rattle.history_text.specs.declared.events.PostKind.{PostKind}
-use Rattle.history_text.specs.declared.events.PostKind.TheVariants.{Small, Big, Both, Ante, BringIn}
-use Rattle.history_text.specs.declared.events.Act.{Act as Deed}
-use Rattle.history_text.specs.declared.events.Act.TheVariants.{Fold, Check, Call, Bet, Raise}
+use Rattle.hand_events.specs.declared.events.Event.{Event}
+use Rattle.hand_events.specs.declared.events.Event.TheVariants.{Seat, Button, Post, Deal, Street, Act, Uncalled, Collect, Show, Muck, Total, SeatCards, Discard, Pat, Remark}
+use Rattle.hand_events.specs.declared.events.PostKind.{PostKind}
+use Rattle.hand_events.specs.declared.events.PostKind.TheVariants.{Small, Big, Both, Ante, BringIn}
+use Rattle.hand_events.specs.declared.events.Act.{Act as Deed}
+use Rattle.hand_events.specs.declared.events.Act.TheVariants.{Fold, Check, Call, Bet, Raise}
 
 -- the seat that an event is about, 0 where it is about none
 abbrev pub seat_of : Event → ℕ

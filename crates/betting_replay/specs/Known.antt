@@ -6,8 +6,8 @@ use Rattle.card_sets.specs.declared.games.Family.TheVariants as family
 use Rattle.card_sets.specs.Games.{family_of, own_size}
 use Rattle.card_sets.specs.Cards.{has_card, union, minus}
 use Rattle.card_sets.specs.Disjoint.{apart}
-use Rattle.history_text.specs.declared.events.Header.{Header}
-use Rattle.history_text.specs.declared.events.Event.{Event}
+use Rattle.hand_events.specs.declared.events.Header.{Header}
+use Rattle.hand_events.specs.declared.events.Event.{Event}
 use Rattle.card_sets.specs.declared.streets.Street.{Street as StreetName}
 use Rattle.card_sets.specs.declared.streets.Street.TheVariants.{First, Fourth, Fifth, Sixth, FirstDraw, SecondDraw}
 use Rattle.betting_replay.specs.declared.seats.Deals.{Deals}

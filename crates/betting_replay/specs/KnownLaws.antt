@@ -4,8 +4,8 @@ use Rattle.std.specs.Prelude.{◌≡◌, ◌≤◌, ℕ, false, List, length, So
 use Rattle.card_sets.specs.Cards.{minus}
 use Rattle.card_sets.specs.Games.{family_of}
 use Rattle.card_sets.specs.declared.games.Family.TheVariants as family
-use Rattle.history_text.specs.declared.events.Header.{Header}
-use Rattle.history_text.specs.declared.events.Event.{Event}
+use Rattle.hand_events.specs.declared.events.Header.{Header}
+use Rattle.hand_events.specs.declared.events.Event.{Event}
 use Rattle.card_sets.specs.declared.streets.Street.{Street as StreetName}
 use Rattle.card_sets.specs.declared.streets.Street.TheVariants.{First, Fourth, Fifth, Sixth}
 use Rattle.betting_replay.specs.Accepted.{IsAccepted}

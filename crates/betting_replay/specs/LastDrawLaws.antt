@@ -1,7 +1,7 @@
 -- How a player drew on the last draw, by the events before its street began and by those since.
 use Rattle.std.specs.Prelude.{◌≡◌, ◌++◌, ℕ, true, false, List, [], ◌∷◌}
-use Rattle.history_text.specs.declared.events.Header.{Header}
-use Rattle.history_text.specs.declared.events.Event.{Event}
+use Rattle.hand_events.specs.declared.events.Header.{Header}
+use Rattle.hand_events.specs.declared.events.Event.{Event}
 use Rattle.betting_replay.specs.Dealing.{gathered, marked, hides, stands_pat, discards_five, last_draw_of}
 use Rattle.betting_replay.specs.Hands.{held}
 use Rattle.betting_replay.specs.Places.{thrown_by}

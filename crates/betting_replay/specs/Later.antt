@@ -2,9 +2,9 @@
 use Rattle.std.specs.Prelude.{ℕ, ◌&&◌, not, Bool, false, if◌then◌else◌, List, [], ◌∷◌, ◌++◌, Option, Some, None, is_some}
 use Rattle.card_sets.specs.declared.games.Game.{Game}
 use Rattle.card_sets.specs.declared.streets.Street.{Street as StreetName}
-use Rattle.history_text.specs.declared.events.Header.{Header}
-use Rattle.history_text.specs.declared.events.Event.{Event}
-use Rattle.history_text.specs.declared.events.Event.TheVariants.{Street}
+use Rattle.hand_events.specs.declared.events.Header.{Header}
+use Rattle.hand_events.specs.declared.events.Event.{Event}
+use Rattle.hand_events.specs.declared.events.Event.TheVariants.{Street}
 use Rattle.betting_replay.specs.Boards.{is_second}
 use Rattle.betting_replay.specs.Streets.{begins, is_later}
 use Rattle.betting_replay.specs.Turns.{any_shown}

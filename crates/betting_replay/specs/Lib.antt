@@ -1,4 +1,3 @@
-pub mod FaultNames
 pub mod Seats
 pub mod Events
 pub mod Streets

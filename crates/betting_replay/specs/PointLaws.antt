@@ -1,7 +1,7 @@
 -- What the all-in point says of those who are in the hand.
 use Rattle.std.specs.Prelude.{◌≡◌, ◌≤◌, ◌<◌, ◌^◌, ℕ, true, List, Some}
-use Rattle.history_text.specs.declared.events.Header.{Header}
-use Rattle.history_text.specs.declared.events.Event.{Event}
+use Rattle.hand_events.specs.declared.events.Header.{Header}
+use Rattle.hand_events.specs.declared.events.Event.{Event}
 use Rattle.betting_replay.specs.declared.points.Point.{Point}
 use Rattle.card_sets.specs.PlayerSets.{has_player}
 use Rattle.betting_replay.specs.Seats.{count_seats}

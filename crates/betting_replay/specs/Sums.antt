@@ -1,10 +1,10 @@
 -- What the events of a hand so far make of each seat. The latest event stands first.
 use Rattle.std.specs.Prelude.{ℕ, ◌+◌, ◌-◌, ◌==◌, ◌&&◌, ◌||◌, Bool, false, if◌then◌else◌, List, [], ◌∷◌, Option, Some, None, is_some}
 use Rattle.card_sets.specs.declared.games.Game.{Game}
-use Rattle.history_text.specs.declared.events.Header.{Header}
-use Rattle.history_text.specs.declared.events.BoardNumber.{BoardNumber}
-use Rattle.history_text.specs.declared.events.BoardNumber.TheVariants as board
-use Rattle.history_text.specs.declared.events.Event.{Event}
+use Rattle.hand_events.specs.declared.events.Header.{Header}
+use Rattle.hand_events.specs.declared.events.BoardNumber.{BoardNumber}
+use Rattle.hand_events.specs.declared.events.BoardNumber.TheVariants as board
+use Rattle.hand_events.specs.declared.events.Event.{Event}
 use Rattle.card_sets.specs.declared.streets.Street.{Street as StreetName}
 use Rattle.betting_replay.specs.declared.points.Showdowns.{Showdowns}
 use Rattle.betting_replay.specs.Events.{seat_of, button_after, bought, returned, live_in, dead_in, ante_in, put_in, posts_small, brings_in, folds, is_act, is_seat_line}

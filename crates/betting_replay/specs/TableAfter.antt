@@ -1,7 +1,7 @@
 -- The table after the events of a hand so far.
 use Rattle.std.specs.Prelude.{◌≡◌, ℕ, List, [], ◌∷◌, Option, None}
-use Rattle.history_text.specs.declared.events.Header.{Header}
-use Rattle.history_text.specs.declared.events.Event.{Event}
+use Rattle.hand_events.specs.declared.events.Header.{Header}
+use Rattle.hand_events.specs.declared.events.Event.{Event}
 use Rattle.betting_replay.specs.declared.course.Course.{Course}
 use Rattle.betting_replay.specs.declared.points.Point.{Point}
 use Rattle.betting_replay.specs.declared.seats.Chips.{Chips}

@@ -1,10 +1,10 @@
 -- Whose turn it is around the table, said by how far one goes from seat to seat.
 use Rattle.std.specs.Prelude.{◌≡◌, ◌≤◌, ◌<◌, ◌+◌, ◌-◌, ℕ, Bool, true, false, if◌then◌else◌, List, ◌∷◌, Some, nat_lt}
-use Rattle.history_text.specs.declared.events.Header.{Header}
-use Rattle.history_text.specs.declared.events.Event.{Event}
-use Rattle.history_text.specs.declared.events.Event.TheVariants.{Act}
-use Rattle.history_text.specs.declared.events.Act.{Act as Deed}
-use Rattle.betting_replay.specs.declared.faults.BetFault.TheVariants.{OutOfTurn}
+use Rattle.hand_events.specs.declared.events.Header.{Header}
+use Rattle.hand_events.specs.declared.events.Event.{Event}
+use Rattle.hand_events.specs.declared.events.Event.TheVariants.{Act}
+use Rattle.hand_events.specs.declared.events.Act.{Act as Deed}
+use Rattle.hand_events.specs.declared.faults.BetFault.TheVariants.{OutOfTurn}
 use Rattle.betting_replay.specs.Accepted.{IsAccepted}
 use Rattle.betting_replay.specs.Faults.{legal}
 use Rattle.betting_replay.specs.Limits.{Fits}

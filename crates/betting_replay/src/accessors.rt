@@ -5,7 +5,7 @@ ghost use Rattle.card_sets.specs.PlayerSets.{has_player};
 ghost use Rattle.betting_replay.specs.Accounts.{paid_by, stack_at, contenders};
 
 use crate::replay::Replay;
-use history_text::Street;
+use hand_events::Street;
 use pot_layers::Paid;
 
 impl Replay {

@@ -1,6 +1,6 @@
 //! The moment from which a hand is played out with no more acts.
 
-ghost use Rattle.std.specs.Prelude.{◌≡◌, ℕ, ◌<◌, ◌&&◌, not, is_none};
+ghost use Rattle.std.specs.Prelude.{◌≡◌, ℕ, ◌<◌, ◌&&◌, nat_le, not, is_none};
 ghost use Rattle.betting_replay.specs.Table.{own_at};
 ghost use Rattle.betting_replay.specs.AllIn.{funded_count, is_point, point_on, point_now, point_street, point_contenders, had_folded, cards_of_seats, dead_at};
 ghost use Rattle.betting_replay.specs.Counting.{pointed};
@@ -8,7 +8,7 @@ ghost use Rattle.betting_replay.specs.Counting.{pointed};
 use crate::points::Point;
 use crate::replay::Replay;
 use card_sets::{CardSet, PlayerSet};
-use history_text::Street;
+use hand_events::Street;
 
 /// A point on a street, with the contenders there.
 fn point_on(street: Option<Street>, contenders: u16) -> Option<Point>
@@ -21,11 +21,21 @@ fn point_on(street: Option<Street>, contenders: u16) -> Option<Point>
 }
 
 impl Replay {
-    /// How many contenders have chips left.
-    pub(crate) fn funded_count(&self) -> u8
-        ensures { result ≡ funded_count self.now }
+    /// Whether at most one contender has chips left. The second one ends the search.
+    pub(crate) fn few_funded(&self) -> bool
+        ensures { result ≡ nat_le (funded_count self.now) 1 }
     {
-        PlayerSet::passing(11, |seat| self.is_contender(seat) && self.has_chips(seat)).count()
+        let mut one = false;
+        for seat in 0..11 {
+            if !self.is_funded(seat) {
+                continue;
+            }
+            if one {
+                return false;
+            }
+            one = true;
+        }
+        true
     }
 
     /// Whether nobody can bet any more and cards are to come. Mostly two have chips left, so that is looked at first.
@@ -34,8 +44,8 @@ impl Replay {
         ensures { result ≡ is_point self.now }
     {
         self.course.opened
-            && self.funded_count() <= 1
-            && self.contender_count() >= 2
+            && self.few_funded()
+            && self.two_contend()
             && self.owes().is_none()
             && !self.course.last_begun
     }

@@ -8,7 +8,7 @@ use crate::places::with_cards;
 use crate::replay::Replay;
 use crate::streets::same_street;
 use card_sets::{Card, CardSet};
-use history_text::{BoardNumber, Event, Street};
+use hand_events::{BoardNumber, Event, Street};
 
 /// The cards that came to a board, by the street on which they came.
 #[derive(Clone, Copy)]

@@ -7,7 +7,7 @@ ghost use Rattle.betting_replay.specs.Counting.{course_after, showdowns_after};
 
 use crate::points::Showdowns;
 use crate::streets::{begins_on, shows_on};
-use history_text::{BoardNumber, Event, PostKind, Street};
+use hand_events::{BoardNumber, Event, PostKind, Street};
 
 /// How far a hand has come: its street, its markers, and who acted last.
 #[derive(Clone, Copy)]

@@ -9,7 +9,7 @@ use crate::places::{cards_given, cards_thrown, with_cards, with_given};
 use crate::seats::{Deals, LastDraw, SeatDraws, SeatState};
 use crate::streets::same_street;
 use card_sets::{Card, Game};
-use history_text::{Event, Street};
+use hand_events::{Event, Street};
 
 /// Whether a deal counts on a street, where the hand is on one.
 fn counts_on(place: Street, now: Option<Street>) -> bool
@@ -132,26 +132,23 @@ fn last_draw_after(late: bool, e: &Event, last: LastDraw) -> LastDraw
     }
 }
 
-/// The cards and draws of a seat after an event about it, in a hand of this game on this street. The last
-/// street has begun with the event or before it, or hasn't.
-pub(crate) fn seat_dealt(
+/// An event about a seat counts for its cards and draws, in a hand of this game on this street. The last street has
+/// begun with the event or before it, or hasn't.
+pub(crate) fn deal_seat(
     game: Game,
     now: Option<Street>,
     late: bool,
     e: &Event,
-    seat: SeatState,
-) -> SeatState
-    ensures { result ≡ seat_dealt game now late e.now seat }
+    seat: &mut SeatState,
+)
+    ensures { seat.new ≡ seat_dealt game now late e.now seat.old }
 {
-    SeatState {
-        own: with_given(game, e, cards_given(e), seat.own),
-        dealt: with_cards(seat.dealt, cards_dealt(e)),
-        held: held_after(e, seat.held),
-        shown: shown_after(game, e, seat.shown),
-        deals: deals_after(now, e, seat.deals),
-        seven_shown: row_by(e).or(seat.seven_shown),
-        draws: draws_after(e, seat.draws),
-        last_draw: last_draw_after(late, e, seat.last_draw),
-        ..seat
-    }
+    seat.own = with_given(game, e, cards_given(e), seat.own);
+    seat.dealt = with_cards(seat.dealt, cards_dealt(e));
+    seat.held = held_after(e, seat.held);
+    seat.shown = shown_after(game, e, seat.shown);
+    seat.deals = deals_after(now, e, seat.deals);
+    seat.seven_shown = row_by(e).or(seat.seven_shown);
+    seat.draws = draws_after(e, seat.draws);
+    seat.last_draw = last_draw_after(late, e, seat.last_draw);
 }

@@ -7,7 +7,7 @@ ghost use Rattle.betting_replay.specs.Table.{own_at};
 use crate::places::{cards_thrown, with_cards, without_cards};
 use crate::replay::Replay;
 use card_sets::{Card, CardSet, Game};
-use history_text::Event;
+use hand_events::Event;
 
 /// The cards that an event deals.
 pub(crate) fn cards_dealt(e: &Event) -> &[Card]

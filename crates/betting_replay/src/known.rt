@@ -8,7 +8,7 @@ ghost use Rattle.betting_replay.specs.Table.{holding_at, last_draw_at, final_at,
 use crate::hands::if_many;
 use crate::replay::Replay;
 use card_sets::{Card, CardSet, Family};
-use history_text::Street;
+use hand_events::Street;
 
 /// A set with the first two cards of a bracket that aren't among others.
 fn with_two(cards: CardSet, others: CardSet, row: &[Card]) -> CardSet

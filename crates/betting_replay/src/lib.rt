@@ -27,7 +27,6 @@ mod boards;
 mod counting;
 mod course;
 mod dealing;
-mod faults;
 mod hands;
 mod judge;
 mod known;
@@ -41,7 +40,7 @@ mod step;
 mod streets;
 mod turns;
 
-pub use faults::BetFault;
+pub use hand_events::BetFault;
 pub use laws::{
     law_a_point_has_contenders, law_a_table_shows_dead_cards, law_a_table_shows_each_seat,
     law_cards_belong, law_chips_stay, law_kept_cards_are_held, law_nobody_is_passed_over,

@@ -1,6 +1,6 @@
 //! The moment from which a hand is played out with no more acts, and how it is shown down.
 
-use history_text::Street;
+use hand_events::Street;
 
 /// An all-in point: two players or more are in the hand, at most one of them has chips left, nobody
 /// owes an act, and cards are to come.

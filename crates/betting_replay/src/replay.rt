@@ -5,7 +5,7 @@ use crate::course::Course;
 use crate::points::Point;
 use crate::seats::SeatState;
 use card_sets::{CardSet, PlayerSet};
-use history_text::Header;
+use hand_events::Header;
 use std::marker::Model;
 
 /// A hand so far, by its header, its players and its events. Clauses see it as a `ReplayState`.

@@ -1,8 +1,8 @@
 //! The replay goes on by one event.
 
 ghost use Rattle.std.specs.Prelude.{◌≡◌, ℕ, [], ◌∷◌, List, None, OnOk, OnErr, ◌<◌, ◌≤◌};
-ghost use Rattle.history_text.specs.declared.events.Event.{Event};
-ghost use Rattle.history_text.specs.declared.events.Header.{Header};
+ghost use Rattle.hand_events.specs.declared.events.Event.{Event};
+ghost use Rattle.hand_events.specs.declared.events.Header.{Header};
 ghost use Rattle.betting_replay.specs.Events.{SeatFits, button_after};
 ghost use Rattle.betting_replay.specs.Limits.{AmountsFit};
 ghost use Rattle.betting_replay.specs.TableAfter.{StandsFor};
@@ -12,13 +12,12 @@ ghost use Rattle.betting_replay.specs.Faults.{verdict, legal, fault_at};
 use crate::boards::{Board, board_after, second_after};
 use crate::counting::pay_seat;
 use crate::course::{Course, course_after};
-use crate::dealing::seat_dealt;
-use crate::faults::BetFault;
+use crate::dealing::deal_seat;
 use crate::places::{cards_named, cards_thrown, seat_of, with_cards, with_given, without_cards};
 use crate::replay::Replay;
 use crate::seats::SeatState;
 use card_sets::{CardSet, PlayerSet};
-use history_text::{Event, Header};
+use hand_events::{BetFault, Event, Header};
 
 /// The seat of the button after an event, where it was at another before.
 fn button_after(e: &Event, before: u8) -> u8
@@ -90,10 +89,10 @@ impl Replay {
     {
         let place = seat_of(e) as usize;
         let game = self.header.game;
+        let street = self.course.street;
         let late = self.begins_last(e);
         let cards = cards_named(e);
-        let seat = seat_dealt(game, self.course.street, late, e, self.seats[place]);
-        self.seats[place] = seat;
+        deal_seat(game, street, late, e, &mut self.seats[place]);
         self.named = with_given(game, e, cards, self.named);
         self.thrown = with_cards(without_cards(self.thrown, cards), cards_thrown(e));
         self.first_board = board_after(e, self.first_board);

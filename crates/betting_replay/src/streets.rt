@@ -8,14 +8,13 @@ ghost use Rattle.betting_replay.specs.Faults.{verdict, fault_with, may_part, nex
 ghost use Rattle.betting_replay.specs.Counting.{begins_last, cleared, begun_with, begun};
 ghost use Rattle.betting_replay.specs.Later.{is_of_second, if_later, later_by, later_begun};
 ghost use Rattle.betting_replay.specs.Turns.{next_to_act};
-ghost use Rattle.betting_replay.specs.declared.faults.BetFault.TheVariants.{StreetEarly};
+ghost use Rattle.hand_events.specs.declared.faults.BetFault.TheVariants.{StreetEarly};
 
 use crate::counting::clear_seats;
-use crate::faults::BetFault;
 use crate::judge::fault_if;
 use crate::replay::Replay;
 use card_sets::Game;
-use history_text::{BoardNumber, Event, Street};
+use hand_events::{BetFault, BoardNumber, Event, Street};
 
 /// The street that the first discard or stand-pat begins, in a game with one draw.
 fn begun_by_drawing(game: Game, street: Option<Street>) -> Option<Street>
@@ -281,7 +280,7 @@ impl Replay {
     fn may_part(&self) -> bool
         ensures { result ≡ may_part self.now }
     {
-        self.header.game.has_board() && self.course.opened && self.funded_count() <= 1
+        self.header.game.has_board() && self.course.opened && self.few_funded()
     }
 
     /// The street that comes next on a board.
@@ -343,7 +342,7 @@ impl Replay {
         match street {
             Street::ShowDown => self.shows_next(board) && self.may_end(),
             Street::Summary => is_number(BoardNumber::Only, board) && self.may_end(),
-            _ => same_street(street, self.next_on(board)) && self.contender_count() >= 2,
+            _ => same_street(street, self.next_on(board)) && self.two_contend(),
         }
     }
 
@@ -353,7 +352,7 @@ impl Replay {
     {
         is_drawing(self.course.street)
             || begun_by_drawing(self.header.game, self.course.street).is_some()
-                && self.contender_count() >= 2
+                && self.two_contend()
     }
 
     /// The streets come in their order.

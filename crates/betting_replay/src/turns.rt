@@ -1,6 +1,6 @@
 //! Who owes an act, who may act, and whose turn it is.
 
-ghost use Rattle.std.specs.Prelude.{◌≡◌, ℕ, ◌+◌, ◌-◌, ◌<◌, ◌≤◌, true, false, IfSome, IsNone};
+ghost use Rattle.std.specs.Prelude.{◌≡◌, ℕ, ◌+◌, ◌-◌, ◌<◌, ◌≤◌, ◌&&◌, nat_le, true, false, None, IfSome, IsNone};
 ghost use Rattle.card_sets.specs.PlayerSets.{has_player};
 ghost use Rattle.betting_replay.specs.Seats.{first_from, first_between, first_after};
 ghost use Rattle.betting_replay.specs.Accounts.{contenders};
@@ -53,12 +53,37 @@ impl Replay {
         self.contender_set().count()
     }
 
+    /// Whether two players or more have not folded. The second one ends the search.
+    pub(crate) fn two_contend(&self) -> bool
+        ensures { result ≡ nat_le 2 (contender_count self.now) }
+    {
+        let mut one = false;
+        for seat in 0..11 {
+            if !self.is_contender(seat) {
+                continue;
+            }
+            if one {
+                return true;
+            }
+            one = true;
+        }
+        false
+    }
+
     /// Whether the seat has chips left.
     pub(crate) fn has_chips(&self, seat: u8) -> bool
         requires { seat < 11 }
         ensures { result ≡ has_chips self.now seat }
     {
         self.seats[seat as usize].chips.stack > 0
+    }
+
+    /// Whether the seat's player has not folded and has chips left.
+    pub(crate) fn is_funded(&self, seat: u8) -> bool
+        requires { seat < 11 }
+        ensures { result ≡ (is_contender self.now seat && has_chips self.now seat) }
+    {
+        self.is_contender(seat) && self.has_chips(seat)
     }
 
     /// Whether a showdown's marker stood, of whichever board.
@@ -103,7 +128,7 @@ impl Replay {
     fn is_played(&self) -> bool
         ensures { result ≡ is_played self.now }
     {
-        self.is_open() && self.contender_count() >= 2
+        self.is_open() && self.two_contend()
     }
 
     /// Whether the seat owes an act, where anybody may; the greatest is given.
@@ -138,12 +163,30 @@ impl Replay {
             && (!self.seats[seat as usize].acts.acted || self.owes_act(seat))
     }
 
-    /// The first seat from one on, and below an end, that owes an act.
+    /// Whether one of the seats from one on, and below an end, has not folded and has chips left. Nobody else owes an act.
+    fn any_funded(&self, from: u8, end: u8) -> bool
+        requires order { from ≤ end }
+        requires few { end ≤ 11 }
+        ensures { result ≡ false → first_from (owes self.now) from (end - from) ≡ None }
+    {
+        for seat in from..end {
+            if self.is_funded(seat) {
+                return true;
+            }
+        }
+        false
+    }
+
+    /// The first seat from one on, and below an end, that owes an act. Mostly there is none between two actors, so who
+    /// might is looked at first.
     fn first_owing(&self, from: u8, end: u8) -> Option<u8>
         requires order { from ≤ end }
         requires few { end ≤ 11 }
         ensures value { result ≡ first_from (owes self.now) from (end - from) }
     {
+        if !self.any_funded(from, end) {
+            return None;
+        }
         if !self.is_played() {
             return None;
         }

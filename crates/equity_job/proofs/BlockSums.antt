@@ -9,7 +9,8 @@ use Rattle.showdown_tally.specs.CountLaws.{units_small}
 use Rattle.showdown_tally.specs.Showdown.{Showdown, wins, ties, loses, units}
 use Rattle.showdown_tally.specs.Tallies.{Counts}
 use Rattle.equity_job.specs.Blocks.{block_of, blocks_below}
-use Rattle.equity_job.specs.declared.limits.TheConstants.{BLOCK, RUNOUT_MAX}
+use Rattle.equity_job.specs.declared.limits.TheConstants.{BLOCK}
+use Rattle.runout_ranges.specs.declared.limits.TheConstants.{RUNOUT_MAX}
 use Rattle.equity_job.proofs.BlockLists.{Counts-join, below-take}
 
 sum_small : {X : Type 0} (f : X → ℕ) (xs : List X) → ((x : X) → f x ≤ 10080) → sum_by f xs ≤ 10080 * length xs

@@ -6,11 +6,11 @@ ghost use Rattle.card_sets.specs.State.{state_of};
 ghost use Rattle.runout_ranges.specs.Shapes.{IsShapeOf};
 ghost use Rattle.showdown_tally.specs.Tallies.{runouts_after};
 ghost use Rattle.equity_job.specs.Blocks.{blocks_of};
-ghost use Rattle.equity_job.specs.Jobs.{IsDeckShort, IsAboveLimit};
-ghost use Rattle.equity_job.specs.declared.limits.TheConstants.{RUNOUT_MAX};
+ghost use Rattle.runout_ranges.specs.Jobs.{IsDeckShort, IsAboveLimit};
+ghost use Rattle.runout_ranges.specs.declared.limits.TheConstants.{RUNOUT_MAX};
 
-use crate::{BLOCK, RUNOUT_MAX};
-use runout_ranges::{Shape, count_runouts, shape};
+use crate::BLOCK;
+use runout_ranges::{JobFault, RUNOUT_MAX, Shape, count_runouts, shape};
 use showdown_tally::Table;
 
 /// An equity that can be counted: a table, what is still to be dealt there, and how many ways to deal it there are, which is
@@ -29,15 +29,6 @@ pub struct Job {
     pub ghost counted: { runouts ≡ length (runouts_after (state_of table.known)) },
     /// They are within the limit.
     pub ghost few: { runouts ≤ RUNOUT_MAX },
-}
-
-/// Why an equity isn't counted.
-#[derive(Clone, Copy, Debug, PartialEq, Eq)]
-pub enum JobFault {
-    /// Fewer cards may come than the board and the hands lack.
-    DeckShort,
-    /// There are more than `RUNOUT_MAX` runouts.
-    AboveLimit,
 }
 
 impl Job {

@@ -18,7 +18,8 @@ mod scratch;
 
 pub use blocks::{count_block, fill_block};
 pub use counting::{count_blocks, count_job};
-pub use jobs::{Job, JobFault};
+pub use jobs::Job;
 pub use laws::{law_block_sums_add, law_blocks_add_up, law_blocks_are_all};
-pub use limits::{BLOCK, RUNOUT_MAX};
+pub use limits::BLOCK;
+pub use runout_ranges::{JobFault, RUNOUT_MAX};
 pub use scratch::Scratch;

@@ -10,7 +10,7 @@ use runout_walk::{Boards, Draws, are_boards, are_draws};
 use std::alloc::Global;
 
 /// The room that counts work in. It is made without memory, and has its parts on the heap once [`Scratch::ready`] was asked for
-/// them: 16 kB a pot, and tables of up to 830 kB for boards or 390 kB for draws. What it holds makes no difference to a count but
+/// them: 16 kB a pot, and tables of up to 1 MB for boards or 390 kB for draws. What it holds makes no difference to a count but
 /// in time, so it is made once and lent to each: where a part isn't there, the count goes without it, runout by runout.
 #[derive(Drop)]
 pub struct Scratch {

@@ -11,7 +11,7 @@ use Rattle.showdown_tally.specs.Cells.{Sums, cell_at, units_at, no_runout}
 use Rattle.showdown_tally.specs.Showdown.{Showdown}
 use Rattle.showdown_tally.specs.Tallies.{Counts, Adds, Fits, runouts_after}
 use Rattle.showdown_tally.specs.CountLaws.{Counts-more, Fits-few}
-use Rattle.equity_job.specs.declared.limits.TheConstants.{RUNOUT_MAX}
+use Rattle.runout_ranges.specs.declared.limits.TheConstants.{RUNOUT_MAX}
 
 -- the loop stands at a runout of the listing: those before it are in the tally, and each took a step
 pub record IsWalk (deal : Showdown) (all : List (List (List ℕ))) (at : List (List ℕ)) (sums : Sums) (before now : ℕ) : Type 0 where

@@ -2,8 +2,8 @@
 use Rattle.std.specs.Prelude.{ℕ, if◌then◌else◌, List, [], map, length, unwrap_or, slice_index_or, Option, Some, None, is_some}
 use Rattle.std.specs.List.{list_all}
 use Rattle.card_sets.specs.PlayerSets.{seats_in}
-use Rattle.history_text.specs.declared.events.Header.{Header}
-use Rattle.history_text.specs.declared.events.Event.{Event}
+use Rattle.hand_events.specs.declared.events.Header.{Header}
+use Rattle.hand_events.specs.declared.events.Event.{Event}
 use Rattle.card_sets.specs.declared.streets.Street.{Street}
 use Rattle.card_sets.specs.declared.games.Game.{Game}
 use Rattle.pot_layers.specs.declared.paid.Pot.{Pot}
@@ -16,8 +16,8 @@ use Rattle.showdown_tally.specs.declared.table.Table.{Table}
 use Rattle.hand_audit.specs.Showings.{paid_in}
 use Rattle.hand_audit.specs.KnownTables.{Bare, ten, places_in, table_from}
 use Rattle.hand_audit.specs.declared.at_point.AtPoint.{AtPoint}
-use Rattle.hand_audit.specs.declared.verdicts.AllIn.{AllIn}
-use Rattle.hand_audit.specs.declared.verdicts.AllIn.TheVariants.{None as NoAllIn, Unknown, Known}
+use Rattle.hand_verdict.specs.declared.verdicts.AllIn.{AllIn}
+use Rattle.hand_verdict.specs.declared.verdicts.AllIn.TheVariants.{None as NoAllIn, Unknown, Known}
 
 -- a seat's cards, and none where they are unknown
 abbrev pub cards_or_none : List (Option (List ℕ)) → ℕ → List ℕ

@@ -1,8 +1,8 @@
 -- The lines before the first that departs.
 use Rattle.std.specs.Prelude.{◌≡◌, ℕ, zero, suc, List, [], ◌∷◌, Result, Ok, Err, None}
-use Rattle.history_text.specs.declared.events.Header.{Header}
-use Rattle.history_text.specs.declared.events.Event.{Event}
-use Rattle.history_text.specs.declared.events.TextFault.{TextFault}
+use Rattle.hand_events.specs.declared.events.Header.{Header}
+use Rattle.hand_events.specs.declared.events.Event.{Event}
+use Rattle.hand_events.specs.declared.events.TextFault.{TextFault}
 use Rattle.hand_audit.specs.Lines.{SoFar, read_at, with_event}
 use Rattle.hand_audit.specs.Departs.{event_cause}
 

@@ -4,8 +4,8 @@ use Rattle.std.specs.List.{list_all}
 use Rattle.card_sets.specs.PlayerSets.{seats_in}
 use Rattle.betting_replay.specs.declared.points.Point.{Point}
 use Rattle.card_sets.specs.Cards.{has_card}
-use Rattle.history_text.specs.declared.events.Header.{Header}
-use Rattle.history_text.specs.declared.events.Event.{Event}
+use Rattle.hand_events.specs.declared.events.Header.{Header}
+use Rattle.hand_events.specs.declared.events.Event.{Event}
 use Rattle.card_sets.specs.declared.streets.Street.{Street}
 use Rattle.betting_replay.specs.Boards.{board_up_to, second_board}
 use Rattle.betting_replay.specs.CardLaws.{Among}

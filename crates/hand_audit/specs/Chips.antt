@@ -1,7 +1,7 @@
 -- Chips are kept.
 use Rattle.std.specs.Prelude.{◌≡◌, ℕ, zero, suc, ◌+◌, ◌-◌, ◌≤◌, true, List}
-use Rattle.history_text.specs.declared.events.Header.{Header}
-use Rattle.history_text.specs.declared.events.Event.{Event}
+use Rattle.hand_events.specs.declared.events.Header.{Header}
+use Rattle.hand_events.specs.declared.events.Event.{Event}
 use Rattle.betting_replay.specs.Accepted.{opening}
 use Rattle.betting_replay.specs.Sums.{paid, dead}
 use Rattle.hand_audit.specs.Collections.{collections, got_from}

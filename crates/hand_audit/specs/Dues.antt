@@ -1,26 +1,14 @@
 -- What the rules give each seat of a hand: by its parts, and beside what was paid.
-use Rattle.std.specs.Prelude.{◌≡◌, ℕ, ◌+◌, ◌≤◌, ◌==◌, true, if◌then◌else◌, List, find, sum_by}
-use Rattle.std.specs.Option.{option_map_or}
-use Rattle.card_sets.specs.PlayerSets.{seats_in}
+use Rattle.std.specs.Prelude.{◌≡◌, ℕ, ◌≤◌, ◌==◌, true, if◌then◌else◌, List, sum_by}
 use Rattle.pot_layers.specs.declared.paid.Pot.{Pot}
 use Rattle.hand_audit.specs.Chips.{over_seats}
-use Rattle.hand_audit.specs.Nets.{got_of}
 use Rattle.hand_audit.specs.Parts.{is_contested, part_shares}
 use Rattle.hand_audit.specs.Settle.{Showing, due_of_seat, is_checked, net_of, pot_line, shares_of_pot}
-use Rattle.hand_audit.specs.declared.parts.PartShare.{PartShare}
-use Rattle.hand_audit.specs.declared.parts.SplitHand.{SplitHand}
+use Rattle.hand_verdict.specs.declared.parts.PartShare.{PartShare}
+use Rattle.hand_verdict.specs.declared.parts.SplitHand.{SplitHand}
 use Rattle.hand_audit.specs.declared.pot_names.Source.{Source}
-use Rattle.hand_audit.specs.declared.settlement.Payment.{Payment}
-use Rattle.hand_audit.specs.declared.settlement.Settlement.{Settlement}
-
--- what a seat is due, by payments by rising seat, of which it has at most one
-abbrev pub due_by : List Payment → ℕ → ℕ
-due_by payments seat = option_map_or (λ pay. pay.due) (find (λ pay. pay.seat == seat) payments) 0
-
--- all that a seat is due of a hand: of each pot, and by the payments of the hand, which there are where the names of the
--- collections don't fit the pots
-abbrev pub due_of : Settlement → ℕ → ℕ
-due_of s seat = sum_by (λ pot. due_by pot.paid seat) s.pots + due_by s.paid seat
+use Rattle.hand_verdict.specs.declared.settlement.Settlement.{Settlement}
+use Rattle.hand_verdict.specs.SeatSums.{PlayersAreDue, due_of, got_of}
 
 -- what some shares of parts give a seat
 abbrev pub units_of : ℕ → List PartShare → ℕ
@@ -35,10 +23,6 @@ PartsGiveDues = (s : Showing) (source : Source) (pot : Pot) (p : ℕ) → is_che
 -- all seats are due what they got together
 abbrev pub DuesAddUp : Settlement → Type 0
 DuesAddUp settlement = over_seats (due_of settlement) ≡ over_seats (got_of settlement)
-
--- the players of a hand are due what they got together: nobody else is due anything, or got anything
-abbrev pub PlayersAreDue : Settlement → ℕ → Type 0
-PlayersAreDue settlement players = sum_by (due_of settlement) (seats_in players) ≡ sum_by (got_of settlement) (seats_in players)
 
 -- so it is of a hand that is rejected for its payments alone, whose names fit the pots
 pub record SplitAddsUp (split : SplitHand) : Type 0 where

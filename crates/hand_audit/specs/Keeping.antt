@@ -4,12 +4,12 @@ use Rattle.std.specs.List.{list_any}
 use Rattle.line_text.specs.declared.lines.Line.{Line}
 use Rattle.line_text.specs.Lines.{lines}
 use Rattle.line_text.specs.Places.{IsWithin}
-use Rattle.history_text.specs.declared.events.Header.{Header}
-use Rattle.history_text.specs.declared.events.Event.{Event}
-use Rattle.history_text.specs.declared.events.Event.TheVariants.{Seat}
-use Rattle.history_text.specs.declared.events.TextFault.{TextFault}
-use Rattle.history_text.specs.declared.events.Part.{Part}
-use Rattle.history_text.specs.declared.events.Part.TheVariants.{Summary as SummaryPart}
+use Rattle.hand_events.specs.declared.events.Header.{Header}
+use Rattle.hand_events.specs.declared.events.Event.{Event}
+use Rattle.hand_events.specs.declared.events.Event.TheVariants.{Seat}
+use Rattle.hand_events.specs.declared.events.TextFault.{TextFault}
+use Rattle.hand_events.specs.declared.events.Part.{Part}
+use Rattle.hand_events.specs.declared.events.Part.TheVariants.{Summary as SummaryPart}
 use Rattle.history_text.specs.Lines.{line_event}
 use Rattle.history_text.specs.Within.{IsSeated, stands_in}
 use Rattle.pot_layers.specs.Pots.{pots}
@@ -18,8 +18,8 @@ use Rattle.betting_replay.specs.CardLaws.{MarkerFits, MarkersFit}
 use Rattle.betting_replay.specs.Later.{later_streets}
 use Rattle.betting_replay.specs.Limits.{Fits}
 use Rattle.betting_replay.specs.TableAfter.{StandsFor}
-use Rattle.hand_audit.specs.declared.cause.Cause.{Cause}
-use Rattle.hand_audit.specs.declared.cause.Cause.TheVariants.{Text}
+use Rattle.hand_verdict.specs.declared.cause.Cause.{Cause}
+use Rattle.hand_verdict.specs.declared.cause.Cause.TheVariants.{Text}
 use Rattle.hand_audit.specs.declared.hand.AuditState.{AuditState}
 use Rattle.hand_audit.specs.declared.hand.LineReading.{LineReading}
 use Rattle.hand_audit.specs.declared.follow.Followed.{Followed}

@@ -1,4 +1,3 @@
-pub mod CauseNames
 pub mod Lines
 pub mod Collections
 pub mod PotNames

@@ -3,13 +3,13 @@ use Rattle.std.specs.Prelude.{ℕ, ◌==◌, Bool, false, if◌then◌else◌, L
 use Rattle.std.specs.List.{list_any, slice_range}
 use Rattle.card_sets.specs.PlayerSets.{players_where}
 use Rattle.line_text.specs.Amounts.{number_of}
-use Rattle.history_text.specs.declared.events.Header.{Header}
-use Rattle.history_text.specs.declared.events.Event.{Event}
-use Rattle.history_text.specs.declared.events.Event.TheVariants.{Seat, Post, Deal, Street, Act, Discard, Pat}
+use Rattle.hand_events.specs.declared.events.Header.{Header}
+use Rattle.hand_events.specs.declared.events.Event.{Event}
+use Rattle.hand_events.specs.declared.events.Event.TheVariants.{Seat, Post, Deal, Street, Act, Discard, Pat}
 use Rattle.card_sets.specs.declared.streets.Street.TheVariants.{First, Summary}
-use Rattle.history_text.specs.declared.events.Part.{Part}
-use Rattle.history_text.specs.declared.events.Part.TheVariants.{Preamble, Play, Summary as SummaryPart}
-use Rattle.history_text.specs.declared.events.TextFault.{TextFault}
+use Rattle.hand_events.specs.declared.events.Part.{Part}
+use Rattle.hand_events.specs.declared.events.Part.TheVariants.{Preamble, Play, Summary as SummaryPart}
+use Rattle.hand_events.specs.declared.events.TextFault.{TextFault}
 use Rattle.history_text.specs.Lines.{line_event}
 use Rattle.history_text.specs.Seats.{seat_digits}
 use Rattle.betting_replay.specs.Places.{is_at}

@@ -1,26 +1,12 @@
 -- What the players of an accepted hand got, put in and had: together they lose the rake.
-use Rattle.std.specs.Prelude.{◌≡◌, ℕ, ◌+◌, ◌-◌, ◌<◌, ◌≤◌, ◌==◌, List, find, length, slice_index_or, sum_by}
-use Rattle.std.specs.Option.{option_map_or}
+use Rattle.std.specs.Prelude.{◌≡◌, ℕ, ◌+◌, ◌-◌, ◌<◌, ◌≤◌, List, length, sum_by}
 use Rattle.card_sets.specs.PlayerSets.{seats_in}
-use Rattle.history_text.specs.declared.events.Header.{Header}
-use Rattle.history_text.specs.declared.events.Event.{Event}
+use Rattle.hand_events.specs.declared.events.Header.{Header}
+use Rattle.hand_events.specs.declared.events.Event.{Event}
 use Rattle.hand_audit.specs.Chips.{closing, collected_at}
-use Rattle.hand_audit.specs.declared.seat_chips.SeatChips.{SeatChips}
-use Rattle.hand_audit.specs.declared.settlement.Payment.{Payment}
-use Rattle.hand_audit.specs.declared.settlement.Settlement.{Settlement}
-
--- what a seat got, by payments by rising seat, of which it has at most one
-abbrev pub got_by : List Payment → ℕ → ℕ
-got_by payments seat = option_map_or (λ pay. pay.got) (find (λ pay. pay.seat == seat) payments) 0
-
--- all that a seat got of a hand: out of each pot, and by the payments of the hand, which there are where the names of the
--- collections don't fit the pots
-abbrev pub got_of : Settlement → ℕ → ℕ
-got_of s seat = sum_by (λ pot. got_by pot.paid seat) s.pots + got_by s.paid seat
-
--- the chips of a seat, of those of all by number
-abbrev pub chips_at : List SeatChips → ℕ → SeatChips
-chips_at chips seat = slice_index_or chips seat (record { had = 0; put = 0 })
+use Rattle.hand_verdict.specs.SeatSums.{chips_at, got_of}
+use Rattle.hand_verdict.specs.declared.seat_chips.SeatChips.{SeatChips}
+use Rattle.hand_verdict.specs.declared.settlement.Settlement.{Settlement}
 
 -- of a hand with such a settlement, such players and such chips: what a seat got is what its lines say that it collected; no seat
 -- put in more than it had; what it had and got, less what it put in, is what it has after the hand; what all players put in is

@@ -4,8 +4,8 @@ use Rattle.card_sets.specs.PlayerSets.{seats_in}
 use Rattle.card_sets.specs.declared.games.Side.{Side}
 use Rattle.pot_layers.specs.declared.paid.Share.{Share}
 use Rattle.pot_layers.specs.Split.{shares, high_half, low_half}
-use Rattle.hand_audit.specs.declared.parts.PartShare.{PartShare}
-use Rattle.hand_audit.specs.declared.settlement.PotLine.{PotLine}
+use Rattle.hand_verdict.specs.declared.parts.PartShare.{PartShare}
+use Rattle.hand_verdict.specs.declared.settlement.PotLine.{PotLine}
 use Rattle.hand_audit.specs.Settle.{Showing, Part, parts_of, first_side, second_side, first_winners, second_winners, order_of, settled}
 
 -- a share of a side, whose winners get so much each and some of them an odd unit more

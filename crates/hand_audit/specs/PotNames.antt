@@ -1,8 +1,8 @@
 -- Which pot a collection names. Source: the names of PokerStars.
 use Rattle.std.specs.Prelude.{ℕ, ◌+◌, ◌==◌, ◌&&◌, nat_le, nat_lt, Bool, true, if◌then◌else◌, List, [], ◌∷◌, length, Option, Some, None, is_some}
 use Rattle.std.specs.List.{list_all}
-use Rattle.history_text.specs.declared.events.PotName.{PotName}
-use Rattle.history_text.specs.declared.events.PotName.TheVariants.{Only, Main, Side, SideNumber}
+use Rattle.hand_events.specs.declared.events.PotName.{PotName}
+use Rattle.hand_events.specs.declared.events.PotName.TheVariants.{Only, Main, Side, SideNumber}
 use Rattle.pot_layers.specs.declared.paid.Pot.{Pot}
 use Rattle.betting_replay.specs.Places.{is_at}
 use Rattle.hand_audit.specs.declared.collections.Collection.{Collection}

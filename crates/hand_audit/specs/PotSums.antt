@@ -1,8 +1,8 @@
 -- The pots of an accepted hand add up.
 use Rattle.std.specs.Prelude.{◌≡◌, ◌+◌, ◌<◌, ℕ, List, All, length, sum_by}
-use Rattle.hand_audit.specs.declared.settlement.Payment.{Payment}
-use Rattle.hand_audit.specs.declared.settlement.PotLine.{PotLine}
-use Rattle.hand_audit.specs.declared.settlement.Settlement.{Settlement}
+use Rattle.hand_verdict.specs.declared.settlement.Payment.{Payment}
+use Rattle.hand_verdict.specs.declared.settlement.PotLine.{PotLine}
+use Rattle.hand_verdict.specs.declared.settlement.Settlement.{Settlement}
 
 -- what all seats got by some payments, and what they are due
 abbrev pub all_got : List Payment → ℕ

@@ -1,18 +1,18 @@
 -- What each seat of a hand had, and what it put in.
 use Rattle.std.specs.Prelude.{ℕ, ◌+◌, ◌<◌, ◌^◌, List, [], ◌∷◌, replicate, Result, Ok, Err}
 use Rattle.history_text.specs.Headers.{header_of}
-use Rattle.history_text.specs.declared.events.Header.{Header}
-use Rattle.history_text.specs.declared.events.Event.{Event}
-use Rattle.history_text.specs.declared.events.TextFault.{TextFault}
+use Rattle.hand_events.specs.declared.events.Header.{Header}
+use Rattle.hand_events.specs.declared.events.Event.{Event}
+use Rattle.hand_events.specs.declared.events.TextFault.{TextFault}
 use Rattle.betting_replay.specs.Accepted.{opening}
 use Rattle.betting_replay.specs.Accounts.{paid_by, stack_at}
 use Rattle.betting_replay.specs.Seats.{by_seat}
 use Rattle.betting_replay.specs.Sums.{paid, dead}
 use Rattle.betting_replay.specs.Table.{ReplayState}
 use Rattle.hand_audit.specs.Verdict.{events_of}
-use Rattle.hand_audit.specs.declared.seat_chips.SeatChips.{SeatChips}
-use Rattle.hand_audit.specs.declared.verdicts.HandAudit.{HandAudit}
-use Rattle.hand_audit.specs.declared.verdicts.HandAudit.TheVariants.{Rejected, Accepted}
+use Rattle.hand_verdict.specs.declared.seat_chips.SeatChips.{SeatChips}
+use Rattle.hand_verdict.specs.declared.verdicts.HandAudit.{HandAudit}
+use Rattle.hand_verdict.specs.declared.verdicts.HandAudit.TheVariants.{Rejected, Accepted}
 
 -- a seat had the chips that its seat line gives, and put in its antes, posts, dead chips, calls and bets, less what came back to it
 abbrev pub seat_chips : Header → List Event → ℕ → SeatChips

@@ -13,8 +13,8 @@ use Rattle.pot_layers.specs.Pots.{pots}
 use Rattle.pot_layers.specs.Split.{shares, first_half, second_half}
 use Rattle.betting_replay.specs.Seats.{or_else}
 use Rattle.hand_audit.specs.declared.collections.Collection.{Collection}
-use Rattle.hand_audit.specs.declared.settlement.PotLine.{PotLine}
-use Rattle.hand_audit.specs.declared.settlement.Payment.{Payment}
+use Rattle.hand_verdict.specs.declared.settlement.PotLine.{PotLine}
+use Rattle.hand_verdict.specs.declared.settlement.Payment.{Payment}
 use Rattle.hand_audit.specs.Collections.{taken_from, got_from}
 use Rattle.hand_audit.specs.PotNames.{counts_from, fits}
 use Rattle.hand_audit.specs.declared.pot_names.Source.{Source}

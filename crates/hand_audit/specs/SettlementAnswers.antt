@@ -2,8 +2,8 @@
 use Rattle.std.specs.Prelude.{◌≡◌, ℕ, List, ◌++◌, Option}
 use Rattle.pot_layers.specs.declared.paid.Pot.{Pot}
 use Rattle.hand_audit.specs.declared.pot_names.Source.{Source}
-use Rattle.hand_audit.specs.declared.settlement.PotLine.{PotLine}
-use Rattle.hand_audit.specs.declared.settlement.Payment.{Payment}
+use Rattle.hand_verdict.specs.declared.settlement.PotLine.{PotLine}
+use Rattle.hand_verdict.specs.declared.settlement.Payment.{Payment}
 use Rattle.hand_audit.specs.declared.settling.PotSettled.{PotSettled}
 use Rattle.hand_audit.specs.declared.settling.HandSettled.{HandSettled}
 use Rattle.hand_audit.specs.Settle.{Showing, Settled, settled, beyond, pot_line, beyond_of, pot_lines, beyond_in}

@@ -1,14 +1,14 @@
 -- What the rules give of the pots of a hand, also of one that is rejected for its payments alone.
 use Rattle.std.specs.Prelude.{ℕ, List, [], ◌∷◌, Result, Ok, Err, Option, Some, None}
 use Rattle.history_text.specs.Headers.{header_of}
-use Rattle.history_text.specs.declared.events.Header.{Header}
-use Rattle.history_text.specs.declared.events.TextFault.{TextFault}
-use Rattle.hand_audit.specs.declared.cause.Cause.{Cause}
-use Rattle.hand_audit.specs.declared.cause.Cause.TheVariants.{Text, Bet, Chips, Split, Unfinished}
-use Rattle.hand_audit.specs.declared.parts.PartShare.{PartShare}
-use Rattle.hand_audit.specs.declared.parts.SplitHand.{SplitHand}
-use Rattle.hand_audit.specs.declared.verdicts.HandAudit.{HandAudit}
-use Rattle.hand_audit.specs.declared.verdicts.HandAudit.TheVariants.{Rejected, Accepted}
+use Rattle.hand_events.specs.declared.events.Header.{Header}
+use Rattle.hand_events.specs.declared.events.TextFault.{TextFault}
+use Rattle.hand_verdict.specs.declared.cause.Cause.{Cause}
+use Rattle.hand_verdict.specs.declared.cause.Cause.TheVariants.{Text, Bet, Chips, Split, Unfinished}
+use Rattle.hand_verdict.specs.declared.parts.PartShare.{PartShare}
+use Rattle.hand_verdict.specs.declared.parts.SplitHand.{SplitHand}
+use Rattle.hand_verdict.specs.declared.verdicts.HandAudit.{HandAudit}
+use Rattle.hand_verdict.specs.declared.verdicts.HandAudit.TheVariants.{Rejected, Accepted}
 use Rattle.hand_audit.specs.Lines.{SoFar, nothing, players_of}
 use Rattle.hand_audit.specs.Parts.{hand_parts}
 use Rattle.hand_audit.specs.Showings.{showing_of}

@@ -3,9 +3,9 @@ use Rattle.std.specs.Prelude.{ℕ, Bool, true, false, List, [], ◌∷◌, map, 
 use Rattle.card_sets.specs.declared.games.Game.{Game}
 use Rattle.card_sets.specs.declared.streets.Street.{Street}
 use Rattle.history_text.specs.Headers.{header_of}
-use Rattle.history_text.specs.declared.events.Header.{Header}
-use Rattle.history_text.specs.declared.events.Event.{Event}
-use Rattle.history_text.specs.declared.events.TextFault.{TextFault}
+use Rattle.hand_events.specs.declared.events.Header.{Header}
+use Rattle.hand_events.specs.declared.events.Event.{Event}
+use Rattle.hand_events.specs.declared.events.TextFault.{TextFault}
 use Rattle.pot_layers.specs.Pots.{pots}
 use Rattle.betting_replay.specs.Later.{later_streets}
 use Rattle.betting_replay.specs.Table.{ReplayState}
@@ -15,11 +15,11 @@ use Rattle.hand_audit.specs.AllIns.{all_in_at, known_there, eligible_in}
 use Rattle.hand_audit.specs.Lines.{players_of}
 use Rattle.hand_audit.specs.Showings.{paid_in}
 use Rattle.hand_audit.specs.Verdict.{events_of}
-use Rattle.hand_audit.specs.declared.streets.StreetState.{StreetState}
-use Rattle.hand_audit.specs.declared.verdicts.AllIn.{AllIn}
-use Rattle.hand_audit.specs.declared.verdicts.AllIn.TheVariants.{None as NoAllIn, Unknown, Known}
-use Rattle.hand_audit.specs.declared.verdicts.HandAudit.{HandAudit}
-use Rattle.hand_audit.specs.declared.verdicts.HandAudit.TheVariants.{Rejected, Accepted}
+use Rattle.hand_verdict.specs.declared.streets.StreetState.{StreetState}
+use Rattle.hand_verdict.specs.declared.verdicts.AllIn.{AllIn}
+use Rattle.hand_verdict.specs.declared.verdicts.AllIn.TheVariants.{None as NoAllIn, Unknown, Known}
+use Rattle.hand_verdict.specs.declared.verdicts.HandAudit.{HandAudit}
+use Rattle.hand_verdict.specs.declared.verdicts.HandAudit.TheVariants.{Rejected, Accepted}
 
 -- the table of an all-in; none where it is unknown
 abbrev pub table_in : AllIn → Option Table

@@ -3,8 +3,8 @@ use Rattle.std.specs.Prelude.{◌≡◌, ◌≤◌, ◌<◌, ℕ, List, length, 
 use Rattle.card_sets.specs.PlayerSets.{has_player}
 use Rattle.showdown_tally.specs.Deals.{deal_of}
 use Rattle.showdown_tally.specs.declared.table.Table.{Table}
-use Rattle.hand_audit.specs.declared.settlement.PotLine.{PotLine}
-use Rattle.hand_audit.specs.declared.settlement.Settlement.{Settlement}
+use Rattle.hand_verdict.specs.declared.settlement.PotLine.{PotLine}
+use Rattle.hand_verdict.specs.declared.settlement.Settlement.{Settlement}
 
 -- the table has the pots of a hand, ten at the most, and in each of them exactly those of its hands are eligible whose seats are
 pub record HasPotsOf (settlement : Settlement) (seats : List ℕ) (table : Table) : Type 0 where

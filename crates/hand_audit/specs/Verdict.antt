@@ -1,15 +1,15 @@
 -- The verdict on a hand.
 use Rattle.std.specs.Prelude.{ℕ, Bool, false, List, [], ◌∷◌, Result, Ok, Err, Option, Some, None}
-use Rattle.history_text.specs.declared.events.Header.{Header}
-use Rattle.history_text.specs.declared.events.Event.{Event}
-use Rattle.history_text.specs.declared.events.TextFault.{TextFault}
+use Rattle.hand_events.specs.declared.events.Header.{Header}
+use Rattle.hand_events.specs.declared.events.Event.{Event}
+use Rattle.hand_events.specs.declared.events.TextFault.{TextFault}
 use Rattle.history_text.specs.Headers.{header_of}
 use Rattle.betting_replay.specs.Sums.{runs_twice}
 use Rattle.hand_audit.specs.AllIns.{all_in_of}
-use Rattle.hand_audit.specs.declared.verdicts.HandAudit.{HandAudit}
-use Rattle.hand_audit.specs.declared.verdicts.HandAudit.TheVariants.{Rejected, Accepted}
-use Rattle.hand_audit.specs.declared.cause.Cause.{Cause}
-use Rattle.hand_audit.specs.declared.settlement.Settlement.{Settlement}
+use Rattle.hand_verdict.specs.declared.verdicts.HandAudit.{HandAudit}
+use Rattle.hand_verdict.specs.declared.verdicts.HandAudit.TheVariants.{Rejected, Accepted}
+use Rattle.hand_verdict.specs.declared.cause.Cause.{Cause}
+use Rattle.hand_verdict.specs.declared.settlement.Settlement.{Settlement}
 use Rattle.hand_audit.specs.Lines.{SoFar, nothing, with_line, players_of}
 use Rattle.hand_audit.specs.Settle.{Settled, settled}
 use Rattle.hand_audit.specs.Showings.{showing_of, rake}

@@ -12,10 +12,9 @@ ghost use Rattle.hand_audit.specs.AllIns.{all_in_at, known_there, eligible_in, a
 
 use crate::at_point::AtPoint;
 use crate::known_tables::{known_table, seats_of};
-use crate::settlement::PotLine;
-use crate::verdicts::AllIn;
 use betting_replay::Replay;
 use card_sets::{CardSet, Game, PlayerSet};
+use hand_verdict::{AllIn, PotLine};
 use history_text::Street;
 
 /// Whether the cards of each seat of a set are known.

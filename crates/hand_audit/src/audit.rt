@@ -2,9 +2,9 @@
 
 ghost use Rattle.std.specs.Prelude.{◌≡◌, ℕ, ◌+◌, ◌<◌, ◌^◌, IfOk, IsTrue, Some, length};
 ghost use Rattle.line_text.specs.Lines.{lines};
-ghost use Rattle.history_text.specs.declared.events.Header.{Header};
+ghost use Rattle.hand_events.specs.declared.events.Header.{Header};
 ghost use Rattle.hand_audit.specs.Departs.{begins_hand};
-ghost use Rattle.hand_audit.specs.declared.cause.Cause.TheVariants.{Split};
+ghost use Rattle.hand_verdict.specs.declared.cause.Cause.TheVariants.{Split};
 ghost use Rattle.hand_audit.specs.Verdict.{audit_of, accepted_by, settlement_of};
 ghost use Rattle.hand_audit.specs.Lines.{SoFar};
 ghost use Rattle.hand_audit.specs.Showings.{showing_of};
@@ -17,17 +17,18 @@ ghost use Rattle.hand_audit.specs.SeatChips.{AreWithin, all_chips_on, chips_of};
 ghost use Rattle.hand_audit.specs.declared.audit.Beside.TheVariants as beside;
 
 use crate::all_in::all_in_by;
-use crate::cause::Cause;
 use crate::first_pass::players_of;
 use crate::follow::{Followed, follow};
 use crate::hand::AuditState;
-use crate::parts::{AuditedShares, PartShares, SplitHand, hand_parts};
-use crate::seat_chips::{AuditedChips, SeatChips, all_chips_on, no_chips};
-use crate::settlement::{Payment, Settlement};
+use crate::parts::hand_parts;
+use crate::seat_chips::{all_chips_on, no_chips};
 use crate::settling::HandSettled;
-use crate::streets::{AuditedStreets, StreetState, states_of};
-use crate::verdicts::HandAudit;
+use crate::streets::states_of;
 use card_sets::{Game, Memory};
+use hand_verdict::{
+    AuditedChips, AuditedShares, AuditedStreets, Cause, HandAudit, PartShares, Payment, SeatChips,
+    Settlement, SplitHand, StreetState,
+};
 use history_text::{Header, read_header};
 use line_text::next_line;
 use std::alloc::{AllocError, Global};

@@ -3,9 +3,9 @@
 ghost use Rattle.std.specs.Prelude.{◌≡◌, ℕ, ◌+◌, ◌≤◌, ◌<◌, ◌++◌, ◌∷◌, [], List, All, IfOk, IfSome, false, slice_index_or, Option, OnOk, option_map, drop, length};
 ghost use Rattle.line_text.specs.Amounts.{digit_count, number_of};
 ghost use Rattle.line_text.specs.Lines.{lines};
-ghost use Rattle.history_text.specs.declared.events.Event.{Event};
-ghost use Rattle.history_text.specs.declared.events.Header.{Header};
-ghost use Rattle.history_text.specs.declared.events.Part.TheVariants.{Preamble};
+ghost use Rattle.hand_events.specs.declared.events.Event.{Event};
+ghost use Rattle.hand_events.specs.declared.events.Header.{Header};
+ghost use Rattle.hand_events.specs.declared.events.Part.TheVariants.{Preamble};
 ghost use Rattle.history_text.specs.Within.{IsSeated};
 ghost use Rattle.betting_replay.specs.Limits.{Fits};
 ghost use Rattle.betting_replay.specs.Seats.{by_seat};

@@ -2,13 +2,13 @@
 
 ghost use Rattle.std.specs.Prelude.{◌≡◌, ℕ, ◌+◌, ◌≤◌, ◌<◌, ◌^◌, [], IfOk, IfSome, IsNone, IsTrue, drop, length, option_map};
 ghost use Rattle.line_text.specs.Lines.{lines};
-ghost use Rattle.history_text.specs.declared.events.Part.TheVariants.{Preamble};
+ghost use Rattle.hand_events.specs.declared.events.Part.TheVariants.{Preamble};
 ghost use Rattle.hand_audit.specs.Keeping.{AreReads, FirstStands, Follows, IsCut, IsFirst, StandsAt};
 
-use crate::cause::Cause;
 use crate::hand::{AuditState, LineReading};
 use crate::settling::HandSettled;
 use card_sets::Memory;
+use hand_verdict::Cause;
 use history_text::Header;
 use line_text::{Line, next_line};
 use std::alloc::Global;

@@ -3,8 +3,8 @@
 ghost use Rattle.std.specs.Prelude.{◌≡◌, ℕ, ◌+◌, ◌≤◌, ◌<◌, ◌^◌, ◌∷◌, ◌++◌, [], true, IfOk, IfSome, OnOk, All, IsTrue};
 ghost use Rattle.pot_layers.specs.Pots.{pots, put_in_all};
 ghost use Rattle.hand_audit.specs.Winning.{AreDecided};
-ghost use Rattle.history_text.specs.declared.events.Event.{Event};
-ghost use Rattle.history_text.specs.declared.events.Header.{Header};
+ghost use Rattle.hand_events.specs.declared.events.Event.{Event};
+ghost use Rattle.hand_events.specs.declared.events.Header.{Header};
 ghost use Rattle.betting_replay.specs.Later.{listed};
 ghost use Rattle.betting_replay.specs.TableAfter.{StandsFor};
 ghost use Rattle.hand_audit.specs.Lines.{SoFar, nothing, part_after, read_at, named_by, with_event};
@@ -15,7 +15,6 @@ ghost use Rattle.hand_audit.specs.Departs.{is_total, total_cause, event_cause};
 ghost use Rattle.hand_audit.specs.Keeping.{Keeps, Goes, HasName, IsRead, IsSound, EndsAs};
 ghost use Rattle.history_text.specs.Within.{IsSeated};
 
-use crate::cause::Cause;
 use crate::collections::Collection;
 use crate::pot_names::{Source, taken_from};
 use crate::pots::pots_of;
@@ -25,6 +24,7 @@ use betting_replay::{
     Replay, law_a_table_shows_each_seat, law_cards_belong, law_places_are_apart, law_whole_boards,
 };
 use card_sets::{Game, Memory};
+use hand_verdict::Cause;
 use history_text::{Event, Header, Names, Part, Street, TextFault, read_line};
 use line_text::Line;
 use pot_layers::law_a_folded_player_is_eligible_nowhere;

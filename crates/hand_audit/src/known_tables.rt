@@ -9,8 +9,8 @@ ghost use Rattle.hand_audit.specs.PotSeats.{eligible_of};
 ghost use Rattle.hand_audit.specs.AllIns.{cards_or_none, bare_of};
 
 use crate::at_point::AtPoint;
-use crate::settlement::PotLine;
 use card_sets::{CardSet, Game, Known, PlayerSet};
+use hand_verdict::PotLine;
 use showdown_tally::Table;
 
 /// A seat's cards, and none where they are unknown.

@@ -2,25 +2,26 @@
 
 ghost use Rattle.std.specs.Prelude.{◌≡◌, ℕ, ◌-◌, ◌∷◌, Bool, true, false, List, Some, Ok, All, map};
 ghost use Rattle.history_text.specs.Headers.{header_of};
-ghost use Rattle.history_text.specs.declared.events.Header.{Header};
+ghost use Rattle.hand_events.specs.declared.events.Header.{Header};
 ghost use Rattle.hand_audit.specs.Before.{Stand};
 ghost use Rattle.hand_audit.specs.Chips.{KeepsChips};
-ghost use Rattle.hand_audit.specs.Dues.{DuesAddUp, PartsGiveDues, PlayersAreDue, SplitAddsUp};
+ghost use Rattle.hand_audit.specs.Dues.{DuesAddUp, PartsGiveDues, SplitAddsUp};
+ghost use Rattle.hand_verdict.specs.SeatSums.{PlayersAreDue};
 ghost use Rattle.hand_audit.specs.Lines.{nothing, players_of};
-ghost use Rattle.hand_audit.specs.declared.cause.Cause.{Cause};
+ghost use Rattle.hand_verdict.specs.declared.cause.Cause.{Cause};
 ghost use Rattle.hand_audit.specs.Showings.{showing_of};
 ghost use Rattle.hand_audit.specs.SplitHands.{split_of};
 ghost use Rattle.hand_audit.specs.Splits.{IsSplitRightly, IsWonBySomebody, LoneAreDueAll, PotsGoByBoards};
 ghost use Rattle.hand_audit.specs.Verdict.{audit_of, events_of};
-ghost use Rattle.hand_audit.specs.declared.parts.SplitHand.{SplitHand};
-ghost use Rattle.hand_audit.specs.declared.verdicts.AllIn.{AllIn};
-ghost use Rattle.hand_audit.specs.declared.verdicts.HandAudit.{HandAudit};
-ghost use Rattle.hand_audit.specs.declared.verdicts.HandAudit.TheVariants.{Accepted, Rejected};
+ghost use Rattle.hand_verdict.specs.declared.parts.SplitHand.{SplitHand};
+ghost use Rattle.hand_verdict.specs.declared.verdicts.AllIn.{AllIn};
+ghost use Rattle.hand_verdict.specs.declared.verdicts.HandAudit.{HandAudit};
+ghost use Rattle.hand_verdict.specs.declared.verdicts.HandAudit.TheVariants.{Accepted, Rejected};
 ghost use Rattle.hand_audit.specs.CardsKnown.{KnowsCards, all_known_at};
-ghost use Rattle.hand_audit.specs.LaterCards.{IsKnownOn};
+ghost use Rattle.hand_audit.specs.LaterCards.{IsKnownOn, KnowsNoLessThan};
 ghost use Rattle.hand_audit.specs.LaterOrder.{ComeInOrder};
-ghost use Rattle.hand_audit.specs.Streets.{states_of};
-ghost use Rattle.hand_audit.specs.declared.streets.StreetState.{StreetState};
+ghost use Rattle.hand_audit.specs.Streets.{states_in, states_of};
+ghost use Rattle.hand_verdict.specs.declared.streets.StreetState.{StreetState};
 ghost use Rattle.betting_replay.specs.declared.points.Point.{Point};
 ghost use Rattle.hand_audit.specs.MarkLaws.{MarksAreCards};
 ghost use Rattle.hand_audit.specs.Nets.{NetsAddUp};
@@ -28,16 +29,16 @@ ghost use Rattle.hand_audit.specs.PotSums.{PotsAddUp};
 ghost use Rattle.hand_audit.specs.SeatChips.{chips_of};
 ghost use Rattle.hand_audit.specs.TablePots.{HasPotsOf};
 ghost use Rattle.betting_replay.specs.TableAfter.{point};
-ghost use Rattle.hand_audit.specs.declared.settlement.Settlement.{Settlement};
+ghost use Rattle.hand_verdict.specs.declared.settlement.Settlement.{Settlement};
 ghost use Rattle.card_sets.specs.declared.streets.Street.{Street};
 ghost use Rattle.showdown_tally.specs.declared.table.Table.{Table};
 
-use crate::verdicts::AllIn;
 use betting_replay::{
     law_a_table_shows_dead_cards, law_a_table_shows_each_seat, law_cards_belong,
-    law_places_are_apart, law_whole_boards,
+    law_places_are_apart, law_stud_cards_are_all_that_were_dealt, law_whole_boards,
 };
 use hand_choice::law_fives_have_five_cards;
+use hand_verdict::AllIn;
 use pot_layers::{law_a_folded_player_is_eligible_nowhere, law_a_list_orders_its_seats};
 use showdown_tally::law_values_keep_order;
 
@@ -256,6 +257,24 @@ pub fn law_later_streets_come_in_order()
         (map (λ (state : StreetState). state.street)
         (states_of header players (events_of header lines))) }
 {}
+
+/// A law on what later streets know. Of a hand that is accepted and has an all-in whose cards are known, the
+/// table of each street behind it, where there is one, knows no less than the all-in's: it has the same game,
+/// as many hands and dead cards, and nowhere fewer cards.
+pub fn law_later_streets_know_no_less()
+    ensures { (number : ℕ) (lines : List (List ℕ))
+        → (settlement : Settlement) (street : Street) (seats : List ℕ) (table : Table)
+        (names : List (ℕ × List ℕ)) (players : ℕ)
+        → audit_of number lines
+        ≡ Some (Accepted settlement (AllIn.Known street seats table) names players)
+        → All (KnowsNoLessThan table) (states_in lines) }
+{
+    law_places_are_apart();
+    law_cards_belong();
+    law_a_table_shows_each_seat();
+    law_a_table_shows_dead_cards();
+    law_stud_cards_are_all_that_were_dealt();
+}
 
 /// A law on the pots of all-ins. Of a hand that is accepted and has an all-in whose cards are known: the
 /// table has the pots of the hand, ten at the most, and in each pot a hand of the table is eligible

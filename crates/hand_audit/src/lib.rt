@@ -4,7 +4,7 @@
 //! or `Accepted` with a `Settlement` and an `AllIn`. `later_streets` tells what is known on each street behind a known all-in, and
 //! `audit_with_streets` answers both by one reading of the lines. `audit_with_chips` answers the verdict and what each player had and
 //! put in, and `audit_with_shares` the verdict and what each winner of a side of each part of a pot gets, also of a hand that is rejected
-//! for its payments alone.
+//! for its payments alone. The types of these answers are those of `hand_verdict`.
 //!
 //! 1. *First pass* (`first_pass`). Each line is read once, and who plays is noted. What the first 256 lines say is kept.
 //! 2. *Second pass* (`follow`, `hand`). What each line says is stepped by a `Replay`. A line departs where it can't be read, where the
@@ -27,7 +27,6 @@
 mod all_in;
 mod at_point;
 mod audit;
-mod cause;
 mod collections;
 mod first_pass;
 mod follow;
@@ -41,27 +40,25 @@ mod payments;
 mod pot_names;
 mod pots;
 mod seat_chips;
-mod settlement;
 mod settling;
 mod shares;
 mod standings;
 mod streets;
-mod verdicts;
 mod winners;
 mod worths;
 
 pub use audit::{audit_hand, audit_with_chips, audit_with_shares, audit_with_streets};
-pub use cause::Cause;
+pub use hand_verdict::{
+    AllIn, AuditedChips, AuditedShares, AuditedStreets, Cause, HandAudit, PartShare, PartShares,
+    Payment, Payments, PotLine, PotLines, SeatChips, Settlement, SplitHand, StreetState,
+};
 pub use laws::{
     law_a_lone_player_wins_a_side_of_each_part, law_a_mark_is_a_card_of_its_player,
     law_a_table_has_the_pots_of_the_hand, law_all_in_cards, law_checked_pots_are_won,
     law_chips_are_kept, law_dues_add_up_to_what_was_paid, law_later_streets_come_in_order,
-    law_later_streets_know_cards, law_lines_before_stand, law_nets_add_up_to_the_rake,
-    law_parts_give_what_is_due, law_players_are_due_what_they_got, law_pots_add_up,
-    law_pots_are_split_by_the_rules, law_pots_go_by_boards, law_unknown_all_ins_have_unknown_cards,
+    law_later_streets_know_cards, law_later_streets_know_no_less, law_lines_before_stand,
+    law_nets_add_up_to_the_rake, law_parts_give_what_is_due, law_players_are_due_what_they_got,
+    law_pots_add_up, law_pots_are_split_by_the_rules, law_pots_go_by_boards,
+    law_unknown_all_ins_have_unknown_cards,
 };
-pub use parts::{AuditedShares, PartShare, PartShares, SplitHand};
-pub use seat_chips::{AuditedChips, SeatChips};
-pub use settlement::{Payment, Payments, PotLine, PotLines, Settlement};
-pub use streets::{AuditedStreets, StreetState, later_streets};
-pub use verdicts::{AllIn, HandAudit};
+pub use streets::later_streets;

@@ -9,7 +9,7 @@ ghost use Rattle.hand_audit.specs.PotNames.{counts_from};
 
 use crate::collections::Collection;
 use crate::pot_names::{Source, got_from, units_if};
-use crate::settlement::Payment;
+use hand_verdict::Payment;
 use pot_layers::Share;
 use std::alloc::{AllocError, Global};
 

@@ -3,26 +3,8 @@
 ghost use Rattle.std.specs.Prelude.{◌≡◌, ◌<◌};
 ghost use Rattle.hand_audit.specs.SeatChips.{AreWithin, all_chips_on, chips_on, nobodys_chips};
 
-use crate::verdicts::HandAudit;
 use betting_replay::Replay;
-
-/// What a seat had, and what it put in, in units.
-#[derive(Clone, Copy)]
-pub struct SeatChips {
-    /// The chips that its seat line gives; 0 where it has none.
-    pub had: u64,
-    /// What it put in: antes, posts, dead chips, calls and bets, less what came back to it.
-    pub put: u64,
-}
-
-/// A verdict on a hand, and the chips of its seats.
-#[derive(Drop)]
-pub struct AuditedChips {
-    /// The verdict.
-    pub audit: HandAudit,
-    /// What each seat had and put in, by its number, 0 being no seat. Of a rejected hand nothing.
-    pub chips: [SeatChips; 11],
-}
+use hand_verdict::SeatChips;
 
 /// The chips of no seat.
 const NONE: SeatChips = SeatChips { had: 0, put: 0 };

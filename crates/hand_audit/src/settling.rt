@@ -11,10 +11,10 @@ ghost use Rattle.hand_audit.specs.SettlementAnswers.{IsOfPot, AreOfPots, IsOfHan
 use crate::collections::Collection;
 use crate::payments::{first_beyond, payments};
 use crate::pot_names::{Source, fits, taken_from};
-use crate::settlement::{Payment, Payments, PotLine, PotLines};
 use crate::shares::shares_if;
 use crate::standings::Standings;
 use card_sets::{Memory, PlayerSet};
+use hand_verdict::{Payment, Payments, PotLine, PotLines};
 use pot_layers::Pot;
 use std::alloc::{AllocError, Global};
 

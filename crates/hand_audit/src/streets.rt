@@ -16,34 +16,14 @@ use crate::all_in::all_in_on;
 use crate::first_pass::players_of;
 use crate::follow::{Followed, follow};
 use crate::hand::AuditState;
-use crate::settlement::PotLine;
 use crate::settling::HandSettled;
-use crate::verdicts::{AllIn, HandAudit};
 use betting_replay::Replay;
 use card_sets::{Game, Memory};
+use hand_verdict::{AllIn, PotLine, StreetState};
 use history_text::{Header, Street, read_header};
 use line_text::next_line;
 use showdown_tally::Table;
 use std::alloc::{AllocError, Global};
-
-/// What is known on a street behind the all-in point of a hand.
-#[derive(Clone, Copy)]
-pub struct StreetState {
-    /// The street.
-    pub street: Street,
-    /// The cards known on it, of the contenders at the point, and the pots of the whole hand. None where
-    /// the cards of a contender aren't known on it.
-    pub table: Option<Table>,
-}
-
-/// A verdict on a hand, and its later streets.
-#[derive(Drop)]
-pub struct AuditedStreets {
-    /// The verdict.
-    pub audit: HandAudit,
-    /// What is known on the streets behind the all-in point, in their order; none of a rejected hand.
-    pub streets: Vec<StreetState>,
-}
 
 /// The table of an all-in.
 fn table_in(all_in: AllIn) -> Option<Table>

@@ -2,6 +2,7 @@ pub mod LineParts
 pub mod HandLists
 pub mod ClosedFacts
 pub mod UnitLaws
+pub mod HeaderFronts
 pub mod ScanSteps
 pub mod HandScans
 pub mod LastHands

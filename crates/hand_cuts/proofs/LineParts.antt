@@ -69,6 +69,14 @@ ends-append a b ends (inr some) = inr (a ++ some.0, ap (λ x. a ++ x) some.1 ∙
 pub ends-none : (a : List ℕ) → a ≡ [] → EndsInNewline a
 ends-none a none = inl none
 
+-- the first newline, where it is the first byte or there is none
+pub newline_first : (bytes rest : List ℕ) (byte : ℕ) → bytes ≡ byte ∷ rest → byte ≡ 10 → IsFirstByte (is_byte 10) bytes (Some 0)
+newline_first bytes rest byte whole newline =
+    rw (whole, newline) (record { low = omega arith; high = omega arith; before = λ k low high at. omega (arith, high) }, refl)
+
+pub no_newline : (bytes : List ℕ) → length bytes ≡ 0 → IsFirstByte (is_byte 10) bytes None
+no_newline bytes none = λ k low high at. omega (arith, none, high)
+
 -- slices
 pub no_slice : (bytes : List ℕ) (at : ℕ) → slice_range bytes at at ≡ []
 no_slice bytes at = ap (λ n. take n (drop at bytes)) (let e : at - at ≡ 0 = omega arith in e)

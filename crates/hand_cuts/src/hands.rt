@@ -1,6 +1,8 @@
 //! The hands of some bytes, one after the other.
 
-ghost use Rattle.std.specs.Prelude.{◌≡◌, ◌≤◌, ◌+◌, IfNone, IfSome, length};
+ghost use Rattle.std.specs.Prelude.{◌≡◌, ◌==◌, ◌||◌, ◌≤◌, ◌+◌, IfNone, IfSome, length};
+ghost use Rattle.line_text.specs.Lines.{text_of};
+ghost use Rattle.history_text.specs.Headers.{is_header};
 ghost use Rattle.hand_cuts.specs.Scans.{Finds, HandsOut, HasHead, IsScan, NoUnit, SearchesAll, number_bound};
 ghost use Rattle.hand_cuts.specs.declared.units.CutKind.TheVariants.{Hands};
 
@@ -53,6 +55,26 @@ pub(crate) fn find_head(bytes: &[u8], kind: CutKind, scan: &mut Scan)
     scan.head = next_head(bytes, scan);
 }
 
+/// Whether a header line may begin with a byte: with its first letter, or with a byte order mark.
+fn may_begin_head(byte: u8) -> bool
+    ensures { result ≡ (byte == 80 || byte == 239) }
+{
+    byte == b'P' || byte == 0xef
+}
+
+/// Whether a line is a header line. Most others are told by their first byte.
+fn is_head(line: &[u8]) -> bool
+    ensures { result ≡ is_header (text_of line.now) }
+{
+    let Some((first, _others)) = line.split_first() else {
+        return false;
+    };
+    if !may_begin_head(*first) {
+        return false;
+    }
+    is_header(text_of(line))
+}
+
 /// Goes on behind the next header line that has its newline; none where no such line follows, and then
 /// all is searched.
 fn next_head(bytes: &[u8], scan: &mut Scan) -> Option<Head>
@@ -68,7 +90,7 @@ fn next_head(bytes: &[u8], scan: &mut Scan) -> Option<Head>
             line: scan.number,
         };
         scan.pass(next);
-        if is_header(text_of(&bytes[here.at..next - 1])) {
+        if is_head(&bytes[here.at..next - 1]) {
             return Some(here);
         }
     }

@@ -12,7 +12,8 @@
 //! bytes were looked at:
 //!
 //! 1. The search for a newline begins where the last one ended without one.
-//! 2. Each line is asked once whether it is a header line, as soon as its newline is there.
+//! 2. Each line is asked once whether it is a header line, as soon as its newline is there; most are told by
+//!    their first byte.
 //! 3. The header line of the open hand is kept, by its place and its number, until the next one closes
 //!    the hand.
 //! 4. What was handed out is dropped by one move of the bytes behind it, and the places of the scan

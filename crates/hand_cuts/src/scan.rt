@@ -2,6 +2,7 @@
 
 ghost use Rattle.std.specs.Prelude.{◌≡◌, ◌≤◌, false, length, slice_range};
 ghost use Rattle.line_text.specs.Lines.{has_newline};
+ghost use Rattle.memchr.specs.Find.{IsFirstByte, is_byte};
 ghost use Rattle.hand_cuts.specs.Scans.{EndsLine};
 
 use memchr::memchr;
@@ -27,6 +28,19 @@ pub(crate) struct Scan {
     pub(crate) head: Option<Head>,
 }
 
+/// The place of the first newline. An empty line's is at the front, and isn't searched for.
+fn first_newline(bytes: &[u8]) -> Option<usize>
+    ensures { IsFirstByte (is_byte 10) bytes.now result }
+{
+    let Some((first, _others)) = bytes.split_first() else {
+        return None;
+    };
+    if *first == b'\n' {
+        return Some(0);
+    }
+    memchr(b'\n', bytes)
+}
+
 /// The place behind the newline of the line that begins at `looked`; none where no newline follows.
 /// Up to `searched` there is none.
 pub(crate) fn end_of_line(bytes: &[u8], looked: usize, searched: usize) -> Option<usize>
@@ -35,7 +49,7 @@ pub(crate) fn end_of_line(bytes: &[u8], looked: usize, searched: usize) -> Optio
     requires none { has_newline (slice_range bytes.now looked searched) ≡ false }
     ensures { EndsLine bytes.now looked result }
 {
-    match memchr(b'\n', &bytes[searched..]) {
+    match first_newline(&bytes[searched..]) {
         Some(place) => Some(searched + place + 1),
         None => None,
     }

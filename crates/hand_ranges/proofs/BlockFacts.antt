@@ -5,12 +5,12 @@ use Rattle.std.specs.List.{flat_map}
 use Rattle.card_sets.specs.declared.games.Game.TheVariants.{Holdem}
 use Rattle.card_sets.specs.declared.games.Side.{Side}
 use Rattle.card_sets.specs.declared.games.Side.TheVariants.{High}
-use Rattle.equity_job.specs.declared.limits.TheConstants.{RUNOUT_MAX}
-use Rattle.report_table.proofs.CallerLemmas.{every_same, then_lines}
-use Rattle.report_table.specs.Lines.{line_in}
-use Rattle.report_table.specs.Sheets.{Written, with_line, with_lines}
-use Rattle.report_table.specs.Spots.{every_hand, ev_line, hand_lines, refused_line, side_line}
-use Rattle.report_table.specs.declared.equity.Form.{Form}
+use Rattle.runout_ranges.specs.declared.limits.TheConstants.{RUNOUT_MAX}
+use Rattle.report_sheet.proofs.CallerLemmas.{every_same, then_lines}
+use Rattle.report_sheet.specs.Lines.{line_in}
+use Rattle.report_sheet.specs.Sheets.{Written, with_line, with_lines}
+use Rattle.report_sheet.specs.SpotLines.{every_hand, ev_line, hand_lines, refused_line, side_line}
+use Rattle.report_sheet.specs.declared.form.Form.{Form}
 use Rattle.showdown_tally.specs.declared.cells.Cell.{Cell}
 use Rattle.hand_ranges.specs.declared.tally.RangeTally.{RangeTally}
 use Rattle.hand_ranges.specs.Blocks.{cell_of, counted_block, counted_line, known_block, no_cell, rejected_line, tally_block, tally_cell, tally_ends, tally_units}

@@ -7,7 +7,7 @@ use Rattle.std.proofs.lemmas.List.Sums.{sum_by-cons}
 use Rattle.std.proofs.lemmas.Nat.{mul-le}
 use Rattle.std.proofs.Math.Nat.{mul-div_cancel_left, pow-le-pow_right}
 use Rattle.card_sets.specs.PlayerSets.{hands_below}
-use Rattle.equity_job.specs.declared.limits.TheConstants.{RUNOUT_MAX}
+use Rattle.runout_ranges.specs.declared.limits.TheConstants.{RUNOUT_MAX}
 use Rattle.runout_ranges.specs.Slots.{unseen}
 use Rattle.runout_ranges.specs.Ways.{binomial}
 use Rattle.runout_ranges.proofs.CallerLemmas.{binomial_small}

@@ -14,7 +14,7 @@ use Rattle.card_sets.proofs.CallerLemmas.{Apart-apart}
 use Rattle.std.proofs.lemmas.Bool.{and_parts}
 use Rattle.runout_ranges.proofs.CallerLemmas.{length_runouts}
 use Rattle.showdown_tally.specs.Tallies.{runouts_after}
-use Rattle.equity_job.specs.Jobs.{IsDeckShort}
+use Rattle.runout_ranges.specs.Jobs.{IsDeckShort}
 
 abbrev bit : Bool → ℕ
 bit true = 1

@@ -16,7 +16,6 @@ pub mod TakenHands
 pub mod RangeWalks
 pub mod TallySums
 pub mod WalkSums
-pub mod SheetSteps
 pub mod SmallTallies
 pub mod BlockFacts
 pub mod FullBoards

@@ -11,10 +11,10 @@ use Rattle.std.specs.Result.{IsErrOf}
 use Rattle.card_sets.specs.State.{State}
 use Rattle.card_sets.specs.declared.games.Game.TheVariants.{Holdem}
 use Rattle.spot_text.specs.Games.{board_fits}
-use Rattle.equity_job.specs.declared.jobs.JobFault.{JobFault}
-use Rattle.equity_job.specs.declared.jobs.JobFault.TheVariants.{DeckShort, AboveLimit}
-use Rattle.equity_job.specs.Jobs.{IsDeckShort, IsAboveLimit}
-use Rattle.equity_job.specs.declared.limits.TheConstants.{RUNOUT_MAX}
+use Rattle.runout_ranges.specs.declared.limits.JobFault.{JobFault}
+use Rattle.runout_ranges.specs.declared.limits.JobFault.TheVariants.{DeckShort, AboveLimit}
+use Rattle.runout_ranges.specs.Jobs.{IsDeckShort, IsAboveLimit}
+use Rattle.runout_ranges.specs.declared.limits.TheConstants.{RUNOUT_MAX}
 use Rattle.runout_ranges.specs.Runouts.{HasMember}
 use Rattle.runout_ranges.specs.Ways.{binomial}
 use Rattle.runout_ranges.proofs.CallerLemmas.{first_part, binomial_some}

@@ -7,7 +7,7 @@ use Rattle.std.proofs.lemmas.List.Elements.{All-nil, All-cons, All-head, All-tai
 use Rattle.std.proofs.lemmas.List.Sums.{sum_by-cons, sum_by-le, count_by-le-length, length-filter}
 use Rattle.std.proofs.Math.Nat.{mul-pos, mul-le-mul, mul-le-mul_left, pow-le-pow_right}
 use Rattle.card_sets.specs.declared.games.Side.TheVariants.{High}
-use Rattle.equity_job.specs.declared.limits.TheConstants.{RUNOUT_MAX}
+use Rattle.runout_ranges.specs.declared.limits.TheConstants.{RUNOUT_MAX}
 use Rattle.runout_ranges.proofs.CallerLemmas.{binomial_some}
 use Rattle.runout_ranges.specs.Runouts.{HasMember}
 use Rattle.showdown_tally.specs.CountLaws.{units_small}

@@ -5,10 +5,10 @@ use Rattle.card_sets.specs.CardText.{text_of_card}
 use Rattle.card_sets.specs.Games.{game_word}
 use Rattle.card_sets.specs.declared.games.Game.TheVariants.{Holdem}
 use Rattle.card_sets.specs.declared.games.Side.{Side}
-use Rattle.equity_job.specs.declared.limits.TheConstants.{RUNOUT_MAX}
-use Rattle.report_table.specs.Lines.{Line, plain, line_in}
-use Rattle.report_table.specs.Spots.{every_hand, hand_lines, refused_line, rejected_name, spot_name}
-use Rattle.report_table.specs.declared.equity.Form.{Form}
+use Rattle.runout_ranges.specs.declared.limits.TheConstants.{RUNOUT_MAX}
+use Rattle.report_sheet.specs.Lines.{Line, plain, line_in}
+use Rattle.report_sheet.specs.SpotLines.{every_hand, hand_lines, refused_line, rejected_name, spot_name}
+use Rattle.report_sheet.specs.declared.form.Form.{Form}
 use Rattle.showdown_tally.specs.declared.cells.Cell.{Cell}
 use Rattle.hand_ranges.specs.declared.faults.RangeFault.{RangeFault}
 use Rattle.hand_ranges.specs.declared.faults.RangeFault.TheVariants.{UnknownWord, BadCard, BadRange, TwiceCard, BoardSize, PlayerCount, DeckShort, Memory}

@@ -1,6 +1,6 @@
 -- What the count of a spot with ranges answers.
 use Rattle.std.specs.Prelude.{◌≡◌, ℕ, ◌*◌, ◌^◌, ◌<◌, ◌≤◌, true, false, List, [], ◌∷◌, map, length, slice_index, slice_index_or, Result, Ok, Err}
-use Rattle.equity_job.specs.declared.limits.TheConstants.{RUNOUT_MAX}
+use Rattle.runout_ranges.specs.declared.limits.TheConstants.{RUNOUT_MAX}
 use Rattle.hand_ranges.specs.declared.spot.Weighted.{Weighted}
 use Rattle.hand_ranges.specs.declared.tally.RangeCell.{RangeCell}
 use Rattle.hand_ranges.specs.declared.tally.RangeTally.{RangeTally}

@@ -1,7 +1,7 @@
 -- Where a walk over the ranges stands, and what it adds to a tally.
 use Rattle.std.specs.Prelude.{◌≡◌, ℕ, ◌+◌, ◌*◌, ◌≤◌, ◌^◌, ◌==◌, nat_lt, if◌then◌else◌, List, [], ◌∷◌, length, slice_index, slice_index_or}
 use Rattle.card_sets.specs.declared.games.Side.TheVariants.{High}
-use Rattle.equity_job.specs.declared.limits.TheConstants.{RUNOUT_MAX}
+use Rattle.runout_ranges.specs.declared.limits.TheConstants.{RUNOUT_MAX}
 use Rattle.showdown_tally.specs.Cells.{Sums, cell_at, units_at}
 use Rattle.showdown_tally.specs.declared.cells.Cell.{Cell}
 use Rattle.hand_ranges.specs.declared.spot.Weighted.{Weighted}

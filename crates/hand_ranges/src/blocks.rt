@@ -1,7 +1,7 @@
 //! The block of a spot with ranges.
 
 ghost use Rattle.std.specs.Prelude.{◌≡◌, ◌++◌, IfOk, OnOk, OnErr, Ok};
-ghost use Rattle.report_table.specs.Sheets.{IsBetweenLines, with_lines};
+ghost use Rattle.report_sheet.specs.Sheets.{IsBetweenLines, with_lines};
 ghost use Rattle.hand_ranges.specs.Blocks.{known_block, ranges_block, seen_ranges};
 ghost use Rattle.hand_ranges.specs.Counted.{IsCountOf};
 ghost use Rattle.hand_ranges.specs.Sound.{IsSound};
@@ -12,7 +12,7 @@ use crate::lines::{counted_spot, no_choice_line, rejected_line};
 use crate::spot::RangeSpot;
 use crate::tally::{RangeJobFault, RangeTally};
 use card_sets::{Game, Memory};
-use report_table::{Form, Sheet};
+use report_sheet::{Form, Sheet};
 use std::alloc::AllocError;
 
 /// Appends the block of a spot whose line is well written.

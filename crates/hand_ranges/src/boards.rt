@@ -7,7 +7,7 @@ ghost use Rattle.hand_ranges.specs.Choices.{are_above, most_choices, runouts_of_
 ghost use Rattle.hand_ranges.specs.RangeSpot.{ranges_in};
 ghost use Rattle.hand_ranges.specs.Sound.{IsSound};
 ghost use Rattle.hand_ranges.specs.Walks.{IsAllOf};
-ghost use Rattle.equity_job.specs.declared.limits.TheConstants.{RUNOUT_MAX};
+ghost use Rattle.runout_ranges.specs.declared.limits.TheConstants.{RUNOUT_MAX};
 ghost use Rattle.runout_ranges.specs.Ways.{binomial};
 
 use crate::beside::ShownRange;

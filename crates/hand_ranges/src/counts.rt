@@ -1,7 +1,7 @@
 //! The count of ranges.
 
 ghost use Rattle.std.specs.Prelude.{◌≡◌, ℕ, ◌+◌, ◌*◌, ◌<◌, ◌≤◌, ◌^◌, [], length, false, IfOk};
-ghost use Rattle.equity_job.specs.declared.limits.TheConstants.{RUNOUT_MAX};
+ghost use Rattle.runout_ranges.specs.declared.limits.TheConstants.{RUNOUT_MAX};
 ghost use Rattle.showdown_tally.specs.Tallies.{Counts, runouts_after};
 ghost use Rattle.hand_ranges.specs.Choices.{are_above, deal_of_choice, most_choices, runouts_of_choice};
 ghost use Rattle.hand_ranges.specs.Counted.{IsCountOf};

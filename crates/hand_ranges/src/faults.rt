@@ -1,7 +1,7 @@
 //! Why a line with ranges is refused.
 
 use card_sets::Card;
-use report_table::Sheet;
+use report_sheet::Sheet;
 use std::alloc::AllocError;
 
 /// Why a line with ranges is refused. They are tested in this order over the whole line.
@@ -40,11 +40,11 @@ impl From<AllocError> for RangeFault {
 
 impl RangeFault {
     ghost use Rattle.std.specs.Prelude.{◌≡◌, OnOk};
-    ghost use Rattle.report_table.specs.Sheets.{with_words};
+    ghost use Rattle.report_sheet.specs.Sheets.{with_words};
     ghost use Rattle.hand_ranges.specs.Blocks.{fault_words};
 
     /// Appends its name, and then what it carries.
-    #[tactic(auto, using(crate::proofs::SheetSteps::word_steps), unfolding(crate::specs::Blocks::fault_words))]
+    #[tactic(auto, using(report_sheet::proofs::CallerLemmas::word_steps), unfolding(crate::specs::Blocks::fault_words))]
     pub(crate) fn write(&self, sheet: &mut Sheet) -> Result<(), AllocError>
         ensures { OnOk result (sheet.new ≡ with_words sheet.old (fault_words self.now)) }
     {

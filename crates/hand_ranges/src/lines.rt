@@ -2,19 +2,19 @@
 
 ghost use Rattle.std.specs.Prelude.{◌≡◌, ◌+◌, ◌*◌, ◌<◌, ◌≤◌, [], ◌∷◌, codes, OnOk};
 ghost use Rattle.card_sets.specs.declared.games.Game.TheVariants.{Holdem};
-ghost use Rattle.report_table.specs.Sheets.{IsBetweenLines, with_line, with_lines};
-ghost use Rattle.report_table.specs.Spots.{hand_lines};
+ghost use Rattle.report_sheet.specs.Sheets.{IsBetweenLines, with_line, with_lines};
+ghost use Rattle.report_sheet.specs.SpotLines.{hand_lines};
 ghost use Rattle.hand_ranges.specs.Blocks.{counted_line, fault_words, rejected_line, tally_block, tally_cell, tally_ends, tally_units};
 ghost use Rattle.hand_ranges.specs.Counted.{IsSmall};
 
 use crate::RangeFault;
 use crate::tally::{RangeCell, RangeTally};
 use card_sets::{Game, Side};
-use report_table::Sheet;
+use report_sheet::Sheet;
 use std::alloc::AllocError;
 
 /// The line of a spot that isn't well written. Places and numbers of lines count from 1.
-#[tactic(auto, using(crate::proofs::SheetSteps::sheet_steps), unfolding(crate::specs::Blocks::rejected_line))]
+#[tactic(auto, using(report_sheet::proofs::CallerLemmas::sheet_steps), unfolding(crate::specs::Blocks::rejected_line))]
 pub(crate) fn rejected_line(
     sheet: &mut Sheet,
     place: u64,
@@ -31,7 +31,7 @@ pub(crate) fn rejected_line(
 }
 
 /// The line of a spot in which no choice is disjoint. Places and numbers of lines count from 1.
-#[tactic(auto, using(crate::proofs::SheetSteps::sheet_steps), unfolding(crate::specs::Blocks::rejected_line))]
+#[tactic(auto, using(report_sheet::proofs::CallerLemmas::sheet_steps), unfolding(crate::specs::Blocks::rejected_line))]
 pub(crate) fn no_choice_line(sheet: &mut Sheet, place: u64, number: u64) -> Result<(), AllocError>
     requires { IsBetweenLines sheet.old }
     ensures { OnOk result (sheet.new
@@ -44,7 +44,7 @@ pub(crate) fn no_choice_line(sheet: &mut Sheet, place: u64, number: u64) -> Resu
 
 /// The first line of a spot that is counted: its choices, the runouts of each, and how often the choices
 /// count together.
-#[tactic(auto, using(crate::proofs::SheetSteps::sheet_steps), unfolding(crate::specs::Blocks::counted_line))]
+#[tactic(auto, using(report_sheet::proofs::CallerLemmas::sheet_steps), unfolding(crate::specs::Blocks::counted_line))]
 fn counted_line(sheet: &mut Sheet, place: u64, tally: &RangeTally) -> Result<(), AllocError>
     requires { IsBetweenLines sheet.old }
     ensures { OnOk result (sheet.new

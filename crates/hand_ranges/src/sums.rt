@@ -1,7 +1,7 @@
 //! The numbers of a tally of ranges, with those of a choice more.
 
 ghost use Rattle.std.specs.Prelude.{◌≡◌, ℕ, ◌+◌, ◌*◌, ◌<◌, ◌≤◌, ◌^◌};
-ghost use Rattle.equity_job.specs.declared.limits.TheConstants.{RUNOUT_MAX};
+ghost use Rattle.runout_ranges.specs.declared.limits.TheConstants.{RUNOUT_MAX};
 ghost use Rattle.hand_ranges.specs.Walks.{Column, GrowsBy, HasRoom, IsWithin, cell_and, choice_adds, hand_adds, sums_add};
 
 use crate::tally::{RangeCell, RangeTally};

@@ -1,10 +1,10 @@
 -- A line of no byte is a remark, whatever part it stands in.
 use Rattle.std.proofs.Common.{◌≡◌, ℕ, List, [], ◌∷◌, codes, length, refl, ap, ◌∙◌, arith}
 use Rattle.std.specs.Prelude.{None, option_map, option_and_then, Ok}
-use Rattle.history_text.specs.declared.events.Event.TheVariants.{Remark}
-use Rattle.history_text.specs.declared.events.Header.{Header}
-use Rattle.history_text.specs.declared.events.Part.{Part}
-use Rattle.history_text.specs.declared.events.Part.TheVariants.{Preamble, Play, Summary}
+use Rattle.hand_events.specs.declared.events.Event.TheVariants.{Remark}
+use Rattle.hand_events.specs.declared.events.Header.{Header}
+use Rattle.hand_events.specs.declared.events.Part.{Part}
+use Rattle.hand_events.specs.declared.events.Part.TheVariants.{Preamble, Play, Summary}
 use Rattle.history_text.specs.Lines.{line_event}
 use Rattle.history_text.specs.Markers.{marker_line}
 use Rattle.history_text.specs.Names.{Fit, fit, front_name, longer, longest}

@@ -4,11 +4,11 @@ use Rattle.std.specs.Prelude.{codes, Result, Ok, Err}
 use Rattle.card_sets.specs.declared.games.Game.{Game}
 use Rattle.card_sets.specs.declared.games.Game.TheVariants as game
 use Rattle.line_text.specs.Amounts.{written}
-use Rattle.history_text.specs.declared.events.Header.{Header}
-use Rattle.history_text.specs.declared.events.Limit.{Limit}
-use Rattle.history_text.specs.declared.events.Limit.TheVariants as limit
-use Rattle.history_text.specs.declared.events.TextFault.{TextFault}
-use Rattle.history_text.specs.declared.events.TextFault.TheVariants as fault
+use Rattle.hand_events.specs.declared.events.Header.{Header}
+use Rattle.hand_events.specs.declared.events.Limit.{Limit}
+use Rattle.hand_events.specs.declared.events.Limit.TheVariants as limit
+use Rattle.hand_events.specs.declared.events.TextFault.{TextFault}
+use Rattle.hand_events.specs.declared.events.TextFault.TheVariants as fault
 use Rattle.history_text.specs.Texts.{behind, first_place, last_place, cut_first, cut_last}
 use Rattle.history_text.specs.Headers.{title, is_header, hand_number, behind_start, word_before, game_of, stakes_at, with_stakes, header_behind, header_of}
 

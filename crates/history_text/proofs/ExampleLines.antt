@@ -5,19 +5,19 @@ use Rattle.std.specs.Prelude.{codes, Result, Ok, Err}
 use Rattle.card_sets.specs.CardText.{card_of_letters}
 use Rattle.card_sets.specs.declared.games.Game.TheVariants as game
 use Rattle.line_text.specs.Amounts.{written}
-use Rattle.history_text.specs.declared.events.Header.{Header}
-use Rattle.history_text.specs.declared.events.Limit.TheVariants as limit
-use Rattle.history_text.specs.declared.events.Part.{Part}
-use Rattle.history_text.specs.declared.events.Part.TheVariants as part
-use Rattle.history_text.specs.declared.events.Event.{Event}
-use Rattle.history_text.specs.declared.events.Event.TheVariants as event
-use Rattle.history_text.specs.declared.events.Act.TheVariants as act
-use Rattle.history_text.specs.declared.events.BoardNumber.TheVariants as board
-use Rattle.history_text.specs.declared.events.PostKind.TheVariants as kind
-use Rattle.history_text.specs.declared.events.PotName.TheVariants as pot
+use Rattle.hand_events.specs.declared.events.Header.{Header}
+use Rattle.hand_events.specs.declared.events.Limit.TheVariants as limit
+use Rattle.hand_events.specs.declared.events.Part.{Part}
+use Rattle.hand_events.specs.declared.events.Part.TheVariants as part
+use Rattle.hand_events.specs.declared.events.Event.{Event}
+use Rattle.hand_events.specs.declared.events.Event.TheVariants as event
+use Rattle.hand_events.specs.declared.events.Act.TheVariants as act
+use Rattle.hand_events.specs.declared.events.BoardNumber.TheVariants as board
+use Rattle.hand_events.specs.declared.events.PostKind.TheVariants as kind
+use Rattle.hand_events.specs.declared.events.PotName.TheVariants as pot
 use Rattle.card_sets.specs.declared.streets.Street.TheVariants as street
-use Rattle.history_text.specs.declared.events.TextFault.{TextFault}
-use Rattle.history_text.specs.declared.events.TextFault.TheVariants as fault
+use Rattle.hand_events.specs.declared.events.TextFault.{TextFault}
+use Rattle.hand_events.specs.declared.events.TextFault.TheVariants as fault
 use Rattle.history_text.specs.Texts.{behind, first_place, last_place, cut_first, cut_last}
 use Rattle.history_text.specs.Reading.{money, some_money, follows, all_in_end, seat_front}
 use Rattle.history_text.specs.Names.{front_name}

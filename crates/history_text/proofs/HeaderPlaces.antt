@@ -1,5 +1,5 @@
 -- The game and the stakes of a header, looked for place by place, and the header that they make.
-use Rattle.std.proofs.Common.{◌≡◌, ℕ, suc, ◌+◌, ◌-◌, ◌*◌, ◌<◌, ◌^◌, min, Bool, true, false, List, ◌∷◌, length, drop, get_or, Option, Some, None, refl, ap, sym, ◌∙◌, arith, add-one}
+use Rattle.std.proofs.Common.{◌≡◌, ℕ, suc, ◌+◌, ◌-◌, ◌*◌, ◌<◌, ◌^◌, ◌==◌, min, Bool, true, false, List, ◌∷◌, length, drop, get_or, Option, Some, None, refl, ap, sym, ◌∙◌, arith, add-one}
 use Rattle.std.specs.Prelude.{option_map}
 use Rattle.std.proofs.Math.Seq.{drop-cons}
 use Rattle.line_text.specs.declared.amounts.WrittenAmount.{WrittenAmount}
@@ -8,9 +8,11 @@ use Rattle.line_text.specs.Capped.{capped, kept_units}
 use Rattle.std.proofs.Common.{eqb, ltb, ◌||◌, inl, inr}
 use Rattle.std.proofs.Math.Bool.{or-true}
 use Rattle.std.proofs.lemmas.Bool.{cases_lt, ne_eqb, lt-ltb}
+use Rattle.std.proofs.lemmas.Bool.Decides.{nat_tests}
 use Rattle.card_sets.specs.declared.games.Game.{Game}
-use Rattle.history_text.specs.declared.events.Limit.{Limit}
-use Rattle.history_text.specs.declared.events.TextFault.TheVariants.{BadHeader}
+use Rattle.hand_events.specs.declared.events.Limit.{Limit}
+use Rattle.hand_events.specs.declared.events.TextFault.TheVariants.{BadHeader}
+use Rattle.history_text.specs.Texts.{behind}
 use Rattle.history_text.specs.Reading.{◌otherwise◌, ◌>>=◌, or_fault}
 use Rattle.card_sets.specs.Games.{all_games}
 use Rattle.history_text.specs.Headers.{Named, Found, found_first, first_game, first_stakes, game_at, one_on, stakes_at, staked, with_stakes, header_behind}
@@ -19,6 +21,30 @@ use Rattle.history_text.specs.Games.{places_on, capped_stakes, kept_header}
 -- a text from a place on is its byte there and what stands behind
 from_place : (text : List ℕ) (place : ℕ) → place < length text → drop place text ≡ get_or text place 0 ∷ drop (place + 1) text
 from_place text place h = rw (add-one, drop-cons text place 0) refl
+
+-- no game's name begins with another byte
+all_false : (h o seven r five s t : Bool) → (h || o || seven || r || five || s || t) ≡ false
+    → (h ≡ false) × (o ≡ false) × (seven ≡ false) × (r ≡ false) × (five ≡ false) × (s ≡ false) × (t ≡ false)
+all_false true o seven r five s t none = cc
+all_false false true seven r five s t none = cc
+all_false false false true r five s t none = cc
+all_false false false false true five s t none = cc
+all_false false false false false true s t none = cc
+all_false false false false false false true t none = cc
+all_false false false false false false false true none = cc
+all_false false false false false false false false none = (refl, refl, refl, refl, refl, refl, refl)
+
+turned : (byte letter : ℕ) → (byte == letter) ≡ false → (letter == byte) ≡ false
+turned byte letter other = grind (arith, nat_tests)
+
+abbrev begins_name : ℕ → Bool
+begins_name byte = byte == 72 || byte == 79 || byte == 55 || byte == 82 || byte == 53 || byte == 83 || byte == 84
+
+no_name : (byte : ℕ) (text : List ℕ) → begins_name byte ≡ false → game_at all_games (byte ∷ text) ≡ None
+unfolding behind
+no_name byte text none =
+    let apart = all_false (byte == 72) (byte == 79) (byte == 55) (byte == 82) (byte == 53) (byte == 83) (byte == 84) none in
+    rw (turned byte 72 apart.0, turned byte 79 apart.1, turned byte 55 apart.2, turned byte 82 apart.3, turned byte 53 apart.4, turned byte 83 apart.5, turned byte 84 apart.6) refl
 
 -- a game that stands at the front
 game_first : (byte : ℕ) (text : List ℕ) (game : Named) → game_at all_games (byte ∷ text) ≡ Some game
@@ -52,6 +78,12 @@ game_on text place within none =
     let later : first_game (get_or text place 0 ∷ drop (place + 1) text) ≡ one_on (first_game (drop (place + 1) text)) =
     game_later _ _ (sym (none ∙ ap (game_at all_games) cut)) in
     sym (ap (places_on place) (ap first_game cut ∙ later) ∙ later_place place (first_game (drop (place + 1) text)))
+
+pub game_past : (text : List ℕ) (place : ℕ) → place < length text → begins_name (get_or text place 0) ≡ false
+    → places_on (place + 1) (first_game (drop (place + 1) text)) ≡ places_on place (first_game (drop place text))
+game_past text place within none =
+    game_on text place within
+    (sym (ap (game_at all_games) (from_place text place within) ∙ no_name (get_or text place 0) (drop (place + 1) text) none))
 
 -- the same of stakes
 pub stakes_here : (text : List ℕ) (place : ℕ) → place < length text → (read : Option (Written × Written)) → read ≡ stakes_at (drop place text)

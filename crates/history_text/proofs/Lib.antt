@@ -3,6 +3,7 @@ pub mod CardWords
 pub mod CardCounts
 pub mod HeaderPlaces
 pub mod OpeningLists
+pub mod VerbFronts
 pub mod LongestNames
 pub mod ShownPlaces
 pub mod BlankLines

@@ -6,24 +6,25 @@ use Rattle.std.specs.Str.{bytes_eq}
 use Rattle.card_sets.specs.Cards.{has_card}
 use Rattle.card_sets.specs.CardText.{card_of_letters, rank_letters, suit_letters}
 use Rattle.card_sets.specs.declared.games.Game.{Game}
-use Rattle.history_text.specs.declared.events.Header.{Header}
-use Rattle.history_text.specs.declared.events.Part.{Part}
-use Rattle.history_text.specs.declared.events.Part.TheVariants.{Preamble, Play, Summary as SummaryPart}
-use Rattle.history_text.specs.declared.events.PostKind.{PostKind}
-use Rattle.history_text.specs.declared.events.PostKind.TheVariants.{Small, Big, Both, Ante, BringIn}
-use Rattle.history_text.specs.declared.events.Verb.{Verb}
-use Rattle.history_text.specs.declared.events.Verb.TheVariants.{PostsSmall, PostsBig, PostsBoth, PostsAnte, BringsIn, Folds, Checks, Calls, Bets, Raises, Shows, Mucks, DoesntShow, Discards, StandsPat, SitsOut, IsSittingOut}
-use Rattle.history_text.specs.declared.events.Act.TheVariants.{Check}
+use Rattle.hand_events.specs.declared.events.Header.{Header}
+use Rattle.hand_events.specs.declared.events.Part.{Part}
+use Rattle.hand_events.specs.declared.events.Part.TheVariants.{Preamble, Play, Summary as SummaryPart}
+use Rattle.hand_events.specs.declared.events.PostKind.{PostKind}
+use Rattle.hand_events.specs.declared.events.PostKind.TheVariants.{Small, Big, Both, Ante, BringIn}
+use Rattle.history_text.specs.declared.verbs.Verb.{Verb}
+use Rattle.history_text.specs.declared.verbs.Verb.TheVariants.{PostsSmall, PostsBig, PostsBoth, PostsAnte, BringsIn, Folds, Checks, Calls, Bets, Raises, Shows, Mucks, DoesntShow, Discards, StandsPat, SitsOut, IsSittingOut}
+use Rattle.hand_events.specs.declared.events.Act.TheVariants.{Check}
 use Rattle.card_sets.specs.declared.streets.Street.{Street}
-use Rattle.history_text.specs.declared.events.BoardNumber.{BoardNumber}
-use Rattle.history_text.specs.declared.events.Event.{Event}
-use Rattle.history_text.specs.declared.events.Event.TheVariants as event
-use Rattle.history_text.specs.declared.events.TextFault.{TextFault}
-use Rattle.history_text.specs.declared.events.TextFault.TheVariants.{BadCards, BadAction, BadMarker, Cancelled, BadHeader, BadAmount}
+use Rattle.hand_events.specs.declared.events.BoardNumber.{BoardNumber}
+use Rattle.hand_events.specs.declared.events.Event.{Event}
+use Rattle.hand_events.specs.declared.events.Event.TheVariants as event
+use Rattle.hand_events.specs.declared.events.TextFault.{TextFault}
+use Rattle.hand_events.specs.declared.events.TextFault.TheVariants.{BadCards, BadAction, BadMarker, Cancelled, BadHeader, BadAmount}
 use Rattle.history_text.specs.Texts.{behind, cut_last, cut_first}
 use Rattle.history_text.specs.Reading.{◌>>=◌, ◌otherwise◌, or_fault, is_end, some_money, follows, all_in_end, money, seat_front}
 use Rattle.history_text.specs.Brackets.{closed, counted_cards, cards_of, card_words, at_most_ten, shown_cards, shown_counts}
-use Rattle.history_text.specs.Names.{front_name, seat_named}
+use Rattle.history_text.specs.Names.{front_name}
+use Rattle.hand_events.specs.Names.{seat_named}
 use Rattle.card_sets.specs.Games.{has_bring_in, has_draw}
 use Rattle.history_text.specs.Acts.{at_end, post, call, bet, raise, perhaps_cards, fold, show, discard_behind, discard, behind_card, is_discarded, pat, said, act_event, verb_of}
 use Rattle.history_text.specs.Plays.{act_line, deal_end, deal_once, deal_again, deal_cards, deal, deal_line, give_back, return_line, pot_of, collect, collect_line, cancel_line, play_event, dealt_counts, drawn_counts}
@@ -32,7 +33,7 @@ use Rattle.history_text.specs.Totals.{total_event, total_line, seat_among, last_
 use Rattle.card_sets.specs.Streets.{board_count}
 use Rattle.history_text.specs.Markers.{street_event, marker_of, marker_event, marker_line}
 use Rattle.history_text.specs.Lines.{line_event}
-use Rattle.history_text.specs.MarkerCards.{HasCards, MarkerFits}
+use Rattle.hand_events.specs.MarkerCards.{HasCards, MarkerFits}
 
 -- what a reader answers has a property
 record Ends (P : Event → Type 0) (r : Result Event TextFault) : Type 0 where

@@ -8,23 +8,24 @@ use Rattle.std.specs.Prelude.{nat_eq, min}
 use Rattle.card_sets.specs.declared.games.Game.{Game}
 use Rattle.line_text.specs.declared.amounts.AmountFault.TheVariants.{NotAmount, TooLarge}
 use Rattle.line_text.specs.Amounts.{Written, written, greatest, units_of, counted, digit_count, number_of}
-use Rattle.history_text.specs.declared.events.Header.{Header}
-use Rattle.history_text.specs.declared.events.BoardNumber.{BoardNumber}
-use Rattle.history_text.specs.declared.events.Event.{Event}
-use Rattle.history_text.specs.declared.events.Event.TheVariants as event
-use Rattle.history_text.specs.declared.events.Act.TheVariants.{Fold, Check, Call, Bet, Raise}
-use Rattle.history_text.specs.declared.events.Part.{Part}
-use Rattle.history_text.specs.declared.events.Part.TheVariants.{Preamble, Play, Summary as SummaryPart}
-use Rattle.history_text.specs.declared.events.PostKind.{PostKind}
-use Rattle.history_text.specs.declared.events.PotName.{PotName}
+use Rattle.hand_events.specs.declared.events.Header.{Header}
+use Rattle.hand_events.specs.declared.events.BoardNumber.{BoardNumber}
+use Rattle.hand_events.specs.declared.events.Event.{Event}
+use Rattle.hand_events.specs.declared.events.Event.TheVariants as event
+use Rattle.hand_events.specs.declared.events.Act.TheVariants.{Fold, Check, Call, Bet, Raise}
+use Rattle.hand_events.specs.declared.events.Part.{Part}
+use Rattle.hand_events.specs.declared.events.Part.TheVariants.{Preamble, Play, Summary as SummaryPart}
+use Rattle.hand_events.specs.declared.events.PostKind.{PostKind}
+use Rattle.hand_events.specs.declared.events.PotName.{PotName}
 use Rattle.card_sets.specs.declared.streets.Street.{Street}
-use Rattle.history_text.specs.declared.events.TextFault.{TextFault}
-use Rattle.history_text.specs.declared.events.TextFault.TheVariants.{Cancelled, BadMarker, BadAction, BadCards}
-use Rattle.history_text.specs.declared.events.Verb.{Verb}
-use Rattle.history_text.specs.declared.events.Verb.TheVariants.{PostsSmall, PostsBig, PostsBoth, PostsAnte, BringsIn, Folds, Checks, Calls, Bets, Raises, Shows, Mucks, DoesntShow, Discards, StandsPat, SitsOut, IsSittingOut}
+use Rattle.hand_events.specs.declared.events.TextFault.{TextFault}
+use Rattle.hand_events.specs.declared.events.TextFault.TheVariants.{Cancelled, BadMarker, BadAction, BadCards}
+use Rattle.history_text.specs.declared.verbs.Verb.{Verb}
+use Rattle.history_text.specs.declared.verbs.Verb.TheVariants.{PostsSmall, PostsBig, PostsBoth, PostsAnte, BringsIn, Folds, Checks, Calls, Bets, Raises, Shows, Mucks, DoesntShow, Discards, StandsPat, SitsOut, IsSittingOut}
 use Rattle.history_text.specs.Texts.{behind, cut_at, cut_last, last_place}
 use Rattle.history_text.specs.Reading.{◌>>=◌, ◌otherwise◌, or_fault, is_end, money, money_of, some_money, follows, all_in_end, seat_of, seat_front}
-use Rattle.history_text.specs.Names.{Fit, fit, longer, longest, front_name, seat_named, is_taken, is_seated}
+use Rattle.history_text.specs.Names.{Fit, fit, longer, longest, front_name}
+use Rattle.hand_events.specs.Names.{seat_named, is_taken, is_seated}
 use Rattle.card_sets.specs.Games.{has_bring_in, has_draw}
 use Rattle.card_sets.specs.Streets.{board_count}
 use Rattle.history_text.specs.Acts.{post, call, bet, raise, fold, show, discard, discard_behind, is_discarded, pat, said, act_event, at_end, perhaps_cards, behind_card}

@@ -7,16 +7,16 @@ use Rattle.std.proofs.lemmas.List.{take_at, drop_at}
 use Rattle.std.proofs.lemmas.Slice.Eq.{starts_is}
 use Rattle.line_text.specs.Amounts.{digit_count, has_point}
 use Rattle.line_text.proofs.CallerLemmas.{written_amount_is_read}
-use Rattle.history_text.specs.declared.events.Header.{Header}
-use Rattle.history_text.specs.declared.events.PostKind.{PostKind}
-use Rattle.history_text.specs.declared.events.PostKind.TheVariants.{Small, Big, Both, Ante, BringIn}
-use Rattle.history_text.specs.declared.events.Act.{Act as Deed}
-use Rattle.history_text.specs.declared.events.Act.TheVariants.{Fold, Check, Call, Bet, Raise}
-use Rattle.history_text.specs.declared.events.Event.TheVariants as event
+use Rattle.hand_events.specs.declared.events.Header.{Header}
+use Rattle.hand_events.specs.declared.events.PostKind.{PostKind}
+use Rattle.hand_events.specs.declared.events.PostKind.TheVariants.{Small, Big, Both, Ante, BringIn}
+use Rattle.hand_events.specs.declared.events.Act.{Act as Deed}
+use Rattle.hand_events.specs.declared.events.Act.TheVariants.{Fold, Check, Call, Bet, Raise}
+use Rattle.hand_events.specs.declared.events.Event.TheVariants as event
 use Rattle.history_text.specs.Texts.{behind}
 use Rattle.history_text.specs.Names.{Fit, fit, front_name}
 use Rattle.history_text.specs.NameLaws.{IsNotLonger, IsFitOf}
-use Rattle.history_text.specs.declared.events.TextFault.TheVariants.{BadAmount}
+use Rattle.hand_events.specs.declared.events.TextFault.TheVariants.{BadAmount}
 use Rattle.history_text.specs.Reading.{◌>>=◌, money, some_money, follows, all_in_end, money_of}
 use Rattle.history_text.specs.Acts.{verb_of, post, call, bet, raise, perhaps_cards, fold, said, act_event}
 use Rattle.history_text.specs.Written.{IsOneOf, IsNamed, IsLongest, IsPaid, all_in_text, IsPostOf, SaysPost, SaysAct}

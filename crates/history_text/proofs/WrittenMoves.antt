@@ -5,15 +5,15 @@ use Rattle.std.specs.Str.{bytes_eq}
 use Rattle.std.proofs.lemmas.Bool.{both_ways}
 use Rattle.std.proofs.lemmas.Slice.Eq.{bytes_eq-Decides}
 use Rattle.line_text.specs.Amounts.{number_of}
-use Rattle.history_text.specs.declared.events.Header.{Header}
-use Rattle.history_text.specs.declared.events.Part.{Part}
-use Rattle.history_text.specs.declared.events.Part.TheVariants.{Preamble, Play, Summary}
-use Rattle.history_text.specs.declared.events.PotName.{PotName}
-use Rattle.history_text.specs.declared.events.PotName.TheVariants.{Only, Main, Side, SideNumber}
-use Rattle.history_text.specs.declared.events.Event.TheVariants as event
+use Rattle.hand_events.specs.declared.events.Header.{Header}
+use Rattle.hand_events.specs.declared.events.Part.{Part}
+use Rattle.hand_events.specs.declared.events.Part.TheVariants.{Preamble, Play, Summary}
+use Rattle.hand_events.specs.declared.events.PotName.{PotName}
+use Rattle.hand_events.specs.declared.events.PotName.TheVariants.{Only, Main, Side, SideNumber}
+use Rattle.hand_events.specs.declared.events.Event.TheVariants as event
 use Rattle.history_text.specs.Texts.{behind, cut_last}
 use Rattle.history_text.specs.Reading.{follows, digits_front, seat_front, seat_of}
-use Rattle.history_text.specs.Names.{seat_named}
+use Rattle.hand_events.specs.Names.{seat_named}
 use Rattle.history_text.specs.Acts.{act_event}
 use Rattle.history_text.specs.Plays.{act_line, deal_line, return_line, give_back, collect_line, collect, pot_of, play_event}
 use Rattle.history_text.specs.Seats.{seat_opening, seat_digits, seat_event, seat_line, preamble_event}

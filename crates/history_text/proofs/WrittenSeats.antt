@@ -10,10 +10,10 @@ use Rattle.std.proofs.lemmas.Slice.Eq.{bytes_eq-Decides}
 use Rattle.line_text.specs.Amounts.{digit_count, greatest}
 use Rattle.line_text.specs.Written.{Sign, NoSign, Dollar, Euro, Pound, Writes, sign_text, two_digits}
 use Rattle.line_text.proofs.CallerLemmas.{decimal_numeral, digits_in_front, written_amount_is_read}
-use Rattle.history_text.specs.declared.events.Header.{Header}
-use Rattle.history_text.specs.declared.events.Event.TheVariants as event
+use Rattle.hand_events.specs.declared.events.Header.{Header}
+use Rattle.hand_events.specs.declared.events.Event.TheVariants as event
 use Rattle.history_text.specs.Texts.{behind, last_place, one_later, cut_at, cut_last}
-use Rattle.history_text.specs.Names.{is_taken}
+use Rattle.hand_events.specs.Names.{is_taken}
 use Rattle.history_text.specs.Reading.{money, money_of, follows, seat_front}
 use Rattle.history_text.specs.Seats.{seat_opening, free_name, seat_event, seat_line, preamble_event}
 use Rattle.history_text.specs.Written.{IsOneOf, MayBeSeated, SeatsAreRead}

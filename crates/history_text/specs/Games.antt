@@ -6,9 +6,9 @@ use Rattle.line_text.specs.Amounts.{Written}
 use Rattle.line_text.specs.Capped.{capped, kept_units}
 use Rattle.history_text.specs.declared.header.NamedGame.{NamedGame}
 use Rattle.history_text.specs.Headers.{Named, Found, staked}
-use Rattle.history_text.specs.declared.events.Header.{Header}
-use Rattle.history_text.specs.declared.events.Limit.{Limit}
-use Rattle.history_text.specs.declared.events.TextFault.{TextFault}
+use Rattle.hand_events.specs.declared.events.Header.{Header}
+use Rattle.hand_events.specs.declared.events.Limit.{Limit}
+use Rattle.hand_events.specs.declared.events.TextFault.{TextFault}
 
 abbrev pub seen_named : NamedGame → Named
 seen_named game = record { game = game.game; limit = game.limit; rest = game.rest.now }

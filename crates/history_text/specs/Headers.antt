@@ -6,11 +6,11 @@ use Rattle.std.specs.Str.{bytes_eq}
 use Rattle.card_sets.specs.declared.games.Game.{Game}
 use Rattle.card_sets.specs.Games.{all_games, header_name}
 use Rattle.line_text.specs.Amounts.{Written, written, units_of, greatest, digit_count}
-use Rattle.history_text.specs.declared.events.Header.{Header}
-use Rattle.history_text.specs.declared.events.Limit.{Limit}
-use Rattle.history_text.specs.declared.events.Limit.TheVariants.{NoLimit, PotLimit, Fixed}
-use Rattle.history_text.specs.declared.events.TextFault.{TextFault}
-use Rattle.history_text.specs.declared.events.TextFault.TheVariants.{BadHeader, UnknownGame, AmountTooLarge}
+use Rattle.hand_events.specs.declared.events.Header.{Header}
+use Rattle.hand_events.specs.declared.events.Limit.{Limit}
+use Rattle.hand_events.specs.declared.events.Limit.TheVariants.{NoLimit, PotLimit, Fixed}
+use Rattle.hand_events.specs.declared.events.TextFault.{TextFault}
+use Rattle.hand_events.specs.declared.events.TextFault.TheVariants.{BadHeader, UnknownGame, AmountTooLarge}
 use Rattle.history_text.specs.Texts.{behind, cut_first, cut_last}
 use Rattle.history_text.specs.Reading.{◌>>=◌, ◌otherwise◌, or_fault}
 use Rattle.history_text.specs.Acts.{first_opening}

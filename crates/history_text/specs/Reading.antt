@@ -5,8 +5,8 @@ use Rattle.line_text.specs.declared.amounts.Amount.{Amount}
 use Rattle.line_text.specs.declared.amounts.AmountFault.{AmountFault}
 use Rattle.line_text.specs.declared.amounts.AmountFault.TheVariants.{NotAmount, TooLarge}
 use Rattle.line_text.specs.Amounts.{amount_at, digit_count, number_of}
-use Rattle.history_text.specs.declared.events.TextFault.{TextFault}
-use Rattle.history_text.specs.declared.events.TextFault.TheVariants.{BadAmount, AmountTooLarge}
+use Rattle.hand_events.specs.declared.events.TextFault.{TextFault}
+use Rattle.hand_events.specs.declared.events.TextFault.TheVariants.{BadAmount, AmountTooLarge}
 use Rattle.history_text.specs.Texts.{behind}
 
 infixl 10 ◌>>=◌

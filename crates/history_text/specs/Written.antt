@@ -3,16 +3,16 @@ use Rattle.std.specs.Prelude.{◌≡◌, ℕ, ◌+◌, ◌≤◌, ◌<◌, ◌�
 use Rattle.card_sets.specs.declared.games.Game.{Game}
 use Rattle.line_text.specs.Amounts.{greatest}
 use Rattle.line_text.specs.Written.{Writes}
-use Rattle.history_text.specs.declared.events.Header.{Header}
-use Rattle.history_text.specs.declared.events.Part.{Part}
-use Rattle.history_text.specs.declared.events.Part.TheVariants.{Preamble, Play, Summary}
-use Rattle.history_text.specs.declared.events.PostKind.{PostKind}
-use Rattle.history_text.specs.declared.events.PostKind.TheVariants.{Small, Big, Both, Ante, BringIn}
-use Rattle.history_text.specs.declared.events.PotName.{PotName}
-use Rattle.history_text.specs.declared.events.PotName.TheVariants.{Only, Main, Side, SideNumber}
-use Rattle.history_text.specs.declared.events.Act.{Act as Deed}
-use Rattle.history_text.specs.declared.events.Act.TheVariants.{Fold, Check, Call, Bet, Raise}
-use Rattle.history_text.specs.declared.events.Event.TheVariants as event
+use Rattle.hand_events.specs.declared.events.Header.{Header}
+use Rattle.hand_events.specs.declared.events.Part.{Part}
+use Rattle.hand_events.specs.declared.events.Part.TheVariants.{Preamble, Play, Summary}
+use Rattle.hand_events.specs.declared.events.PostKind.{PostKind}
+use Rattle.hand_events.specs.declared.events.PostKind.TheVariants.{Small, Big, Both, Ante, BringIn}
+use Rattle.hand_events.specs.declared.events.PotName.{PotName}
+use Rattle.hand_events.specs.declared.events.PotName.TheVariants.{Only, Main, Side, SideNumber}
+use Rattle.hand_events.specs.declared.events.Act.{Act as Deed}
+use Rattle.hand_events.specs.declared.events.Act.TheVariants.{Fold, Check, Call, Bet, Raise}
+use Rattle.hand_events.specs.declared.events.Event.TheVariants as event
 use Rattle.history_text.specs.Texts.{behind, last_place}
 use Rattle.card_sets.specs.Games.{has_bring_in}
 use Rattle.history_text.specs.Seats.{seat_digits, button_line}

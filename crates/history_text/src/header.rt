@@ -7,7 +7,7 @@ ghost use Rattle.card_sets.specs.Games.{all_games};
 ghost use Rattle.history_text.specs.Games.{capped_stakes, kept_header, seen_found, seen_named};
 
 use crate::openings::{Opening, first_opening};
-use crate::texts::{behind, cut_first, cut_last};
+use crate::texts::{behind, cut_at_byte, cut_last};
 use crate::{Header, Limit, TextFault};
 use card_sets::Game;
 use line_text::{GREATEST, WrittenAmount, digit_count, written};
@@ -18,7 +18,7 @@ fn title(line: &[u8]) -> Option<(&[u8], &[u8])>
     ensures value { option_map (λ cut. (cut.0.now, cut.1.now)) result ≡ title line.now }
     ensures length { IfSome result (λ cut. length cut.1.now ≤ length line.now) }
 {
-    cut_first(behind(line, b"PokerStars ")?, b"#")
+    cut_at_byte(behind(line, b"PokerStars ")?, b'#')
 }
 
 /// Whether the bytes are letters and spaces.
@@ -149,12 +149,30 @@ fn named_game(text: &[u8]) -> Option<NamedGame<'_>>
     game_at(Game::all(), text)
 }
 
-/// The first place at which a game and a limit stand.
+/// Whether a game's name begins with a byte.
+fn begins_name(byte: u8) -> bool
+    ensures { result
+        ≡ (byte == 72 || byte == 79 || byte == 55 || byte == 82 || byte == 53 || byte == 83
+        || byte == 84) }
+{
+    byte == b'H'
+        || byte == b'O'
+        || byte == b'7'
+        || byte == b'R'
+        || byte == b'5'
+        || byte == b'S'
+        || byte == b'T'
+}
+
+/// The first place at which a game and a limit stand. Names are looked for only where one may begin.
 fn first_game(text: &[u8]) -> Option<(usize, NamedGame<'_>)>
     ensures value { option_map seen_found result ≡ first_game text.now }
     ensures place { IfSome result (λ found. found.0 ≤ length text.now) }
 {
     for place in 0..text.len() {
+        if !begins_name(text[place]) {
+            continue;
+        }
         let (_, rest) = text.split_at(place);
         if let Some(game) = named_game(rest) {
             return Some((place, game));

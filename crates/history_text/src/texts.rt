@@ -1,10 +1,10 @@
 //! Fronts and cuts of texts.
 
-ghost use Rattle.std.specs.Prelude.{◌≡◌, ◌<◌, ◌≤◌, ◌+◌, true, false, nat_eq, option_map, drop, length, IfSome};
+ghost use Rattle.std.specs.Prelude.{◌≡◌, ◌<◌, ◌≤◌, ◌+◌, [], ◌∷◌, true, false, nat_eq, option_map, drop, length, IfSome};
 ghost use Rattle.std.specs.List.{starts_with};
 ghost use Rattle.history_text.specs.Texts.{behind, first_place, last_place, cut_first, cut_last};
 
-use memchr::memmem;
+use memchr::{memchr, memmem};
 
 /// Whether the first two bytes differ, or the first alone where there is one, so that the text can't begin with
 /// the front.
@@ -32,15 +32,6 @@ pub(crate) fn behind<'a>(text: &'a [u8], front: &[u8]) -> Option<&'a [u8]>
     text.strip_prefix(front)
 }
 
-/// The first place at which a mark stands.
-fn first_place(text: &[u8], mark: &[u8]) -> Option<usize>
-    requires { 0 < length mark.now }
-    ensures value { result ≡ first_place mark.now text.now }
-    ensures within { IfSome result (λ place. place + length mark.now ≤ length text.now) }
-{
-    memmem::find(text, mark)
-}
-
 /// Whether a mark stands at a place.
 fn stands_at(text: &[u8], mark: &[u8], place: usize) -> bool
     requires { place ≤ length text.now }
@@ -50,15 +41,41 @@ fn stands_at(text: &[u8], mark: &[u8], place: usize) -> bool
     !begin_apart(rest, mark) && rest.starts_with(mark)
 }
 
-/// The last place at which a mark stands. Texts are short, so the places are tried one by one from the end.
+/// The first place at which a mark stands. Often it stands at the front, so that is looked at first.
+fn first_place(text: &[u8], mark: &[u8]) -> Option<usize>
+    requires { 0 < length mark.now }
+    ensures value { result ≡ first_place mark.now text.now }
+    ensures within { IfSome result (λ place. place + length mark.now ≤ length text.now) }
+{
+    if stands_at(text, mark, 0) {
+        return Some(0);
+    }
+    memmem::find(text, mark)
+}
+
+/// The first place of a byte.
+fn first_byte(text: &[u8], byte: u8) -> Option<usize>
+    ensures value { result ≡ first_place (byte ∷ []) text.now }
+    ensures within { IfSome result (λ place. place < length text.now) }
+{
+    memchr(byte, text)
+}
+
+/// The last place at which a mark stands. Texts are short, so the places are tried one by one from the end, most by
+/// the mark's first byte alone.
 fn last_place(text: &[u8], mark: &[u8]) -> Option<usize>
     requires { 0 < length mark.now }
     ensures value { result ≡ last_place mark.now text.now }
     ensures within { IfSome result (λ place. place + length mark.now ≤ length text.now) }
 {
+    let first = mark[0];
     let mut place = (text.len() + 1).saturating_sub(mark.len());
     'places: while place > 0 {
         place -= 1;
+        let byte = text[place];
+        if byte != first {
+            continue;
+        }
         if stands_at(text, mark, place) {
             return Some(place);
         }
@@ -77,6 +94,18 @@ pub(crate) fn cut_first<'a>(text: &'a [u8], mark: &[u8]) -> Option<(&'a [u8], &'
 {
     let place = first_place(text, mark)?;
     Some((&text[..place], &text[place + mark.len()..]))
+}
+
+/// What stands before the first place of a byte, and what stands behind it.
+#[tactic(auto, unfolding(crate::specs::Texts::cut_first))]
+pub(crate) fn cut_at_byte(text: &[u8], byte: u8) -> Option<(&[u8], &[u8])>
+    ensures value { option_map (λ cut. (cut.0.now, cut.1.now)) result
+        ≡ cut_first (byte ∷ []) text.now }
+    ensures lengths { IfSome result (λ cut.
+        length cut.0.now + 1 + length cut.1.now ≡ length text.now) }
+{
+    let place = first_byte(text, byte)?;
+    Some((&text[..place], &text[place + 1..]))
 }
 
 /// What stands before the last place at which a mark stands, and what stands behind the mark.

@@ -63,6 +63,14 @@ front_line-found xs None h = sym (front_line-all xs (λ j l. h j (omega arith) l
 front_line-found xs (Some k) h =
     sym (front_line-first xs k h.0.high (λ j l. h.0.before j (omega arith) l) h.1)
 
+-- it is empty where a newline is the first byte, or where there is none
+pub front_line-newline : (xs rest : List ℕ) (byte : ℕ) → xs ≡ byte ∷ rest → byte ≡ 10 → 0 ≡ length (front_line xs)
+front_line-newline xs rest byte whole newline = rw (whole, newline) refl
+
+pub front_line-none : (xs : List ℕ) → length xs ≡ 0 → 0 ≡ length (front_line xs)
+front_line-none [] none = refl
+front_line-none (x ∷ xs) none = absurd (omega arith)
+
 -- the front line is cut off first
 pub cut_lines-front : (x : ℕ) (xs : List ℕ)
     → cut_lines (x ∷ xs) ≡ front_line (x ∷ xs) ∷ cut_lines (behind_line (x ∷ xs))

@@ -59,11 +59,17 @@ pub fn text_of(line: &[u8]) -> &[u8]
     &text[..length_without_blanks(text)]
 }
 
-/// How many bytes stand before the first newline.
+/// How many bytes stand before the first newline. An empty line's is at the front, and isn't searched for.
 fn front_line_length(bytes: &[u8]) -> usize
     ensures value { result ≡ length (front_line bytes.now) }
     ensures within { result ≤ length bytes.now }
 {
+    let Some((first, _others)) = bytes.split_first() else {
+        return 0;
+    };
+    if *first == b'\n' {
+        return 0;
+    }
     memchr(b'\n', bytes).unwrap_or(bytes.len())
 }
 

@@ -99,7 +99,7 @@ no-eight fives are e = one (map low_a5 (filter qualifies fives)) (AreAceLists-fi
 turned_small : (n : ℕ) → turned n ≤ 4294967295
 turned_small n = omega arith
 
-eight_turned-le : (fives : List (List ℕ)) → greatest (map eight_turned fives) ≤ 4294967295
+pub eight_turned-le : (fives : List (List ℕ)) → greatest (map eight_turned fives) ≤ 4294967295
 eight_turned-le [] = omega arith
 eight_turned-le (five ∷ fives) = omega (arith, one (qualifies five), eight_turned-le fives)
   where

@@ -8,3 +8,5 @@ pub use Rattle.omaha_ranks.proofs.BestFives.{placed-passing, few_own, few_board}
 pub use Rattle.omaha_ranks.proofs.TwoParts.{ranks_or_a_suit, ranks_decide}
 -- Own cards and boards with the same ranks have the same low.
 pub use Rattle.omaha_ranks.proofs.LowRanks.{low_ranks_decide}
+-- By ranks alone, and as a low, own cards are worth with a board what they are worth with the best three of its cards.
+pub use Rattle.omaha_ranks.proofs.BestThrees.{placed-part, best_by_threes, threes_decide, low_threes_decide, no_low, some_low}

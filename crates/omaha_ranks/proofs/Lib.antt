@@ -6,3 +6,4 @@ pub mod TwoParts
 pub mod LowCards
 pub mod ValuesBeside
 pub mod LowRanks
+pub mod BestThrees

@@ -98,7 +98,7 @@ ranks_decide own board o b placed others same_own same_board =
     omega (arith, plain-five own board placed, plain-five o b others, decide-most own board o b placed others e f, decide-most o b own board others placed (sym e) (sym f))
 
 -- the choices of so many have the same greatest number where each has the same number
-greatest-parts : (k : ℕ) (xs : List ℕ) (f g : List ℕ → ℕ) → ((part : List ℕ) → length part ≡ k → IsPart part xs → f part ≡ g part) → greatest (map f (choose k xs)) ≡ greatest (map g (choose k xs))
+pub greatest-parts : (k : ℕ) (xs : List ℕ) (f g : List ℕ → ℕ) → ((part : List ℕ) → length part ≡ k → IsPart part xs → f part ≡ g part) → greatest (map f (choose k xs)) ≡ greatest (map g (choose k xs))
 greatest-parts k xs f g h =
     let less : greatest (map f (choose k xs)) ≤ greatest (map g (choose k xs)) = greatest_most k xs f (greatest (map g (choose k xs))) (λ part e p. omega (arith, h part e p, greatest_least k xs g part e p)) in
     let more : greatest (map g (choose k xs)) ≤ greatest (map f (choose k xs)) = greatest_most k xs g (greatest (map f (choose k xs))) (λ part e p. omega (arith, h part e p, greatest_least k xs f part e p)) in

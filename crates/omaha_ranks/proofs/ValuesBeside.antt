@@ -25,7 +25,7 @@ abbrev pub five_worth : Side → List ℕ → ℕ
 five_worth High five = plain_number five
 five_worth Low five = eight_turned five
 
-low_worths : (ls : List (List ℕ)) → AreAceLists ls → low_worth (option_map ace_number (least_of ls)) ≡ greatest (map ace_turned ls)
+pub low_worths : (ls : List (List ℕ)) → AreAceLists ls → low_worth (option_map ace_number (least_of ls)) ≡ greatest (map ace_turned ls)
 low_worths [] p = refl
 low_worths (l ∷ ls) p = let least = least_of-IsLeast l ls p in ap (λ o. low_worth (option_map ace_number o)) least.is ∙ least.turned
 

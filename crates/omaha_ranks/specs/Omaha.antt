@@ -2,11 +2,13 @@
 use Rattle.std.specs.Prelude.{◌≡◌, ◌<◌, true, ℕ, Bool, ◌||◌, nat_lt, List, map, filter, max, Option}
 use Rattle.std.specs.Option.{option_map}
 use Rattle.card_sets.specs.Cards.{IsCardSet}
+use Rattle.card_sets.specs.Choose.{choose}
 use Rattle.card_sets.specs.Disjoint.{apart}
 use Rattle.card_sets.specs.Games.{two_and_three}
 use Rattle.rank_high.specs.High.{high, value_of, greatest_of, count_of_rank}
 use Rattle.rank_high.specs.Parts.{of_suit, plain_high}
 use Rattle.rank_low.specs.Low.{low_a5, qualifies, least_of, ace_number}
+use Rattle.omaha_ranks.specs.Worth.{greatest_number, low_worth}
 
 -- the number of the best of some fives as a high
 abbrev pub high_number : List (List ℕ) → ℕ
@@ -64,6 +66,18 @@ RanksDecide = (own board other_own other_board : List ℕ) → ArePlaced own boa
 abbrev pub LowRanksDecide : Type 0
 LowRanksDecide = (own board other_own other_board : List ℕ) → ArePlaced own board → ArePlaced other_own other_board → SameRanks own other_own → SameRanks board other_board
     → eight_number (fives own board) ≡ eight_number (fives other_own other_board)
+
+-- the greatest number that three cards of a board have
+abbrev pub best_three : (List ℕ → ℕ) → List ℕ → ℕ
+best_three number board = greatest_number (map number (choose 3 board))
+
+-- by ranks alone a board is worth what the best three of its cards are worth
+abbrev pub ThreesDecide : Type 0
+ThreesDecide = (own board : List ℕ) → ArePlaced own board → value_of (omaha_plain own board) ≡ best_three (λ three. value_of (omaha_plain own three)) board
+
+-- as a low, turned round so that greater is better and 0 is for none, it is too
+abbrev pub LowThreesDecide : Type 0
+LowThreesDecide = (own board : List ℕ) → ArePlaced own board → low_worth (eight_number (fives own board)) ≡ best_three (λ three. low_worth (eight_number (fives own three))) board
 
 -- only cards from ace to eight make a low
 abbrev pub OnlyLowCards : Type 0

@@ -1,6 +1,6 @@
 //! What a high and a low depend on.
 
-ghost use Rattle.omaha_ranks.specs.Omaha.{IsByRanksOrSuit, RanksDecide, LowRanksDecide, OnlyLowCards};
+ghost use Rattle.omaha_ranks.specs.Omaha.{IsByRanksOrSuit, RanksDecide, ThreesDecide, LowRanksDecide, LowThreesDecide, OnlyLowCards};
 
 /// The best high of two own cards and three of the board is the best by ranks alone, or the best of
 /// one suit.
@@ -13,9 +13,19 @@ pub fn law_ranks_decide()
     ensures { RanksDecide }
 {}
 
+/// By their ranks alone own cards are worth with a board what they are worth with the best three of its cards.
+pub fn law_best_three()
+    ensures { ThreesDecide }
+{}
+
 /// Own cards and boards with the same ranks have the same low.
 pub fn law_ranks_decide_lows()
     ensures { LowRanksDecide }
+{}
+
+/// As a low too own cards are worth with a board what they are worth with the best three of its cards.
+pub fn law_best_three_lows()
+    ensures { LowThreesDecide }
 {}
 
 /// Only the cards from ace to eight make a low of eight or better.

@@ -16,7 +16,9 @@
 //!
 //! Six bounds are worked out at the least, and 60 fives with theirs at the most. [`omaha_plain_value`] and
 //! [`omaha_suited_value`] are the two parts of a high, for a caller who keeps the first by ranks: own cards
-//! and boards with the same ranks have the same one. Nothing here takes memory, or knows of whom a hand is.
+//! and boards with the same ranks have the same one, and a board has that of the best three of its cards.
+//! So a caller may keep it by three ranks, and a low too. Nothing here takes memory, or knows of whom a
+//! hand is.
 #![tactic(auto)]
 
 mod best_choice;
@@ -24,5 +26,8 @@ mod best_five;
 mod laws;
 mod omaha;
 
-pub use laws::{law_only_low_cards, law_ranks_decide, law_ranks_decide_lows, law_ranks_or_a_suit};
+pub use laws::{
+    law_best_three, law_best_three_lows, law_only_low_cards, law_ranks_decide,
+    law_ranks_decide_lows, law_ranks_or_a_suit,
+};
 pub use omaha::{omaha_high, omaha_low, omaha_plain_value, omaha_suited_value};

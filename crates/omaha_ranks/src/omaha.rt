@@ -38,11 +38,12 @@ pub fn omaha_suited_value(own: CardSet, board: CardSet, suit: u8) -> u32
     best_high(two_and_three(own, board))
 }
 
-/// The number of the best high of four own cards and five of the board by their ranks alone, as if
-/// there were no flushes.
+/// The number of the best high of four own cards and three to five of the board by their ranks alone, as
+/// if there were no flushes.
 pub fn omaha_plain_value(own: CardSet, board: CardSet) -> u32
     requires own { length own ≡ 4 }
-    requires board { length board ≡ 5 }
+    requires least { 3 ≤ length board }
+    requires most { length board ≤ 5 }
     requires apart { IsTrue (apart own board) }
     ensures { result ≡ value_of (omaha_plain own board) }
 {
@@ -80,11 +81,12 @@ fn low_cards(s: CardSet) -> CardSet
     s.minus(deck.above(eight).minus(deck.above(king)))
 }
 
-/// The number of the best low of eight or better of four own cards and five of the board. None
+/// The number of the best low of eight or better of four own cards and three to five of the board. None
 /// exactly where no five qualify.
 pub fn omaha_low(own: CardSet, board: CardSet) -> Option<u32>
     requires own { length own ≡ 4 }
-    requires board { length board ≡ 5 }
+    requires least { 3 ≤ length board }
+    requires most { length board ≤ 5 }
     requires apart { IsTrue (apart own board) }
     ensures { result ≡ eight_number (fives own board) }
 {

@@ -4,7 +4,7 @@ use Rattle.std.specs.Int.{bit_at}
 use Rattle.std.proofs.Math.Pow.{pow_mono}
 use Rattle.std.proofs.lemmas.Nat.{pow_pos}
 use Rattle.std.proofs.lemmas.Nat.Bits.{bit_at_mask_inside}
-use Rattle.report_table.specs.Spots.{every_hand}
+use Rattle.report_sheet.specs.SpotLines.{every_hand}
 use Rattle.showdown_tally.proofs.CallerLemmas.{hands_short}
 use Rattle.card_sets.specs.PlayerSets.{hands_below, hands_of}
 

@@ -4,13 +4,13 @@ use Rattle.std.specs.Prelude.{not, count_by}
 use Rattle.std.specs.List.{flat_map, list_any}
 use Rattle.std.proofs.lemmas.List.Concat.{flat_map-cons}
 use Rattle.std.proofs.lemmas.List.Sums.{sum_by_push, sum_by-cons}
-use Rattle.hand_audit.specs.declared.verdicts.AllIn.{AllIn}
-use Rattle.hand_audit.specs.declared.verdicts.HandAudit.{HandAudit}
-use Rattle.hand_audit.specs.declared.verdicts.HandAudit.TheVariants.{Rejected, Accepted}
-use Rattle.hand_audit.specs.declared.cause.Cause.{Cause}
-use Rattle.hand_audit.specs.declared.seat_chips.AuditedChips.{AuditedChips}
-use Rattle.hand_audit.specs.declared.seat_chips.SeatChips.{SeatChips}
-use Rattle.hand_audit.specs.declared.settlement.Settlement.{Settlement}
+use Rattle.hand_verdict.specs.declared.verdicts.AllIn.{AllIn}
+use Rattle.hand_verdict.specs.declared.verdicts.HandAudit.{HandAudit}
+use Rattle.hand_verdict.specs.declared.verdicts.HandAudit.TheVariants.{Rejected, Accepted}
+use Rattle.hand_verdict.specs.declared.cause.Cause.{Cause}
+use Rattle.hand_verdict.specs.declared.seat_chips.AuditedChips.{AuditedChips}
+use Rattle.hand_verdict.specs.declared.seat_chips.SeatChips.{SeatChips}
+use Rattle.hand_verdict.specs.declared.settlement.Settlement.{Settlement}
 use Rattle.report_table.specs.Balance.{RunBalance, audits_of, balance_by, balance_in, balance_of, balance_over, no_balance, seat_balance, seated_balance}
 use Rattle.report_table.specs.BalanceSeen.{balance_is_sums, both}
 use Rattle.report_table.specs.Hands.{Seated}

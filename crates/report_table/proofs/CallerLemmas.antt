@@ -1,9 +1,8 @@
 -- The lemmas on the report that crates above may cite.
 
--- Words behind words, and no words.
-pub use Rattle.report_table.proofs.SheetFacts.{no_words, then_words, words_more}
--- Words that end make a line, with a name or without.
-pub use Rattle.report_table.proofs.SheetFacts.{line_ends, named_line, plain_line}
--- Lines behind lines, and the lines of each hand or pot where those of each are the same.
-pub use Rattle.report_table.proofs.SheetFacts.{then_lines}
-pub use Rattle.report_table.proofs.SumsBelow.{every_same}
+-- Names that are the same, the players of some hands each once, and that none of these is another.
+pub use Rattle.report_table.proofs.NameFacts.{same_congr, same_name}
+pub use Rattle.report_table.proofs.RunFacts.{any_once}
+pub use Rattle.report_table.proofs.TotalLaws.{distinct_once}
+-- The equity of a deal that is counted is its count.
+pub use Rattle.report_table.proofs.StreetFacts.{count_of}

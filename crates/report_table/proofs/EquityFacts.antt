@@ -13,20 +13,21 @@ use Rattle.card_sets.specs.declared.games.Game.{Game}
 use Rattle.card_sets.specs.declared.games.Game.TheVariants.{Holdem, Omaha, Omaha8, Stud, Stud8, Razz, Draw5, Lowball27, Triple27}
 use Rattle.card_sets.specs.declared.games.Side.{Side}
 use Rattle.card_sets.specs.declared.games.Side.TheVariants.{High, Low}
-use Rattle.equity_job.specs.Jobs.{IsDeckShort, IsAboveLimit}
-use Rattle.hand_audit.specs.declared.settlement.PotLine.{PotLine}
-use Rattle.hand_audit.specs.declared.settlement.Settlement.{Settlement}
+use Rattle.runout_ranges.specs.Jobs.{IsDeckShort, IsAboveLimit}
+use Rattle.hand_verdict.specs.declared.settlement.PotLine.{PotLine}
+use Rattle.hand_verdict.specs.declared.settlement.Settlement.{Settlement}
 use Rattle.card_sets.specs.declared.streets.Street.{Street}
 use Rattle.runout_ranges.specs.Slots.{unseen, slots, counts_of}
 use Rattle.runout_ranges.specs.Ways.{ways}
 use Rattle.report_table.specs.Equities.{IsFull}
 use Rattle.report_table.specs.HandEquities.{Figures, above_line, counted_all_in, full_figures, given_to, gross_of, hand_expect, known_all_in, player_lines, player_name, pot_equities, pot_equity, pot_hand_lines, short_line, tally_figures}
 use Rattle.report_table.specs.Hands.{Seated}
-use Rattle.report_table.specs.Lines.{line_in}
-use Rattle.equity_job.specs.declared.limits.TheConstants.{RUNOUT_MAX}
-use Rattle.report_table.specs.Spots.{every_hand}
-use Rattle.report_table.specs.declared.equity.Form.{Form}
-use Rattle.report_table.proofs.SumsBelow.{every_same, hands_same, sums_same}
+use Rattle.report_sheet.specs.Lines.{line_in}
+use Rattle.runout_ranges.specs.declared.limits.TheConstants.{RUNOUT_MAX}
+use Rattle.report_sheet.specs.SpotLines.{every_hand}
+use Rattle.report_sheet.specs.declared.form.Form.{Form}
+use Rattle.report_sheet.proofs.CallerLemmas.{every_same}
+use Rattle.report_table.proofs.SumsBelow.{hands_same, sums_same}
 use Rattle.report_table.proofs.SpotFacts.{some_runout}
 use Rattle.showdown_tally.specs.Cells.{Sums, units_at}
 use Rattle.showdown_tally.specs.Showdown.{Showdown, eligible_in, is_among, part_of, units, units_by_sides, winners}

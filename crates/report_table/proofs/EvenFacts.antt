@@ -4,9 +4,9 @@ use Rattle.std.specs.Prelude.{None, Some}
 use Rattle.std.specs.List.{sum_by}
 use Rattle.std.specs.Option.{option_map_or}
 use Rattle.std.proofs.lemmas.List.Sums.{sum_by-cons}
-use Rattle.hand_audit.specs.Nets.{got_by, got_of}
-use Rattle.hand_audit.specs.declared.settlement.PotLine.{PotLine}
-use Rattle.hand_audit.specs.declared.settlement.Settlement.{Settlement}
+use Rattle.hand_verdict.specs.SeatSums.{got_by, got_of}
+use Rattle.hand_verdict.specs.declared.settlement.PotLine.{PotLine}
+use Rattle.hand_verdict.specs.declared.settlement.Settlement.{Settlement}
 use Rattle.report_table.specs.ExpectLaws.{EvenAddsUp, GivesAll, got_of_all, held_by_all}
 use Rattle.report_table.specs.HandEquities.{every_pot, gross_of}
 use Rattle.report_table.specs.Results.{contenders, even_got, known_even, shared_pots}

@@ -6,14 +6,14 @@ use Rattle.std.proofs.lemmas.List.{length-map}
 use Rattle.std.proofs.lemmas.List.Sums.{sum_by-append, sum_by-cons}
 use Rattle.card_sets.specs.PlayerSets.{has_player, hands_below, hands_of, all_within}
 use Rattle.card_sets.specs.declared.games.Side.TheVariants.{High, Low}
-use Rattle.hand_audit.specs.declared.settlement.PotLine.{PotLine}
+use Rattle.hand_verdict.specs.declared.settlement.PotLine.{PotLine}
 use Rattle.showdown_tally.specs.Laws.{AddUp}
 use Rattle.showdown_tally.specs.Showdown.{Showdown, eligible_in, is_among, units, units_by_sides, winners}
 use Rattle.showdown_tally.specs.Tallies.{runouts_after, units_over}
 use Rattle.showdown_tally.proofs.CallerLemmas.{among_hands, eligible_pot, among_passed}
 use Rattle.report_table.specs.ExpectLaws.{GivesAll, given_to_all}
 use Rattle.report_table.specs.HandEquities.{every_pot, gross_of}
-use Rattle.report_table.specs.Spots.{every_hand}
+use Rattle.report_sheet.specs.SpotLines.{every_hand}
 use Rattle.report_table.proofs.SumsBelow.{sums_same}
 
 -- sums of zeros, of sums, of multiples and of equals

@@ -1,5 +1,4 @@
 pub mod SumsBelow
-pub mod SheetFacts
 pub mod ReadBackFacts
 pub mod ExpectFacts
 pub mod AloneFacts
@@ -18,5 +17,4 @@ pub mod BalanceLaws
 pub mod StreetFacts
 pub mod EvenFacts
 pub mod ResultFacts
-pub mod SettleFacts
 pub mod CallerLemmas

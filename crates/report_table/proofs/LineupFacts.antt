@@ -12,7 +12,7 @@ use Rattle.std.proofs.lemmas.Bool.{cases_Bool}
 use Rattle.std.proofs.lemmas.List.{length-map, length-take, map_push, take-append-drop, take-append-le}
 use Rattle.std.proofs.lemmas.List.Elements.{filter-append}
 use Rattle.std.proofs.lemmas.Option.{slice_get-map, slice_get_read, slice_get_within}
-use Rattle.history_text.specs.Names.{seat_named}
+use Rattle.hand_events.specs.Names.{seat_named}
 use Rattle.report_table.specs.Hands.{Seated}
 use Rattle.report_table.specs.SumsSeen.{AllAreOf, AreSums, seated_share, with_given, with_more, with_player, with_players}
 use Rattle.report_table.specs.Totals.{Player, playing, same_player}

@@ -4,10 +4,10 @@ use Rattle.std.specs.Prelude.{slice_get}
 use Rattle.std.specs.List.{list_any}
 use Rattle.std.proofs.lemmas.List.{flat_map_more}
 use Rattle.report_table.proofs.LineupFacts.{none_taken, taken}
-use Rattle.report_table.specs.Lines.{Line, line_in}
+use Rattle.report_sheet.specs.Lines.{Line, line_in}
 use Rattle.report_table.specs.SumsSeen.{lines_of, with_player}
 use Rattle.report_table.specs.Totals.{Player, same_player}
-use Rattle.report_table.specs.declared.equity.Form.{Form}
+use Rattle.report_sheet.specs.declared.form.Form.{Form}
 
 -- a player who has sums gets none, and another gets those of no hand at the end
 pub player_there : {S : Type 0} (nothing : S) (player : Player) (entries : List (Player × S)) → list_any (λ entry. same_player player entry.0) entries ≡ true → entries ≡ with_player nothing entries player

@@ -7,7 +7,7 @@ use Rattle.csv.specs.Reading.{default_config}
 use Rattle.csv.specs.Writing.{default_writer, read_back, row_text}
 use Rattle.csv.specs.declared.parser.State.TheVariants as state
 use Rattle.csv.proofs.RoundTrip.{read-write}
-use Rattle.report_table.specs.Lines.{Line, plain, named, line_in, thirteen}
+use Rattle.report_sheet.specs.Lines.{Line, plain, named, line_in, thirteen}
 use Rattle.report_table.specs.ReadBack.{IsReadBack, HasThirteen}
 
 -- a record has a field, so it is no blank line

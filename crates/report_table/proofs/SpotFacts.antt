@@ -11,10 +11,11 @@ use Rattle.card_sets.specs.declared.games.Side.{Side}
 use Rattle.card_sets.specs.declared.games.Side.TheVariants.{High, Low}
 use Rattle.runout_ranges.specs.Slots.{unseen, slots, counts_of}
 use Rattle.runout_ranges.proofs.CallerLemmas.{length_runouts, ways_some}
-use Rattle.report_table.proofs.SumsBelow.{every_same}
-use Rattle.report_table.specs.Lines.{line_in}
-use Rattle.report_table.specs.declared.equity.Form.{Form}
-use Rattle.report_table.specs.Spots.{alone, counted_block, counted_line, every_hand, hand_lines}
+use Rattle.report_sheet.proofs.CallerLemmas.{every_same}
+use Rattle.report_sheet.specs.Lines.{line_in}
+use Rattle.report_sheet.specs.declared.form.Form.{Form}
+use Rattle.report_table.specs.Spots.{alone, counted_block, counted_line}
+use Rattle.report_sheet.specs.SpotLines.{every_hand, hand_lines}
 use Rattle.showdown_tally.specs.Cells.{Sums, cell_at, units_at}
 use Rattle.showdown_tally.specs.Tallies.{Counts, cell_over, units_over, runouts_after}
 use Rattle.showdown_tally.specs.declared.cells.Cell.{Cell}

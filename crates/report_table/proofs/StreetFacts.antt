@@ -1,38 +1,30 @@
 -- The lines of a street behind an all-in, from a tally of all its runouts.
-use Rattle.std.proofs.Common.{◌≡◌, ℕ, ◌<◌, Bool, true, false, List, if◌then◌else◌, take, codes, ap, sym, refl, ◌∙◌, arith}
+use Rattle.std.proofs.Common.{◌≡◌, ℕ, Bool, true, false, List, take, sym, refl, ◌∙◌, arith, inl, inr}
+use Rattle.std.proofs.lemmas.Bool.{cases_lt}
+use mathlib.Core.Bool.{true≢false}
 use Rattle.std.proofs.lemmas.List.{length-take}
 use Rattle.card_sets.specs.State.{state_of}
 use Rattle.card_sets.specs.declared.streets.Street.{Street}
-use Rattle.report_table.specs.Equities.{IsFull}
+use Rattle.report_table.specs.Equities.{IsCountOf, IsEquityOf, IsFull}
 use Rattle.report_table.specs.HandEquities.{full_figures, tally_figures}
 use Rattle.report_table.specs.Hands.{Seated}
-use Rattle.report_table.specs.Lines.{line_in}
-use Rattle.report_table.specs.Streets.{counted_street, known_street, word_line}
+use Rattle.report_table.specs.Streets.{counted_street}
 use Rattle.report_table.specs.Totals.{is_counted}
-use Rattle.report_table.specs.declared.equity.Form.{Form}
+use Rattle.report_sheet.specs.declared.form.Form.{Form}
+use Rattle.report_table.specs.declared.equity.Equity.{Equity}
+use Rattle.report_table.specs.declared.equity.Equity.TheVariants.{NotAsked, Refused, Counted}
 use Rattle.report_table.proofs.EquityFacts.{Agree-full, pots_same}
-use Rattle.report_table.proofs.SumFacts.{counted_some}
+use Rattle.report_table.proofs.SumFacts.{counted_none, counted_refused}
 use Rattle.showdown_tally.specs.Cells.{Sums}
 use Rattle.showdown_tally.specs.Deals.{deal_of}
 use Rattle.showdown_tally.specs.Showdown.{Showdown}
 use Rattle.showdown_tally.specs.declared.table.Table.{Table}
 
--- a street that isn't counted is refused
-pub street_refused : (form : Form) (names : Seated) (seats : List ℕ) (street : Street) (deal : Showdown) → is_counted deal ≡ false →
-    line_in form (word_line street (codes "refused")) ≡ known_street form names seats street deal
-unfolding known_street
-street_refused form names seats street deal none =
-    sym (ap (λ (b : Bool). if b then counted_street form names seats street deal (full_figures deal) else line_in form (word_line street (codes "refused"))) none)
+no_count : (b : Bool) → b ≡ true → b ≡ false → ⊥
+no_count b so not_so = true≢false (sym so ∙ not_so)
 
--- one that is has its pots
-street_counted : (form : Form) (names : Seated) (seats : List ℕ) (street : Street) (deal : Showdown) → is_counted deal ≡ true →
-    counted_street form names seats street deal (full_figures deal) ≡ known_street form names seats street deal
-unfolding known_street
-street_counted form names seats street deal some =
-    sym (ap (λ (b : Bool). if b then counted_street form names seats street deal (full_figures deal) else line_in form (word_line street (codes "refused"))) some)
-
--- a tally of all runouts, of which there is one or more, gives the lines of the full listing
-street_same : (form : Form) (names : Seated) (seats : List ℕ) (street : Street) (table : Table) (sums : Sums) → IsFull (deal_of table) sums →
+-- a tally of all runouts gives the lines of the full listing
+pub street_same : (form : Form) (names : Seated) (seats : List ℕ) (street : Street) (table : Table) (sums : Sums) → IsFull (deal_of table) sums →
     counted_street form names seats street (deal_of table) (tally_figures sums) ≡ counted_street form names seats street (deal_of table) (full_figures (deal_of table))
 unfolding counted_street
 street_same form names seats street table sums full =
@@ -42,7 +34,14 @@ street_same form names seats street table sums full =
     (omega (arith, length-take table.pots table.eligible)) same in
     rw (pots, same.all) refl
 
-pub street_full : (form : Form) (names : Seated) (seats : List ℕ) (street : Street) (table : Table) (sums : Sums) → IsFull (deal_of table) sums → 0 < sums.runouts →
-    counted_street form names seats street (deal_of table) (tally_figures sums) ≡ known_street form names seats street (deal_of table)
-street_full form names seats street table sums full some =
-    street_same form names seats street table sums full ∙ street_counted form names seats street (deal_of table) (counted_some (deal_of table) sums full some)
+-- the equity of a deal that is counted is its count
+pub count_of : (deal : Showdown) (equity : Equity) → is_counted deal ≡ true → IsEquityOf deal equity → IsCountOf deal equity
+count_of deal NotAsked counted is = is
+count_of deal (Refused fault) counted is = absurd (no_count (is_counted deal) counted (counted_refused deal fault is))
+count_of deal (Counted sums) counted full = (
+  full,
+  elim (cases_lt 0 sums.runouts) [
+    | inl some ↦ some
+    | inr none ↦ absurd (no_count (is_counted deal) counted (counted_none deal sums full (omega (arith, none))))
+  ],
+)

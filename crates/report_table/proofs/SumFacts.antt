@@ -4,16 +4,16 @@ use Rattle.std.specs.Prelude.{nat_lt}
 use Rattle.std.specs.Option.{option_map_or}
 use Rattle.std.proofs.Math.Nat.{div-le_of_le-mul}
 use Rattle.std.proofs.lemmas.Bool.{cases_lt}
-use Rattle.equity_job.specs.Jobs.{IsDeckShort, IsAboveLimit}
-use Rattle.equity_job.specs.declared.jobs.JobFault.{JobFault}
-use Rattle.equity_job.specs.declared.jobs.JobFault.TheVariants.{DeckShort, AboveLimit}
-use Rattle.hand_audit.specs.declared.settlement.Settlement.{Settlement}
+use Rattle.runout_ranges.specs.Jobs.{IsDeckShort, IsAboveLimit}
+use Rattle.runout_ranges.specs.declared.limits.JobFault.{JobFault}
+use Rattle.runout_ranges.specs.declared.limits.JobFault.TheVariants.{DeckShort, AboveLimit}
+use Rattle.hand_verdict.specs.declared.settlement.Settlement.{Settlement}
 use Rattle.runout_ranges.specs.Slots.{unseen, slots, counts_of}
 use Rattle.share_fractions.specs.Round.{round}
 use Rattle.report_table.specs.Equities.{IsFull, IsRefused}
 use Rattle.report_table.specs.HandEquities.{expected_units, full_figures, given_to, tally_figures}
 use Rattle.report_table.specs.Totals.{expected_by, hand_all_in, hand_alone, hand_at, is_counted, known_sums}
-use Rattle.equity_job.specs.declared.limits.TheConstants.{RUNOUT_MAX}
+use Rattle.runout_ranges.specs.declared.limits.TheConstants.{RUNOUT_MAX}
 use Rattle.report_table.proofs.EquityFacts.{Agree-full, given_same, no_runout_left}
 use Rattle.report_table.proofs.SpotFacts.{some_runout}
 use Rattle.showdown_tally.specs.Cells.{Sums}

@@ -6,16 +6,8 @@ use Rattle.std.proofs.lemmas.Grind.{flat_map-append}
 use Rattle.std.proofs.lemmas.List.{flat_map_more, append-nil}
 use Rattle.std.proofs.lemmas.List.Sums.{sum_by-append}
 use Rattle.std.proofs.Math.Numerals.{add-one}
-use Rattle.report_table.specs.Spots.{every_hand}
+use Rattle.report_sheet.specs.SpotLines.{every_hand}
 use Rattle.card_sets.specs.PlayerSets.{hands_below}
-
--- equal lines for each number below n
-pub every_same : (f g : ℕ → List ℕ) (n : ℕ) → ((k : ℕ) → k < n → f k ≡ g k) → flat_map f (every_hand n) ≡ flat_map g (every_hand n)
-every_same f g zero same = refl
-every_same f g (suc n) same =
-    let here : f n ≡ g n = same n (omega arith) in
-    let before = every_same f g n (λ k below. same k (omega arith)) in
-    flat_map-append f (every_hand n) (n ∷ []) ∙ rw (here, before) (sym (flat_map-append g (every_hand n) (n ∷ [])))
 
 -- an equal term for each number below n
 pub sums_same : (f g : ℕ → ℕ) (n : ℕ) → ((k : ℕ) → k < n → f k ≡ g k) → sum_by f (every_hand n) ≡ sum_by g (every_hand n)

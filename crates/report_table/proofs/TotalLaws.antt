@@ -7,12 +7,12 @@ use Rattle.std.specs.List.{AllByRecursion, IsDistinct, flat_map, list_any, sum_b
 use Rattle.std.specs.Map.{keys_of}
 use Rattle.std.specs.Option.{option_map_or}
 use Rattle.std.specs.Str.{bytes_eq}
-use Rattle.hand_audit.specs.declared.verdicts.AllIn.{AllIn}
-use Rattle.hand_audit.specs.declared.verdicts.AllIn.TheVariants.{None as NoAllIn, Unknown, Known}
-use Rattle.hand_audit.specs.declared.verdicts.HandAudit.{HandAudit}
-use Rattle.hand_audit.specs.declared.verdicts.HandAudit.TheVariants.{Rejected, Accepted}
-use Rattle.hand_audit.specs.declared.settlement.Settlement.{Settlement}
-use Rattle.history_text.specs.Names.{seat_named}
+use Rattle.hand_verdict.specs.declared.verdicts.AllIn.{AllIn}
+use Rattle.hand_verdict.specs.declared.verdicts.AllIn.TheVariants.{None as NoAllIn, Unknown, Known}
+use Rattle.hand_verdict.specs.declared.verdicts.HandAudit.{HandAudit}
+use Rattle.hand_verdict.specs.declared.verdicts.HandAudit.TheVariants.{Rejected, Accepted}
+use Rattle.hand_verdict.specs.declared.settlement.Settlement.{Settlement}
+use Rattle.hand_events.specs.Names.{seat_named}
 use Rattle.report_table.specs.Hands.{Seated}
 use Rattle.report_table.specs.Totals.{Player, all_players, each_once, hand_all_in, hand_alone, hand_at, is_counted, known_sums, no_sums, players_in, playing, same_player, seat_sums, sums_in, sums_over, totals_of}
 use Rattle.report_table.specs.TotalsSeen.{named_player}

@@ -4,21 +4,21 @@ use Rattle.std.specs.Prelude.{ℕ, Bool, not, if◌then◌else◌, List, [], ◌
 use Rattle.std.specs.Bool.{beq}
 use Rattle.std.specs.List.{flat_map, sum_by}
 use Rattle.std.specs.Option.{option_map_or}
-use Rattle.hand_audit.specs.Nets.{chips_at, got_of}
-use Rattle.hand_audit.specs.declared.seat_chips.AuditedChips.{AuditedChips}
-use Rattle.hand_audit.specs.declared.seat_chips.SeatChips.{SeatChips}
-use Rattle.hand_audit.specs.declared.settlement.Settlement.{Settlement}
-use Rattle.hand_audit.specs.declared.verdicts.AllIn.{AllIn}
-use Rattle.hand_audit.specs.declared.verdicts.HandAudit.{HandAudit}
-use Rattle.hand_audit.specs.declared.verdicts.HandAudit.TheVariants.{Rejected, Accepted}
-use Rattle.history_text.specs.Names.{seat_named}
+use Rattle.hand_verdict.specs.SeatSums.{chips_at, got_of}
+use Rattle.hand_verdict.specs.declared.seat_chips.AuditedChips.{AuditedChips}
+use Rattle.hand_verdict.specs.declared.seat_chips.SeatChips.{SeatChips}
+use Rattle.hand_verdict.specs.declared.settlement.Settlement.{Settlement}
+use Rattle.hand_verdict.specs.declared.verdicts.AllIn.{AllIn}
+use Rattle.hand_verdict.specs.declared.verdicts.HandAudit.{HandAudit}
+use Rattle.hand_verdict.specs.declared.verdicts.HandAudit.TheVariants.{Rejected, Accepted}
+use Rattle.hand_events.specs.Names.{seat_named}
 use Rattle.report_table.specs.Hands.{Seated}
-use Rattle.report_table.specs.Lines.{Line, named, line_in}
-use Rattle.report_table.specs.Results.{difference, even_of}
+use Rattle.report_sheet.specs.Lines.{Line, named, line_in}
+use Rattle.report_sheet.specs.Numbers.{difference, money}
+use Rattle.report_table.specs.Results.{even_of}
 use Rattle.report_table.specs.Totals.{Player, all_players, hands_line, is_accepted, playing, unit_word}
-use Rattle.report_table.specs.Words.{money}
 use Rattle.report_table.specs.declared.balance_sums.BalanceSums.{BalanceSums}
-use Rattle.report_table.specs.declared.equity.Form.{Form}
+use Rattle.report_sheet.specs.declared.form.Form.{Form}
 
 -- what no hand gives a player
 abbrev pub no_balance : BalanceSums

@@ -1,12 +1,12 @@
 -- Why a hand is rejected, as words: the name of the cause, and then what it carries.
 use Rattle.std.specs.Prelude.{ℕ, Bool, List, [], ◌∷◌, ◌++◌, codes, decimal}
 use Rattle.card_sets.specs.CardText.{text_of_card}
-use Rattle.betting_replay.specs.declared.faults.BetFault.{BetFault}
-use Rattle.betting_replay.specs.declared.faults.BetFault.TheVariants.{NotInHand, OutOfTurn, NothingOwed, CheckFacingBet, CallAmount, BetFacingBet, RaiseAmount, AboveStack, AllInWord, StreetEarly, StreetOrder, UncalledAmount, CardTwice, PostLate, SeatTwice, TooManyCards}
-use Rattle.hand_audit.specs.declared.cause.Cause.{Cause}
-use Rattle.hand_audit.specs.declared.cause.Cause.TheVariants.{Text, Bet, Chips, Split, Unfinished}
-use Rattle.hand_audit.specs.CauseNames.{cause_name}
-use Rattle.report_table.specs.Words.{money}
+use Rattle.hand_events.specs.declared.faults.BetFault.{BetFault}
+use Rattle.hand_events.specs.declared.faults.BetFault.TheVariants.{NotInHand, OutOfTurn, NothingOwed, CheckFacingBet, CallAmount, BetFacingBet, RaiseAmount, AboveStack, AllInWord, StreetEarly, StreetOrder, UncalledAmount, CardTwice, PostLate, SeatTwice, TooManyCards}
+use Rattle.hand_verdict.specs.declared.cause.Cause.{Cause}
+use Rattle.hand_verdict.specs.declared.cause.Cause.TheVariants.{Text, Bet, Chips, Split, Unfinished}
+use Rattle.hand_verdict.specs.CauseNames.{cause_name}
+use Rattle.report_sheet.specs.Numbers.{money}
 
 -- a seat, as `seat 3`
 unfoldable pub seat_words : ℕ → List (List ℕ)

@@ -1,13 +1,13 @@
 -- What an equity says of a deal.
-use Rattle.std.specs.Prelude.{◌≤◌, Bool, true, false, length}
-use Rattle.equity_job.specs.Jobs.{IsDeckShort, IsAboveLimit}
-use Rattle.equity_job.specs.declared.jobs.JobFault.{JobFault}
-use Rattle.equity_job.specs.declared.jobs.JobFault.TheVariants.{DeckShort, AboveLimit}
-use Rattle.equity_job.specs.declared.limits.TheConstants.{RUNOUT_MAX}
-use Rattle.hand_audit.specs.declared.verdicts.AllIn.{AllIn}
-use Rattle.hand_audit.specs.declared.verdicts.AllIn.TheVariants.{None, Unknown, Known}
-use Rattle.hand_audit.specs.declared.verdicts.HandAudit.{HandAudit}
-use Rattle.hand_audit.specs.declared.verdicts.HandAudit.TheVariants.{Rejected, Accepted}
+use Rattle.std.specs.Prelude.{◌<◌, ◌≤◌, Bool, true, false, length}
+use Rattle.runout_ranges.specs.Jobs.{IsDeckShort, IsAboveLimit}
+use Rattle.runout_ranges.specs.declared.limits.JobFault.{JobFault}
+use Rattle.runout_ranges.specs.declared.limits.JobFault.TheVariants.{DeckShort, AboveLimit}
+use Rattle.runout_ranges.specs.declared.limits.TheConstants.{RUNOUT_MAX}
+use Rattle.hand_verdict.specs.declared.verdicts.AllIn.{AllIn}
+use Rattle.hand_verdict.specs.declared.verdicts.AllIn.TheVariants.{None, Unknown, Known}
+use Rattle.hand_verdict.specs.declared.verdicts.HandAudit.{HandAudit}
+use Rattle.hand_verdict.specs.declared.verdicts.HandAudit.TheVariants.{Rejected, Accepted}
 use Rattle.report_table.specs.declared.equity.Equity.{Equity}
 use Rattle.report_table.specs.declared.equity.Equity.TheVariants.{NotAsked, Refused, Counted}
 use Rattle.showdown_tally.specs.Cells.{Sums}
@@ -30,6 +30,12 @@ abbrev pub IsEquityOf : Showdown → Equity → Type 0
 IsEquityOf deal NotAsked = ⊥
 IsEquityOf deal (Refused fault) = IsRefused deal fault
 IsEquityOf deal (Counted sums) = IsFull deal sums
+
+-- the equity of a deal, counted: its full tally, of one runout or more
+abbrev pub IsCountOf : Showdown → Equity → Type 0
+IsCountOf deal NotAsked = ⊥
+IsCountOf deal (Refused fault) = ⊥
+IsCountOf deal (Counted sums) = IsFull deal sums × (0 < sums.runouts)
 
 -- whether an equity is asked for
 abbrev pub is_asked : Equity → Bool

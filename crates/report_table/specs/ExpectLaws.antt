@@ -2,13 +2,13 @@
 use Rattle.std.specs.Prelude.{◌≡◌, ℕ, ◌*◌, ◌<◌, List, length, All}
 use Rattle.std.specs.List.{sum_by}
 use Rattle.card_sets.specs.declared.games.Side.TheVariants.{Low}
-use Rattle.hand_audit.specs.Nets.{got_by}
-use Rattle.hand_audit.specs.declared.settlement.PotLine.{PotLine}
+use Rattle.hand_verdict.specs.SeatSums.{got_by}
+use Rattle.hand_verdict.specs.declared.settlement.PotLine.{PotLine}
 use Rattle.showdown_tally.specs.Showdown.{Showdown, eligible_in, winners}
 use Rattle.showdown_tally.specs.Tallies.{runouts_after}
 use Rattle.report_table.specs.HandEquities.{every_pot, full_figures, given_to, gross_of}
 use Rattle.report_table.specs.Results.{contenders, shared_pots}
-use Rattle.report_table.specs.Spots.{every_hand}
+use Rattle.report_sheet.specs.SpotLines.{every_hand}
 use Rattle.report_table.specs.Totals.{paid_from}
 
 -- what all runouts together give all hands of a deal, of all its pots, in 1/5040 of a unit of money

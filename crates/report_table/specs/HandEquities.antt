@@ -6,12 +6,12 @@ use Rattle.std.specs.Option.{option_map_or}
 use Rattle.card_sets.specs.Games.{sides_of}
 use Rattle.card_sets.specs.declared.games.Game.{Game}
 use Rattle.card_sets.specs.declared.games.Side.{Side}
-use Rattle.hand_audit.specs.declared.verdicts.AllIn.{AllIn}
-use Rattle.hand_audit.specs.declared.verdicts.AllIn.TheVariants.{None, Unknown, Known}
-use Rattle.hand_audit.specs.declared.verdicts.HandAudit.{HandAudit}
-use Rattle.hand_audit.specs.declared.verdicts.HandAudit.TheVariants.{Rejected, Accepted}
-use Rattle.hand_audit.specs.declared.settlement.PotLine.{PotLine}
-use Rattle.hand_audit.specs.declared.settlement.Settlement.{Settlement}
+use Rattle.hand_verdict.specs.declared.verdicts.AllIn.{AllIn}
+use Rattle.hand_verdict.specs.declared.verdicts.AllIn.TheVariants.{None, Unknown, Known}
+use Rattle.hand_verdict.specs.declared.verdicts.HandAudit.{HandAudit}
+use Rattle.hand_verdict.specs.declared.verdicts.HandAudit.TheVariants.{Rejected, Accepted}
+use Rattle.hand_verdict.specs.declared.settlement.PotLine.{PotLine}
+use Rattle.hand_verdict.specs.declared.settlement.Settlement.{Settlement}
 use Rattle.card_sets.specs.declared.streets.Street.{Street}
 use Rattle.runout_ranges.specs.Slots.{unseen, slots, counts_of}
 use Rattle.share_fractions.specs.Round.{round}
@@ -21,11 +21,12 @@ use Rattle.showdown_tally.specs.Showdown.{Showdown, eligible_in}
 use Rattle.showdown_tally.specs.Tallies.{cell_over, units_over, runouts_after}
 use Rattle.showdown_tally.specs.declared.cells.Cell.{Cell}
 use Rattle.report_table.specs.Hands.{Seated, name_text, verdict_block}
-use Rattle.report_table.specs.Lines.{Line, plain, named, line_in}
-use Rattle.equity_job.specs.declared.limits.TheConstants.{RUNOUT_MAX}
-use Rattle.report_table.specs.Spots.{every_hand, expected, refused_words, side_columns}
-use Rattle.report_table.specs.Words.{money, street_word}
-use Rattle.report_table.specs.declared.equity.Form.{Form}
+use Rattle.report_sheet.specs.Lines.{Line, plain, named, line_in}
+use Rattle.runout_ranges.specs.declared.limits.TheConstants.{RUNOUT_MAX}
+use Rattle.report_sheet.specs.SpotLines.{every_hand, refused_words, side_columns}
+use Rattle.report_sheet.specs.Numbers.{expected, money}
+use Rattle.report_table.specs.Words.{street_word}
+use Rattle.report_sheet.specs.declared.form.Form.{Form}
 
 -- what is counted of a deal: how many runouts there are, how they end for a hand on a side of a pot, and the units of 1/5040
 -- of a pot that they give a hand

@@ -2,17 +2,17 @@
 use Rattle.std.specs.Prelude.{ℕ, ◌+◌, ◌==◌, ◌&&◌, not, Bool, false, if◌then◌else◌, List, [], ◌∷◌, ◌++◌, codes, decimal, unwrap_or}
 use Rattle.std.specs.List.{flat_map}
 use Rattle.card_sets.specs.Games.{game_word}
-use Rattle.history_text.specs.Names.{name_of}
-use Rattle.hand_audit.specs.declared.verdicts.HandAudit.{HandAudit}
-use Rattle.hand_audit.specs.declared.verdicts.HandAudit.TheVariants.{Rejected, Accepted}
-use Rattle.hand_audit.specs.declared.cause.Cause.{Cause}
-use Rattle.hand_audit.specs.declared.settlement.Payment.{Payment}
-use Rattle.hand_audit.specs.declared.settlement.PotLine.{PotLine}
-use Rattle.hand_audit.specs.declared.settlement.Settlement.{Settlement}
+use Rattle.hand_events.specs.Names.{name_of}
+use Rattle.hand_verdict.specs.declared.verdicts.HandAudit.{HandAudit}
+use Rattle.hand_verdict.specs.declared.verdicts.HandAudit.TheVariants.{Rejected, Accepted}
+use Rattle.hand_verdict.specs.declared.cause.Cause.{Cause}
+use Rattle.hand_verdict.specs.declared.settlement.Payment.{Payment}
+use Rattle.hand_verdict.specs.declared.settlement.PotLine.{PotLine}
+use Rattle.hand_verdict.specs.declared.settlement.Settlement.{Settlement}
 use Rattle.report_table.specs.Causes.{cause_words}
-use Rattle.report_table.specs.Lines.{Line, plain, named, line_in}
-use Rattle.report_table.specs.Words.{money}
-use Rattle.report_table.specs.declared.equity.Form.{Form}
+use Rattle.report_sheet.specs.Lines.{Line, plain, named, line_in}
+use Rattle.report_sheet.specs.Numbers.{money}
+use Rattle.report_sheet.specs.declared.form.Form.{Form}
 
 -- the names of a hand's seats, each with its seat
 abbrev pub Seated : Type 0

@@ -2,11 +2,11 @@ pub use Rattle.card_sets.specs.State
 pub use Rattle.share_fractions.specs.Round
 pub use Rattle.showdown_tally.specs.Showdown
 pub use Rattle.showdown_tally.specs.Tallies
-pub use Rattle.equity_job.specs.Jobs
-pub use Rattle.history_text.specs.Names
+pub use Rattle.runout_ranges.specs.Jobs
+pub use Rattle.hand_events.specs.Names
+pub use Rattle.report_sheet.specs.Lines
+pub use Rattle.report_sheet.specs.SpotLines
 pub mod Words
-pub mod Lines
-pub mod Sheets
 pub mod ReadBack
 pub mod ExpectLaws
 pub mod Made
@@ -24,5 +24,4 @@ pub mod Balance
 pub mod BalanceSeen
 pub mod Streets
 pub mod Settles
-pub mod SettleLaws
 pub mod BalanceLaws

@@ -3,17 +3,17 @@
 use Rattle.std.specs.Prelude.{ℕ, false, if◌then◌else◌, List, [], ◌∷◌, ◌++◌, length, count_by, codes, decimal}
 use Rattle.std.specs.List.{sum_by}
 use Rattle.std.specs.Option.{option_map_or}
-use Rattle.hand_audit.specs.declared.verdicts.AllIn.{AllIn}
-use Rattle.hand_audit.specs.declared.verdicts.AllIn.TheVariants.{None as NoAllIn, Unknown, Known}
-use Rattle.hand_audit.specs.declared.verdicts.HandAudit.{HandAudit}
-use Rattle.hand_audit.specs.declared.verdicts.HandAudit.TheVariants.{Rejected, Accepted}
+use Rattle.hand_verdict.specs.declared.verdicts.AllIn.{AllIn}
+use Rattle.hand_verdict.specs.declared.verdicts.AllIn.TheVariants.{None as NoAllIn, Unknown, Known}
+use Rattle.hand_verdict.specs.declared.verdicts.HandAudit.{HandAudit}
+use Rattle.hand_verdict.specs.declared.verdicts.HandAudit.TheVariants.{Rejected, Accepted}
 use Rattle.showdown_tally.specs.Deals.{deal_of}
 use Rattle.showdown_tally.specs.Showdown.{Showdown}
 use Rattle.report_table.specs.HandEquities.{Figures, every_pot, full_figures}
-use Rattle.report_table.specs.Lines.{Line, plain, line_in}
+use Rattle.report_sheet.specs.Lines.{Line, plain, line_in}
 use Rattle.report_table.specs.Totals.{hand_at, is_accepted, is_counted}
-use Rattle.report_table.specs.Words.{money}
-use Rattle.report_table.specs.declared.equity.Form.{Form}
+use Rattle.report_sheet.specs.Numbers.{money}
+use Rattle.report_sheet.specs.declared.form.Form.{Form}
 use Rattle.report_table.specs.declared.made_sums.AllInSums.{AllInSums}
 
 -- the units of a hand in the pots below a number, over all runouts

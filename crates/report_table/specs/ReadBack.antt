@@ -3,8 +3,8 @@ use Rattle.std.specs.Prelude.{◌≡◌, ℕ, ◌≤◌, List, [], ◌++◌, len
 use Rattle.csv.specs.Machine.{next_record}
 use Rattle.csv.specs.Reading.{default_config}
 use Rattle.csv.specs.declared.parser.State.TheVariants as state
-use Rattle.report_table.specs.Lines.{Line, plain, named, line_in, thirteen}
-use Rattle.report_table.specs.declared.equity.Form.TheVariants.{Csv}
+use Rattle.report_sheet.specs.Lines.{Line, plain, named, line_in, thirteen}
+use Rattle.report_sheet.specs.declared.form.Form.TheVariants.{Csv}
 
 -- the words of a line
 abbrev pub words_of : Line → List (List ℕ)

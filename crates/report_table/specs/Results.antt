@@ -1,29 +1,23 @@
 -- What each player of a hand had, put in, got and netted, and what he would have netted with even luck.
-use Rattle.std.specs.Prelude.{ℕ, ◌-◌, ◌&&◌, nat_lt, Bool, if◌then◌else◌, List, [], ◌∷◌, ◌++◌, length, map, take, codes, Option, Some, None}
+use Rattle.std.specs.Prelude.{ℕ, ◌&&◌, Bool, if◌then◌else◌, List, [], ◌∷◌, ◌++◌, length, map, take, codes, Option, Some, None}
 use Rattle.std.specs.List.{flat_map, sum_by}
 use Rattle.std.specs.Option.{option_map_or}
 use Rattle.card_sets.specs.PlayerSets.{seats_in}
-use Rattle.hand_audit.specs.Nets.{chips_at, got_by, got_of}
-use Rattle.hand_audit.specs.declared.seat_chips.SeatChips.{SeatChips}
-use Rattle.hand_audit.specs.declared.settlement.PotLine.{PotLine}
-use Rattle.hand_audit.specs.declared.settlement.Settlement.{Settlement}
-use Rattle.hand_audit.specs.declared.verdicts.AllIn.{AllIn}
-use Rattle.hand_audit.specs.declared.verdicts.AllIn.TheVariants.{None as NoAllIn, Unknown, Known}
-use Rattle.hand_audit.specs.declared.verdicts.HandAudit.{HandAudit}
-use Rattle.hand_audit.specs.declared.verdicts.HandAudit.TheVariants.{Rejected, Accepted}
+use Rattle.hand_verdict.specs.SeatSums.{chips_at, got_by, got_of}
+use Rattle.hand_verdict.specs.declared.seat_chips.SeatChips.{SeatChips}
+use Rattle.hand_verdict.specs.declared.settlement.PotLine.{PotLine}
+use Rattle.hand_verdict.specs.declared.settlement.Settlement.{Settlement}
+use Rattle.hand_verdict.specs.declared.verdicts.AllIn.{AllIn}
+use Rattle.hand_verdict.specs.declared.verdicts.AllIn.TheVariants.{None as NoAllIn, Unknown, Known}
+use Rattle.hand_verdict.specs.declared.verdicts.HandAudit.{HandAudit}
+use Rattle.hand_verdict.specs.declared.verdicts.HandAudit.TheVariants.{Rejected, Accepted}
 use Rattle.showdown_tally.specs.Deals.{deal_of}
 use Rattle.showdown_tally.specs.Showdown.{Showdown}
 use Rattle.report_table.specs.Hands.{Seated, accepted_line, name_text, rejected_hand}
-use Rattle.report_table.specs.Lines.{Line, named, line_in}
+use Rattle.report_sheet.specs.Lines.{Line, named, line_in}
 use Rattle.report_table.specs.Totals.{expected_by, hand_at, is_counted}
-use Rattle.report_table.specs.Words.{money}
-use Rattle.report_table.specs.declared.equity.Form.{Form}
-
--- an amount less another, with a sign before it where that is below 0
-unfoldable pub difference : Bool → ℕ → ℕ → List ℕ
-difference hundredths amount less =
-    if nat_lt amount less then codes "-" ++ money hundredths (less - amount)
-    else money hundredths (amount - less)
+use Rattle.report_sheet.specs.Numbers.{difference, money}
+use Rattle.report_sheet.specs.declared.form.Form.{Form}
 
 -- the seats of the contenders of an all-in: those of the table's hands, hand by hand
 abbrev pub contenders : List ℕ → Showdown → List ℕ

@@ -2,20 +2,19 @@
 use Rattle.std.specs.Prelude.{ℕ, ◌+◌, ◌==◌, Bool, if◌then◌else◌, List, [], ◌∷◌, ◌++◌, slice_index_or, codes, decimal, Option, Some, None}
 use Rattle.std.specs.List.{flat_map, list_all}
 use Rattle.card_sets.specs.PlayerSets.{seats_in}
-use Rattle.hand_audit.specs.Dues.{due_of}
-use Rattle.hand_audit.specs.Nets.{got_of}
-use Rattle.hand_audit.specs.declared.parts.PartShare.{PartShare}
-use Rattle.hand_audit.specs.declared.parts.SplitHand.{SplitHand}
-use Rattle.hand_audit.specs.declared.settlement.Payment.{Payment}
-use Rattle.hand_audit.specs.declared.settlement.PotLine.{PotLine}
-use Rattle.hand_audit.specs.declared.settlement.Settlement.{Settlement}
-use Rattle.hand_audit.specs.declared.verdicts.HandAudit.{HandAudit}
-use Rattle.hand_audit.specs.declared.verdicts.HandAudit.TheVariants.{Rejected, Accepted}
+use Rattle.hand_verdict.specs.SeatSums.{due_of, got_of}
+use Rattle.hand_verdict.specs.declared.parts.PartShare.{PartShare}
+use Rattle.hand_verdict.specs.declared.parts.SplitHand.{SplitHand}
+use Rattle.hand_verdict.specs.declared.settlement.Payment.{Payment}
+use Rattle.hand_verdict.specs.declared.settlement.PotLine.{PotLine}
+use Rattle.hand_verdict.specs.declared.settlement.Settlement.{Settlement}
+use Rattle.hand_verdict.specs.declared.verdicts.HandAudit.{HandAudit}
+use Rattle.hand_verdict.specs.declared.verdicts.HandAudit.TheVariants.{Rejected, Accepted}
 use Rattle.report_table.specs.Hands.{Seated, accepted_hand, accepted_line, name_text, paid_line, pot_line, rejected_hand}
-use Rattle.report_table.specs.Lines.{Line, named, line_in}
-use Rattle.report_table.specs.Results.{difference}
-use Rattle.report_table.specs.Words.{money, side_word}
-use Rattle.report_table.specs.declared.equity.Form.{Form}
+use Rattle.report_sheet.specs.Lines.{Line, named, line_in}
+use Rattle.report_sheet.specs.Numbers.{difference, money}
+use Rattle.report_sheet.specs.SpotLines.{side_word}
+use Rattle.report_sheet.specs.declared.form.Form.{Form}
 
 -- the first words of the line of a share, as `part 0 1 high`: the pot's number, the board's, and the side
 unfoldable pub part_title : ℕ → PartShare → List (List ℕ)

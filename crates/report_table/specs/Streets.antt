@@ -1,23 +1,23 @@
 -- The lines of a street behind an all-in: how all runouts end for each pot once the cards of that street are known.
-use Rattle.std.specs.Prelude.{ℕ, Bool, false, if◌then◌else◌, List, [], ◌∷◌, ◌++◌, codes, decimal, unwrap_or, Option, Some, None}
+use Rattle.std.specs.Prelude.{◌≡◌, ℕ, Bool, true, false, if◌then◌else◌, List, [], ◌∷◌, ◌++◌, codes, decimal, unwrap_or, Option, Some, None}
 use Rattle.std.specs.List.{flat_map}
 use Rattle.card_sets.specs.declared.streets.Street.{Street}
-use Rattle.hand_audit.specs.declared.streets.StreetState.{StreetState}
-use Rattle.hand_audit.specs.declared.verdicts.AllIn.{AllIn}
-use Rattle.hand_audit.specs.declared.verdicts.AllIn.TheVariants.{None as NoAllIn, Unknown, Known}
-use Rattle.hand_audit.specs.declared.verdicts.HandAudit.{HandAudit}
-use Rattle.hand_audit.specs.declared.verdicts.HandAudit.TheVariants.{Rejected, Accepted}
+use Rattle.hand_verdict.specs.declared.streets.StreetState.{StreetState}
+use Rattle.hand_verdict.specs.declared.verdicts.AllIn.{AllIn}
+use Rattle.hand_verdict.specs.declared.verdicts.AllIn.TheVariants.{None as NoAllIn, Unknown, Known}
+use Rattle.hand_verdict.specs.declared.verdicts.HandAudit.{HandAudit}
+use Rattle.hand_verdict.specs.declared.verdicts.HandAudit.TheVariants.{Rejected, Accepted}
 use Rattle.showdown_tally.specs.Deals.{deal_of}
 use Rattle.showdown_tally.specs.Showdown.{Showdown}
 use Rattle.showdown_tally.specs.declared.table.Table.{Table}
-use Rattle.report_table.specs.Equities.{IsEquityOf}
+use Rattle.report_table.specs.Equities.{IsCountOf}
 use Rattle.report_table.specs.HandEquities.{Figures, full_figures, pot_equities}
 use Rattle.report_table.specs.Hands.{Seated}
-use Rattle.report_table.specs.Lines.{Line, plain, line_in}
+use Rattle.report_sheet.specs.Lines.{Line, plain, line_in}
 use Rattle.report_table.specs.Totals.{is_counted}
 use Rattle.report_table.specs.Words.{later_word}
 use Rattle.report_table.specs.declared.equity.Equity.{Equity}
-use Rattle.report_table.specs.declared.equity.Form.{Form}
+use Rattle.report_sheet.specs.declared.form.Form.{Form}
 
 -- the first words of a line of a street, as `street river`
 unfoldable pub street_name : Street → List (List ℕ)
@@ -36,18 +36,11 @@ unfoldable pub counted_street : Form → Seated → List ℕ → Street → Show
 counted_street form names seats street deal figures =
     line_in form (street_line street figures.all) ++ pot_equities form deal figures names seats
 
--- a street on which all cards are known, as `street river runouts 1` and the pots. Fewer cards may come than are lacking, or there
--- are too many runouts, only where that is so of the all-in; it would be `street river refused`
-unfoldable pub known_street : Form → Seated → List ℕ → Street → Showdown → List ℕ
-known_street form names seats street deal =
-    if is_counted deal then counted_street form names seats street deal (full_figures deal)
-    else line_in form (word_line street (codes "refused"))
-
--- a street, as `street river unknown` where the cards of a contender on it aren't known
+-- a street: `street river runouts 1` and the pots, say, or `street river unknown` where the cards of a contender on it aren't known
 abbrev pub table_street : Form → Seated → List ℕ → Street → Option Table → List ℕ
 table_street form names seats street None = line_in form (word_line street (codes "unknown"))
 table_street form names seats street (Some table) =
-    known_street form names seats street (deal_of table)
+    counted_street form names seats street (deal_of table) (full_figures (deal_of table))
 
 -- a street behind an all-in, whose hands are those of the table there; without a known one there is none
 abbrev pub all_in_street : Form → Seated → StreetState → AllIn → List ℕ
@@ -78,11 +71,16 @@ unfoldable pub street_blocks : Form → HandAudit → List StreetState → List 
 street_blocks form audit states =
     if has_counted audit then flat_map (street_block form audit) states else []
 
--- an equity of a table that may be known: that of the table, and else any
+-- the deal of a street, where all its cards are known, is counted: as many cards may come as are lacking, and there aren't too many
+-- runouts
+abbrev pub IsCountedStreet : StreetState → Type 0
+IsCountedStreet state = (table : Table) → state.table ≡ Some table → is_counted (deal_of table) ≡ true
+
+-- the equity of a table that may be known: that of the table, counted, and else any
 abbrev pub IsOfTable : Option Table → Equity → Type 0
 IsOfTable None equity = Unit {0}
-IsOfTable (Some table) equity = IsEquityOf (deal_of table) equity
+IsOfTable (Some table) equity = IsCountOf (deal_of table) equity
 
--- an equity of a street behind an all-in
+-- the equity of a street behind an all-in
 abbrev pub IsOfStreet : StreetState → Equity → Type 0
 IsOfStreet state equity = IsOfTable state.table equity

@@ -3,11 +3,11 @@ use Rattle.std.specs.Prelude.{ℕ, ◌≡◌, ◌+◌, ◌≤◌, Bool, if◌the
 use Rattle.std.specs.Bool.{beq}
 use Rattle.std.specs.List.{AllByRecursion, flat_map, list_any}
 use Rattle.std.specs.Option.{option_map_or}
-use Rattle.history_text.specs.Names.{seat_named}
+use Rattle.hand_events.specs.Names.{seat_named}
 use Rattle.report_table.specs.Hands.{Seated}
-use Rattle.report_table.specs.Lines.{Line, line_in}
+use Rattle.report_sheet.specs.Lines.{Line, line_in}
 use Rattle.report_table.specs.Totals.{Player, same_player}
-use Rattle.report_table.specs.declared.equity.Form.{Form}
+use Rattle.report_sheet.specs.declared.form.Form.{Form}
 
 -- a kind of sums: those of no hand, those of two parts of the hands, and whether so many hands may come to some
 pub record AreSums {S : Type 0} (nothing : S) (plus : S → S → S) (AreOf : ℕ → S → Type 0) : Type 0 where

@@ -6,25 +6,25 @@ use Rattle.std.specs.Int.{bit_at}
 use Rattle.std.specs.List.{flat_map, sum_by}
 use Rattle.std.specs.Option.{option_map_or}
 use Rattle.std.specs.Str.{bytes_eq}
-use Rattle.hand_audit.specs.declared.verdicts.AllIn.{AllIn}
-use Rattle.hand_audit.specs.declared.verdicts.AllIn.TheVariants.{None as NoAllIn, Unknown, Known}
-use Rattle.hand_audit.specs.declared.verdicts.HandAudit.{HandAudit}
-use Rattle.hand_audit.specs.declared.verdicts.HandAudit.TheVariants.{Rejected, Accepted}
-use Rattle.hand_audit.specs.declared.settlement.Payment.{Payment}
-use Rattle.hand_audit.specs.declared.settlement.PotLine.{PotLine}
-use Rattle.hand_audit.specs.declared.settlement.Settlement.{Settlement}
-use Rattle.hand_audit.specs.Nets.{got_by}
-use Rattle.history_text.specs.Names.{seat_named}
+use Rattle.hand_verdict.specs.declared.verdicts.AllIn.{AllIn}
+use Rattle.hand_verdict.specs.declared.verdicts.AllIn.TheVariants.{None as NoAllIn, Unknown, Known}
+use Rattle.hand_verdict.specs.declared.verdicts.HandAudit.{HandAudit}
+use Rattle.hand_verdict.specs.declared.verdicts.HandAudit.TheVariants.{Rejected, Accepted}
+use Rattle.hand_verdict.specs.declared.settlement.Payment.{Payment}
+use Rattle.hand_verdict.specs.declared.settlement.PotLine.{PotLine}
+use Rattle.hand_verdict.specs.declared.settlement.Settlement.{Settlement}
+use Rattle.hand_verdict.specs.SeatSums.{got_by}
+use Rattle.hand_events.specs.Names.{seat_named}
 use Rattle.runout_ranges.specs.Slots.{unseen, slots, counts_of}
 use Rattle.showdown_tally.specs.Deals.{deal_of}
 use Rattle.showdown_tally.specs.Showdown.{Showdown}
 use Rattle.showdown_tally.specs.Tallies.{runouts_after}
 use Rattle.report_table.specs.HandEquities.{every_pot, expected_units, full_figures, given_to}
 use Rattle.report_table.specs.Hands.{Seated}
-use Rattle.report_table.specs.Lines.{Line, plain, named, line_in}
-use Rattle.equity_job.specs.declared.limits.TheConstants.{RUNOUT_MAX}
-use Rattle.report_table.specs.Words.{money}
-use Rattle.report_table.specs.declared.equity.Form.{Form}
+use Rattle.report_sheet.specs.Lines.{Line, plain, named, line_in}
+use Rattle.runout_ranges.specs.declared.limits.TheConstants.{RUNOUT_MAX}
+use Rattle.report_sheet.specs.Numbers.{money}
+use Rattle.report_sheet.specs.declared.form.Form.{Form}
 use Rattle.report_table.specs.declared.player_sums.PlayerSums.{PlayerSums}
 
 -- a name, and the unit of the hands that it is summed over: hundredths, or else chips

@@ -7,7 +7,7 @@ use Rattle.std.specs.Option.{option_map_or}
 use Rattle.std.specs.Rc.{rc_slice_items}
 use Rattle.std.specs.Str.{bytes_eq}
 use Rattle.std.specs.declared.cmp.Ordering.{Ordering}
-use Rattle.history_text.specs.Names.{seat_named}
+use Rattle.hand_events.specs.Names.{seat_named}
 use Rattle.report_table.specs.Hands.{Seated}
 use Rattle.report_table.specs.SumsSeen.{AreSums}
 use Rattle.report_table.specs.Totals.{Player, no_sums, playing, same_player}

@@ -1,23 +1,15 @@
--- The words of the report, and its money.
-use Rattle.std.specs.Prelude.{ℕ, Bool, if◌then◌else◌, List, [], ◌∷◌, Option, Some, None, codes}
+-- The words of the report.
+use Rattle.std.specs.Prelude.{ℕ, List, [], ◌∷◌, Option, Some, None, codes}
 use Rattle.card_sets.specs.CardText.{text_of_card}
 use Rattle.card_sets.specs.Games.{family_of}
 use Rattle.card_sets.specs.declared.games.Game.{Game}
 use Rattle.card_sets.specs.declared.games.Family.{Family}
 use Rattle.card_sets.specs.declared.games.Family.TheVariants as family
-use Rattle.card_sets.specs.declared.games.Side.{Side}
-use Rattle.card_sets.specs.declared.games.Side.TheVariants.{High, Low}
 use Rattle.card_sets.specs.declared.streets.Street.{Street}
 use Rattle.card_sets.specs.declared.streets.Street.TheVariants.{First, Flop, Turn, Fourth, Fifth, Sixth, River, Draw, FirstDraw, SecondDraw, ThirdDraw, ShowDown, Summary}
-use Rattle.share_fractions.specs.Round.{fixed_text}
 use Rattle.spot_text.specs.declared.faults.SpotFault.{SpotFault}
 use Rattle.spot_text.specs.declared.faults.SpotFault.TheVariants.{TwiceCard}
 use Rattle.spot_text.specs.FaultNames.{fault_name}
-
--- how a side is written
-abbrev pub side_word : Side → List ℕ
-side_word High = codes "high"
-side_word Low = codes "low"
 
 -- how the first street of a family is written
 abbrev pub first_word : Family → List ℕ
@@ -59,10 +51,6 @@ later_word SecondDraw = None
 later_word ThirdDraw = Some (codes "3rd-draw")
 later_word ShowDown = None
 later_word Summary = None
-
--- so many units of money: chips as a whole number, hundredths with a point and two digits behind it
-unfoldable pub money : Bool → ℕ → List ℕ
-money hundredths units = fixed_text units (if hundredths then 2 else 0)
 
 -- the name of a spot's fault, and then what it carries
 unfoldable pub fault_words : SpotFault → List (List ℕ)

@@ -1,18 +1,18 @@
 //! What each player won and lost over all hands of a run.
 
 ghost use Rattle.std.specs.Prelude.{◌≡◌, ◌<◌, ◌^◌, List, [], ◌∷◌, ◌++◌, true, length, take, OnOk, OnErr};
-ghost use Rattle.hand_audit.specs.declared.seat_chips.AuditedChips.{AuditedChips};
+ghost use Rattle.hand_verdict.specs.declared.seat_chips.AuditedChips.{AuditedChips};
 ghost use Rattle.report_table.specs.Balance.{balance_lines, balance_of};
 ghost use Rattle.report_table.specs.Equities.{IsOfHand, is_asked};
 
 use crate::balance_sums::{BalanceSums, SettledHand};
-use crate::equity::{Equity, Form};
+use crate::equity::Equity;
 use crate::player_rows::Players;
 use crate::players::{Lineup, add_players, add_sums};
-use crate::sheet::Sheet;
-use crate::total_lines::write_players;
+use crate::total_lines::{hands_line, write_players};
 use card_sets::Memory;
-use hand_audit::{AuditedChips, HandAudit};
+use hand_verdict::{AuditedChips, HandAudit};
+use report_sheet::{Form, Sheet};
 use std::alloc::{AllocError, Global};
 use std::marker::Model;
 
@@ -125,7 +125,7 @@ impl Balance {
         ensures kept { take (length out.old.items) out.new.items ≡ out.old.items }
     {
         let mut sheet = Sheet::new(*out.allocator(), form);
-        sheet.hands_line("balance", self.accepted, self.rejected)?;
+        hands_line(&mut sheet, "balance", self.accepted, self.rejected)?;
         out.extend_from_slice(sheet.bytes())?;
         write_players(out, &self.players, form)
     }

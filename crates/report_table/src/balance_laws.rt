@@ -1,14 +1,12 @@
 //! What the balance of a run says of its hands.
 
-ghost use Rattle.std.specs.Prelude.{◌≡◌, All, List};
+ghost use Rattle.std.specs.Prelude.{◌≡◌, List};
 ghost use Rattle.std.specs.List.{IsDistinct};
 ghost use Rattle.std.specs.Map.{keys_of};
-ghost use Rattle.hand_audit.specs.declared.seat_chips.AuditedChips.{AuditedChips};
+ghost use Rattle.hand_verdict.specs.declared.seat_chips.AuditedChips.{AuditedChips};
 ghost use Rattle.report_table.specs.Balance.{balance_of, balance_over};
-ghost use Rattle.report_table.specs.BalanceLaws.{IsAudited, LosesRakes, hands_of_unit};
+ghost use Rattle.report_table.specs.BalanceLaws.{hands_of_unit};
 ghost use Rattle.report_table.specs.Totals.{Player, same_player};
-
-use hand_audit::law_nets_add_up_to_the_rake;
 
 /// A law: no two lines of the balance have one name and one unit.
 pub fn law_nobody_is_balanced_twice()
@@ -22,12 +20,3 @@ pub fn law_no_name_is_balanced_over_two_units()
         → balance_over hands player
         ≡ balance_over (hands_of_unit player.hundredths hands) player }
 {}
-
-/// A law: what all names of a unit netted is together what was taken from them as rake, before anything is
-/// written: they put in what they got and the rakes of the accepted hands of the unit. It is so of hands that are
-/// those of some lines, where each player has a name of his own.
-pub fn law_balances_add_up_to_the_rakes()
-    ensures { (hands : List AuditedChips) → All IsAudited hands → LosesRakes hands }
-{
-    law_nets_add_up_to_the_rake();
-}

@@ -1,17 +1,18 @@
 //! What a hand gives one of its players towards his balance.
 
 ghost use Rattle.std.specs.Prelude.{◌≡◌, ◌≤◌, length, true};
-ghost use Rattle.hand_audit.specs.Nets.{chips_at};
+ghost use Rattle.hand_verdict.specs.SeatSums.{chips_at};
 ghost use Rattle.report_table.specs.Balance.{balance_line, no_balance, seat_balance};
 ghost use Rattle.report_table.specs.BalanceSeen.{AreOfSeats, balance_is_sums, both};
 ghost use Rattle.report_table.specs.Equities.{IsOfAllIn, is_asked};
 
+use crate::balance_lines::balance_line;
 use crate::equity::Equity;
 use crate::even_luck::{even_of, got_of};
 use crate::player_key::PlayerKey;
-use crate::sheet::Sheet;
 use crate::sums::{Gives, Sums};
-use hand_audit::{AllIn, SeatChips, Settlement};
+use hand_verdict::{AllIn, SeatChips, Settlement};
+use report_sheet::Sheet;
 use std::alloc::AllocError;
 
 /// What hands of one unit of money come to for a player, won and lost.
@@ -61,7 +62,7 @@ impl Sums for BalanceSums {
     }
 
     fn write_line(&self, sheet: &mut Sheet, key: &PlayerKey) -> Result<(), AllocError> {
-        sheet.balance_line(key, self)
+        balance_line(sheet, key, self)
     }
 }
 

@@ -1,6 +1,6 @@
 //! What a block is made of beside the verdict or the known cards.
 
-use equity_job::JobFault;
+use runout_ranges::JobFault;
 use showdown_tally::Tally;
 
 /// What is known of an equity.
@@ -27,13 +27,4 @@ impl Equity {
             Equity::Refused(_) | Equity::Counted(_) => true,
         }
     }
-}
-
-/// The form of a block.
-#[derive(Clone, Copy, Debug, PartialEq, Eq)]
-pub enum Form {
-    /// Lines of words.
-    Text,
-    /// Records of thirteen fields, the name of a player last.
-    Csv,
 }

@@ -1,8 +1,8 @@
 //! What a player would have got of a hand with even luck.
 
 ghost use Rattle.std.specs.Prelude.{◌≡◌, ℕ, ◌*◌, ◌<◌, ◌≤◌, ◌^◌, ◌+◌, IfSome, Some, length, true};
-ghost use Rattle.equity_job.specs.declared.limits.TheConstants.{RUNOUT_MAX};
-ghost use Rattle.hand_audit.specs.Nets.{got_of};
+ghost use Rattle.runout_ranges.specs.declared.limits.TheConstants.{RUNOUT_MAX};
+ghost use Rattle.hand_verdict.specs.SeatSums.{got_of};
 ghost use Rattle.report_table.specs.Equities.{IsEquityOf, IsFull, IsOfAllIn, is_asked};
 ghost use Rattle.report_table.specs.HandEquities.{expected_units, given_to, gross_of, tally_figures};
 ghost use Rattle.report_table.specs.Results.{contenders, even_got, even_of, known_even, shared_pots};
@@ -13,7 +13,7 @@ use crate::alone::hand_count;
 use crate::equity::Equity;
 use crate::hand_equities::pot_count;
 use crate::player_sums::{got_by, got_from, hand_at};
-use hand_audit::{AllIn, PotLine, Settlement};
+use hand_verdict::{AllIn, PotLine, Settlement};
 use share_fractions::rounded;
 use showdown_tally::{Table, Tally};
 

@@ -3,89 +3,93 @@
 ghost use Rattle.std.specs.Prelude.{◌≡◌, [], ◌∷◌, ◌++◌, true, codes, OnOk, OnErr};
 ghost use Rattle.report_table.specs.Equities.{IsOfAllIn, IsOfHand, is_asked};
 ghost use Rattle.report_table.specs.HandEquities.{all_in_block, hand_block};
-ghost use Rattle.report_table.specs.Lines.{plain};
-ghost use Rattle.report_table.specs.Sheets.{IsBetweenLines, with_line, with_lines};
+ghost use Rattle.report_sheet.specs.Lines.{plain};
+ghost use Rattle.report_sheet.specs.Sheets.{IsBetweenLines, with_line, with_lines};
 
-use crate::equity::{Equity, Form};
-use crate::hand_equities::Shown;
-use crate::sheet::Sheet;
+use crate::equity::Equity;
+use crate::hand_equities::{Shown, known_all_in};
+use crate::hands::{accepted_hand, rejected_hand};
 use card_sets::Memory;
-use hand_audit::{AllIn, HandAudit, Settlement};
-use history_text::Names;
+use hand_events::Names;
+use hand_verdict::{AllIn, HandAudit, Settlement};
+use report_sheet::{Form, Sheet};
 use std::alloc::AllocError;
 
-impl Sheet {
-    /// Appends what is said of an all-in in one word.
-    #[tactic(auto, using(crate::proofs::SheetFacts::sheet_steps))]
-    fn all_in_word(&mut self, word: &str) -> Result<(), AllocError>
-        requires { IsBetweenLines self.old }
-        ensures { OnOk result (self.new
-            ≡ with_line self.old (plain (codes "all-in" ∷ word.now ∷ []))) }
-    {
-        self.text("all-in")?;
-        self.text(word)?;
-        self.end()
-    }
+/// Appends what is said of an all-in in one word.
+#[tactic(auto, using(report_sheet::proofs::CallerLemmas::sheet_steps))]
+fn all_in_word(sheet: &mut Sheet, word: &str) -> Result<(), AllocError>
+    requires { IsBetweenLines sheet.old }
+    ensures { OnOk result (sheet.new
+        ≡ with_line sheet.old (plain (codes "all-in" ∷ word.now ∷ []))) }
+{
+    sheet.text("all-in")?;
+    sheet.text(word)?;
+    sheet.end()
+}
 
-    /// Appends the all-in of a hand in which no line departs.
-    fn all_in(
-        &mut self,
-        settlement: &Settlement,
-        names: &Names,
-        all_in: &AllIn,
-        equity: &Equity,
-    ) -> Result<(), AllocError>
-        requires between { IsBetweenLines self.old }
-        requires asked { is_asked equity.now ≡ true }
-        requires equity { IsOfAllIn all_in.now equity.now }
-        ensures { OnOk result (self.new ≡ with_lines self.old
-            (all_in_block self.old.form settlement.now names.now all_in.now)) }
-    {
-        match all_in {
-            AllIn::None => self.all_in_word("none"),
-            AllIn::Unknown => self.all_in_word("unknown"),
-            AllIn::Known {
-                street,
+/// Appends the all-in of a hand in which no line departs.
+fn all_in_block(
+    sheet: &mut Sheet,
+    settlement: &Settlement,
+    names: &Names,
+    all_in: &AllIn,
+    equity: &Equity,
+) -> Result<(), AllocError>
+    requires between { IsBetweenLines sheet.old }
+    requires asked { is_asked equity.now ≡ true }
+    requires equity { IsOfAllIn all_in.now equity.now }
+    ensures { OnOk result (sheet.new ≡ with_lines sheet.old
+        (all_in_block sheet.old.form settlement.now names.now all_in.now)) }
+{
+    match all_in {
+        AllIn::None => all_in_word(sheet, "none"),
+        AllIn::Unknown => all_in_word(sheet, "unknown"),
+        AllIn::Known {
+            street,
+            seats,
+            table,
+        } => {
+            let shown = Shown {
+                settlement,
+                names,
                 seats,
                 table,
-            } => {
-                let shown = Shown {
-                    settlement,
-                    names,
-                    seats,
-                    table,
-                };
-                self.known_all_in(&shown, *street, equity)
-            }
+            };
+            known_all_in(sheet, &shown, *street, equity)
         }
     }
+}
 
-    /// Appends the verdict on a hand, and its equity where it is asked for.
-    #[tactic(auto, using(crate::proofs::SheetFacts::lines_more), unfolding(crate::specs::HandEquities::hand_block))]
-    fn hand(&mut self, number: &[u8], audit: &HandAudit, equity: &Equity) -> Result<(), AllocError>
-        requires between { IsBetweenLines self.old }
-        requires equity { IsOfHand audit.now equity.now }
-        ensures { OnOk result (self.new ≡ with_lines self.old
-            (hand_block self.old.form (is_asked equity.now) number.now audit.now)) }
-    {
-        match audit {
-            HandAudit::Rejected {
-                line,
-                cause,
-                hundredths,
-            } => self.rejected_hand(number, *line, *hundredths, cause),
-            HandAudit::Accepted {
-                settlement,
-                all_in,
-                names,
-                ..
-            } => {
-                self.accepted_hand(number, settlement, names)?;
-                if !equity.is_asked() {
-                    return Ok(());
-                }
-                self.all_in(settlement, names, all_in, equity)
+/// Appends the verdict on a hand, and its equity where it is asked for.
+#[tactic(auto, using(report_sheet::proofs::CallerLemmas::lines_more), unfolding(crate::specs::HandEquities::hand_block))]
+fn hand_block(
+    sheet: &mut Sheet,
+    number: &[u8],
+    audit: &HandAudit,
+    equity: &Equity,
+) -> Result<(), AllocError>
+    requires between { IsBetweenLines sheet.old }
+    requires equity { IsOfHand audit.now equity.now }
+    ensures { OnOk result (sheet.new ≡ with_lines sheet.old
+        (hand_block sheet.old.form (is_asked equity.now) number.now audit.now)) }
+{
+    match audit {
+        HandAudit::Rejected {
+            line,
+            cause,
+            hundredths,
+        } => rejected_hand(sheet, number, *line, *hundredths, cause),
+        HandAudit::Accepted {
+            settlement,
+            all_in,
+            names,
+            ..
+        } => {
+            accepted_hand(sheet, number, settlement, names)?;
+            if !equity.is_asked() {
+                return Ok(());
             }
+            all_in_block(sheet, settlement, names, all_in, equity)
         }
     }
 }
@@ -108,7 +112,7 @@ pub fn write_hand(
     ensures memory { OnErr result (out.new.items ≡ out.old.items) }
 {
     let mut sheet = Sheet::new(*out.allocator(), form);
-    sheet.hand(number, audit, equity)?;
+    hand_block(&mut sheet, number, audit, equity)?;
     out.extend_from_slice(sheet.bytes())?;
     Ok(())
 }

@@ -1,14 +1,14 @@
 //! The lines of a hand behind its verdict: its all-in, how all runouts of it end, and what each hand of
-//! the table may expect. Each method appends whole lines, but for those that add words to one.
+//! the table may expect. Each call appends whole lines, but for those that add words to one.
 
 ghost use Rattle.std.specs.Prelude.{◌≡◌, ℕ, ◌*◌, ◌<◌, ◌≤◌, ◌^◌, [], OnOk, length, unwrap_or};
 ghost use Rattle.card_sets.specs.PlayerSets.{AreBelow, players_in};
 ghost use Rattle.std.specs.List.{flat_map};
-ghost use Rattle.equity_job.specs.declared.limits.TheConstants.{RUNOUT_MAX};
+ghost use Rattle.runout_ranges.specs.declared.limits.TheConstants.{RUNOUT_MAX};
 ghost use Rattle.report_table.specs.Equities.{IsEquityOf, IsFull};
 ghost use Rattle.report_table.specs.HandEquities.{all_in_line, counted_all_in, every_pot, expect_line, expected_units, given_to, gross_of, hand_expect, known_all_in, player_name, pot_equities, pot_equity, pot_ev_line, pot_hand_lines, pot_name, pot_side_line, above_line, short_line, tally_figures};
-ghost use Rattle.report_table.specs.Sheets.{IsBetweenLines, with_line, with_lines, with_words};
-ghost use Rattle.report_table.specs.Spots.{every_hand};
+ghost use Rattle.report_sheet.specs.Sheets.{IsBetweenLines, with_line, with_lines, with_words};
+ghost use Rattle.report_sheet.specs.SpotLines.{every_hand};
 ghost use Rattle.report_table.specs.Words.{street_word};
 ghost use Rattle.showdown_tally.specs.Cells.{units_at};
 ghost use Rattle.showdown_tally.specs.Deals.{deal_of};
@@ -17,12 +17,12 @@ ghost use Rattle.showdown_tally.specs.Showdown.{eligible_in};
 use crate::alone::hand_count;
 use crate::equity::Equity;
 use crate::hands::name_text;
-use crate::sheet::Sheet;
 use crate::words::street_word;
 use card_sets::{Game, PlayerSet, Side, sides};
-use equity_job::JobFault;
-use hand_audit::{PotLine, Settlement};
-use history_text::{Names, Street};
+use hand_events::{Names, Street};
+use hand_verdict::{PotLine, Settlement};
+use report_sheet::Sheet;
+use runout_ranges::JobFault;
 use share_fractions::rounded;
 use showdown_tally::{Cell, Table, Tally};
 use std::alloc::AllocError;
@@ -117,249 +117,267 @@ fn street_text(game: Game, street: Street) -> &'static str
     }
 }
 
-impl Sheet {
-    /// The first words of a line of a pot. Pots count from 0.
-    #[tactic(auto, using(crate::proofs::SheetFacts::word_steps), unfolding(crate::specs::HandEquities::pot_name))]
-    fn pot_name(&mut self, k: u8) -> Result<(), AllocError>
-        ensures { OnOk result (self.new ≡ with_words self.old (pot_name k)) }
-    {
-        self.text("pot")?;
-        self.number(u64::from(k))
-    }
+/// The first words of a line of a pot. Pots count from 0.
+#[tactic(auto, using(report_sheet::proofs::CallerLemmas::word_steps), unfolding(crate::specs::HandEquities::pot_name))]
+fn pot_name(sheet: &mut Sheet, k: u8) -> Result<(), AllocError>
+    ensures { OnOk result (sheet.new ≡ with_words sheet.old (pot_name k)) }
+{
+    sheet.text("pot")?;
+    sheet.number(u64::from(k))
+}
 
-    /// How all runouts end for a hand on a side of a pot.
-    #[tactic(auto, using(crate::proofs::SheetFacts::sheet_steps), unfolding(crate::specs::HandEquities::pot_side_line))]
-    fn pot_side_line(
-        &mut self,
-        all: u64,
-        k: u8,
-        name: &[u8],
-        side: Side,
-        cell: Cell,
-    ) -> Result<(), AllocError>
-        requires between { IsBetweenLines self.old }
-        requires some { 0 < all }
-        ensures { OnOk result (self.new
-            ≡ with_line self.old (pot_side_line all k name.now side cell)) }
-    {
-        self.pot_name(k)?;
-        self.side_columns(all, side, cell)?;
-        self.end_with(name)
-    }
+/// How all runouts end for a hand on a side of a pot.
+#[tactic(auto, using(report_sheet::proofs::CallerLemmas::sheet_steps), unfolding(crate::specs::HandEquities::pot_side_line))]
+fn pot_side_line(
+    sheet: &mut Sheet,
+    all: u64,
+    k: u8,
+    name: &[u8],
+    side: Side,
+    cell: Cell,
+) -> Result<(), AllocError>
+    requires between { IsBetweenLines sheet.old }
+    requires some { 0 < all }
+    ensures { OnOk result (sheet.new
+        ≡ with_line sheet.old (pot_side_line all k name.now side cell)) }
+{
+    pot_name(sheet, k)?;
+    sheet.side_columns(all, side, cell)?;
+    sheet.end_with(name)
+}
 
-    /// What part of a pot a hand may expect, from its units of 1/5040 of it over all runouts.
-    #[tactic(auto, using(crate::proofs::SheetFacts::sheet_steps), unfolding(crate::specs::HandEquities::pot_ev_line))]
-    fn pot_ev_line(&mut self, all: u64, k: u8, name: &[u8], units: u64) -> Result<(), AllocError>
-        requires between { IsBetweenLines self.old }
-        requires some { 0 < all }
-        ensures { OnOk result (self.new ≡ with_line self.old (pot_ev_line all k name.now units)) }
-    {
-        self.pot_name(k)?;
-        self.text("ev")?;
-        self.expected(units, all)?;
-        self.end_with(name)
-    }
+/// What part of a pot a hand may expect, from its units of 1/5040 of it over all runouts.
+#[tactic(auto, using(report_sheet::proofs::CallerLemmas::sheet_steps), unfolding(crate::specs::HandEquities::pot_ev_line))]
+fn pot_ev_line(
+    sheet: &mut Sheet,
+    all: u64,
+    k: u8,
+    name: &[u8],
+    units: u64,
+) -> Result<(), AllocError>
+    requires between { IsBetweenLines sheet.old }
+    requires some { 0 < all }
+    ensures { OnOk result (sheet.new ≡ with_line sheet.old (pot_ev_line all k name.now units)) }
+{
+    pot_name(sheet, k)?;
+    sheet.text("ev")?;
+    sheet.expected(units, all)?;
+    sheet.end_with(name)
+}
 
-    /// The lines of a hand in a pot: its sides, the high first, and then what it may expect.
-    #[tactic(auto, using(crate::proofs::SheetFacts::sheet_steps), unfolding(crate::specs::HandEquities::pot_hand_lines))]
-    fn pot_hand(
-        &mut self,
-        game: Game,
-        tally: &Tally,
-        k: u8,
-        name: &[u8],
-        hand: u8,
-    ) -> Result<(), AllocError>
-        requires between { IsBetweenLines self.old }
-        requires some { 0 < tally.now.runouts }
-        requires pot { k < 10 }
-        requires hand { hand < 10 }
-        ensures { OnOk result (self.new ≡ with_lines self.old
-            (pot_hand_lines self.old.form game (tally_figures tally.now) k name.now hand)) }
-    {
-        let all = tally.runouts();
-        for played in &sides(game) {
-            if let Some(side) = *played {
-                self.pot_side_line(all, k, name, side, tally.cell(k, hand, side))?;
-            }
+/// The lines of a hand in a pot: its sides, the high first, and then what it may expect.
+#[tactic(auto, using(report_sheet::proofs::CallerLemmas::sheet_steps), unfolding(crate::specs::HandEquities::pot_hand_lines))]
+fn pot_hand(
+    sheet: &mut Sheet,
+    game: Game,
+    tally: &Tally,
+    k: u8,
+    name: &[u8],
+    hand: u8,
+) -> Result<(), AllocError>
+    requires between { IsBetweenLines sheet.old }
+    requires some { 0 < tally.now.runouts }
+    requires pot { k < 10 }
+    requires hand { hand < 10 }
+    ensures { OnOk result (sheet.new ≡ with_lines sheet.old
+        (pot_hand_lines sheet.old.form game (tally_figures tally.now) k name.now hand)) }
+{
+    let all = tally.runouts();
+    for played in &sides(game) {
+        if let Some(side) = *played {
+            pot_side_line(sheet, all, k, name, side, tally.cell(k, hand, side))?;
         }
-        self.pot_ev_line(all, k, name, tally.units(k, hand))
     }
+    pot_ev_line(sheet, all, k, name, tally.units(k, hand))
+}
 
-    /// The lines of a pot: those of each hand that is eligible in it, where two or more are.
-    fn pot_equity(&mut self, shown: &Shown, tally: &Tally, k: u8) -> Result<(), AllocError>
-        requires between { IsBetweenLines self.old }
-        requires some { 0 < tally.now.runouts }
-        requires pot { k < length (deal_of shown.now.table.now).pots }
-        requires few { k < 10 }
-        ensures { OnOk result (self.new ≡ with_lines self.old
-            (pot_equity self.old.form (deal_of shown.now.table.now)
-            (tally_figures tally.now) shown.now.names.now shown.now.seats.now k)) }
-    {
-        let hands = pot_hands(shown.table, k);
-        if hands.count() < 2 {
-            return Ok(());
-        }
-        let game = shown.table.known.game;
-        for hand in hands.each() {
-            self.pot_hand(game, tally, k, player_name(shown, hand), hand)?;
-        }
-        Ok(())
+/// The lines of a pot: those of each hand that is eligible in it, where two or more are.
+fn pot_equity(sheet: &mut Sheet, shown: &Shown, tally: &Tally, k: u8) -> Result<(), AllocError>
+    requires between { IsBetweenLines sheet.old }
+    requires some { 0 < tally.now.runouts }
+    requires pot { k < length (deal_of shown.now.table.now).pots }
+    requires few { k < 10 }
+    ensures { OnOk result (sheet.new ≡ with_lines sheet.old
+        (pot_equity sheet.old.form (deal_of shown.now.table.now)
+        (tally_figures tally.now) shown.now.names.now shown.now.seats.now k)) }
+{
+    let hands = pot_hands(shown.table, k);
+    if hands.count() < 2 {
+        return Ok(());
     }
-
-    /// What a hand of the table may expect, as a line.
-    #[tactic(auto, using(crate::proofs::SheetFacts::sheet_steps), unfolding(crate::specs::HandEquities::expect_line))]
-    fn expect_line(&mut self, hundredths: bool, name: &[u8], units: u128) -> Result<(), AllocError>
-        requires { IsBetweenLines self.old }
-        ensures { OnOk result (self.new
-            ≡ with_line self.old (expect_line hundredths name.now units)) }
-    {
-        self.text("expect")?;
-        self.money(hundredths, units)?;
-        self.end_with(name)
+    let game = shown.table.known.game;
+    for hand in hands.each() {
+        pot_hand(sheet, game, tally, k, player_name(shown, hand), hand)?;
     }
+    Ok(())
+}
 
-    /// What a hand of the table may expect.
-    fn hand_expect(&mut self, shown: &Shown, tally: &Tally, hand: u8) -> Result<(), AllocError>
-        requires between { IsBetweenLines self.old }
-        requires some { 0 < tally.now.runouts }
-        requires hand { hand < 10 }
-        requires small { (k : ℕ) → k < 10 → units_at tally.now k hand ≤ 5040 * RUNOUT_MAX }
-        ensures { OnOk result (self.new ≡ with_lines self.old
-            (hand_expect self.old.form shown.now.settlement.now shown.now.names.now
-            shown.now.seats.now (deal_of shown.now.table.now) (tally_figures tally.now) hand)) }
-    {
-        let units = expected_by(shown.settlement.pots.items(), shown.table, tally, hand);
-        self.expect_line(shown.settlement.hundredths, player_name(shown, hand), units)
+/// What a hand of the table may expect, as a line.
+#[tactic(auto, using(report_sheet::proofs::CallerLemmas::sheet_steps), unfolding(crate::specs::HandEquities::expect_line))]
+fn expect_line(
+    sheet: &mut Sheet,
+    hundredths: bool,
+    name: &[u8],
+    units: u128,
+) -> Result<(), AllocError>
+    requires { IsBetweenLines sheet.old }
+    ensures { OnOk result (sheet.new
+        ≡ with_line sheet.old (expect_line hundredths name.now units)) }
+{
+    sheet.text("expect")?;
+    sheet.money(hundredths, units)?;
+    sheet.end_with(name)
+}
+
+/// What a hand of the table may expect.
+fn hand_expect(sheet: &mut Sheet, shown: &Shown, tally: &Tally, hand: u8) -> Result<(), AllocError>
+    requires between { IsBetweenLines sheet.old }
+    requires some { 0 < tally.now.runouts }
+    requires hand { hand < 10 }
+    requires small { (k : ℕ) → k < 10 → units_at tally.now k hand ≤ 5040 * RUNOUT_MAX }
+    ensures { OnOk result (sheet.new ≡ with_lines sheet.old
+        (hand_expect sheet.old.form shown.now.settlement.now shown.now.names.now
+        shown.now.seats.now (deal_of shown.now.table.now) (tally_figures tally.now) hand)) }
+{
+    let units = expected_by(shown.settlement.pots.items(), shown.table, tally, hand);
+    expect_line(
+        sheet,
+        shown.settlement.hundredths,
+        player_name(shown, hand),
+        units,
+    )
+}
+
+/// The first line of an all-in that is counted.
+#[tactic(auto, using(report_sheet::proofs::CallerLemmas::sheet_steps), unfolding(crate::specs::HandEquities::all_in_line))]
+fn all_in_line(sheet: &mut Sheet, game: Game, street: Street, all: u64) -> Result<(), AllocError>
+    requires { IsBetweenLines sheet.old }
+    ensures { OnOk result (sheet.new ≡ with_line sheet.old (all_in_line game street all)) }
+{
+    sheet.text("all-in")?;
+    sheet.text(street_text(game, street))?;
+    sheet.text("runouts")?;
+    sheet.number(all)?;
+    sheet.end()
+}
+
+/// The lines of all pots.
+pub(crate) fn pot_equities(
+    sheet: &mut Sheet,
+    shown: &Shown,
+    tally: &Tally,
+) -> Result<(), AllocError>
+    requires between { IsBetweenLines sheet.old }
+    requires some { 0 < tally.now.runouts }
+    ensures { OnOk result (sheet.new ≡ with_lines sheet.old
+        (pot_equities sheet.old.form (deal_of shown.now.table.now)
+        (tally_figures tally.now) shown.now.names.now shown.now.seats.now)) }
+{
+    for k in 0..pot_count(shown.table) {
+        pot_equity(sheet, shown, tally, k)?;
     }
+    Ok(())
+}
 
-    /// The first line of an all-in that is counted.
-    #[tactic(auto, using(crate::proofs::SheetFacts::sheet_steps), unfolding(crate::specs::HandEquities::all_in_line))]
-    fn all_in_line(&mut self, game: Game, street: Street, all: u64) -> Result<(), AllocError>
-        requires { IsBetweenLines self.old }
-        ensures { OnOk result (self.new ≡ with_line self.old (all_in_line game street all)) }
-    {
-        self.text("all-in")?;
-        self.text(street_text(game, street))?;
-        self.text("runouts")?;
-        self.number(all)?;
-        self.end()
+/// What each hand of the table may expect.
+fn expects(sheet: &mut Sheet, shown: &Shown, tally: &Tally) -> Result<(), AllocError>
+    requires between { IsBetweenLines sheet.old }
+    requires some { 0 < tally.now.runouts }
+    requires small { (k hand : ℕ) → k < 10 → hand < 10
+        → units_at tally.now k hand ≤ 5040 * RUNOUT_MAX }
+    ensures { OnOk result (sheet.new ≡ with_lines sheet.old
+        (flat_map (hand_expect sheet.old.form shown.now.settlement.now shown.now.names.now
+        shown.now.seats.now (deal_of shown.now.table.now) (tally_figures tally.now))
+        (every_hand (length (deal_of shown.now.table.now).state.hands)))) }
+{
+    for hand in 0..hand_count(&shown.table.known) {
+        hand_expect(sheet, shown, tally, hand)?;
     }
+    Ok(())
+}
 
-    /// The lines of all pots.
-    pub(crate) fn pot_equities(&mut self, shown: &Shown, tally: &Tally) -> Result<(), AllocError>
-        requires between { IsBetweenLines self.old }
-        requires some { 0 < tally.now.runouts }
-        ensures { OnOk result (self.new ≡ with_lines self.old
-            (pot_equities self.old.form (deal_of shown.now.table.now)
-            (tally_figures tally.now) shown.now.names.now shown.now.seats.now)) }
-    {
-        for k in 0..pot_count(shown.table) {
-            self.pot_equity(shown, tally, k)?;
-        }
-        Ok(())
+/// An all-in that is counted: its street, each pot with its hands, and then what each hand may expect.
+#[tactic(auto, using(report_sheet::proofs::CallerLemmas::lines_more), unfolding(crate::specs::HandEquities::counted_all_in))]
+fn counted_all_in(
+    sheet: &mut Sheet,
+    shown: &Shown,
+    street: Street,
+    tally: &Tally,
+) -> Result<(), AllocError>
+    requires between { IsBetweenLines sheet.old }
+    requires some { 0 < tally.now.runouts }
+    requires small { (k hand : ℕ) → k < 10 → hand < 10
+        → units_at tally.now k hand ≤ 5040 * RUNOUT_MAX }
+    ensures { OnOk result (sheet.new ≡ with_lines sheet.old
+        (counted_all_in sheet.old.form shown.now.settlement.now shown.now.names.now
+        shown.now.seats.now street (deal_of shown.now.table.now)
+        (tally_figures tally.now))) }
+{
+    all_in_line(sheet, shown.table.known.game, street, tally.runouts())?;
+    pot_equities(sheet, shown, tally)?;
+    expects(sheet, shown, tally)
+}
+
+/// That fewer cards may come than are lacking.
+#[tactic(auto, using(report_sheet::proofs::CallerLemmas::sheet_steps), unfolding(crate::specs::HandEquities::short_line))]
+fn deck_short(sheet: &mut Sheet) -> Result<(), AllocError>
+    requires { IsBetweenLines sheet.old }
+    ensures { OnOk result (sheet.new ≡ with_line sheet.old short_line) }
+{
+    sheet.text("all-in")?;
+    sheet.text("refused")?;
+    sheet.text("DeckShort")?;
+    sheet.end()
+}
+
+/// That there are too many runouts.
+#[tactic(auto, using(report_sheet::proofs::CallerLemmas::sheet_steps), unfolding(crate::specs::HandEquities::above_line))]
+fn above_limit(sheet: &mut Sheet) -> Result<(), AllocError>
+    requires { IsBetweenLines sheet.old }
+    ensures { OnOk result (sheet.new ≡ with_line sheet.old above_line) }
+{
+    sheet.text("all-in")?;
+    sheet.refused()?;
+    sheet.end()
+}
+
+/// An all-in with a tally of all its runouts; where there is none, fewer cards may come than are lacking.
+fn full_all_in(
+    sheet: &mut Sheet,
+    shown: &Shown,
+    street: Street,
+    tally: &Tally,
+) -> Result<(), AllocError>
+    requires between { IsBetweenLines sheet.old }
+    requires full { IsFull (deal_of shown.now.table.now) tally.now }
+    ensures { OnOk result (sheet.new ≡ with_lines sheet.old
+        (known_all_in sheet.old.form shown.now.settlement.now shown.now.names.now
+        shown.now.seats.now street (deal_of shown.now.table.now))) }
+{
+    if tally.runouts() == 0 {
+        return deck_short(sheet);
     }
+    counted_all_in(sheet, shown, street, tally)
+}
 
-    /// What each hand of the table may expect.
-    fn expects(&mut self, shown: &Shown, tally: &Tally) -> Result<(), AllocError>
-        requires between { IsBetweenLines self.old }
-        requires some { 0 < tally.now.runouts }
-        requires small { (k hand : ℕ) → k < 10 → hand < 10
-            → units_at tally.now k hand ≤ 5040 * RUNOUT_MAX }
-        ensures { OnOk result (self.new ≡ with_lines self.old
-            (flat_map (hand_expect self.old.form shown.now.settlement.now shown.now.names.now
-            shown.now.seats.now (deal_of shown.now.table.now) (tally_figures tally.now))
-            (every_hand (length (deal_of shown.now.table.now).state.hands)))) }
-    {
-        for hand in 0..hand_count(&shown.table.known) {
-            self.hand_expect(shown, tally, hand)?;
-        }
-        Ok(())
-    }
-
-    /// An all-in that is counted: its street, each pot with its hands, and then what each hand may expect.
-    #[tactic(auto, using(crate::proofs::SheetFacts::lines_more), unfolding(crate::specs::HandEquities::counted_all_in))]
-    fn counted_all_in(
-        &mut self,
-        shown: &Shown,
-        street: Street,
-        tally: &Tally,
-    ) -> Result<(), AllocError>
-        requires between { IsBetweenLines self.old }
-        requires some { 0 < tally.now.runouts }
-        requires small { (k hand : ℕ) → k < 10 → hand < 10
-            → units_at tally.now k hand ≤ 5040 * RUNOUT_MAX }
-        ensures { OnOk result (self.new ≡ with_lines self.old
-            (counted_all_in self.old.form shown.now.settlement.now shown.now.names.now
-            shown.now.seats.now street (deal_of shown.now.table.now)
-            (tally_figures tally.now))) }
-    {
-        self.all_in_line(shown.table.known.game, street, tally.runouts())?;
-        self.pot_equities(shown, tally)?;
-        self.expects(shown, tally)
-    }
-
-    /// That fewer cards may come than are lacking.
-    #[tactic(auto, using(crate::proofs::SheetFacts::sheet_steps), unfolding(crate::specs::HandEquities::short_line))]
-    fn deck_short(&mut self) -> Result<(), AllocError>
-        requires { IsBetweenLines self.old }
-        ensures { OnOk result (self.new ≡ with_line self.old short_line) }
-    {
-        self.text("all-in")?;
-        self.text("refused")?;
-        self.text("DeckShort")?;
-        self.end()
-    }
-
-    /// That there are too many runouts.
-    #[tactic(auto, using(crate::proofs::SheetFacts::sheet_steps), unfolding(crate::specs::HandEquities::above_line))]
-    fn above_limit(&mut self) -> Result<(), AllocError>
-        requires { IsBetweenLines self.old }
-        ensures { OnOk result (self.new ≡ with_line self.old above_line) }
-    {
-        self.text("all-in")?;
-        self.refused()?;
-        self.end()
-    }
-
-    /// An all-in with a tally of all its runouts; where there is none, fewer cards may come than are lacking.
-    fn full_all_in(
-        &mut self,
-        shown: &Shown,
-        street: Street,
-        tally: &Tally,
-    ) -> Result<(), AllocError>
-        requires between { IsBetweenLines self.old }
-        requires full { IsFull (deal_of shown.now.table.now) tally.now }
-        ensures { OnOk result (self.new ≡ with_lines self.old
-            (known_all_in self.old.form shown.now.settlement.now shown.now.names.now
-            shown.now.seats.now street (deal_of shown.now.table.now))) }
-    {
-        if tally.runouts() == 0 {
-            return self.deck_short();
-        }
-        self.counted_all_in(shown, street, tally)
-    }
-
-    /// An all-in with known cards: it is refused, or counted.
-    #[tactic(auto, unfolding(crate::specs::HandEquities::known_all_in))]
-    pub(crate) fn known_all_in(
-        &mut self,
-        shown: &Shown,
-        street: Street,
-        equity: &Equity,
-    ) -> Result<(), AllocError>
-        requires between { IsBetweenLines self.old }
-        requires equity { IsEquityOf (deal_of shown.now.table.now) equity.now }
-        ensures { OnOk result (self.new ≡ with_lines self.old
-            (known_all_in self.old.form shown.now.settlement.now shown.now.names.now
-            shown.now.seats.now street (deal_of shown.now.table.now))) }
-    {
-        match equity {
-            Equity::Counted(tally) => self.full_all_in(shown, street, tally),
-            Equity::Refused(JobFault::DeckShort) => self.deck_short(),
-            Equity::Refused(JobFault::AboveLimit) => self.above_limit(),
-            Equity::NotAsked => unreachable!(),
-        }
+/// An all-in with known cards: it is refused, or counted.
+#[tactic(auto, unfolding(crate::specs::HandEquities::known_all_in))]
+pub(crate) fn known_all_in(
+    sheet: &mut Sheet,
+    shown: &Shown,
+    street: Street,
+    equity: &Equity,
+) -> Result<(), AllocError>
+    requires between { IsBetweenLines sheet.old }
+    requires equity { IsEquityOf (deal_of shown.now.table.now) equity.now }
+    ensures { OnOk result (sheet.new ≡ with_lines sheet.old
+        (known_all_in sheet.old.form shown.now.settlement.now shown.now.names.now
+        shown.now.seats.now street (deal_of shown.now.table.now))) }
+{
+    match equity {
+        Equity::Counted(tally) => full_all_in(sheet, shown, street, tally),
+        Equity::Refused(JobFault::DeckShort) => deck_short(sheet),
+        Equity::Refused(JobFault::AboveLimit) => above_limit(sheet),
+        Equity::NotAsked => unreachable!(),
     }
 }

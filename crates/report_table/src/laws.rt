@@ -3,12 +3,12 @@
 ghost use Rattle.std.specs.Prelude.{◌≡◌, ℕ, ◌/◌, ◌++◌, List, length, true, false, codes, decimal};
 ghost use Rattle.card_sets.specs.Games.{has_side};
 ghost use Rattle.card_sets.specs.declared.games.Side.{Side};
-ghost use Rattle.hand_audit.specs.declared.settlement.PotLine.{PotLine};
+ghost use Rattle.hand_verdict.specs.declared.settlement.PotLine.{PotLine};
 ghost use Rattle.showdown_tally.specs.Deals.{deal_of};
 ghost use Rattle.report_table.specs.ExpectLaws.{EvenAddsUp, GivesAll, HasLows, HasPlayers};
-ghost use Rattle.report_table.specs.Lines.{Line};
+ghost use Rattle.report_sheet.specs.Lines.{Line};
 ghost use Rattle.report_table.specs.ReadBack.{IsReadBack, HasThirteen};
-ghost use Rattle.report_table.specs.Words.{money};
+ghost use Rattle.report_sheet.specs.Numbers.{money};
 ghost use Rattle.share_fractions.specs.Round.{last_digits};
 
 use card_sets::{CardSet, Known};
@@ -16,7 +16,7 @@ use showdown_tally::{Table, law_pots_are_given_out};
 
 /// A law: chips are written as a whole number, and hundredths as the whole number of hundreds, a point,
 /// and the last two digits.
-#[tactic(auto, unfolding(crate::specs::Words::money, share_fractions::specs::Round::fixed_text))]
+#[tactic(auto, unfolding(report_sheet::specs::Numbers::money, share_fractions::specs::Round::fixed_text))]
 pub fn law_money_is_written_whole()
     ensures chips { (units : ℕ) → money false units ≡ decimal units }
     ensures hundredths { (units : ℕ)

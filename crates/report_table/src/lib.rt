@@ -7,8 +7,8 @@
 //! 1. *A block is whole or not there.* It is put together in a `Sheet` of its own, word by word, and appended
 //!    when it is whole. The lines of the totals are appended one by one, and taken back when out of memory, so
 //!    that they are held once.
-//! 2. *Both forms are one.* Words end as a line of text or as a record, in three methods of `Sheet`, so that
-//!    no line is written twice in the code.
+//! 2. *Both forms are one.* Which words and names make a line is said here, and how a line stands as text or as a
+//!    record in `report_sheet`, so that no line is written twice in the code.
 //! 3. *A number is rounded once.* What a hand may expect is added up in 1/5040 of a unit over all pots, and
 //!    then divided.
 //! 4. *Totals and balance* (`sums`, `player_rows`, `players`). One store keeps sums of either kind: a row for
@@ -32,15 +32,12 @@ mod hand_equities;
 mod hands;
 mod laws;
 mod made_sums;
-mod numbers;
 mod player_key;
 mod player_rows;
 mod player_sums;
 mod players;
 mod results;
-mod settle_laws;
 mod settles;
-mod sheet;
 mod spot_blocks;
 mod spots;
 mod streets;
@@ -52,21 +49,17 @@ mod words;
 
 pub use alone::table_alone;
 pub use balance::Balance;
-pub use balance_laws::{
-    law_balances_add_up_to_the_rakes, law_no_name_is_balanced_over_two_units,
-    law_nobody_is_balanced_twice,
-};
-pub use equity::{Equity, Form};
+pub use balance_laws::{law_no_name_is_balanced_over_two_units, law_nobody_is_balanced_twice};
+pub use equity::Equity;
 pub use hand_blocks::write_hand;
 pub use laws::{
     law_a_record_is_read_back, law_even_luck_adds_up_to_what_was_got,
     law_expectations_add_up_to_the_pots, law_money_is_written_whole,
 };
 pub use made_sums::{AllInSums, MadeSums};
+pub use report_sheet::{Form, Sheet};
 pub use results::write_results;
-pub use settle_laws::law_settle_lines_add_up;
 pub use settles::write_settlement;
-pub use sheet::Sheet;
 pub use spot_blocks::write_spot;
 pub use streets::{has_counted, write_street};
 pub use total_laws::{law_hands_are_those_that_are_played, law_no_player_is_listed_twice};

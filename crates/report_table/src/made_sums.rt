@@ -1,22 +1,22 @@
 //! What the hands of a run with two seats come to.
 
 ghost use Rattle.std.specs.Prelude.{◌≡◌, ℕ, ◌<◌, ◌≤◌, ◌*◌, ◌^◌, List, [], ◌∷◌, ◌++◌, true, false, decimal, OnOk, OnErr};
-ghost use Rattle.hand_audit.specs.declared.verdicts.HandAudit.{HandAudit};
+ghost use Rattle.hand_verdict.specs.declared.verdicts.HandAudit.{HandAudit};
 ghost use Rattle.report_table.specs.Equities.{IsEquityOf, IsFull, IsOfAllIn, IsOfHand, is_asked};
 ghost use Rattle.report_table.specs.HandEquities.{full_figures, tally_figures};
-ghost use Rattle.report_table.specs.Lines.{line_in};
+ghost use Rattle.report_sheet.specs.Lines.{line_in};
 ghost use Rattle.report_table.specs.Made.{all_in_sums, hand_units, known_all_in, made_columns, made_line, made_sums, made_title, seat_units};
 ghost use Rattle.report_table.specs.MadeSeen.{AreSmall};
-ghost use Rattle.report_table.specs.Sheets.{IsBetweenLines, with_line, with_words};
-ghost use Rattle.report_table.specs.Words.{money};
+ghost use Rattle.report_sheet.specs.Sheets.{IsBetweenLines, with_line, with_words};
+ghost use Rattle.report_sheet.specs.Numbers.{money};
 ghost use Rattle.showdown_tally.specs.Deals.{deal_of};
 
-use crate::equity::{Equity, Form};
+use crate::equity::Equity;
 use crate::hand_equities::pot_count;
 use crate::player_sums::hand_at;
-use crate::sheet::Sheet;
 use card_sets::Memory;
-use hand_audit::{AllIn, HandAudit};
+use hand_verdict::{AllIn, HandAudit};
+use report_sheet::{Form, Sheet};
 use showdown_tally::{Table, Tally};
 use std::alloc::AllocError;
 use std::marker::Model;
@@ -179,60 +179,63 @@ impl MadeSums {
         ensures memory { OnErr result (out.new.items ≡ out.old.items) }
     {
         let mut sheet = Sheet::new(*out.allocator(), form);
-        sheet.made_line(hands, self.accepted, &self.all_ins)?;
+        made_line(&mut sheet, hands, self.accepted, &self.all_ins)?;
         out.extend_from_slice(sheet.bytes())?;
         Ok(())
     }
 }
 
-impl Sheet {
-    /// A name of a sum, and the sum.
-    #[tactic(auto, using(crate::proofs::SheetFacts::word_steps))]
-    fn name_and_sum(&mut self, name: &str, number: u128) -> Result<(), AllocError>
-        ensures { OnOk result (self.new
-            ≡ with_words self.old (name.now ∷ money false number ∷ [])) }
-    {
-        self.text(name)?;
-        self.money(false, number)
-    }
+/// A name of a sum, and the sum.
+#[tactic(auto, using(report_sheet::proofs::CallerLemmas::word_steps))]
+fn name_and_sum(sheet: &mut Sheet, name: &str, number: u128) -> Result<(), AllocError>
+    ensures { OnOk result (sheet.new
+        ≡ with_words sheet.old (name.now ∷ money false number ∷ [])) }
+{
+    sheet.text(name)?;
+    sheet.money(false, number)
+}
 
-    /// A name of a number, and the number.
-    #[tactic(auto, using(crate::proofs::SheetFacts::word_steps))]
-    fn name_and_count(&mut self, name: &str, number: u64) -> Result<(), AllocError>
-        ensures { OnOk result (self.new ≡ with_words self.old (name.now ∷ decimal number ∷ [])) }
-    {
-        self.text(name)?;
-        self.number(number)
-    }
+/// A name of a number, and the number.
+#[tactic(auto, using(report_sheet::proofs::CallerLemmas::word_steps))]
+fn name_and_count(sheet: &mut Sheet, name: &str, number: u64) -> Result<(), AllocError>
+    ensures { OnOk result (sheet.new ≡ with_words sheet.old (name.now ∷ decimal number ∷ [])) }
+{
+    sheet.text(name)?;
+    sheet.number(number)
+}
 
-    /// The first words of the line of so many hands that were made.
-    #[tactic(auto, using(crate::proofs::SheetFacts::word_steps), unfolding(crate::specs::Made::made_title))]
-    fn made_title(&mut self, hands: u64, accepted: u64) -> Result<(), AllocError>
-        ensures { OnOk result (self.new ≡ with_words self.old (made_title hands accepted)) }
-    {
-        self.text("made")?;
-        self.name_and_count("hands", hands)?;
-        self.name_and_count("accepted", accepted)
-    }
+/// The first words of the line of so many hands that were made.
+#[tactic(auto, using(report_sheet::proofs::CallerLemmas::word_steps), unfolding(crate::specs::Made::made_title))]
+fn made_title(sheet: &mut Sheet, hands: u64, accepted: u64) -> Result<(), AllocError>
+    ensures { OnOk result (sheet.new ≡ with_words sheet.old (made_title hands accepted)) }
+{
+    sheet.text("made")?;
+    name_and_count(sheet, "hands", hands)?;
+    name_and_count(sheet, "accepted", accepted)
+}
 
-    /// What stands behind them.
-    #[tactic(auto, using(crate::proofs::SheetFacts::word_steps), unfolding(crate::specs::Made::made_columns))]
-    fn made_columns(&mut self, sums: &AllInSums) -> Result<(), AllocError>
-        ensures { OnOk result (self.new ≡ with_words self.old (made_columns sums.now)) }
-    {
-        self.name_and_sum("runouts", sums.runouts)?;
-        self.name_and_sum("first", sums.first)?;
-        self.name_and_sum("second", sums.second)
-    }
+/// What stands behind them.
+#[tactic(auto, using(report_sheet::proofs::CallerLemmas::word_steps), unfolding(crate::specs::Made::made_columns))]
+fn made_columns(sheet: &mut Sheet, sums: &AllInSums) -> Result<(), AllocError>
+    ensures { OnOk result (sheet.new ≡ with_words sheet.old (made_columns sums.now)) }
+{
+    name_and_sum(sheet, "runouts", sums.runouts)?;
+    name_and_sum(sheet, "first", sums.first)?;
+    name_and_sum(sheet, "second", sums.second)
+}
 
-    /// The line of so many hands that were made.
-    #[tactic(auto, using(crate::proofs::SheetFacts::sheet_steps), unfolding(crate::specs::Made::made_line))]
-    fn made_line(&mut self, hands: u64, accepted: u64, sums: &AllInSums) -> Result<(), AllocError>
-        requires { IsBetweenLines self.old }
-        ensures { OnOk result (self.new ≡ with_line self.old (made_line hands accepted sums.now)) }
-    {
-        self.made_title(hands, accepted)?;
-        self.made_columns(sums)?;
-        self.end()
-    }
+/// The line of so many hands that were made.
+#[tactic(auto, using(report_sheet::proofs::CallerLemmas::sheet_steps), unfolding(crate::specs::Made::made_line))]
+fn made_line(
+    sheet: &mut Sheet,
+    hands: u64,
+    accepted: u64,
+    sums: &AllInSums,
+) -> Result<(), AllocError>
+    requires { IsBetweenLines sheet.old }
+    ensures { OnOk result (sheet.new ≡ with_line sheet.old (made_line hands accepted sums.now)) }
+{
+    made_title(sheet, hands, accepted)?;
+    made_columns(sheet, sums)?;
+    sheet.end()
 }

@@ -2,7 +2,7 @@
 
 ghost use Rattle.std.specs.Prelude.{◌≡◌, ◌+◌, ◌<◌, ◌≤◌, ◌^◌, ◌==◌, IfSome, find, length, position, true};
 ghost use Rattle.std.specs.Option.{option_copied};
-ghost use Rattle.hand_audit.specs.Nets.{got_by};
+ghost use Rattle.hand_verdict.specs.SeatSums.{got_by};
 ghost use Rattle.report_table.specs.Equities.{IsEquityOf, IsFull, IsOfAllIn, is_asked};
 ghost use Rattle.report_table.specs.Totals.{collected_by, hand_alone, hand_all_in, hand_at, known_sums, no_sums, paid_from, seat_sums, total_line};
 ghost use Rattle.report_table.specs.TotalsSeen.{AreOfHands, plus, totals_are_sums};
@@ -12,9 +12,10 @@ use crate::alone::hand_count;
 use crate::equity::Equity;
 use crate::hand_equities::{expected_by, pot_count};
 use crate::player_key::PlayerKey;
-use crate::sheet::Sheet;
 use crate::sums::{Gives, Sums};
-use hand_audit::{AllIn, Payment, PotLine, Settlement};
+use crate::total_lines::total_line;
+use hand_verdict::{AllIn, Payment, PotLine, Settlement};
+use report_sheet::Sheet;
 use showdown_tally::{Table, Tally};
 use std::alloc::AllocError;
 
@@ -74,7 +75,7 @@ impl Sums for PlayerSums {
     }
 
     fn write_line(&self, sheet: &mut Sheet, key: &PlayerKey) -> Result<(), AllocError> {
-        sheet.total_line(key, self)
+        total_line(sheet, key, self)
     }
 }
 

@@ -2,7 +2,7 @@
 
 ghost use Rattle.std.specs.Prelude.{◌≡◌, ℕ, ◌+◌, ◌^◌, ◌≤◌, ◌==◌, true, length, map, take, is_some, option_map, IfOk, OnOk, OnErr};
 ghost use Rattle.std.specs.Int.{bit_at};
-ghost use Rattle.history_text.specs.Names.{seat_named};
+ghost use Rattle.hand_events.specs.Names.{seat_named};
 ghost use Rattle.report_table.specs.SumsSeen.{AllAreOf, seated_share, with_given, with_player, with_players};
 ghost use Rattle.report_table.specs.Totals.{playing};
 ghost use Rattle.report_table.specs.TotalsSeen.{first_at, has_name, named_player, player_at, player_of};
@@ -11,7 +11,7 @@ use crate::player_key::PlayerKey;
 use crate::player_rows::Players;
 use crate::sums::{Gives, Sums};
 use card_sets::{Memory, PlayerSet};
-use history_text::Names;
+use hand_events::Names;
 use std::alloc::{AllocError, Global};
 use std::rc::RcSlice;
 

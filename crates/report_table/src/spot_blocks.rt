@@ -4,60 +4,59 @@ ghost use Rattle.std.specs.Prelude.{◌≡◌, ◌≤◌, ◌++◌, IfOk, OnOk, 
 ghost use Rattle.card_sets.specs.State.{state_of};
 ghost use Rattle.runout_ranges.specs.Slots.{unseen, slots, counts_of};
 ghost use Rattle.report_table.specs.Equities.{IsEquityOf};
-ghost use Rattle.report_table.specs.Sheets.{IsBetweenLines, with_lines};
+ghost use Rattle.report_sheet.specs.Sheets.{IsBetweenLines, with_lines};
 ghost use Rattle.report_table.specs.Spots.{alone, seen_spot, spot_block};
 
-use crate::equity::{Equity, Form};
-use crate::sheet::Sheet;
+use crate::equity::Equity;
+use crate::spots::{counted_spot, rejected_spot};
 use card_sets::{Known, Memory};
-use equity_job::JobFault;
+use report_sheet::{Form, Sheet};
+use runout_ranges::JobFault;
 use spot_text::SpotFault;
 use std::alloc::AllocError;
 
-impl Sheet {
-    /// Appends the block of a spot that is well written.
-    #[tactic(auto, unfolding(crate::specs::Spots::spot_block))]
-    fn known_spot(
-        &mut self,
-        place: u64,
-        line: u32,
-        known: &Known,
-        equity: &Equity,
-    ) -> Result<(), AllocError>
-        requires between { IsBetweenLines self.old }
-        requires enough { sum (counts_of (slots (state_of known.now)))
-            ≤ length (unseen (state_of known.now)) }
-        requires equity { IsEquityOf (alone (state_of known.now)) equity.now }
-        ensures { OnOk result (self.new
-            ≡ with_lines self.old (spot_block self.old.form place line (Ok (state_of known.now)))) }
-    {
-        match equity {
-            Equity::Counted(tally) => self.counted_spot(place, known, tally),
-            Equity::Refused(JobFault::AboveLimit) => self.refused_spot(place, known.game),
-            Equity::Refused(JobFault::DeckShort) | Equity::NotAsked => unreachable!(),
-        }
+/// Appends the block of a spot that is well written.
+#[tactic(auto, unfolding(crate::specs::Spots::spot_block))]
+fn known_spot(
+    sheet: &mut Sheet,
+    place: u64,
+    line: u32,
+    known: &Known,
+    equity: &Equity,
+) -> Result<(), AllocError>
+    requires between { IsBetweenLines sheet.old }
+    requires enough { sum (counts_of (slots (state_of known.now)))
+        ≤ length (unseen (state_of known.now)) }
+    requires equity { IsEquityOf (alone (state_of known.now)) equity.now }
+    ensures { OnOk result (sheet.new
+        ≡ with_lines sheet.old (spot_block sheet.old.form place line (Ok (state_of known.now)))) }
+{
+    match equity {
+        Equity::Counted(tally) => counted_spot(sheet, place, known, tally),
+        Equity::Refused(JobFault::AboveLimit) => sheet.refused_spot(place, known.game),
+        Equity::Refused(JobFault::DeckShort) | Equity::NotAsked => unreachable!(),
     }
+}
 
-    /// Appends the line of a spot that is rejected, or the block of one that is well written.
-    #[tactic(auto, unfolding(crate::specs::Spots::spot_block))]
-    fn spot(
-        &mut self,
-        place: u64,
-        line: u32,
-        known: &Result<Known, SpotFault>,
-        equity: &Equity,
-    ) -> Result<(), AllocError>
-        requires between { IsBetweenLines self.old }
-        requires enough { IfOk known.now (λ k. sum (counts_of (slots (state_of k)))
-            ≤ length (unseen (state_of k))) }
-        requires equity { IfOk known.now (λ k. IsEquityOf (alone (state_of k)) equity.now) }
-        ensures { OnOk result (self.new
-            ≡ with_lines self.old (spot_block self.old.form place line (seen_spot known.now))) }
-    {
-        match known {
-            Ok(known) => self.known_spot(place, line, known, equity),
-            Err(fault) => self.rejected_spot(place, u64::from(line), fault),
-        }
+/// Appends the line of a spot that is rejected, or the block of one that is well written.
+#[tactic(auto, unfolding(crate::specs::Spots::spot_block))]
+fn spot_block(
+    sheet: &mut Sheet,
+    place: u64,
+    line: u32,
+    known: &Result<Known, SpotFault>,
+    equity: &Equity,
+) -> Result<(), AllocError>
+    requires between { IsBetweenLines sheet.old }
+    requires enough { IfOk known.now (λ k. sum (counts_of (slots (state_of k)))
+        ≤ length (unseen (state_of k))) }
+    requires equity { IfOk known.now (λ k. IsEquityOf (alone (state_of k)) equity.now) }
+    ensures { OnOk result (sheet.new
+        ≡ with_lines sheet.old (spot_block sheet.old.form place line (seen_spot known.now))) }
+{
+    match known {
+        Ok(known) => known_spot(sheet, place, line, known, equity),
+        Err(fault) => rejected_spot(sheet, place, u64::from(line), fault),
     }
 }
 
@@ -81,7 +80,7 @@ pub fn write_spot(
     ensures memory { OnErr result (out.new.items ≡ out.old.items) }
 {
     let mut sheet = Sheet::new(*out.allocator(), form);
-    sheet.spot(place, line, known, equity)?;
+    spot_block(&mut sheet, place, line, known, equity)?;
     out.extend_from_slice(sheet.bytes())?;
     Ok(())
 }

@@ -2,21 +2,21 @@
 //! are known.
 
 ghost use Rattle.std.specs.Prelude.{◌≡◌, ◌<◌, [], ◌∷◌, ◌++◌, true, unwrap_or, OnOk, OnErr};
-ghost use Rattle.report_table.specs.Equities.{IsEquityOf, IsFull, IsOfAllIn, IsOfHand, is_asked};
-ghost use Rattle.report_table.specs.HandEquities.{tally_figures};
-ghost use Rattle.report_table.specs.Sheets.{IsBetweenLines, with_line, with_lines, with_words};
-ghost use Rattle.report_table.specs.Streets.{IsOfStreet, IsOfTable, counted_street, has_counted, is_counted_all_in, known_street, street_block, street_line, street_name, table_street, word_line};
+ghost use Rattle.report_table.specs.Equities.{IsCountOf, IsEquityOf, IsFull, IsOfAllIn, IsOfHand, is_asked};
+ghost use Rattle.report_table.specs.HandEquities.{full_figures, tally_figures};
+ghost use Rattle.report_sheet.specs.Sheets.{IsBetweenLines, with_line, with_lines, with_words};
+ghost use Rattle.report_table.specs.Streets.{IsOfStreet, IsOfTable, counted_street, has_counted, is_counted_all_in, street_block, street_line, street_name, table_street, word_line};
 ghost use Rattle.report_table.specs.Totals.{is_counted};
 ghost use Rattle.report_table.specs.Words.{later_word};
 ghost use Rattle.showdown_tally.specs.Deals.{deal_of};
 
-use crate::equity::{Equity, Form};
-use crate::hand_equities::Shown;
-use crate::sheet::Sheet;
+use crate::equity::Equity;
+use crate::hand_equities::{Shown, pot_equities};
 use crate::words::later_word;
 use card_sets::Memory;
-use hand_audit::{AllIn, HandAudit, Settlement, StreetState};
-use history_text::{Names, Street};
+use hand_events::{Names, Street};
+use hand_verdict::{AllIn, HandAudit, Settlement, StreetState};
+use report_sheet::{Form, Sheet};
 use showdown_tally::{Table, Tally};
 use std::alloc::AllocError;
 
@@ -78,153 +78,131 @@ pub fn has_counted(audit: &HandAudit, equity: &Equity) -> bool
     }
 }
 
-impl Sheet {
-    /// The first words of a line of a street.
-    #[tactic(auto, using(crate::proofs::SheetFacts::word_steps), unfolding(crate::specs::Streets::street_name))]
-    fn street_name(&mut self, street: Street) -> Result<(), AllocError>
-        ensures { OnOk result (self.new ≡ with_words self.old (street_name street)) }
-    {
-        self.text("street")?;
-        self.text(later_text(street))
-    }
+/// The first words of a line of a street.
+#[tactic(auto, using(report_sheet::proofs::CallerLemmas::word_steps), unfolding(crate::specs::Streets::street_name))]
+fn street_name(sheet: &mut Sheet, street: Street) -> Result<(), AllocError>
+    ensures { OnOk result (sheet.new ≡ with_words sheet.old (street_name street)) }
+{
+    sheet.text("street")?;
+    sheet.text(later_text(street))
+}
 
-    /// What is said of a street in one word.
-    #[tactic(auto, using(crate::proofs::SheetFacts::sheet_steps))]
-    fn street_word(&mut self, street: Street, word: &str) -> Result<(), AllocError>
-        requires { IsBetweenLines self.old }
-        ensures { OnOk result (self.new ≡ with_line self.old (word_line street word.now)) }
-    {
-        self.street_name(street)?;
-        self.text(word)?;
-        self.end()
-    }
+/// What is said of a street in one word.
+#[tactic(auto, using(report_sheet::proofs::CallerLemmas::sheet_steps))]
+fn word_line(sheet: &mut Sheet, street: Street, word: &str) -> Result<(), AllocError>
+    requires { IsBetweenLines sheet.old }
+    ensures { OnOk result (sheet.new ≡ with_line sheet.old (word_line street word.now)) }
+{
+    street_name(sheet, street)?;
+    sheet.text(word)?;
+    sheet.end()
+}
 
-    /// The first line of a street that is counted.
-    #[tactic(auto, using(crate::proofs::SheetFacts::sheet_steps), unfolding(crate::specs::Streets::street_line))]
-    fn street_line(&mut self, street: Street, all: u64) -> Result<(), AllocError>
-        requires { IsBetweenLines self.old }
-        ensures { OnOk result (self.new ≡ with_line self.old (street_line street all)) }
-    {
-        self.street_name(street)?;
-        self.text("runouts")?;
-        self.number(all)?;
-        self.end()
-    }
+/// The first line of a street that is counted.
+#[tactic(auto, using(report_sheet::proofs::CallerLemmas::sheet_steps), unfolding(crate::specs::Streets::street_line))]
+fn street_line(sheet: &mut Sheet, street: Street, all: u64) -> Result<(), AllocError>
+    requires { IsBetweenLines sheet.old }
+    ensures { OnOk result (sheet.new ≡ with_line sheet.old (street_line street all)) }
+{
+    street_name(sheet, street)?;
+    sheet.text("runouts")?;
+    sheet.number(all)?;
+    sheet.end()
+}
 
-    /// A street that is counted: how many runouts are left, and each pot with its hands.
-    #[tactic(auto, using(crate::proofs::SheetFacts::lines_more), unfolding(crate::specs::Streets::counted_street))]
-    fn counted_street(
-        &mut self,
-        shown: &Shown,
-        street: Street,
-        tally: &Tally,
-    ) -> Result<(), AllocError>
-        requires between { IsBetweenLines self.old }
-        requires some { 0 < tally.now.runouts }
-        ensures { OnOk result (self.new ≡ with_lines self.old
-            (counted_street self.old.form shown.now.names.now shown.now.seats.now street
-            (deal_of shown.now.table.now) (tally_figures tally.now))) }
-    {
-        self.street_line(street, tally.runouts())?;
-        self.pot_equities(shown, tally)
-    }
+/// A street that is counted: how many runouts are left, and each pot with its hands.
+#[tactic(auto, using(report_sheet::proofs::CallerLemmas::lines_more), unfolding(crate::specs::Streets::counted_street))]
+fn counted_street(
+    sheet: &mut Sheet,
+    shown: &Shown,
+    street: Street,
+    tally: &Tally,
+) -> Result<(), AllocError>
+    requires between { IsBetweenLines sheet.old }
+    requires some { 0 < tally.now.runouts }
+    ensures { OnOk result (sheet.new ≡ with_lines sheet.old
+        (counted_street sheet.old.form shown.now.names.now shown.now.seats.now street
+        (deal_of shown.now.table.now) (tally_figures tally.now))) }
+{
+    street_line(sheet, street, tally.runouts())?;
+    pot_equities(sheet, shown, tally)
+}
 
-    /// A street with a tally of all its runouts; where there is none, fewer cards may come than are lacking.
-    fn full_street(
-        &mut self,
-        shown: &Shown,
-        street: Street,
-        tally: &Tally,
-    ) -> Result<(), AllocError>
-        requires between { IsBetweenLines self.old }
-        requires full { IsFull (deal_of shown.now.table.now) tally.now }
-        ensures { OnOk result (self.new ≡ with_lines self.old
-            (known_street self.old.form shown.now.names.now shown.now.seats.now street
-            (deal_of shown.now.table.now))) }
-    {
-        if tally.runouts() == 0 {
-            return self.street_word(street, "refused");
-        }
-        self.counted_street(shown, street, tally)
+/// A street on which all cards are known, with its equity.
+fn known_street(
+    sheet: &mut Sheet,
+    shown: &Shown,
+    street: Street,
+    equity: &Equity,
+) -> Result<(), AllocError>
+    requires between { IsBetweenLines sheet.old }
+    requires equity { IsCountOf (deal_of shown.now.table.now) equity.now }
+    ensures { OnOk result (sheet.new ≡ with_lines sheet.old
+        (counted_street sheet.old.form shown.now.names.now shown.now.seats.now street
+        (deal_of shown.now.table.now) (full_figures (deal_of shown.now.table.now)))) }
+{
+    match equity {
+        Equity::Counted(tally) => counted_street(sheet, shown, street, tally),
+        Equity::Refused(_) | Equity::NotAsked => unreachable!(),
     }
+}
 
-    /// A street on which all cards are known.
-    fn known_street(
-        &mut self,
-        shown: &Shown,
-        street: Street,
-        equity: &Equity,
-    ) -> Result<(), AllocError>
-        requires between { IsBetweenLines self.old }
-        requires equity { IsEquityOf (deal_of shown.now.table.now) equity.now }
-        ensures { OnOk result (self.new ≡ with_lines self.old
-            (known_street self.old.form shown.now.names.now shown.now.seats.now street
-            (deal_of shown.now.table.now))) }
-    {
-        match equity {
-            Equity::Counted(tally) => self.full_street(shown, street, tally),
-            Equity::Refused(_) => self.street_word(street, "refused"),
-            Equity::NotAsked => unreachable!(),
-        }
-    }
-
-    /// A street whose cards may be known.
-    fn table_street(
-        &mut self,
-        settlement: &Settlement,
-        names: &Names,
-        seats: &[u8; 10],
-        state: &StreetState,
-        equity: &Equity,
-    ) -> Result<(), AllocError>
-        requires between { IsBetweenLines self.old }
-        requires equity { IsOfStreet state.now equity.now }
-        ensures { OnOk result (self.new ≡ with_lines self.old
-            (table_street self.old.form names.now seats.now state.now.street state.now.table)) }
-    {
-        match &state.table {
-            Some(table) => {
-                let shown = Shown {
-                    settlement,
-                    names,
-                    seats,
-                    table,
-                };
-                self.known_street(&shown, state.street, equity)
-            }
-            None => self.street_word(state.street, "unknown"),
-        }
-    }
-
-    /// A street of a hand.
-    #[tactic(auto, using(crate::proofs::SheetFacts::no_lines))]
-    fn street(
-        &mut self,
-        audit: &HandAudit,
-        state: &StreetState,
-        equity: &Equity,
-    ) -> Result<(), AllocError>
-        requires between { IsBetweenLines self.old }
-        requires equity { IsOfStreet state.now equity.now }
-        ensures { OnOk result (self.new
-            ≡ with_lines self.old (street_block self.old.form audit.now state.now)) }
-    {
-        match audit {
-            HandAudit::Accepted {
+/// A street whose cards may be known.
+fn table_street(
+    sheet: &mut Sheet,
+    settlement: &Settlement,
+    names: &Names,
+    seats: &[u8; 10],
+    state: &StreetState,
+    equity: &Equity,
+) -> Result<(), AllocError>
+    requires between { IsBetweenLines sheet.old }
+    requires equity { IsOfStreet state.now equity.now }
+    ensures { OnOk result (sheet.new ≡ with_lines sheet.old
+        (table_street sheet.old.form names.now seats.now state.now.street state.now.table)) }
+{
+    match &state.table {
+        Some(table) => {
+            let shown = Shown {
                 settlement,
-                all_in: AllIn::Known { seats, .. },
                 names,
-                ..
-            } => self.table_street(settlement, names, seats, state, equity),
-            HandAudit::Accepted { .. } | HandAudit::Rejected { .. } => Ok(()),
+                seats,
+                table,
+            };
+            known_street(sheet, &shown, state.street, equity)
         }
+        None => word_line(sheet, state.street, "unknown"),
+    }
+}
+
+/// A street of a hand.
+#[tactic(auto, using(report_sheet::proofs::CallerLemmas::no_lines))]
+fn street_block(
+    sheet: &mut Sheet,
+    audit: &HandAudit,
+    state: &StreetState,
+    equity: &Equity,
+) -> Result<(), AllocError>
+    requires between { IsBetweenLines sheet.old }
+    requires equity { IsOfStreet state.now equity.now }
+    ensures { OnOk result (sheet.new
+        ≡ with_lines sheet.old (street_block sheet.old.form audit.now state.now)) }
+{
+    match audit {
+        HandAudit::Accepted {
+            settlement,
+            all_in: AllIn::Known { seats, .. },
+            names,
+            ..
+        } => table_street(sheet, settlement, names, seats, state, equity),
+        HandAudit::Accepted { .. } | HandAudit::Rejected { .. } => Ok(()),
     }
 }
 
 /// Appends the block of a street of a hand behind its all-in: how many runouts are left once its cards are
 /// known, and how all of them end for each hand of each pot; or that a contender's cards on it aren't known,
-/// and then the equity isn't looked at. The equity is that of the street's table. Want of memory leaves `out`
-/// as it was.
+/// and then the equity isn't looked at. The equity is that of the street's table, counted: after an all-in that
+/// is counted each later street is, since it has no more runouts. Out of memory `out` is as it was.
 pub fn write_street(
     out: &mut Vec<u8>,
     audit: &HandAudit,
@@ -238,7 +216,7 @@ pub fn write_street(
     ensures memory { OnErr result (out.new.items ≡ out.old.items) }
 {
     let mut sheet = Sheet::new(*out.allocator(), form);
-    sheet.street(audit, state, equity)?;
+    street_block(&mut sheet, audit, state, equity)?;
     out.extend_from_slice(sheet.bytes())?;
     Ok(())
 }

@@ -2,14 +2,14 @@
 //! summed up.
 
 ghost use Rattle.std.specs.Prelude.{◌≡◌, ℕ, ◌+◌, ◌^◌, OnOk};
-ghost use Rattle.report_table.specs.Lines.{Line};
-ghost use Rattle.report_table.specs.Sheets.{IsBetweenLines, with_line};
+ghost use Rattle.report_sheet.specs.Lines.{Line};
+ghost use Rattle.report_sheet.specs.Sheets.{IsBetweenLines, with_line};
 ghost use Rattle.report_table.specs.SumsSeen.{AreSums};
 ghost use Rattle.report_table.specs.Totals.{Player};
 ghost use Rattle.report_table.specs.TotalsSeen.{player_of};
 
 use crate::player_key::PlayerKey;
-use crate::sheet::Sheet;
+use report_sheet::Sheet;
 use std::alloc::AllocError;
 
 /// What some hands of one unit of money come to for a player.

@@ -3,7 +3,7 @@
 ghost use Rattle.std.specs.Prelude.{◌≡◌, List, count_by};
 ghost use Rattle.std.specs.List.{IsDistinct, list_any};
 ghost use Rattle.std.specs.Map.{keys_of};
-ghost use Rattle.hand_audit.specs.declared.verdicts.HandAudit.{HandAudit};
+ghost use Rattle.hand_verdict.specs.declared.verdicts.HandAudit.{HandAudit};
 ghost use Rattle.report_table.specs.Totals.{Player, players_in, same_player, sums_over, totals_of};
 
 /// A law: no two lines of the totals have one name and one unit.

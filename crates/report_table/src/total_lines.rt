@@ -1,18 +1,17 @@
-//! The lines of the totals. Each method appends whole lines, but for those that add words to one.
+//! The lines of the totals. Each call appends whole lines, but for those that add words to one.
 
 ghost use Rattle.std.specs.Prelude.{◌≡◌, ◌+◌, ◌^◌, ◌≤◌, ◌++◌, length, take, OnOk, OnErr};
-ghost use Rattle.report_table.specs.Lines.{line_in};
-ghost use Rattle.report_table.specs.Sheets.{IsBetweenLines, with_line, with_words};
+ghost use Rattle.report_sheet.specs.Lines.{line_in};
+ghost use Rattle.report_sheet.specs.Sheets.{IsBetweenLines, with_line, with_words};
 ghost use Rattle.report_table.specs.SumsSeen.{lines_of};
 ghost use Rattle.report_table.specs.Totals.{hands_line, total_line, total_title, unit_word};
 ghost use Rattle.report_table.specs.TotalsSeen.{player_of};
 
-use crate::equity::Form;
 use crate::player_key::PlayerKey;
 use crate::player_rows::{PlayerRow, Players};
 use crate::player_sums::PlayerSums;
-use crate::sheet::Sheet;
 use crate::sums::Sums;
+use report_sheet::{Form, Sheet};
 use std::alloc::AllocError;
 
 /// How a unit of money is written.
@@ -22,61 +21,59 @@ pub(crate) fn unit_word(hundredths: bool) -> &'static str
     if hundredths { "hundredths" } else { "chips" }
 }
 
-impl Sheet {
-    /// The first line: the word of what is summed up, and how many hands there are.
-    #[tactic(auto, using(crate::proofs::SheetFacts::sheet_steps), unfolding(crate::specs::Totals::hands_line))]
-    pub(crate) fn hands_line(
-        &mut self,
-        word: &str,
-        accepted: u64,
-        rejected: u64,
-    ) -> Result<(), AllocError>
-        requires between { IsBetweenLines self.old }
-        requires few { accepted + rejected ≤ 2 ^ 32 }
-        ensures { OnOk result (self.new
-            ≡ with_line self.old (hands_line word.now (accepted + rejected) accepted rejected)) }
-    {
-        self.text(word)?;
-        self.text("hands")?;
-        self.number(accepted + rejected)?;
-        self.text("accepted")?;
-        self.number(accepted)?;
-        self.text("rejected")?;
-        self.number(rejected)?;
-        self.end()
-    }
+/// The first line: the word of what is summed up, and how many hands there are.
+#[tactic(auto, using(report_sheet::proofs::CallerLemmas::sheet_steps), unfolding(crate::specs::Totals::hands_line))]
+pub(crate) fn hands_line(
+    sheet: &mut Sheet,
+    word: &str,
+    accepted: u64,
+    rejected: u64,
+) -> Result<(), AllocError>
+    requires between { IsBetweenLines sheet.old }
+    requires few { accepted + rejected ≤ 2 ^ 32 }
+    ensures { OnOk result (sheet.new
+        ≡ with_line sheet.old (hands_line word.now (accepted + rejected) accepted rejected)) }
+{
+    sheet.text(word)?;
+    sheet.text("hands")?;
+    sheet.number(accepted + rejected)?;
+    sheet.text("accepted")?;
+    sheet.number(accepted)?;
+    sheet.text("rejected")?;
+    sheet.number(rejected)?;
+    sheet.end()
+}
 
-    /// The first words of the line of a player.
-    #[tactic(auto, using(crate::proofs::SheetFacts::word_steps), unfolding(crate::specs::Totals::total_title))]
-    fn total_title(&mut self, hundredths: bool, sums: &PlayerSums) -> Result<(), AllocError>
-        ensures { OnOk result (self.new ≡ with_words self.old (total_title hundredths sums.now)) }
-    {
-        self.text("total")?;
-        self.text(unit_word(hundredths))?;
-        self.text("hands")?;
-        self.number(sums.hands)?;
-        self.text("allins")?;
-        self.number(sums.all_ins)
-    }
+/// The first words of the line of a player.
+#[tactic(auto, using(report_sheet::proofs::CallerLemmas::word_steps), unfolding(crate::specs::Totals::total_title))]
+fn total_title(sheet: &mut Sheet, hundredths: bool, sums: &PlayerSums) -> Result<(), AllocError>
+    ensures { OnOk result (sheet.new ≡ with_words sheet.old (total_title hundredths sums.now)) }
+{
+    sheet.text("total")?;
+    sheet.text(unit_word(hundredths))?;
+    sheet.text("hands")?;
+    sheet.number(sums.hands)?;
+    sheet.text("allins")?;
+    sheet.number(sums.all_ins)
+}
 
-    /// The line of a player.
-    #[tactic(auto, using(crate::proofs::SheetFacts::sheet_steps), unfolding(crate::specs::Totals::total_line))]
-    pub(crate) fn total_line(
-        &mut self,
-        key: &PlayerKey,
-        sums: &PlayerSums,
-    ) -> Result<(), AllocError>
-        requires { IsBetweenLines self.old }
-        ensures { OnOk result (self.new
-            ≡ with_line self.old (total_line (player_of key.now) sums.now)) }
-    {
-        self.total_title(key.hundredths, sums)?;
-        self.text("collected")?;
-        self.money(key.hundredths, sums.collected)?;
-        self.text("expected")?;
-        self.money(key.hundredths, sums.expected)?;
-        self.end_with(key.name.as_slice())
-    }
+/// The line of a player.
+#[tactic(auto, using(report_sheet::proofs::CallerLemmas::sheet_steps), unfolding(crate::specs::Totals::total_line))]
+pub(crate) fn total_line(
+    sheet: &mut Sheet,
+    key: &PlayerKey,
+    sums: &PlayerSums,
+) -> Result<(), AllocError>
+    requires { IsBetweenLines sheet.old }
+    ensures { OnOk result (sheet.new
+        ≡ with_line sheet.old (total_line (player_of key.now) sums.now)) }
+{
+    total_title(sheet, key.hundredths, sums)?;
+    sheet.text("collected")?;
+    sheet.money(key.hundredths, sums.collected)?;
+    sheet.text("expected")?;
+    sheet.money(key.hundredths, sums.expected)?;
+    sheet.end_with(key.name.as_slice())
 }
 
 /// Appends the line of a player. Out of memory leaves `out` as it was.

@@ -1,18 +1,18 @@
 //! What all hands of a run come to.
 
 ghost use Rattle.std.specs.Prelude.{◌≡◌, ℕ, ◌<◌, ◌^◌, List, [], ◌∷◌, ◌++◌, true, length, take, OnOk, OnErr};
-ghost use Rattle.hand_audit.specs.declared.verdicts.HandAudit.{HandAudit};
+ghost use Rattle.hand_verdict.specs.declared.verdicts.HandAudit.{HandAudit};
 ghost use Rattle.report_table.specs.Equities.{IsOfHand, is_asked};
 ghost use Rattle.report_table.specs.Totals.{run_block, totals_of};
 
-use crate::equity::{Equity, Form};
+use crate::equity::Equity;
 use crate::player_rows::Players;
 use crate::player_sums::{PlayedHand, PlayerSums};
 use crate::players::{Lineup, add_players, add_sums};
-use crate::sheet::Sheet;
-use crate::total_lines::write_players;
+use crate::total_lines::{hands_line, write_players};
 use card_sets::Memory;
-use hand_audit::HandAudit;
+use hand_verdict::HandAudit;
+use report_sheet::{Form, Sheet};
 use std::alloc::{AllocError, Global};
 use std::marker::Model;
 
@@ -116,7 +116,7 @@ impl Totals {
         ensures kept { take (length out.old.items) out.new.items ≡ out.old.items }
     {
         let mut sheet = Sheet::new(*out.allocator(), form);
-        sheet.hands_line("totals", self.accepted, self.rejected)?;
+        hands_line(&mut sheet, "totals", self.accepted, self.rejected)?;
         out.extend_from_slice(sheet.bytes())?;
         write_players(out, &self.players, form)
     }

@@ -1,14 +1,12 @@
 //! The words of the report.
 
-ghost use Rattle.std.specs.Prelude.{◌≡◌, [], ◌∷◌, OnOk, option_map};
-ghost use Rattle.report_table.specs.Sheets.{with_words};
-ghost use Rattle.report_table.specs.Spots.{refused_words};
-ghost use Rattle.report_table.specs.Words.{fault_words, first_word, later_word, side_word, street_word};
+ghost use Rattle.std.specs.Prelude.{◌≡◌, OnOk, option_map};
+ghost use Rattle.report_sheet.specs.Sheets.{with_words};
+ghost use Rattle.report_table.specs.Words.{fault_words, first_word, later_word, street_word};
 
-use crate::sheet::Sheet;
-use card_sets::{Family, Game, Side};
-use equity_job::RUNOUT_MAX;
-use history_text::Street;
+use card_sets::{Family, Game};
+use hand_events::Street;
+use report_sheet::Sheet;
 use spot_text::SpotFault;
 use std::alloc::AllocError;
 
@@ -67,44 +65,14 @@ fn first_word(family: Family) -> &'static str
     }
 }
 
-/// How a side is written.
-pub(crate) fn side_word(side: Side) -> &'static str
-    ensures { result.now ≡ side_word side }
+/// The name of a spot's fault, and then what it carries.
+#[tactic(auto, using(report_sheet::proofs::CallerLemmas::word_steps), unfolding(crate::specs::Words::fault_words))]
+pub(crate) fn spot_fault(sheet: &mut Sheet, fault: &SpotFault) -> Result<(), AllocError>
+    ensures { OnOk result (sheet.new ≡ with_words sheet.old (fault_words fault.now)) }
 {
-    match side {
-        Side::High => "high",
-        Side::Low => "low",
-    }
-}
-
-impl Sheet {
-    /// One word more, as it stands.
-    pub fn text(&mut self, text: &str) -> Result<(), AllocError>
-        ensures { OnOk result (self.new ≡ with_words self.old (text.now ∷ [])) }
-    {
-        self.word(text.as_bytes())
-    }
-
-    /// The name of a spot's fault, and then what it carries.
-    #[tactic(auto, using(crate::proofs::SheetFacts::word_steps), unfolding(crate::specs::Words::fault_words))]
-    pub(crate) fn spot_fault(&mut self, fault: &SpotFault) -> Result<(), AllocError>
-        ensures { OnOk result (self.new ≡ with_words self.old (fault_words fault.now)) }
-    {
-        self.text(fault.name())?;
-        match fault {
-            SpotFault::TwiceCard(card) => self.word(&card.text()),
-            _ => Ok(()),
-        }
-    }
-
-    /// That there are more runouts than are counted.
-    #[tactic(auto, using(crate::proofs::SheetFacts::word_steps), unfolding(crate::specs::Spots::refused_words))]
-    pub(crate) fn refused(&mut self) -> Result<(), AllocError>
-        ensures { OnOk result (self.new ≡ with_words self.old refused_words) }
-    {
-        self.text("refused")?;
-        self.text("above")?;
-        self.number(RUNOUT_MAX)?;
-        self.text("runouts")
+    sheet.text(fault.name())?;
+    match fault {
+        SpotFault::TwiceCard(card) => sheet.word(&card.text()),
+        _ => Ok(()),
     }
 }

@@ -2,18 +2,18 @@
 use Rattle.std.proofs.Common.{◌≡◌, ℕ, Bool, true, false, if◌then◌else◌, List, [], ◌++◌, Some, refl, ap, sym, ◌∙◌, append_assoc}
 use Rattle.std.specs.List.{flat_map}
 use Rattle.hand_audit.specs.Streets.{states_in, streets_of}
-use Rattle.hand_audit.specs.declared.streets.StreetState.{StreetState}
-use Rattle.hand_audit.specs.declared.verdicts.HandAudit.TheVariants.{Rejected, Accepted}
-use Rattle.hand_audit.specs.declared.verdicts.HandAudit.{HandAudit}
+use Rattle.hand_verdict.specs.declared.streets.StreetState.{StreetState}
+use Rattle.hand_verdict.specs.declared.verdicts.HandAudit.TheVariants.{Rejected, Accepted}
+use Rattle.hand_verdict.specs.declared.verdicts.HandAudit.{HandAudit}
 use Rattle.hand_cuts.specs.Units.{UnitLines}
 use Rattle.report_table.specs.HandEquities.{hand_block as audit_block}
 use Rattle.report_table.specs.Streets.{has_counted, street_block, street_blocks}
-use Rattle.report_table.specs.declared.equity.Form.{Form}
+use Rattle.report_sheet.specs.declared.form.Form.{Form}
 use Rattle.run_engine.specs.Histories.{block_by, hand_block, number_text, streets_told, tells_all_in, verdict_of}
-use Rattle.run_engine.specs.declared.listed.Told.{Told}
+use Rattle.run_engine.specs.declared.block_kinds.Detail.{Detail}
 
 -- the verdict and the all-in, and what is told behind them, are the block of the hand
-pub hand_told : (form : Form) (told : Told) (hand : UnitLines) (audit : HandAudit) (items number : List ℕ) (asked : Bool) →
+pub hand_told : (form : Form) (told : Detail) (hand : UnitLines) (audit : HandAudit) (items number : List ℕ) (asked : Bool) →
     verdict_of hand ≡ Some audit → asked ≡ tells_all_in told → number ≡ number_text hand.lines →
     (items ++ audit_block form asked number audit) ++ streets_told form told hand audit ≡ items ++ hand_block form told hand
 unfolding hand_block

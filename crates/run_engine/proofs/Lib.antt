@@ -7,6 +7,7 @@ pub mod CuttingFacts
 pub mod HeldText
 pub mod UnitFacts
 pub mod HandFacts
+pub mod LaterFacts
 pub mod RangeFacts
 pub mod WritingFacts
 pub mod OrderFacts

@@ -3,7 +3,7 @@ use Rattle.std.proofs.Common.{◌≡◌, ℕ, ◌+◌, ◌<◌, ◌≤◌, Bool,
 use Rattle.std.specs.List.{concat}
 use Rattle.card_sets.specs.declared.Memory.{Memory}
 use Rattle.hand_cuts.specs.declared.units.CutKind.TheVariants.{Hands}
-use Rattle.report_table.specs.declared.equity.Form.{Form}
+use Rattle.report_sheet.specs.declared.form.Form.{Form}
 use Rattle.run_engine.specs.UnitSums.{IsOneBlock, SumsInOrder}
 use Rattle.std.proofs.Math.Seq.{take-append_seam}
 use Rattle.byte_ends.specs.Ends.{WritesOn, WritesOut}
@@ -22,12 +22,12 @@ use Rattle.run_engine.specs.declared.write_fault.WriteFault.TheVariants as fault
 use Rattle.run_engine.specs.Order.Event.{Reading, Writing}
 use Rattle.run_engine.specs.Reading.{reported}
 use Rattle.run_engine.specs.Report.{blocks, report, rejects}
-use Rattle.run_engine.specs.UnitBlocks.{before, is_rejected_unit, listed_in, listed_kind, place_after, place_behind, rejected_units, unit_block, unit_blocks}
+use Rattle.run_engine.specs.UnitBlocks.{before, is_rejected_unit, block_kind_in, listed_kind, place_after, place_behind, rejected_units, unit_block, unit_blocks}
 use Rattle.run_engine.specs.Units.{is_whole, left_over, started}
 use Rattle.run_engine.specs.Writing.{one_if}
 use Rattle.run_engine.specs.Command.{reads_input}
 use Rattle.run_engine.specs.declared.command.Command.{Command}
-use Rattle.run_engine.specs.declared.listed.Listed.{Listed}
+use Rattle.run_engine.specs.declared.block_kinds.BlockKind.{BlockKind}
 use Rattle.run_engine.specs.declared.reading.Ending.{Ending}
 use Rattle.run_engine.specs.declared.reading.Ending.TheVariants.{Whole, Failed, TooLong, Open}
 use Rattle.run_engine.specs.declared.reading.Input.{Input}
@@ -37,7 +37,7 @@ use Rattle.run_engine.proofs.WriteFacts.{concat-append, one_small}
 use Rattle.run_engine.proofs.WritingFacts.{blocks_begun, blocks_more}
 
 -- the text of the blocks of some units
-abbrev pub text : Command → Listed → List UnitLines → List ℕ
+abbrev pub text : Command → BlockKind → List UnitLines → List ℕ
 text asked listed done = concat (unit_blocks asked.form listed 1 done)
 
 -- where each hand has a block what is due is always the report of what counts
@@ -48,17 +48,17 @@ due_all asked TooLong bytes has = refl
 due_all asked Open bytes has = rw has refl
 
 -- so it is the text of the units
-due_units : (asked : Command) (listed : Listed) (ending : Ending) (bytes : List ℕ) → listed_in asked.mode ≡ Some listed → due asked ending bytes ≡ text asked listed (units_in (listed_kind listed) (is_whole ending) 1 bytes)
+due_units : (asked : Command) (listed : BlockKind) (ending : Ending) (bytes : List ℕ) → block_kind_in asked.mode ≡ Some listed → due asked ending bytes ≡ text asked listed (units_in (listed_kind listed) (is_whole ending) 1 bytes)
 unfolding report
 due_units asked listed ending bytes is =
     due_all asked ending bytes (listed_blocks asked.mode listed is) ∙ ap concat (blocks_by_units asked asked.mode listed ending bytes is)
 
 -- all is written of what is closed
-written_all : (asked : Command) (listed : Listed) (ending : Ending) (bytes : List ℕ) (done : List UnitLines) → listed_in asked.mode ≡ Some listed → units_in (listed_kind listed) (is_whole ending) 1 bytes ≡ done → text asked listed done ≡ due asked ending bytes
+written_all : (asked : Command) (listed : BlockKind) (ending : Ending) (bytes : List ℕ) (done : List UnitLines) → block_kind_in asked.mode ≡ Some listed → units_in (listed_kind listed) (is_whole ending) 1 bytes ≡ done → text asked listed done ≡ due asked ending bytes
 written_all asked listed ending bytes done is all = ap (text asked listed) (sym all) ∙ sym (due_units asked listed ending bytes is)
 
 -- what is written of some first units is a front of what is due
-front_of : (asked : Command) (listed : Listed) (ending : Ending) (bytes : List ℕ) (done : List UnitLines) → listed_in asked.mode ≡ Some listed → Begins (listed_kind listed) ending bytes done → IsFront (text asked listed done) (due asked ending bytes)
+front_of : (asked : Command) (listed : BlockKind) (ending : Ending) (bytes : List ℕ) (done : List UnitLines) → block_kind_in asked.mode ≡ Some listed → Begins (listed_kind listed) ending bytes done → IsFront (text asked listed done) (due asked ending bytes)
 front_of asked listed ending bytes done is b =
     let later = unit_blocks asked.form listed (place_after asked.form listed 1 done) b.0 in
     (concat later, due_units asked listed ending bytes is ∙ ap (text asked listed) b.1 ∙ ap concat (blocks-append asked.form listed 1 done b.0) ∙ concat-append (unit_blocks asked.form listed 1 done) later)
@@ -79,7 +79,7 @@ Leads {S} {K} reads writes limit asked s0 k0 ending bytes wrote s k =
 
 -- the units that were handed out are written, and what was done so far is in order
 pub record Ordered {S K : Type 0} (reads : S → S → Option (List ℕ) → Type 0) (writes : K → K → Option (List ℕ) → Type 0)
-    (limit : ℕ) (asked : Command) (listed : Listed) (s0 : S) (k0 : K) (s : S) (k : K) (input : Input) (place rejected : ℕ) : Type 0 where
+    (limit : ℕ) (asked : Command) (listed : BlockKind) (s0 : S) (k0 : K) (s : S) (k : K) (input : Input) (place rejected : ℕ) : Type 0 where
   pub bytes : List ℕ
   pub done : List UnitLines
   pub cuts : Cuts limit (listed_kind listed) input bytes done
@@ -89,7 +89,7 @@ pub record Ordered {S K : Type 0} (reads : S → S → Option (List ℕ) → Typ
   pub fewer : rejected < place
   pub leads : Leads reads writes limit asked s0 k0 input.ending bytes (text asked listed done) s k
 
-pub ordered_start : {S K : Type 0} (reads : S → S → Option (List ℕ) → Type 0) (writes : K → K → Option (List ℕ) → Type 0) (limit : ℕ) (asked : Command) (listed : Listed) (s : S) (k : K)
+pub ordered_start : {S K : Type 0} (reads : S → S → Option (List ℕ) → Type 0) (writes : K → K → Option (List ℕ) → Type 0) (limit : ℕ) (asked : Command) (listed : BlockKind) (s : S) (k : K)
     → Ordered reads writes limit asked listed s k s k (started (listed_kind listed)) 1 0
 ordered_start reads writes limit asked listed s k = record {
   bytes = [];
@@ -103,7 +103,7 @@ ordered_start reads writes limit asked listed s k = record {
 }
 
 -- what is read while no more is closed goes before
-reads_before : {S K : Type 0} (reads : S → S → Option (List ℕ) → Type 0) (writes : K → K → Option (List ℕ) → Type 0) (limit : ℕ) (asked : Command) (listed : Listed) (done : List UnitLines) (is : listed_in asked.mode ≡ Some listed)
+reads_before : {S K : Type 0} (reads : S → S → Option (List ℕ) → Type 0) (writes : K → K → Option (List ℕ) → Type 0) (limit : ℕ) (asked : Command) (listed : BlockKind) (done : List UnitLines) (is : block_kind_in asked.mode ≡ Some listed)
     (s : S) (ending : Ending) (bytes : List ℕ) (made : List (Option (List ℕ))) (mid : S) (ending' : Ending) (bytes' : List ℕ) (k : K) (status : ℕ) (s' : S) (k' : K)
     → ReadsOn reads limit (listed_kind listed) done s ending bytes made mid ending' bytes' → GoesOn reads writes limit asked ending' bytes' (text asked listed done) mid k status s' k'
     → GoesOn reads writes limit asked ending bytes (text asked listed done) s k status s' k'
@@ -161,8 +161,8 @@ block_fails reads writes limit asked ending bytes wrote block s k now fault fron
     })
 
 -- a unit without a block is handed out
-pub ordered_passed : {S K : Type 0} (reads : S → S → Option (List ℕ) → Type 0) (writes : K → K → Option (List ℕ) → Type 0) (limit : ℕ) (asked : Command) (listed : Listed) (s0 : S) (k0 : K) (s new : S) (k : K) (input input' : Input) (place rejected : ℕ)
-    (unit : UnitPlace) → listed_in asked.mode ≡ Some listed → (o : Ordered reads writes limit asked listed s0 k0 s k input place rejected)
+pub ordered_passed : {S K : Type 0} (reads : S → S → Option (List ℕ) → Type 0) (writes : K → K → Option (List ℕ) → Type 0) (limit : ℕ) (asked : Command) (listed : BlockKind) (s0 : S) (k0 : K) (s new : S) (k : K) (input input' : Input) (place rejected : ℕ)
+    (unit : UnitPlace) → block_kind_in asked.mode ≡ Some listed → (o : Ordered reads writes limit asked listed s0 k0 s k input place rejected)
     → (p : PullsOne reads limit s new (listed_kind listed) input input' o.bytes o.done (Ok (Some unit)))
     → unit_block asked.form listed place (seen input'.cutter.held unit) ≡ None → is_rejected_unit listed (seen input'.cutter.held unit) ≡ false
     → Ordered reads writes limit asked listed s0 k0 new k input' place rejected
@@ -186,20 +186,20 @@ ordered_passed {S} {K} reads writes limit asked listed s0 k0 s new k input input
     }
 
 -- the text of one unit more
-text_more : (asked : Command) (listed : Listed) (done : List UnitLines) (u : UnitLines) (place : ℕ) (block : List ℕ) → place ≡ place_after asked.form listed 1 done → unit_block asked.form listed place u ≡ Some block
+text_more : (asked : Command) (listed : BlockKind) (done : List UnitLines) (u : UnitLines) (place : ℕ) (block : List ℕ) → place ≡ place_after asked.form listed 1 done → unit_block asked.form listed place u ≡ Some block
     → text asked listed (done ++ u ∷ []) ≡ text asked listed done ++ block
 text_more asked listed done u place block is made =
     ap concat (blocks_more asked.form listed done u place block is made) ∙ concat-append (unit_blocks asked.form listed 1 done) (block ∷ []) ∙ ap (λ z. text asked listed done ++ z) (append-nil block)
 
-front_more : (limit : ℕ) (asked : Command) (listed : Listed) (input : Input) (ending : Ending) (bytes : List ℕ) (done : List UnitLines) (u : UnitLines) (place : ℕ) (block : List ℕ) → listed_in asked.mode ≡ Some listed → input.ending ≡ ending
+front_more : (limit : ℕ) (asked : Command) (listed : BlockKind) (input : Input) (ending : Ending) (bytes : List ℕ) (done : List UnitLines) (u : UnitLines) (place : ℕ) (block : List ℕ) → block_kind_in asked.mode ≡ Some listed → input.ending ≡ ending
     → Cuts limit (listed_kind listed) input bytes (done ++ u ∷ []) → place ≡ place_after asked.form listed 1 done → unit_block asked.form listed place u ≡ Some block → IsFront (text asked listed done ++ block) (due asked ending bytes)
 front_more limit asked listed input ending bytes done u place block is same cuts at made =
     let b : Begins (listed_kind listed) ending bytes (done ++ u ∷ []) = subst (λ (e : Ending). Begins (listed_kind listed) e bytes (done ++ u ∷ [])) same (begins_so_far limit (listed_kind listed) input bytes (done ++ u ∷ []) cuts) in
     subst (λ (xs : List ℕ). IsFront xs (due asked ending bytes)) (text_more asked listed done u place block at made) (front_of asked listed ending bytes (done ++ u ∷ []) is b)
 
 -- a unit with a block is handed out, and the block is written
-pub ordered_more : {S K : Type 0} (reads : S → S → Option (List ℕ) → Type 0) (writes : K → K → Option (List ℕ) → Type 0) (limit : ℕ) (asked : Command) (listed : Listed) (s0 : S) (k0 : K) (s new : S) (k now : K) (input input' : Input) (place rejected : ℕ)
-    (unit : UnitPlace) (block : List ℕ) (told : Bool) → listed_in asked.mode ≡ Some listed → (o : Ordered reads writes limit asked listed s0 k0 s k input place rejected)
+pub ordered_more : {S K : Type 0} (reads : S → S → Option (List ℕ) → Type 0) (writes : K → K → Option (List ℕ) → Type 0) (limit : ℕ) (asked : Command) (listed : BlockKind) (s0 : S) (k0 : K) (s new : S) (k now : K) (input input' : Input) (place rejected : ℕ)
+    (unit : UnitPlace) (block : List ℕ) (told : Bool) → block_kind_in asked.mode ≡ Some listed → (o : Ordered reads writes limit asked listed s0 k0 s k input place rejected)
     → (p : PullsOne reads limit s new (listed_kind listed) input input' o.bytes o.done (Ok (Some unit)))
     → unit_block asked.form listed place (seen input'.cutter.held unit) ≡ Some block → is_rejected_unit listed (seen input'.cutter.held unit) ≡ told
     → WritesOut writes k now block (Ok tt)
@@ -224,8 +224,8 @@ ordered_more {S} {K} reads writes limit asked listed s0 k0 s new k now input inp
     }
 
 -- or the write fails
-pub ordered_failed : {S K : Type 0} (reads : S → S → Option (List ℕ) → Type 0) (writes : K → K → Option (List ℕ) → Type 0) (limit : ℕ) (asked : Command) (listed : Listed) (s0 : S) (k0 : K) (s new : S) (k now : K) (input input' : Input) (place rejected : ℕ)
-    (unit : UnitPlace) (block : List ℕ) (fault : Fault) → listed_in asked.mode ≡ Some listed → (o : Ordered reads writes limit asked listed s0 k0 s k input place rejected)
+pub ordered_failed : {S K : Type 0} (reads : S → S → Option (List ℕ) → Type 0) (writes : K → K → Option (List ℕ) → Type 0) (limit : ℕ) (asked : Command) (listed : BlockKind) (s0 : S) (k0 : K) (s new : S) (k now : K) (input input' : Input) (place rejected : ℕ)
+    (unit : UnitPlace) (block : List ℕ) (fault : Fault) → block_kind_in asked.mode ≡ Some listed → (o : Ordered reads writes limit asked listed s0 k0 s k input place rejected)
     → (p : PullsOne reads limit s new (listed_kind listed) input input' o.bytes o.done (Ok (Some unit)))
     → unit_block asked.form listed place (seen input'.cutter.held unit) ≡ Some block → WritesOut writes k now block (Err fault)
     → GoesOn reads writes limit asked Open [] [] s0 k0 4 new now
@@ -236,8 +236,8 @@ ordered_failed reads writes limit asked listed s0 k0 s new k now input input' pl
     o.leads 4 new now (reads_before reads writes limit asked listed o.done is s input.ending o.bytes p.made new p.ending p.behind k 4 new now p.order c)
 
 -- no unit is left, and the reading has ended
-pub ordered_ended : {S K : Type 0} (reads : S → S → Option (List ℕ) → Type 0) (writes : K → K → Option (List ℕ) → Type 0) (limit : ℕ) (asked : Command) (listed : Listed) (s0 : S) (k0 : K) (s new : S) (k : K) (input input' : Input) (place rejected : ℕ)
-    → listed_in asked.mode ≡ Some listed → (o : Ordered reads writes limit asked listed s0 k0 s k input place rejected)
+pub ordered_ended : {S K : Type 0} (reads : S → S → Option (List ℕ) → Type 0) (writes : K → K → Option (List ℕ) → Type 0) (limit : ℕ) (asked : Command) (listed : BlockKind) (s0 : S) (k0 : K) (s new : S) (k : K) (input input' : Input) (place rejected : ℕ)
+    → block_kind_in asked.mode ≡ Some listed → (o : Ordered reads writes limit asked listed s0 k0 s k input place rejected)
     → (p : PullsOne reads limit s new (listed_kind listed) input input' o.bytes o.done (Ok None))
     → GoesOn reads writes limit asked Open [] [] s0 k0 (written_status input'.ending rejected) new k
 unfolding rejects
@@ -253,8 +253,8 @@ ordered_ended {S} {K} reads writes limit asked listed s0 k0 s new k input input'
     o.leads status new k (reads_before reads writes limit asked listed o.done is s input.ending o.bytes p.made new p.ending p.behind k status new k p.order c)
 
 -- memory ran out, when some first units were written
-short_of : {S K : Type 0} (reads : S → S → Option (List ℕ) → Type 0) (writes : K → K → Option (List ℕ) → Type 0) (limit : ℕ) (asked : Command) (listed : Listed) (new : S) (k : K) (ending : Ending) (bytes : List ℕ) (done : List UnitLines)
-    → listed_in asked.mode ≡ Some listed → Begins (listed_kind listed) ending bytes done → GoesOn reads writes limit asked ending bytes (text asked listed done) new k 6 new k
+short_of : {S K : Type 0} (reads : S → S → Option (List ℕ) → Type 0) (writes : K → K → Option (List ℕ) → Type 0) (limit : ℕ) (asked : Command) (listed : BlockKind) (new : S) (k : K) (ending : Ending) (bytes : List ℕ) (done : List UnitLines)
+    → block_kind_in asked.mode ≡ Some listed → Begins (listed_kind listed) ending bytes done → GoesOn reads writes limit asked ending bytes (text asked listed done) new k 6 new k
 short_of reads writes limit asked listed new k ending bytes done is b =
     let first = unit_blocks asked.form listed 1 done in
     let later = unit_blocks asked.form listed (place_after asked.form listed 1 done) b.0 in
@@ -266,16 +266,16 @@ short_of reads writes limit asked listed new k ending bytes done is b =
       follows = inr (refl, length first, ap concat (sym front));
     }
 
-pub ordered_short : {S K : Type 0} (reads : S → S → Option (List ℕ) → Type 0) (writes : K → K → Option (List ℕ) → Type 0) (limit : ℕ) (asked : Command) (listed : Listed) (s0 : S) (k0 : K) (s new : S) (k : K) (input input' : Input) (place rejected : ℕ)
-    → listed_in asked.mode ≡ Some listed → (o : Ordered reads writes limit asked listed s0 k0 s k input place rejected) → (made : List (Option (List ℕ))) (ending : Ending) (behind : List ℕ)
+pub ordered_short : {S K : Type 0} (reads : S → S → Option (List ℕ) → Type 0) (writes : K → K → Option (List ℕ) → Type 0) (limit : ℕ) (asked : Command) (listed : BlockKind) (s0 : S) (k0 : K) (s new : S) (k : K) (input input' : Input) (place rejected : ℕ)
+    → block_kind_in asked.mode ≡ Some listed → (o : Ordered reads writes limit asked listed s0 k0 s k input place rejected) → (made : List (Option (List ℕ))) (ending : Ending) (behind : List ℕ)
     → ReadsOn reads limit (listed_kind listed) o.done s input.ending o.bytes made new ending behind → Begins (listed_kind listed) ending behind o.done
     → GoesOn reads writes limit asked Open [] [] s0 k0 6 new k
 ordered_short {S} {K} reads writes limit asked listed s0 k0 s new k input input' place rejected is o made ending behind order begun =
     o.leads 6 new k (reads_before reads writes limit asked listed o.done is s input.ending o.bytes made new ending behind k 6 new k order (short_of reads writes limit asked listed new k ending behind o.done is begun))
 
 -- memory ran out for the block of a unit that was handed out
-pub ordered_short_block : {S K : Type 0} (reads : S → S → Option (List ℕ) → Type 0) (writes : K → K → Option (List ℕ) → Type 0) (limit : ℕ) (asked : Command) (listed : Listed) (s0 : S) (k0 : K) (s new : S) (k : K) (input input' : Input) (place rejected : ℕ)
-    (unit : UnitPlace) → listed_in asked.mode ≡ Some listed → (o : Ordered reads writes limit asked listed s0 k0 s k input place rejected)
+pub ordered_short_block : {S K : Type 0} (reads : S → S → Option (List ℕ) → Type 0) (writes : K → K → Option (List ℕ) → Type 0) (limit : ℕ) (asked : Command) (listed : BlockKind) (s0 : S) (k0 : K) (s new : S) (k : K) (input input' : Input) (place rejected : ℕ)
+    (unit : UnitPlace) → block_kind_in asked.mode ≡ Some listed → (o : Ordered reads writes limit asked listed s0 k0 s k input place rejected)
     → (p : PullsOne reads limit s new (listed_kind listed) input input' o.bytes o.done (Ok (Some unit)))
     → GoesOn reads writes limit asked Open [] [] s0 k0 6 new k
 ordered_short_block {S} {K} reads writes limit asked listed s0 k0 s new k input input' place rejected unit is o p =

@@ -9,10 +9,10 @@ use Rattle.hand_cuts.proofs.CallerLemmas.{closed_units_stay}
 use Rattle.run_engine.specs.declared.command.Command.{Command}
 use Rattle.run_engine.specs.declared.command.Mode.{Mode}
 use Rattle.run_engine.specs.declared.command.Mode.TheVariants.{Spots, Ranges, Check, Audit, Streets, Results, Settle, Totals, Balance, Made}
-use Rattle.run_engine.specs.declared.listed.Holding.TheVariants as held
-use Rattle.run_engine.specs.declared.listed.Told.TheVariants.{Verdict, AllIn, LaterStreets}
-use Rattle.run_engine.specs.declared.listed.Listed.{Listed}
-use Rattle.run_engine.specs.declared.listed.Listed.TheVariants as each
+use Rattle.run_engine.specs.declared.block_kinds.SpotKind.TheVariants as held
+use Rattle.run_engine.specs.declared.block_kinds.Detail.TheVariants.{Verdict, AllIn, LaterStreets}
+use Rattle.run_engine.specs.declared.block_kinds.BlockKind.{BlockKind}
+use Rattle.run_engine.specs.declared.block_kinds.BlockKind.TheVariants as each
 use Rattle.run_engine.specs.declared.reading.Ending.{Ending}
 use Rattle.run_engine.specs.declared.reading.Ending.TheVariants.{Whole, Failed, TooLong, Open}
 use Rattle.run_engine.specs.Closed.{closed}
@@ -22,14 +22,14 @@ use Rattle.run_engine.specs.Laws.{ClosedBlocksStay, has_blocks}
 use Rattle.run_engine.specs.Report.{blocks, blocks_in, report, rejects, rejects_in}
 use Rattle.run_engine.specs.Reporting.{WritesMade}
 use Rattle.run_engine.specs.declared.write_fault.WriteFault.{WriteFault}
-use Rattle.run_engine.specs.UnitBlocks.{listed_in, listed_kind, place_after, unit_blocks}
+use Rattle.run_engine.specs.UnitBlocks.{block_kind_in, listed_kind, place_after, unit_blocks}
 use Rattle.run_engine.specs.Headline.{IsRun, Ends, written_status}
 use Rattle.run_engine.proofs.RunEnds.{run_finished, run_read_fault, run_too_long}
 use Rattle.run_engine.proofs.UnitFacts.{blocks-append, blocks_by_units}
 use Rattle.run_engine.proofs.WriteFacts.{concat-append}
 
 -- the blocks of the closed part come first, whatever bytes follow, where each spot or hand has one
-listed_of : (m : Mode) → has_blocks m ≡ true → (listed : Listed) × (listed_in m ≡ Some listed)
+listed_of : (m : Mode) → has_blocks m ≡ true → (listed : BlockKind) × (block_kind_in m ≡ Some listed)
 listed_of Spots has = (each.Spots held.Cards, refl)
 listed_of Ranges has = (each.Spots held.Ranges, refl)
 listed_of Check has = (each.Hands Verdict, refl)

@@ -5,19 +5,19 @@ use Rattle.hand_cuts.specs.Units.{UnitLines}
 use Rattle.history_text.specs.Headers.{hand_number}
 use Rattle.hand_audit.specs.SeatChips.{chips_of}
 use Rattle.hand_audit.specs.SplitHands.{parts_given, split_of}
-use Rattle.hand_audit.specs.declared.seat_chips.AuditedChips.{AuditedChips}
+use Rattle.hand_verdict.specs.declared.seat_chips.AuditedChips.{AuditedChips}
 use Rattle.hand_audit.specs.Streets.{states_in, streets_of}
-use Rattle.hand_audit.specs.declared.streets.StreetState.{StreetState}
+use Rattle.hand_verdict.specs.declared.streets.StreetState.{StreetState}
 use Rattle.hand_audit.specs.Verdict.{audit_of}
-use Rattle.hand_audit.specs.declared.verdicts.HandAudit.{HandAudit}
-use Rattle.hand_audit.specs.declared.verdicts.HandAudit.TheVariants.{Rejected, Accepted}
+use Rattle.hand_verdict.specs.declared.verdicts.HandAudit.{HandAudit}
+use Rattle.hand_verdict.specs.declared.verdicts.HandAudit.TheVariants.{Rejected, Accepted}
 use Rattle.report_table.specs.HandEquities.{hand_block as audit_block}
 use Rattle.report_table.specs.Results.{results_block}
 use Rattle.report_table.specs.Settles.{settle_block}
 use Rattle.report_table.specs.Streets.{street_blocks}
-use Rattle.report_table.specs.declared.equity.Form.{Form}
-use Rattle.run_engine.specs.declared.listed.Told.{Told}
-use Rattle.run_engine.specs.declared.listed.Told.TheVariants.{Verdict, AllIn, LaterStreets}
+use Rattle.report_sheet.specs.declared.form.Form.{Form}
+use Rattle.run_engine.specs.declared.block_kinds.Detail.{Detail}
+use Rattle.run_engine.specs.declared.block_kinds.Detail.TheVariants.{Verdict, AllIn, LaterStreets}
 
 -- the number of a hand, digit by digit as its header line has it
 abbrev pub number_text : List (List ℕ) → List ℕ
@@ -36,32 +36,32 @@ unfoldable pub chips_hand : UnitLines → Option AuditedChips
 chips_hand hand = option_map (with_chips hand.lines) (verdict_of hand)
 
 -- whether the equity of an all-in is told
-abbrev pub tells_all_in : Told → Bool
+abbrev pub tells_all_in : Detail → Bool
 tells_all_in Verdict = false
 tells_all_in AllIn = true
 tells_all_in LaterStreets = true
 
 -- the blocks of the streets of a hand behind its all-in, where they are told
-abbrev pub streets_told : Form → Told → UnitLines → HandAudit → List ℕ
+abbrev pub streets_told : Form → Detail → UnitLines → HandAudit → List ℕ
 streets_told form Verdict hand audit = []
 streets_told form AllIn hand audit = []
 streets_told form LaterStreets hand audit = street_blocks form audit (states_in hand.lines)
 
 -- these are the later streets of a hand of this verdict, where they are told
-abbrev pub HasStreets : Told → List (List ℕ) → HandAudit → List StreetState → Type 0
+abbrev pub HasStreets : Detail → List (List ℕ) → HandAudit → List StreetState → Type 0
 HasStreets Verdict lines audit states = Unit {0}
 HasStreets AllIn lines audit states = Unit {0}
 HasStreets LaterStreets lines audit states = states ≡ streets_of audit lines
 
 -- the block of a hand, by its verdict
-abbrev pub block_by : Form → Told → UnitLines → Option HandAudit → List ℕ
+abbrev pub block_by : Form → Detail → UnitLines → Option HandAudit → List ℕ
 block_by form told hand None = []
 block_by form told hand (Some audit) =
     audit_block form (tells_all_in told) (number_text hand.lines) audit
     ++ streets_told form told hand audit
 
 -- the block of a hand in a form; given is how much of it is told
-unfoldable pub hand_block : Form → Told → UnitLines → List ℕ
+unfoldable pub hand_block : Form → Detail → UnitLines → List ℕ
 hand_block form told hand = block_by form told hand (verdict_of hand)
 
 -- the results of a hand, by its verdict

@@ -1,6 +1,6 @@
 -- Which lines with ranges are rejected.
 use Rattle.std.specs.Prelude.{◌≡◌, Bool, true, false, ◌&&◌, not, Result, Ok, Err}
-use Rattle.equity_job.specs.declared.limits.TheConstants.{RUNOUT_MAX}
+use Rattle.runout_ranges.specs.declared.limits.TheConstants.{RUNOUT_MAX}
 use Rattle.hand_ranges.specs.Choices.{are_above, has_no_choice}
 use Rattle.hand_ranges.specs.Counted.{IsCountOf}
 use Rattle.hand_ranges.specs.RangeSpot.{Ranges, ranges_in}

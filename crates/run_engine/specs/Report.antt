@@ -2,8 +2,8 @@
 use Rattle.std.specs.Prelude.{ℕ, ◌+◌, ◌-◌, Bool, ◌&&◌, not, if◌then◌else◌, List, [], ◌∷◌, map, count_by}
 use Rattle.std.specs.List.{concat, filter_map}
 use Rattle.std.specs.Result.{is_err}
-use Rattle.hand_audit.specs.declared.seat_chips.AuditedChips.{AuditedChips}
-use Rattle.hand_audit.specs.declared.verdicts.HandAudit.{HandAudit}
+use Rattle.hand_verdict.specs.declared.seat_chips.AuditedChips.{AuditedChips}
+use Rattle.hand_verdict.specs.declared.verdicts.HandAudit.{HandAudit}
 use Rattle.hand_cuts.specs.Units.{hands_from}
 use Rattle.hand_ranges.specs.Blocks.{ranges_block}
 use Rattle.hand_ranges.specs.RangeSpot.{ranges_of}
@@ -13,43 +13,43 @@ use Rattle.report_table.specs.Balance.{balance_block}
 use Rattle.report_table.specs.Made.{made_block}
 use Rattle.report_table.specs.Spots.{spot_block}
 use Rattle.report_table.specs.Totals.{is_accepted, totals_block}
-use Rattle.report_table.specs.declared.equity.Form.{Form}
+use Rattle.report_sheet.specs.declared.form.Form.{Form}
 use Rattle.run_engine.specs.Histories.{chips_hand, hand_block, hand_results, hand_settlement, is_rejected_hand, verdict_of}
 use Rattle.run_engine.specs.RangeLines.{is_rejected_range}
 use Rattle.run_engine.specs.declared.command.Command.{Command}
 use Rattle.run_engine.specs.declared.command.Mode.{Mode}
 use Rattle.run_engine.specs.declared.command.Mode.TheVariants.{Spots, Ranges, Check, Audit, Streets, Results, Settle, Totals, Balance, Made}
-use Rattle.run_engine.specs.declared.listed.Holding.{Holding}
-use Rattle.run_engine.specs.declared.listed.Holding.TheVariants as held
-use Rattle.run_engine.specs.declared.listed.Told.{Told}
-use Rattle.run_engine.specs.declared.listed.Told.TheVariants.{Verdict, AllIn, LaterStreets}
+use Rattle.run_engine.specs.declared.block_kinds.SpotKind.{SpotKind}
+use Rattle.run_engine.specs.declared.block_kinds.SpotKind.TheVariants as held
+use Rattle.run_engine.specs.declared.block_kinds.Detail.{Detail}
+use Rattle.run_engine.specs.declared.block_kinds.Detail.TheVariants.{Verdict, AllIn, LaterStreets}
 use Rattle.spot_text.specs.Spot.{spot_of}
 use Rattle.spot_text.specs.Words.{is_blank}
 
 -- the block of a line that has a word, by its place and its number; given is what its players have: cards, or ranges of hands
-abbrev pub line_block : Form → Holding → ℕ → ℕ → List ℕ → List ℕ
+abbrev pub line_block : Form → SpotKind → ℕ → ℕ → List ℕ → List ℕ
 line_block form held.Cards place number line = spot_block form place number (spot_of line)
 line_block form held.Ranges place number line = ranges_block form place number (ranges_of line)
 
 -- the blocks of some lines, the first of which has a number, and the first spot of which has a place; a line with no word
 -- is passed over, and takes a number but no place
-abbrev pub spots_from : Form → Holding → ℕ → ℕ → List (List ℕ) → List (List ℕ)
+abbrev pub spots_from : Form → SpotKind → ℕ → ℕ → List (List ℕ) → List (List ℕ)
 spots_from form has place number [] = []
 spots_from form has place number (line ∷ later) =
     if is_blank line then spots_from form has place (number + 1) later
     else line_block form has place number line ∷ spots_from form has (place + 1) (number + 1) later
 
 -- a line that isn't a spot
-abbrev pub is_rejected_line : Holding → List ℕ → Bool
+abbrev pub is_rejected_line : SpotKind → List ℕ → Bool
 is_rejected_line held.Cards line = is_err (spot_of line)
 is_rejected_line held.Ranges line = is_rejected_range (ranges_of line)
 
 -- a line that has a word and isn't a spot
-abbrev pub is_rejected_spot : Holding → List ℕ → Bool
+abbrev pub is_rejected_spot : SpotKind → List ℕ → Bool
 is_rejected_spot has line = not (is_blank line) && is_rejected_line has line
 
 -- the blocks of the hands of all lines; given is how much of each is told. Numbers of lines begin at 1
-abbrev pub hand_blocks : Form → Told → List ℕ → List (List ℕ)
+abbrev pub hand_blocks : Form → Detail → List ℕ → List (List ℕ)
 hand_blocks form told bytes = map (hand_block form told) (hands_from 1 (lines bytes))
 
 -- the results of the hands of all lines

@@ -5,7 +5,7 @@ use Rattle.std.specs.List.{cons_option, filter_map}
 use Rattle.card_sets.specs.declared.Memory.{Memory}
 use Rattle.hand_cuts.specs.Units.{UnitLines, units_in}
 use Rattle.hand_cuts.specs.declared.units.CutKind.TheVariants.{Hands}
-use Rattle.report_table.specs.declared.equity.Form.{Form}
+use Rattle.report_sheet.specs.declared.form.Form.{Form}
 use Rattle.run_engine.specs.Cutting.{ReadsAll}
 use Rattle.run_engine.specs.Laws.{has_blocks}
 use Rattle.run_engine.specs.Reading.{reported}

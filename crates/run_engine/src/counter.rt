@@ -6,7 +6,7 @@ ghost use Rattle.hand_ranges.specs.Counted.{IsCountOf};
 ghost use Rattle.hand_ranges.specs.Sound.{IsSound};
 ghost use Rattle.hand_ranges.specs.RangeSpot.{ranges_in};
 ghost use Rattle.report_table.specs.Equities.{IsEquityOf, IsOfAllIn, IsOfHand, is_asked};
-ghost use Rattle.report_table.specs.Streets.{IsOfStreet};
+ghost use Rattle.report_table.specs.Streets.{IsCountedStreet, IsOfStreet};
 ghost use Rattle.showdown_tally.specs.Deals.{deal_of};
 ghost use Rattle.showdown_tally.specs.Tallies.{Counts, runouts_after};
 
@@ -126,7 +126,7 @@ impl Counter for Alone {
 /// Who counts the equities of a run, with how many workers, and the last equity that was asked for. It is
 /// kept, so that its tally is made once in a run.
 #[derive(Drop)]
-pub(crate) struct Desk<C> {
+pub(crate) struct EquityCounter<C> {
     /// Who counts.
     pub(crate) counter: C,
     /// How many workers it may have.
@@ -135,7 +135,7 @@ pub(crate) struct Desk<C> {
     pub(crate) equity: Equity,
 }
 
-impl<C: Counter> Desk<C> {
+impl<C: Counter> EquityCounter<C> {
     /// Asks for nothing.
     pub(crate) fn ask_nothing(&mut self)
         ensures { self.new.equity ≡ Equity.NotAsked }
@@ -199,12 +199,13 @@ impl<C: Counter> Desk<C> {
     /// looks at.
     pub(crate) fn ask_street(&mut self, state: &StreetState) -> Result<(), Memory>
         requires ready { C.ready }
+        requires counted { IsCountedStreet state.now }
         ensures { OnOk result (IsOfStreet state.now self.new.equity) }
     {
-        match &state.table {
-            Some(table) => self.ask_table(table),
-            None => Ok(()),
+        if let Some(table) = &state.table {
+            self.ask_table(table)?;
         }
+        Ok(())
     }
 
     /// Asks for the equity of a hand, where it is wanted.

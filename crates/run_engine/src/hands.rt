@@ -1,17 +1,19 @@
 //! The block of a hand.
 
-ghost use Rattle.std.specs.Prelude.{◌≡◌, ◌<◌, ◌≤◌, ◌+◌, ◌^◌, [], ◌++◌, IfOk, OnOk, IsTrue, Some, true, length, drop, slice_range};
+ghost use Rattle.std.specs.Prelude.{◌≡◌, ◌<◌, ◌≤◌, ◌+◌, ◌^◌, [], ◌++◌, All, IfOk, OnOk, IsTrue, Some, true, length, drop, slice_range};
 ghost use Rattle.std.specs.List.{flat_map};
 ghost use Rattle.hand_audit.specs.Verdict.{audit_of};
 ghost use Rattle.report_table.specs.Equities.{IsOfHand, is_asked};
-ghost use Rattle.report_table.specs.Streets.{street_block, street_blocks};
+ghost use Rattle.report_table.specs.Streets.{IsCountedStreet, has_counted, street_block, street_blocks};
 ghost use Rattle.hand_audit.specs.Departs.{begins_hand};
 ghost use Rattle.line_text.specs.Lines.{lines};
 ghost use Rattle.hand_cuts.specs.Units.{UnitLines};
+ghost use Rattle.run_engine.specs.declared.block_kinds.Detail.{Detail};
 ghost use Rattle.run_engine.specs.Histories.{hand_block, hand_results, hand_settlement, is_rejected_hand, is_rejection, number_text, streets_told, tells_all_in, HasStreets};
 
-use crate::counter::{Counter, Desk};
-use crate::listed::Told;
+use crate::block_kinds::Detail;
+use crate::counter::{Counter, EquityCounter};
+use crate::later::law_later_streets_are_counted;
 use card_sets::Memory;
 use hand_audit::{
     AuditedStreets, HandAudit, StreetState, audit_hand, audit_with_chips, audit_with_shares,
@@ -56,43 +58,50 @@ fn write_states<C: Counter>(
     form: Form,
     audit: &HandAudit,
     states: &[StreetState],
-    desk: &mut Desk<C>,
+    equities: &mut EquityCounter<C>,
     block: &mut Vec<u8>,
 ) -> Result<(), Memory>
     requires ready { C.ready }
+    requires counted { All IsCountedStreet states.now }
     ensures { OnOk result (block.new.items
         ≡ block.old.items ++ flat_map (street_block form audit.now) states.now) }
 {
     for state in states {
-        desk.ask_street(state)?;
-        write_street(block, audit, state, &desk.equity, form)?;
+        equities.ask_street(state)?;
+        write_street(block, audit, state, &equities.equity, form)?;
     }
     Ok(())
 }
 
-/// Appends the blocks of some streets of a hand behind its all-in, where that is counted. The desk has the
-/// equity of the hand.
+/// Appends the blocks of some streets of a hand behind its all-in, where that is counted. The
+/// last equity is that of the hand.
 fn write_streets<C: Counter>(
     form: Form,
     audit: &HandAudit,
     states: &[StreetState],
-    desk: &mut Desk<C>,
+    equities: &mut EquityCounter<C>,
     block: &mut Vec<u8>,
 ) -> Result<(), Memory>
     requires ready { C.ready }
-    requires asked { is_asked desk.old.equity ≡ true }
-    requires equity { IsOfHand audit.now desk.old.equity }
+    requires asked { is_asked equities.old.equity ≡ true }
+    requires equity { IsOfHand audit.now equities.old.equity }
+    requires counted { has_counted audit.now ≡ true → All IsCountedStreet states.now }
     ensures { OnOk result (block.new.items
         ≡ block.old.items ++ street_blocks form audit.now states.now) }
 {
-    if !has_counted(audit, &desk.equity) {
+    if !has_counted(audit, &equities.equity) {
         return Ok(());
     }
-    write_states(form, audit, states, desk, block)
+    write_states(form, audit, states, equities, block)
 }
 
 /// The verdict on a hand, with its later streets where they are told: one reading gives both.
-fn read_hand(alloc: Global, told: Told, bytes: &[u8], first: u32) -> Result<AuditedStreets, Memory>
+fn read_hand(
+    alloc: Global,
+    told: Detail,
+    bytes: &[u8],
+    first: u32,
+) -> Result<AuditedStreets, Memory>
     requires header { IsTrue (begins_hand (lines bytes.now)) }
     requires numbers { first + length (lines bytes.now) < 2 ^ 32 }
     ensures verdict { IfOk result (λ both.
@@ -101,30 +110,34 @@ fn read_hand(alloc: Global, told: Told, bytes: &[u8], first: u32) -> Result<Audi
         HasStreets told (lines bytes.now) both.audit both.streets.items) }
 {
     match told {
-        Told::Verdict | Told::AllIn => {
+        Detail::Verdict | Detail::AllIn => {
             let audit = audit_hand(alloc, bytes, first)?;
             Ok(AuditedStreets {
                 audit,
                 streets: Vec::new(alloc),
             })
         }
-        Told::LaterStreets => audit_with_streets(alloc, bytes, first),
+        Detail::LaterStreets => audit_with_streets(alloc, bytes, first),
     }
 }
 
-/// Appends what is told of a hand behind the block of its verdict and its all-in. The desk has the equity of
-/// the hand.
+/// Appends what is told of a hand behind the block of its verdict and its all-in. The last equity is
+/// that of the hand.
 fn write_told<C: Counter>(
     form: Form,
-    told: Told,
+    told: Detail,
     hand: &AuditedStreets,
-    desk: &mut Desk<C>,
+    equities: &mut EquityCounter<C>,
     block: &mut Vec<u8>,
 ) -> Result<(), Memory>
     // The equity was asked for where it is told, and is that of the hand.
     requires ready { C.ready }
-    requires asked { is_asked desk.old.equity ≡ tells_all_in told }
-    requires equity { IsOfHand hand.now.audit desk.old.equity }
+    requires asked { is_asked equities.old.equity ≡ tells_all_in told }
+    requires equity { IsOfHand hand.now.audit equities.old.equity }
+
+    // Where its all-in is counted, so are the streets that are told.
+    requires counted { told ≡ Detail.LaterStreets → has_counted hand.now.audit ≡ true
+        → All IsCountedStreet hand.now.streets.items }
 
     // What is told of its streets stands behind what there was.
     ensures { (unit : UnitLines) → HasStreets told unit.lines hand.now.audit hand.now.streets.items
@@ -132,8 +145,8 @@ fn write_told<C: Counter>(
         ≡ block.old.items ++ streets_told form told unit hand.now.audit) }
 {
     match told {
-        Told::Verdict | Told::AllIn => Ok(()),
-        Told::LaterStreets => write_streets(form, &hand.audit, &hand.streets, desk, block),
+        Detail::Verdict | Detail::AllIn => Ok(()),
+        Detail::LaterStreets => write_streets(form, &hand.audit, &hand.streets, equities, block),
     }
 }
 
@@ -142,10 +155,10 @@ fn write_told<C: Counter>(
 pub(crate) fn write_lines<C: Counter>(
     alloc: Global,
     form: Form,
-    told: Told,
+    told: Detail,
     bytes: &[u8],
     first: u32,
-    desk: &mut Desk<C>,
+    equities: &mut EquityCounter<C>,
     block: &mut Vec<u8>,
 ) -> Result<bool, Memory>
     requires ready { C.ready }
@@ -157,9 +170,16 @@ pub(crate) fn write_lines<C: Counter>(
         ≡ is_rejected_hand (record { first = first; lines = lines bytes.now })) }
 {
     let hand = read_hand(alloc, told, bytes, first)?;
-    desk.ask_hand(told.tells_all_in(), &hand.audit)?;
-    write_hand(block, number_text(bytes), &hand.audit, &desk.equity, form)?;
-    write_told(form, told, &hand, desk, block)?;
+    equities.ask_hand(told.tells_all_in(), &hand.audit)?;
+    write_hand(
+        block,
+        number_text(bytes),
+        &hand.audit,
+        &equities.equity,
+        form,
+    )?;
+    law_later_streets_are_counted(&hand.audit, &hand.streets);
+    write_told(form, told, &hand, equities, block)?;
     Ok(is_rejection(&hand.audit))
 }
 
@@ -170,7 +190,7 @@ pub(crate) fn write_result_lines<C: Counter>(
     form: Form,
     bytes: &[u8],
     first: u32,
-    desk: &mut Desk<C>,
+    equities: &mut EquityCounter<C>,
     block: &mut Vec<u8>,
 ) -> Result<bool, Memory>
     requires ready { C.ready }
@@ -182,9 +202,16 @@ pub(crate) fn write_result_lines<C: Counter>(
         ≡ is_rejected_hand (record { first = first; lines = lines bytes.now })) }
 {
     let hand = audit_with_chips(alloc, bytes, first)?;
-    desk.ask_hand(true, &hand.audit)?;
+    equities.ask_hand(true, &hand.audit)?;
     let number = number_text(bytes);
-    write_results(block, number, &hand.audit, &hand.chips, &desk.equity, form)?;
+    write_results(
+        block,
+        number,
+        &hand.audit,
+        &hand.chips,
+        &equities.equity,
+        form,
+    )?;
     Ok(is_rejection(&hand.audit))
 }
 

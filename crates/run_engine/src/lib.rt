@@ -9,7 +9,7 @@
 //! 3. *Blocks* (`report`, `hands`, `spots`). Each hand or spot has a block, which is made whole in memory and then written. So whatever
 //!    fails, what stands in the output are whole blocks of the report, but where the output itself took a part of one.
 //! 4. *Sums* (`sums`, `totals`, `made`). In other modes one loop adds up the hands, and one block is written at the end.
-//! 5. *Who counts* (`counter`, `shared`). A `Desk` has the last equity that was asked for. `Alone` counts it here; `Shared` has workers
+//! 5. *Who counts* (`counter`, `shared`). A `EquityCounter` has the last equity that was asked for. `Alone` counts it here; `Shared` has workers
 //!    count it where it has many blocks.
 //! 6. *Status* (`runs`). Which end failed is told by its count of faults, and each status has its clause.
 //!
@@ -17,11 +17,12 @@
 //! file, since the ends are lent to it, and what threads there are are started by `steal_pool`.
 #![tactic(auto)]
 
+mod block_kinds;
 mod closing;
 mod command;
 mod counter;
 mod hands;
-mod listed;
+mod later;
 mod made;
 mod ranges;
 mod reading;
@@ -38,5 +39,6 @@ mod write_fault;
 pub use closing::law_closed_blocks_stay;
 pub use command::{Command, Mode};
 pub use hand_cuts::INPUT_MAX;
+pub use later::law_later_streets_are_counted;
 pub use runs::{run, run_alone};
 pub use words::{WordFault, read_words};

@@ -7,7 +7,7 @@ ghost use Rattle.run_engine.specs.Reporting.{WritesMade};
 ghost use Rattle.run_engine.specs.declared.command.Mode.TheVariants.{Made};
 
 use crate::command::Command;
-use crate::counter::{Counter, Desk};
+use crate::counter::{Counter, EquityCounter};
 use crate::sums::add_hands;
 use crate::write_fault::WriteFault;
 use byte_ends::{Sink, write_all};
@@ -20,7 +20,7 @@ use std::alloc::Global;
 pub(crate) fn write_made<C: Counter, K: Sink>(
     alloc: Global,
     asked: Command,
-    desk: &mut Desk<C>,
+    equities: &mut EquityCounter<C>,
     sink: &mut K,
 ) -> Result<u64, WriteFault>
     requires ready { C.ready }
@@ -33,7 +33,7 @@ pub(crate) fn write_made<C: Counter, K: Sink>(
     law_made_text_is_short();
     let text = made_input(alloc, asked.seed, asked.hands)?;
     let mut sums = MadeSums::new();
-    add_hands(alloc, &text, desk, &mut sums)?;
+    add_hands(alloc, &text, equities, &mut sums)?;
     let mut block = Vec::new(alloc);
     sums.write(&mut block, u64::from(asked.hands), asked.form)?;
     match write_all(sink, &block) {

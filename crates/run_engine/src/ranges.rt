@@ -6,8 +6,8 @@ ghost use Rattle.hand_ranges.specs.Sound.{IsSound};
 ghost use Rattle.hand_ranges.specs.RangeSpot.{ranges_in, ranges_of};
 ghost use Rattle.run_engine.specs.RangeLines.{IsCountFor, is_memory, is_no_choice, is_rejected_range};
 
-use crate::counter::{Counter, Desk};
-use crate::listed::Numbers;
+use crate::block_kinds::UnitPosition;
+use crate::counter::{Counter, EquityCounter};
 use card_sets::Memory;
 use hand_ranges::{
     RangeFault, RangeJobFault, RangeSpot, RangeTally, law_lines_give_sound_ranges, read_ranges,
@@ -41,13 +41,13 @@ fn read(alloc: Global, line: &[u8]) -> Result<Result<RangeSpot, RangeFault>, Mem
 /// Counts a spot with ranges. Of a line that is none it says that there is no choice.
 fn count_spot<C: Counter>(
     spot: &Result<RangeSpot, RangeFault>,
-    desk: &mut Desk<C>,
+    equities: &mut EquityCounter<C>,
 ) -> Result<RangeTally, RangeJobFault>
     requires sound { IfOk spot.now (λ s. IsSound (ranges_in s)) }
     ensures { IsCountFor spot.now result }
 {
     match spot {
-        Ok(spot) => desk.counter.count_ranges(spot),
+        Ok(spot) => equities.counter.count_ranges(spot),
         Err(_) => Err(RangeJobFault::NoChoice),
     }
 }
@@ -64,9 +64,9 @@ pub(crate) fn write_range_line<C: Counter>(
     alloc: Global,
     block: &mut Vec<u8>,
     form: Form,
-    numbers: Numbers,
+    numbers: UnitPosition,
     line: &[u8],
-    desk: &mut Desk<C>,
+    equities: &mut EquityCounter<C>,
 ) -> Result<bool, Memory>
     ensures block { OnOk result (block.new.items
         ≡ block.old.items ++ ranges_block form numbers.place numbers.line (ranges_of line.now)) }
@@ -74,7 +74,7 @@ pub(crate) fn write_range_line<C: Counter>(
 {
     law_lines_give_sound_ranges();
     let spot = read(alloc, line)?;
-    let tally = count_spot(&spot, desk);
+    let tally = count_spot(&spot, equities);
     write_ranges(block, numbers.place, numbers.line, &spot, &tally, form)?;
     Ok(is_no_choice(&tally))
 }

@@ -7,14 +7,14 @@ ghost use Rattle.line_text.specs.Lines.{lines};
 ghost use Rattle.run_engine.specs.Command.{reads_input};
 ghost use Rattle.run_engine.specs.Order.{GoesOn};
 ghost use Rattle.run_engine.specs.Reporting.{told_status};
-ghost use Rattle.run_engine.specs.UnitBlocks.{MakesBlock, listed_in, listed_kind};
+ghost use Rattle.run_engine.specs.UnitBlocks.{MakesBlock, block_kind_in, listed_kind};
 ghost use Rattle.run_engine.specs.Units.{started, unit_kind};
 ghost use Rattle.run_engine.specs.declared.reading.Ending.TheVariants.{Open};
 
+use crate::block_kinds::{BlockKind, UnitPosition, block_kind_in};
 use crate::command::{Command, Mode};
-use crate::counter::{Counter, Desk};
+use crate::counter::{Counter, EquityCounter};
 use crate::hands::{write_lines, write_result_lines, write_settlement_lines};
-use crate::listed::{Listed, Numbers, listed_in};
 use crate::reading::{Input, next_unit};
 use crate::spots::write_spot_line;
 use crate::totals::write_sums;
@@ -30,10 +30,10 @@ use std::alloc::Global;
 fn write_unit<C: Counter>(
     alloc: Global,
     form: Form,
-    listed: Listed,
-    numbers: Numbers,
+    listed: BlockKind,
+    numbers: UnitPosition,
     bytes: &[u8],
-    desk: &mut Desk<C>,
+    equities: &mut EquityCounter<C>,
     block: &mut Vec<u8>,
 ) -> Result<Option<bool>, Memory>
     requires ready { C.ready }
@@ -44,18 +44,18 @@ fn write_unit<C: Counter>(
         (record { first = numbers.line; lines = lines bytes.now }) block.new.items told) }
 {
     match listed {
-        Listed::Spots { holding } => {
-            write_spot_line(alloc, block, form, holding, numbers, bytes, desk)
+        BlockKind::Spots { holding } => {
+            write_spot_line(alloc, block, form, holding, numbers, bytes, equities)
         }
-        Listed::Hands { told } => {
-            let rejected = write_lines(alloc, form, told, bytes, numbers.line, desk, block)?;
+        BlockKind::Hands { told } => {
+            let rejected = write_lines(alloc, form, told, bytes, numbers.line, equities, block)?;
             Ok(Some(rejected))
         }
-        Listed::Results => {
-            let rejected = write_result_lines(alloc, form, bytes, numbers.line, desk, block)?;
+        BlockKind::Results => {
+            let rejected = write_result_lines(alloc, form, bytes, numbers.line, equities, block)?;
             Ok(Some(rejected))
         }
-        Listed::Settle => {
+        BlockKind::Settle => {
             let rejected = write_settlement_lines(alloc, form, bytes, numbers.line, block)?;
             Ok(Some(rejected))
         }
@@ -67,14 +67,14 @@ fn write_unit<C: Counter>(
 fn write_blocks<C: Counter, S: Source, K: Sink>(
     alloc: Global,
     asked: Command,
-    listed: Listed,
+    listed: BlockKind,
     source: &mut S,
     input: &mut Input,
-    desk: &mut Desk<C>,
+    equities: &mut EquityCounter<C>,
     sink: &mut K,
 ) -> Result<u64, WriteFault>
     requires ready { C.ready }
-    requires listed { listed_in asked.mode ≡ Some listed }
+    requires listed { block_kind_in asked.mode ≡ Some listed }
     requires start { input.old ≡ started (listed_kind listed) }
     ensures { GoesOn S.reads K.writes INPUT_MAX asked Open [] [] source.old sink.old
         (told_status input.new.ending result) source.new sink.new }
@@ -91,12 +91,14 @@ fn write_blocks<C: Counter, S: Source, K: Sink>(
             return Ok(rejects);
         };
         block.clear();
-        let numbers = Numbers {
+        let numbers = UnitPosition {
             place,
             line: unit.first_line,
         };
         let bytes = &input.cutter.held()[unit.first..unit.end];
-        let told = match write_unit(alloc, asked.form, listed, numbers, bytes, desk, &mut block) {
+        let told = match write_unit(
+            alloc, asked.form, listed, numbers, bytes, equities, &mut block,
+        ) {
             Ok(told) => told,
             Err(Memory) => return Err(WriteFault::Memory),
         };
@@ -119,12 +121,12 @@ fn write_summed<C: Counter, S: Source, K: Sink>(
     asked: Command,
     source: &mut S,
     input: &mut Input,
-    desk: &mut Desk<C>,
+    equities: &mut EquityCounter<C>,
     sink: &mut K,
 ) -> Result<u64, WriteFault>
     requires ready { C.ready }
     requires reads { reads_input asked.mode ≡ true }
-    requires listed { listed_in asked.mode ≡ None }
+    requires listed { block_kind_in asked.mode ≡ None }
     requires start { input.old ≡ started (unit_kind asked.mode) }
     ensures { GoesOn S.reads K.writes INPUT_MAX asked Open [] [] source.old sink.old
         (told_status input.new.ending result) source.new sink.new }
@@ -132,11 +134,11 @@ fn write_summed<C: Counter, S: Source, K: Sink>(
     match asked.mode {
         Mode::Totals => {
             let mut totals = Totals::new(alloc);
-            write_sums(alloc, asked, source, input, desk, sink, &mut totals)
+            write_sums(alloc, asked, source, input, equities, sink, &mut totals)
         }
         Mode::Balance => {
             let mut balance = Balance::new(alloc);
-            write_sums(alloc, asked, source, input, desk, sink, &mut balance)
+            write_sums(alloc, asked, source, input, equities, sink, &mut balance)
         }
         Mode::Check
         | Mode::Audit
@@ -155,7 +157,7 @@ pub(crate) fn write_report<C: Counter, S: Source, K: Sink>(
     asked: Command,
     source: &mut S,
     input: &mut Input,
-    desk: &mut Desk<C>,
+    equities: &mut EquityCounter<C>,
     sink: &mut K,
 ) -> Result<u64, WriteFault>
     requires ready { C.ready }
@@ -164,8 +166,8 @@ pub(crate) fn write_report<C: Counter, S: Source, K: Sink>(
     ensures { GoesOn S.reads K.writes INPUT_MAX asked Open [] [] source.old sink.old
         (told_status input.new.ending result) source.new sink.new }
 {
-    let Some(listed) = listed_in(asked.mode) else {
-        return write_summed(alloc, asked, source, input, desk, sink);
+    let Some(listed) = block_kind_in(asked.mode) else {
+        return write_summed(alloc, asked, source, input, equities, sink);
     };
-    write_blocks(alloc, asked, listed, source, input, desk, sink)
+    write_blocks(alloc, asked, listed, source, input, equities, sink)
 }

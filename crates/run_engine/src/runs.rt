@@ -13,7 +13,7 @@ ghost use Rattle.run_engine.specs.Units.{unit_kind};
 ghost use Rattle.run_engine.specs.declared.reading.Ending.TheVariants.{Whole};
 
 use crate::command::{Command, Mode};
-use crate::counter::{Alone, Counter, Desk};
+use crate::counter::{Alone, Counter, EquityCounter};
 use crate::made::write_made;
 use crate::reading::{Ending, Input};
 use crate::report::write_report;
@@ -61,12 +61,12 @@ pub fn run_alone<S: Source, K: Sink>(
     ensures order { IsInOrder S.reads K.writes INPUT_MAX (command (map string_bytes words.now)) result
         source.old sink.old source.new sink.new }
 {
-    let mut desk = Desk {
+    let mut equities = EquityCounter {
         counter: Alone::new(alloc),
         workers: 1,
         equity: Equity::NotAsked,
     };
-    run_at(alloc, words, &mut desk, source, sink)
+    run_at(alloc, words, &mut equities, source, sink)
 }
 
 /// The same with several workers, as many as the words ask for, where an equity has many runouts: threads that
@@ -101,7 +101,7 @@ pub fn run<R: Threads + Wait + Sync, S: Source, K: Sink, G: Gate + Sync>(
             (runouts_after (state_of job.entry.now.table.known)) tally) }
     { count_shared(rt, alloc, job, workers, gate) };
     let mut alone = Alone::new(alloc);
-    let mut desk = Desk {
+    let mut equities = EquityCounter {
         counter: Shared {
             by_workers,
             alone: &mut alone,
@@ -109,14 +109,14 @@ pub fn run<R: Threads + Wait + Sync, S: Source, K: Sink, G: Gate + Sync>(
         workers: 1,
         equity: Equity::NotAsked,
     };
-    run_at(alloc, words, &mut desk, source, sink)
+    run_at(alloc, words, &mut equities, source, sink)
 }
 
-/// The same with whoever counts at a desk.
+/// The same with whoever counts the equities.
 fn run_at<C: Counter, S: Source, K: Sink>(
     alloc: Global,
     words: &[String],
-    desk: &mut Desk<C>,
+    equities: &mut EquityCounter<C>,
     source: &mut S,
     sink: &mut K,
 ) -> u8
@@ -129,11 +129,11 @@ fn run_at<C: Counter, S: Source, K: Sink>(
         Err(WordFault::Usage) => return write_usage(sink),
         Err(WordFault::Memory) => return 6,
     };
-    desk.workers = asked.workers;
+    equities.workers = asked.workers;
     if asked.mode.reads_input() {
-        run_reading(alloc, asked, desk, source, sink)
+        run_reading(alloc, asked, equities, source, sink)
     } else {
-        run_made(alloc, asked, desk, sink)
+        run_made(alloc, asked, equities, sink)
     }
 }
 
@@ -141,7 +141,7 @@ fn run_at<C: Counter, S: Source, K: Sink>(
 fn run_reading<C: Counter, S: Source, K: Sink>(
     alloc: Global,
     asked: Command,
-    desk: &mut Desk<C>,
+    equities: &mut EquityCounter<C>,
     source: &mut S,
     sink: &mut K,
 ) -> u8
@@ -152,7 +152,7 @@ fn run_reading<C: Counter, S: Source, K: Sink>(
         source.old sink.old source.new sink.new }
 {
     let mut input = Input::start(alloc, unit_kind(asked.mode));
-    match write_report(alloc, asked, source, &mut input, desk, sink) {
+    match write_report(alloc, asked, source, &mut input, equities, sink) {
         Ok(rejected) => status_of(input.ending, rejected),
         Err(WriteFault::Failed) => 4,
         Err(WriteFault::Memory) => 6,
@@ -180,7 +180,7 @@ fn unit_kind(mode: Mode) -> CutKind
 fn run_made<C: Counter, K: Sink>(
     alloc: Global,
     asked: Command,
-    desk: &mut Desk<C>,
+    equities: &mut EquityCounter<C>,
     sink: &mut K,
 ) -> u8
     requires ready { C.ready }
@@ -189,7 +189,7 @@ fn run_made<C: Counter, K: Sink>(
     ensures { (outcome : Result ℕ WriteFault) × (result ≡ told_status Whole outcome)
         × WritesMade K.writes sink.old sink.new (report asked []) (rejects asked []) outcome }
 {
-    match write_made(alloc, asked, desk, sink) {
+    match write_made(alloc, asked, equities, sink) {
         Ok(rejected) => status_of(Ending::Whole, rejected),
         Err(WriteFault::Failed) => 4,
         Err(WriteFault::Memory) => 6,

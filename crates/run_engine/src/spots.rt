@@ -8,11 +8,11 @@ ghost use Rattle.report_table.specs.Equities.{IsEquityOf};
 ghost use Rattle.report_table.specs.Spots.{alone, spot_block};
 ghost use Rattle.run_engine.specs.Report.{is_rejected_line, line_block};
 ghost use Rattle.run_engine.specs.UnitBlocks.{MakesBlock};
-ghost use Rattle.run_engine.specs.declared.listed.Listed.TheVariants.{Spots};
+ghost use Rattle.run_engine.specs.declared.block_kinds.BlockKind.TheVariants.{Spots};
 ghost use Rattle.spot_text.specs.Spot.{spot_of};
 
-use crate::counter::{Counter, Desk};
-use crate::listed::{Holding, Numbers};
+use crate::block_kinds::{SpotKind, UnitPosition};
+use crate::counter::{Counter, EquityCounter};
 use crate::ranges::write_range_line;
 use card_sets::{Known, Memory};
 use line_text::next_line;
@@ -21,23 +21,26 @@ use spot_text::{SpotFault, has_word, read_spot};
 use std::alloc::Global;
 
 /// Asks for the equity of a spot, but where it is rejected.
-fn ask_spot<C: Counter>(known: &Result<Known, SpotFault>, desk: &mut Desk<C>) -> Result<(), Memory>
+fn ask_spot<C: Counter>(
+    known: &Result<Known, SpotFault>,
+    equities: &mut EquityCounter<C>,
+) -> Result<(), Memory>
     requires ready { C.ready }
-    ensures { OnOk result (IfOk known.now (λ k. IsEquityOf (alone (state_of k)) desk.new.equity)) }
+    ensures { OnOk result (IfOk known.now (λ k. IsEquityOf (alone (state_of k)) equities.new.equity)) }
 {
     let Ok(known) = known else {
         return Ok(());
     };
-    desk.ask_table(&table_alone(*known))
+    equities.ask_table(&table_alone(*known))
 }
 
 /// Appends the block of a line whose players have cards, and answers whether its spot is rejected.
 fn write_card_line<C: Counter>(
     block: &mut Vec<u8>,
     form: Form,
-    numbers: Numbers,
+    numbers: UnitPosition,
     line: &[u8],
-    desk: &mut Desk<C>,
+    equities: &mut EquityCounter<C>,
 ) -> Result<bool, Memory>
     requires ready { C.ready }
     ensures block { OnOk result (block.new.items
@@ -45,13 +48,13 @@ fn write_card_line<C: Counter>(
     ensures rejected { IfOk result (λ rejected. rejected ≡ is_err (spot_of line.now)) }
 {
     let known = read_spot(line);
-    ask_spot(&known, desk)?;
+    ask_spot(&known, equities)?;
     write_spot(
         block,
         numbers.place,
         numbers.line,
         &known,
-        &desk.equity,
+        &equities.equity,
         form,
     )?;
     Ok(known.is_err())
@@ -62,10 +65,10 @@ fn write_line<C: Counter>(
     alloc: Global,
     block: &mut Vec<u8>,
     form: Form,
-    holding: Holding,
-    numbers: Numbers,
+    holding: SpotKind,
+    numbers: UnitPosition,
     line: &[u8],
-    desk: &mut Desk<C>,
+    equities: &mut EquityCounter<C>,
 ) -> Result<bool, Memory>
     requires ready { C.ready }
     ensures block { OnOk result (block.new.items
@@ -73,8 +76,8 @@ fn write_line<C: Counter>(
     ensures rejected { IfOk result (λ rejected. rejected ≡ is_rejected_line holding line.now) }
 {
     match holding {
-        Holding::Cards => write_card_line(block, form, numbers, line, desk),
-        Holding::Ranges => write_range_line(alloc, block, form, numbers, line, desk),
+        SpotKind::Cards => write_card_line(block, form, numbers, line, equities),
+        SpotKind::Ranges => write_range_line(alloc, block, form, numbers, line, equities),
     }
 }
 
@@ -84,10 +87,10 @@ pub(crate) fn write_spot_line<C: Counter>(
     alloc: Global,
     block: &mut Vec<u8>,
     form: Form,
-    holding: Holding,
-    numbers: Numbers,
+    holding: SpotKind,
+    numbers: UnitPosition,
     bytes: &[u8],
-    desk: &mut Desk<C>,
+    equities: &mut EquityCounter<C>,
 ) -> Result<Option<bool>, Memory>
     requires ready { C.ready }
     requires empty { block.old.items ≡ [] }
@@ -101,6 +104,6 @@ pub(crate) fn write_spot_line<C: Counter>(
     if !has_word(text) {
         return Ok(None);
     }
-    let rejected = write_line(alloc, block, form, holding, numbers, text, desk)?;
+    let rejected = write_line(alloc, block, form, holding, numbers, text, equities)?;
     Ok(Some(rejected))
 }

@@ -8,13 +8,13 @@ ghost use Rattle.line_text.specs.Lines.{lines};
 ghost use Rattle.report_table.specs.Balance.{balance_lines, balance_of};
 ghost use Rattle.report_table.specs.Made.{made_sums};
 ghost use Rattle.report_table.specs.Totals.{run_block, totals_of};
-ghost use Rattle.report_table.specs.declared.equity.Form.{Form as FormOf};
+ghost use Rattle.report_sheet.specs.declared.form.Form.{Form as FormOf};
 ghost use Rattle.run_engine.specs.Histories.{chips_hand, verdict_of};
 ghost use Rattle.hand_cuts.specs.declared.units.CutKind.TheVariants.{Hands as HandUnits};
 ghost use Rattle.run_engine.specs.UnitSums.{SumsInOrder, few_told};
 ghost use Rattle.run_engine.specs.Units.{started};
 
-use crate::counter::{Counter, Desk};
+use crate::counter::{Counter, EquityCounter};
 use crate::reading::{Input, next_unit};
 use crate::text_source::TextSource;
 use byte_ends::Source;
@@ -37,7 +37,7 @@ pub(crate) trait HandSums {
         alloc: Global,
         bytes: &[u8],
         first: u32,
-        desk: &mut Desk<C>,
+        equities: &mut EquityCounter<C>,
     ) -> Result<(), Memory>
         requires ready { C.ready }
         requires header { IsTrue (begins_hand (lines bytes.now)) }
@@ -76,11 +76,11 @@ impl HandSums for Totals {
         alloc: Global,
         bytes: &[u8],
         first: u32,
-        desk: &mut Desk<C>,
+        equities: &mut EquityCounter<C>,
     ) -> Result<(), Memory> {
         let audit = audit_hand(alloc, bytes, first)?;
-        desk.ask_hand(true, &audit)?;
-        self.add(&audit, &desk.equity)
+        equities.ask_hand(true, &audit)?;
+        self.add(&audit, &equities.equity)
     }
 
     ghost counted = { few_told verdict_of };
@@ -110,11 +110,11 @@ impl HandSums for Balance {
         alloc: Global,
         bytes: &[u8],
         first: u32,
-        desk: &mut Desk<C>,
+        equities: &mut EquityCounter<C>,
     ) -> Result<(), Memory> {
         let hand = audit_with_chips(alloc, bytes, first)?;
-        desk.ask_hand(true, &hand.audit)?;
-        self.add(&hand, &desk.equity)
+        equities.ask_hand(true, &hand.audit)?;
+        self.add(&hand, &equities.equity)
     }
 
     ghost counted = { few_told chips_hand };
@@ -144,11 +144,11 @@ impl HandSums for MadeSums {
         alloc: Global,
         bytes: &[u8],
         first: u32,
-        desk: &mut Desk<C>,
+        equities: &mut EquityCounter<C>,
     ) -> Result<(), Memory> {
         let audit = audit_hand(alloc, bytes, first)?;
-        desk.ask_hand(true, &audit)?;
-        self.add(&audit, &desk.equity);
+        equities.ask_hand(true, &audit)?;
+        self.add(&audit, &equities.equity);
         Ok(())
     }
 
@@ -160,7 +160,7 @@ pub(crate) fn add_units<C: Counter, S: Source, H: HandSums>(
     alloc: Global,
     source: &mut S,
     input: &mut Input,
-    desk: &mut Desk<C>,
+    equities: &mut EquityCounter<C>,
     sums: &mut H,
 ) -> Result<(), Memory>
     requires ready { C.ready }
@@ -178,7 +178,7 @@ pub(crate) fn add_units<C: Counter, S: Source, H: HandSums>(
             return Ok(());
         };
         let hand = &input.cutter.held()[unit.first..unit.end];
-        match sums.add_lines(alloc, hand, unit.first_line, desk) {
+        match sums.add_lines(alloc, hand, unit.first_line, equities) {
             Ok(()) => {}
             Err(Memory) => return Err(Memory),
         }
@@ -189,7 +189,7 @@ pub(crate) fn add_units<C: Counter, S: Source, H: HandSums>(
 pub(crate) fn add_hands<C: Counter, H: HandSums>(
     alloc: Global,
     text: &[u8],
-    desk: &mut Desk<C>,
+    equities: &mut EquityCounter<C>,
     sums: &mut H,
 ) -> Result<(), Memory>
     requires ready { C.ready }
@@ -199,5 +199,5 @@ pub(crate) fn add_hands<C: Counter, H: HandSums>(
 {
     let mut source = TextSource { left: text };
     let mut input = Input::start(alloc, CutKind::Hands);
-    add_units(alloc, &mut source, &mut input, desk, sums)
+    add_units(alloc, &mut source, &mut input, equities, sums)
 }

@@ -9,7 +9,7 @@ ghost use Rattle.run_engine.specs.UnitSums.{IsOneBlock};
 ghost use Rattle.run_engine.specs.Units.{started};
 
 use crate::command::Command;
-use crate::counter::{Counter, Desk};
+use crate::counter::{Counter, EquityCounter};
 use crate::reading::Input;
 use crate::sums::{BlockSums, add_units};
 use crate::write_fault::WriteFault;
@@ -25,7 +25,7 @@ pub(crate) fn write_sums<C: Counter, S: Source, K: Sink, B: BlockSums>(
     asked: Command,
     source: &mut S,
     input: &mut Input,
-    desk: &mut Desk<C>,
+    equities: &mut EquityCounter<C>,
     sink: &mut K,
     sums: &mut B,
 ) -> Result<u64, WriteFault>
@@ -36,7 +36,7 @@ pub(crate) fn write_sums<C: Counter, S: Source, K: Sink, B: BlockSums>(
     ensures { GoesOn S.reads K.writes INPUT_MAX asked Open [] [] source.old sink.old
         (told_status input.new.ending result) source.new sink.new }
 {
-    match add_units(alloc, source, input, desk, sums) {
+    match add_units(alloc, source, input, equities, sums) {
         Ok(()) => {}
         Err(Memory) => return Err(WriteFault::Memory),
     }

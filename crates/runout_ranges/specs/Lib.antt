@@ -3,8 +3,10 @@ pub use Rattle.card_sets.specs.Choose
 pub use Rattle.card_sets.specs.Disjoint
 pub use Rattle.card_sets.specs.Games
 pub use Rattle.card_sets.specs.State
+pub mod MoreKnown
 pub mod Runouts
 pub mod Slots
 pub mod Shapes
 pub mod Walks
 pub mod Ways
+pub mod Jobs

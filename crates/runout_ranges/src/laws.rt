@@ -1,11 +1,15 @@
 //! What the listing of the runouts is, in plain words. Each law is a call that does nothing.
 
-ghost use Rattle.std.specs.Prelude.{◌≡◌, ℕ, ◌↔◌, List, length};
+ghost use Rattle.std.specs.Prelude.{◌≡◌, ◌<◌, ℕ, ◌↔◌, [], List, length, slice_index_or};
+ghost use Rattle.card_sets.specs.Cards.{IsCardSet};
+ghost use Rattle.card_sets.specs.State.{state_of};
+ghost use Rattle.runout_ranges.specs.MoreKnown.{HasNoMoreRunouts, IsEnough, KnowsNoLess};
 ghost use Rattle.runout_ranges.specs.Runouts.{HasMember};
 ghost use Rattle.runout_ranges.specs.Shapes.{runouts_of, ways_of, FillsSlots};
 ghost use Rattle.runout_ranges.specs.Ways.{NoneTwice};
 
 use crate::Shape;
+use card_sets::Known;
 
 /// A list of sets is a runout of the shape exactly where it has one set for each slot, of as many
 /// cards as the slot takes, each a rising list, no card in two of them, and only cards that may come.
@@ -29,4 +33,30 @@ pub fn law_runouts_are_counted(shape: &Shape)
     ensures { length (runouts_of shape.now) ≡ ways_of shape.now }
 {
     shape.unseen.rising();
+}
+
+/// Each hand is a set.
+fn hands_are_sets(known: &Known)
+    ensures { (h : ℕ) → h < length (state_of known.now).hands
+        → IsCardSet (slice_index_or (state_of known.now).hands h []) }
+{
+    for own in &known.hands[..known.count as usize] {
+        own.rising();
+    }
+}
+
+/// Of two states of a game with as many hands and dead cards, the second of which knows no fewer cards of any
+/// hand and of the board: where enough cards may come in the first they may in the second, and it has no more
+/// runouts.
+pub fn law_no_more_runouts(before: &Known, after: &Known)
+    ensures { KnowsNoLess (state_of before.now) (state_of after.now)
+        → IsEnough (state_of before.now)
+        → HasNoMoreRunouts (state_of before.now) (state_of after.now) }
+{
+    before.board.rising();
+    before.dead.rising();
+    hands_are_sets(before);
+    after.board.rising();
+    after.dead.rising();
+    hands_are_sets(after);
 }

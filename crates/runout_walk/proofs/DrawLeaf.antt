@@ -23,12 +23,13 @@ use Rattle.runout_ranges.specs.declared.shapes.Slot.{Slot}
 use Rattle.showdown_tally.proofs.CallerLemmas.{Deals, runout_deals, hand_of, hand_IsFull}
 use Rattle.showdown_tally.specs.Laws.{IsFull}
 use Rattle.showdown_tally.specs.Showdown.{Showdown, has_two_sides, own_after, board_after, eligible_in}
-use Rattle.showdown_tally.specs.SideCounts.{count_place, low_mark}
+use Rattle.showdown_tally.specs.SideCounts.{count_place}
 use Rattle.showdown_tally.specs.Sides.{side_outcome}
 use Rattle.showdown_tally.specs.Tallies.{runouts_after}
 use Rattle.runout_walk.specs.Bests.{best_set, best_value, some_set}
 use Rattle.runout_walk.specs.Draws.{last_hand, most_draw}
 use Rattle.runout_walk.specs.Listing.{last_count}
+use Rattle.runout_walk.specs.OneMore.{set_place}
 use Rattle.runout_walk.specs.Rivals.{count_both, value_with}
 use Rattle.runout_walk.specs.Worth.{IsDraw, AreNumbers, full_worth, number_of, worth, worth_after}
 use Rattle.runout_walk.proofs.ListingMembers.{count_map, count_same, in_range}
@@ -36,6 +37,7 @@ use Rattle.runout_walk.proofs.DrawLists.{map_same}
 use Rattle.runout_walk.proofs.DrawSlots.{IsLastOf, last_deal, last_of_hands, last_set, no_board_slots, other_set}
 use Rattle.runout_walk.proofs.DrawWinners.{outcome_is, set_same, value_same}
 use Rattle.runout_walk.proofs.LowWinners.{high_is, low_is}
+use Rattle.runout_walk.proofs.OneRunoutMore.{place_is}
 
 -- what is asked of draws
 no_board_size : (game : Game) → not (has_board game) ≡ true → board_size game ≡ 0
@@ -165,24 +167,7 @@ leaf_counts side deal pot set last front taken numbers values range none one has
     ∙ sym (outcome_is side deal pot (front ++ (taken ++ more) ∷ []) none one has leaf.full below)))
     ∙ sym (count_map (λ runout. count_place deal pot side runout == set) (λ more. front ++ (taken ++ more) ∷ []) range)
 
--- the same of the low of two sides
-pub leaf_lows : (deal : Showdown) (pot set last : ℕ) (front : List (List ℕ)) (taken numbers values : List ℕ) (range : List (List ℕ)) → board_size deal.state.game ≡ 0 → has_two_sides deal.state.game ≡ true
-    → AreBelow (length deal.state.hands) (eligible_in deal pot) → last ≡ last_hand (slots deal.state) → taken ≡ [] → AreOthers Low deal.state front numbers
-    → ((more : List ℕ) → HasMember range more → IsLeafDraw deal.state front (taken ++ more)) → values ≡ map (worth Low deal.state.game (hand_of deal.state last)) range
-    → count_by (λ value. some_set (value_with numbers last value) (eligible_in deal pot) == set) values ≡ count_by (λ runout. count_place deal pot Low runout == set) (map (λ more. front ++ (taken ++ more) ∷ []) range)
-leaf_lows deal pot set last front taken numbers values range none two below at empty others all is =
-    let st : State = deal.state in
-    ap (count_by (λ value. some_set (value_with numbers last value) (eligible_in deal pot) == set)) is
-    ∙ count_map (λ value. some_set (value_with numbers last value) (eligible_in deal pot) == set) (worth Low st.game (hand_of st last)) range
-    ∙ count_same (λ more. some_set (value_with numbers last (worth Low st.game (hand_of st last) more)) (eligible_in deal pot) == set) (λ more. count_place deal pot Low (front ++ (taken ++ more) ∷ []) == set) range
-    (λ more m.
-    let leaf = all more m in
-    ap (λ k. k == set) (
-    leaf_some_set Low st last front taken more numbers (eligible_in deal pot) below at empty others leaf
-    ∙ sym (low_is deal pot (front ++ (taken ++ more) ∷ []) none two leaf.full below)))
-    ∙ sym (count_map (λ runout. count_place deal pot Low runout == set) (λ more. front ++ (taken ++ more) ∷ []) range)
-
--- and of the high, with the mark of a low
+-- numbers of two lists that pass together, by the draws that they are numbers of
 count_of_both : (p : ℕ → ℕ → Bool) (f g : List ℕ → ℕ) (q : List ℕ → Bool) (range : List (List ℕ)) → ((more : List ℕ) → HasMember range more → p (f more) (g more) ≡ q more) → count_both p (map f range) (map g range) ≡ count_by q range
 count_of_both p f g q [] same = refl
 count_of_both p f g q (x ∷ xs) same =
@@ -190,27 +175,29 @@ count_of_both p f g q (x ∷ xs) same =
     ∙ ap (λ n. cond (q x) 1 0 + n) (count_of_both p f g q xs (λ y m. same y (x ∷ m.0, m.1, ap (λ l. x ∷ l) m.2)))
     ∙ sym (sum_by-cons (λ y. cond (q y) 1 0) x xs)
 
-pub leaf_highs : (deal : Showdown) (pot set last : ℕ) (front : List (List ℕ)) (taken highs lows values low_values : List ℕ) (range : List (List ℕ)) → board_size deal.state.game ≡ 0 → has_two_sides deal.state.game ≡ true
+-- the same of both sides of a pot, the low and the high with the mark of a low
+pub leaf_sides : (side : Side) (deal : Showdown) (pot set last : ℕ) (front : List (List ℕ)) (taken highs lows values low_values : List ℕ) (range : List (List ℕ)) → board_size deal.state.game ≡ 0 → has_two_sides deal.state.game ≡ true
     → AreBelow (length deal.state.hands) (eligible_in deal pot) → last ≡ last_hand (slots deal.state) → taken ≡ [] → AreOthers (only_side deal.state.game) deal.state front highs → AreOthers Low deal.state front lows
     → ((more : List ℕ) → HasMember range more → IsLeafDraw deal.state front (taken ++ more))
     → values ≡ map (worth (only_side deal.state.game) deal.state.game (hand_of deal.state last)) range → low_values ≡ map (worth Low deal.state.game (hand_of deal.state last)) range
-    → count_both (λ value low. best_set (value_with highs last value) (eligible_in deal pot) + low_mark (some_set (value_with lows last low) (eligible_in deal pot)) == set) values low_values
-    ≡ count_by (λ runout. count_place deal pot High runout == set) (map (λ more. front ++ (taken ++ more) ∷ []) range)
-leaf_highs deal pot set last front taken highs lows values low_values range none two below at empty others low_others all is low_is_map =
+    → count_both (λ value low. set_place side (best_set (value_with highs last value) (eligible_in deal pot)) (some_set (value_with lows last low) (eligible_in deal pot)) == set) values low_values
+    ≡ count_by (λ runout. count_place deal pot side runout == set) (map (λ more. front ++ (taken ++ more) ∷ []) range)
+leaf_sides side deal pot set last front taken highs lows values low_values range none two below at empty others low_others all is low_is_map =
     let st : State = deal.state in
     let only : Side = only_side st.game in
     let hands : List ℕ = eligible_in deal pot in
-    let place : ℕ → ℕ → Bool = λ value low. best_set (value_with highs last value) hands + low_mark (some_set (value_with lows last low) hands) == set in
+    let place : ℕ → ℕ → Bool = λ value low. set_place side (best_set (value_with highs last value) hands) (some_set (value_with lows last low) hands) == set in
     ap (λ l. count_both place l low_values) is
     ∙ ap (λ l. count_both place (map (worth only st.game (hand_of st last)) range) l) low_is_map
-    ∙ count_of_both place (worth only st.game (hand_of st last)) (worth Low st.game (hand_of st last)) (λ more. count_place deal pot High (front ++ (taken ++ more) ∷ []) == set) range
+    ∙ count_of_both place (worth only st.game (hand_of st last)) (worth Low st.game (hand_of st last)) (λ more. count_place deal pot side (front ++ (taken ++ more) ∷ []) == set) range
     (λ more m.
     let leaf = all more m in
     let runout = front ++ (taken ++ more) ∷ [] in
     ap (λ k. k == set) (
-    ap (λ n. n + low_mark (some_set (value_with lows last (worth Low st.game (hand_of st last) more)) hands)) (leaf_set only st last front taken more highs hands below at empty others leaf ∙ sym (high_is deal pot runout none two leaf.full below))
-    ∙ ap (λ n. side_outcome High deal pot runout + low_mark n) (leaf_some_set Low st last front taken more lows hands below at empty low_others leaf ∙ sym (low_is deal pot runout none two leaf.full below))))
-    ∙ sym (count_map (λ runout. count_place deal pot High runout == set) (λ more. front ++ (taken ++ more) ∷ []) range)
+    ap (λ n. set_place side n (some_set (value_with lows last (worth Low st.game (hand_of st last) more)) hands)) (leaf_set only st last front taken more highs hands below at empty others leaf ∙ sym (high_is deal pot runout none two leaf.full below))
+    ∙ ap (λ n. set_place side (side_outcome High deal pot runout) n) (leaf_some_set Low st last front taken more lows hands below at empty low_others leaf ∙ sym (low_is deal pot runout none two leaf.full below))
+    ∙ place_is side deal pot runout))
+    ∙ sym (count_map (λ runout. count_place deal pot side runout == set) (λ more. front ++ (taken ++ more) ∷ []) range)
 
 -- the numbers of a range of draws are what the last hand is worth with them
 pub leaf_values : (side : Side) (st : State) (front rows : List (List ℕ)) (planes : List (List ℕ)) (taken rest : List ℕ) (count last lo hi : ℕ) → count ≡ last_count (slots st) → last ≡ last_hand (slots st) → 0 < count → AreNumbers count side st.game (hand_of st last) rows planes → taken ≡ []

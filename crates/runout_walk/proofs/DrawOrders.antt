@@ -1,13 +1,21 @@
 -- How often each of three sets wins, by how some numbers stand to another.
-use Rattle.std.proofs.Common.{◌≡◌, ℕ, zero, suc, ◌+◌, ◌<◌, ◌≤◌, ◌==◌, ◌&&◌, not, Bool, true, false, cond, List, [], ◌∷◌, length, set, take, get_or, refl, sym, ap, ◌∙◌, arith, inl, inr}
-use Rattle.std.specs.Prelude.{nat_lt, slice_index, slice_index_or}
+use Rattle.std.proofs.Common.{◌≡◌, ℕ, zero, suc, ◌+◌, ◌^◌, ◌<◌, ◌≤◌, ◌==◌, ◌&&◌, not, Bool, true, false, cond, List, [], ◌∷◌, length, set, take, get_or, refl, sym, ap, ◌∙◌, arith, inl, inr, Some, subst}
+use Rattle.std.specs.Prelude.{nat_lt, slice_get, slice_index, slice_index_or}
 use Rattle.std.specs.List.{count_by}
-use Rattle.std.proofs.lemmas.Bool.{cases_lt, eqb-true}
-use Rattle.std.proofs.lemmas.List.{get_or-set_other, get_or-set_same, length-take}
+use Rattle.std.specs.Option.{option_map}
+use Rattle.std.proofs.lemmas.Bool.{cases_eq, cases_lt, eqb-true}
+use Rattle.std.proofs.lemmas.List.{get_or-set_other, get_or-set_same, length-take, take_all}
 use Rattle.std.proofs.lemmas.List.Sums.{count_by_more_yes, count_by_more_no, count_by-le-length, sum_by-cons}
 use mathlib.Core.Bool.{true≢false}
 use mir.Val.{bool_byte}
-use Rattle.runout_walk.specs.Rivals.{count_both, pick, times_at, winner_by}
+use Rattle.card_sets.specs.declared.games.Side.{Side}
+use Rattle.card_sets.specs.declared.games.Side.TheVariants.{High, Low}
+use Rattle.runout_walk.specs.OneMore.{set_place}
+use Rattle.runout_walk.specs.Rivals.{AreStepped, AreSums, HaveRoom, count_both, is_above, is_below, is_equal, pick, times_at, top_at, top_of, winner_by, won_at, won_by}
+use Rattle.runout_walk.specs.Worth.{or_zero}
+use Rattle.runout_walk.specs.declared.winners.Rivals.{Rivals}
+use Rattle.runout_walk.proofs.ListingMembers.{count_same}
+use Rattle.runout_walk.proofs.RowSets.{get-here, get-other}
 
 -- one member more
 pub count_one_more : {X : Type 0} (p : X → Bool) (xs : List X) (i : ℕ) (d : X) → i < length xs → count_by p (take (i + 1) xs) ≡ count_by p (take i xs) + cond (p (get_or xs i d)) 1 0
@@ -24,13 +32,6 @@ byte_is false = refl
 pub byte_small : (b : Bool) → cond b 1 0 ≤ 1
 byte_small true = omega arith
 byte_small false = omega arith
-
--- a member that passes adds one
-pub count_step : (p : ℕ → Bool) (xs : List ℕ) (i d : ℕ) (b : Bool) (old more : ℕ) → i < length xs → b ≡ p (get_or xs i d) → old ≡ count_by p (take i xs) → more ≡ bool_byte b → old + more ≡ count_by p (take (i + 1) xs)
-count_step p xs i d b old more inside test so_far one =
-    let value : Bool → ℕ = λ v. cond v 1 0 in
-    let here : value b ≡ value (p (get_or xs i d)) = ap value test in
-    omega (arith, count_one_more p xs i d inside, so_far, one, byte_is b, here)
 
 -- no more so far than members were looked at
 pub count_bound : {X : Type 0} (p : X → Bool) (xs : List X) (i : ℕ) → count_by p (take i xs) ≤ i
@@ -57,9 +58,6 @@ orders_are_all top [] = refl
 orders_are_all top (x ∷ xs) =
     omega (arith, orders_are_all top xs, one_of_three (nat_lt x top) (x == top) (not_both x top), sum_by-cons (λ v. cond (nat_lt v top) 1 0) x xs, sum_by-cons (λ v. cond (v == top) 1 0) x xs, sum_by-cons (λ v. cond (rest_of top v) 1 0) x xs)
 
-pub below_and_equal : (top : ℕ) (all : List ℕ) → count_by (λ v. nat_lt v top) all + count_by (λ v. v == top) all ≤ length all
-below_and_equal top all = omega (arith, orders_are_all top all)
-
 zero_if : (t : Bool) → cond t zero zero ≡ zero
 zero_if true = refl
 zero_if false = refl
@@ -73,9 +71,6 @@ zero_times w set = zero_if (w == set)
 
 times_add : (w m n set : ℕ) → times_at w (m + n) set ≡ times_at w m set + times_at w n set
 times_add w m n set = add_if (w == set) m n
-
-one_times : (w set : ℕ) → times_at w 1 set ≡ cond (w == set) 1 0
-one_times w set = refl
 
 -- a number counts once for the set that wins
 won_once : (b e a set : ℕ) (p q : Bool) → (p ≡ true → q ≡ true → ⊥) → cond (pick b e a p q == set) 1 0 ≡ times_at b (cond p 1 0) set + times_at e (cond q 1 0) set + times_at a (cond (not p && not q) 1 0) set
@@ -98,38 +93,141 @@ won_by_order top b e a set (x ∷ xs) =
     ap (λ n. times_at a n set) (sum_by-cons (λ v. cond (rest_of top v) 1 0) x xs) ∙ times_add a (cond (rest_of top x) 1 0) (count_by (rest_of top) xs) set in
     omega (arith, sum_by-cons (λ v. cond (winner_by top b e a v == set) 1 0) x xs, ih, one, p, q, r)
 
--- the same, by the counts that the code has
-pub won_by_counts : (top b e a set below equal above : ℕ) (all : List ℕ) → below ≡ count_by (λ v. nat_lt v top) all → equal ≡ count_by (λ v. v == top) all → below + equal + above ≡ length all
-    → times_at b below set + times_at e equal set + times_at a above set ≡ count_by (λ v. winner_by top b e a v == set) all
-won_by_counts top b e a set below equal above all p q sum =
-    let r : above ≡ count_by (rest_of top) all = omega (arith, orders_are_all top all) in
-    ap (λ n. times_at b n set + times_at e equal set + times_at a above set) p
-    ∙ ap (λ n. times_at b (count_by (λ v. nat_lt v top) all) set + times_at e n set + times_at a above set) q
-    ∙ ap (λ n. times_at b (count_by (λ v. nat_lt v top) all) set + times_at e (count_by (λ v. v == top) all) set + times_at a n set) r
-    ∙ sym (won_by_order top b e a set all)
+-- neither below nor the same is above
+rest_is : (top v : ℕ) → rest_of top v ≡ nat_lt top v
+rest_is top v = elim (cases_lt v top) [
+  | inl l ↦
+      let x : nat_lt v top ≡ true = grind arith in
+      let y : nat_lt top v ≡ false = grind arith in
+      rw (x, y) refl
+  | inr ge ↦
+      let x : nat_lt v top ≡ false = grind arith in
+      elim (cases_eq v top) [
+        | inl e ↦
+            let y : (v == top) ≡ true = grind arith in
+            let z : nat_lt top v ≡ false = grind arith in
+            rw (x, y, z) refl
+        | inr ne ↦
+            let y : (v == top) ≡ false = grind arith in
+            let z : nat_lt top v ≡ true = grind arith in
+            rw (x, y, z) refl
+      ]
+]
 
--- where one set wins in any case, all count for it
-same_if : (t : Bool) (x y z : ℕ) → cond t x 0 + cond t y 0 + cond t z 0 ≡ cond t (x + y + z) 0
-same_if true x y z = refl
-same_if false x y z = refl
+above_is : (top : ℕ) (all : List ℕ) → count_by (λ v. nat_lt top v) all ≡ count_by (rest_of top) all
+above_is top all = count_same (λ v. nat_lt top v) (rest_of top) all (λ v m. sym (rest_is top v))
 
-pub won_at_once : (top b e a set n : ℕ) (all : List ℕ) → b ≡ e → e ≡ a → n ≡ length all → times_at b n set + times_at e 0 set + times_at a 0 set ≡ count_by (λ v. winner_by top b e a v == set) all
-won_at_once top b e a set n all same again size =
-    let x = count_by (λ v. nat_lt v top) all in
-    let y = count_by (λ v. v == top) all in
-    let z = count_by (rest_of top) all in
-    let sum : x + y + z ≡ n = omega (arith, orders_are_all top all) in
-    let whole : times_at b x set + times_at e y set + times_at a z set ≡ times_at b n set =
-    ap (λ k. times_at b x set + times_at k y set + times_at a z set) (sym same) ∙ ap (λ k. times_at b x set + times_at b y set + times_at k z set) (sym (same ∙ again)) ∙ same_if (b == set) x y z ∙ ap (λ k. times_at b k set) sum in
-    omega (arith, zero_times e set, zero_times a set, whole, won_by_order top b e a set all)
+-- what stands at a place of a list of rivals
+pub won_here : (rivals : List Rivals) (pot value : ℕ) (r : Rivals) → slice_get rivals pot ≡ Some r → won_at rivals pot value ≡ won_by r value
+won_here rivals pot value r found = ap (λ o. or_zero (option_map (λ r. won_by r value) o)) found
 
--- no more at a place than all
-if_most : (t : Bool) (n : ℕ) → cond t n 0 ≤ n
-if_most true n = omega arith
-if_most false n = omega arith
+pub top_here : (rivals : List Rivals) (pot : ℕ) (r : Rivals) → slice_get rivals pot ≡ Some r → top_at rivals pot ≡ r.top
+top_here rivals pot r found = ap (λ o. or_zero (option_map top_of o)) found
 
-pub times_most : (w n set : ℕ) → times_at w n set ≤ n
-times_most w n set = if_most (w == set) n
+won_same : (rivals : List Rivals) (i value : ℕ) (r : Rivals) → i < length rivals → won_at (set rivals i r) i value ≡ won_by r value
+won_same rivals i value r inside = won_here (set rivals i r) i value r (get-here rivals i r inside)
+
+won_other : (rivals : List Rivals) (i p value : ℕ) (r : Rivals) → (p ≡ i → ⊥) → won_at (set rivals i r) p value ≡ won_at rivals p value
+won_other rivals i p value r ne = ap (λ o. or_zero (option_map (λ r. won_by r value) o)) (get-other rivals i p r ne)
+
+-- what holds of who wins the pots below one holds of one pot more
+pub more_won : (P : ℕ → ℕ → ℕ → Type 0) (rivals : List Rivals) (pot i : ℕ) (r : Rivals) → i ≡ pot → i < length rivals → ((p value : ℕ) → p < pot → P p value (won_at rivals p value)) → ((value : ℕ) → P pot value (won_by r value))
+    → (p value : ℕ) → p ≤ pot → P p value (won_at (set rivals i r) p value)
+more_won P rivals pot i r at inside was here p value l = elim (cases_lt p pot) [
+  | inl lt ↦ subst (P p value) (sym (won_other rivals i p value r (λ e. omega arith))) (was p value lt)
+  | inr ge ↦
+      let same : i ≡ p = omega arith in
+      let first : pot ≡ p = omega arith in
+      let Q : ℕ → Type 0 = λ k. P p value (won_at (set rivals i r) k value) in
+      let R : ℕ → Type 0 = λ k. P k value (won_by r value) in
+      subst Q same (subst (P p value) (sym (won_same rivals i value r inside)) (subst R first (here value)))
+]
+
+-- sums that aren't stepped yet, one pot more, and all pots
+pub stepped_none : (test : ℕ → Bool) (sums : List ℕ) → AreStepped test 0 sums sums
+stepped_none test sums = record { done = λ p l. absurd (omega arith); later = λ p l. refl; same = refl }
+
+pub stepped_more : (test : ℕ → Bool) (pot place times : ℕ) (old mid new : List ℕ) → place ≡ pot → times ≡ cond (test pot) 1 0 → ((other : ℕ) → slice_index new other ≡ slice_index mid other + cond (place == other) times 0) → length new ≡ length mid
+    → AreStepped test pot old mid → AreStepped test (pot + 1) old new
+stepped_more test pot place times old mid new at one put size was = record {
+  done = λ p l. elim (cases_lt p pot) [
+    | inl lt ↦ (let zero = none p (λ e. omega arith) in omega (arith, put p, zero, was.done p lt))
+    | inr ge ↦ (
+        let here : p ≡ pot = omega arith in
+        let t : (place == p) ≡ true = grind arith in
+        let all : cond (place == p) times 0 ≡ times = rw t refl in
+        let value : ℕ → ℕ = λ k. cond (test k) 1 0 in
+        let same : value p ≡ value pot = ap value here in
+        omega (arith, put p, all, one, same, was.later p ge))
+  ];
+  later = λ p l. (let zero = none p (λ e. omega arith) in omega (arith, put p, zero, was.later p (omega arith)));
+  same = size ∙ was.same;
+}
+  where
+    none : (p : ℕ) → (place ≡ p → ⊥) → cond (place == p) times 0 ≡ 0
+    none p ne = let f : (place == p) ≡ false = grind arith in rw f refl
+
+pub stepped_all : (test : ℕ → Bool) (pot pots : ℕ) (old new : List ℕ) → pot ≡ pots → AreStepped test pot old new → AreStepped test pots old new
+stepped_all test pot pots old new e was = let P : ℕ → Type 0 = λ n. AreStepped test n old new in subst P e was
+
+-- there is room for what is stepped next
+pub stepped_room : (test : ℕ → Bool) (pot pots place times : ℕ) (old new : List ℕ) (b : Bool) → place ≡ pot → pot < pots → times ≡ cond b 1 0 → HaveRoom pots old → AreStepped test pot old new → (place < length new) × (slice_index new place + times < 2 ^ 32)
+stepped_room test pot pots place times old new b at l one room was =
+    let places = room.places in
+    let same = was.same in
+    let value : ℕ → ℕ = λ k. slice_index new k in
+    let there : value place ≡ value pot = ap value at in
+    (omega (arith, places, same), omega (arith, there, was.later pot (omega arith), room.fits pot l, one, byte_small b))
+
+-- sums of one number more, and of all
+pub sums_more : (test : ℕ → ℕ → Bool) (pots : ℕ) (values : List ℕ) (i value : ℕ) (sums new : List ℕ) → i < length values → value ≡ get_or values i 0 → AreSums test pots (take i values) sums → AreStepped (test value) pots sums new → AreSums test pots (take (i + 1) values) new
+sums_more test pots values i value sums new inside is was step = record {
+  counts = λ pot l.
+      let passes : ℕ → ℕ = λ v. cond (test v pot) 1 0 in
+      let one : passes value ≡ passes (get_or values i 0) = ap passes is in
+      let more : slice_index new pot ≡ slice_index sums pot + passes value = step.done pot l in
+      let next : count_by (λ v. test v pot) (take (i + 1) values) ≡ count_by (λ v. test v pot) (take i values) + passes (get_or values i 0) = count_one_more (λ v. test v pot) values i 0 inside in
+      let so_far : slice_index sums pot ≡ count_by (λ v. test v pot) (take i values) = was.counts pot l in
+      omega (arith, more, one, next, so_far);
+  ten = step.same ∙ was.ten;
+}
+
+pub sums_all : (test : ℕ → ℕ → Bool) (pots : ℕ) (values : List ℕ) (i : ℕ) (sums : List ℕ) → length values ≤ i → AreSums test pots (take i values) sums → AreSums test pots values sums
+sums_all test pots values i sums end was = let P : List ℕ → Type 0 = λ l. AreSums test pots l sums in subst P (take_all i values end) was
+
+pub sums_room : (test : ℕ → ℕ → Bool) (pots : ℕ) (values : List ℕ) (i : ℕ) (sums : List ℕ) → pots ≤ 10 → i < length values → length values < 2 ^ 32 → AreSums test pots (take i values) sums → HaveRoom pots sums
+sums_room test pots values i sums ten inside few was = record {
+  places = (let size = was.ten in omega arith);
+  fits = λ pot l. omega (arith, was.counts pot l, count_bound (λ v. test v pot) values i, inside, few);
+}
+
+-- of fewer pots
+pub sums_fewer : (test : ℕ → ℕ → Bool) (n pots : ℕ) (values sums : List ℕ) → pots ≤ n → AreSums test n values sums → AreSums test pots values sums
+sums_fewer test n pots values sums few was = record { counts = λ pot l. was.counts pot (omega arith); ten = was.ten }
+
+-- how often each set wins a pot, by the sums of the pots
+pub sums_total : (rivals : List Rivals) (pot pots : ℕ) (values below equal above : List ℕ) → pot < pots → AreSums (is_below rivals) pots values below → AreSums (is_equal rivals) pots values equal → AreSums (is_above rivals) pots values above
+    → slice_index below pot + slice_index equal pot + slice_index above pot ≡ length values
+sums_total rivals pot pots values below equal above l b e a =
+    let top : ℕ = top_at rivals pot in
+    let p : slice_index below pot ≡ count_by (λ v. nat_lt v top) values = b.counts pot l in
+    let q : slice_index equal pot ≡ count_by (λ v. v == top) values = e.counts pot l in
+    let r : slice_index above pot ≡ count_by (λ v. nat_lt top v) values = a.counts pot l in
+    omega (arith, p, q, r, above_is top values, orders_are_all top values)
+
+pub sums_won : (rivals : List Rivals) (pot pots set : ℕ) (r : Rivals) (win : ℕ → ℕ) (values below equal above : List ℕ) → pot < pots → slice_get rivals pot ≡ Some r → ((value : ℕ) → won_at rivals pot value ≡ win value)
+    → AreSums (is_below rivals) pots values below → AreSums (is_equal rivals) pots values equal → AreSums (is_above rivals) pots values above
+    → times_at r.below (slice_index below pot) set + times_at r.equal (slice_index equal pot) set + times_at r.above (slice_index above pot) set ≡ count_by (λ value. win value == set) values
+sums_won rivals pot pots set r win values below equal above l found wins b e a =
+    let top : top_at rivals pot ≡ r.top = top_here rivals pot r found in
+    let p : slice_index below pot ≡ count_by (λ v. nat_lt v r.top) values = b.counts pot l ∙ ap (λ t. count_by (λ v. nat_lt v t) values) top in
+    let q : slice_index equal pot ≡ count_by (λ v. v == r.top) values = e.counts pot l ∙ ap (λ t. count_by (λ v. v == t) values) top in
+    let s : slice_index above pot ≡ count_by (rest_of r.top) values = a.counts pot l ∙ ap (λ t. count_by (λ v. nat_lt t v) values) top ∙ above_is r.top values in
+    ap (λ n. times_at r.below n set + times_at r.equal (slice_index equal pot) set + times_at r.above (slice_index above pot) set) p
+    ∙ ap (λ n. times_at r.below (count_by (λ v. nat_lt v r.top) values) set + times_at r.equal n set + times_at r.above (slice_index above pot) set) q
+    ∙ ap (λ n. times_at r.below (count_by (λ v. nat_lt v r.top) values) set + times_at r.equal (count_by (λ v. v == r.top) values) set + times_at r.above n set) s
+    ∙ sym (won_by_order r.top r.below r.equal r.above set values)
+    ∙ count_same (λ value. won_by r value == set) (λ value. win value == set) values (λ value m. ap (λ k. k == set) (sym (won_here rivals pot value r found) ∙ wins value))
 
 -- one row is changed
 pub other_row : (rows : List (List ℕ)) (i j place : ℕ) (new : List ℕ) → (j ≡ i → ⊥) → slice_index (slice_index_or (set rows i new) j []) place ≡ slice_index (slice_index_or rows j []) place
@@ -164,21 +262,18 @@ both_most p [] lows = omega arith
 both_most p (value ∷ values) [] = omega arith
 both_most p (value ∷ values) (low ∷ lows) = omega (arith, both_most p values lows, if_one (p value low))
 
--- each of three sets is small
-pub pick_small : (b e a n : ℕ) (p q : Bool) → b < n → e < n → a < n → pick b e a p q < n
-pick_small b e a n true q x y z = x
-pick_small b e a n false true x y z = y
-pick_small b e a n false false x y z = z
+-- a high and a low of up to ten hands make a place of a row
+pub place_small : (side : Side) (high low : ℕ) → high < 1024 → low < 1024 → set_place side high low < 2048
+place_small High high low h l = omega (arith, h, mark_small (low == 0))
+  where
+    mark_small : (b : Bool) → cond b 0 1024 ≤ 1024
+    mark_small true = omega arith
+    mark_small false = omega arith
+place_small Low high low h l = omega arith
 
--- who wins at the number of the others, and above it
-pub at_top : (t b e a : ℕ) → winner_by t b e a t ≡ e
-at_top t b e a =
-    let f : nat_lt t t ≡ false = grind arith in
-    let g : (t == t) ≡ true = grind arith in
-    rw (f, g) refl
-
-pub above_top : (t b e a : ℕ) → winner_by t b e a (t + 1) ≡ a
-above_top t b e a =
-    let f : nat_lt (t + 1) t ≡ false = grind arith in
-    let g : (t + 1 == t) ≡ false = grind arith in
-    rw (f, g) refl
+-- how often each place comes on a side, by who wins both
+pub sides_won : (side : Side) (highs lows : List Rivals) (pot place : ℕ) (high_win low_win : ℕ → ℕ) (values low_values : List ℕ) → ((value : ℕ) → won_at highs pot value ≡ high_win value) → ((value : ℕ) → won_at lows pot value ≡ low_win value)
+    → count_both (λ value low. set_place side (won_at highs pot value) (won_at lows pot low) == place) values low_values ≡ count_both (λ value low. set_place side (high_win value) (low_win low) == place) values low_values
+sides_won side highs lows pot place high_win low_win values low_values h l =
+    both_same (λ value low. set_place side (won_at highs pot value) (won_at lows pot low) == place) (λ value low. set_place side (high_win value) (low_win low) == place) values low_values
+    (λ value low. ap (λ k. set_place side k (won_at lows pot low) == place) (h value) ∙ ap (λ k. set_place side (high_win value) k == place) (l low))

@@ -18,13 +18,13 @@ use Rattle.runout_walk.specs.Values.{one_of}
 use Rattle.runout_walk.proofs.HighLaws.{same_plain, same_low}
 use Rattle.runout_walk.proofs.RankCounts.{few_of_rank, with_of_rank, length-with}
 
-same_one : (rank : ℕ) → one_of rank rank ≡ 1
+pub same_one : (rank : ℕ) → one_of rank rank ≡ 1
 same_one rank = let t : (rank == rank) ≡ true = grind arith in rw t refl
 
 both_counts : (own board : List ℕ) (r : ℕ) → IsCardSet own → IsCardSet board → apart own board ≡ true → cards_of_rank (union own board) r ≡ cards_of_rank own r + cards_of_rank board r
 both_counts own board r p q a = count-union own board r p q (Apart-apart own board a)
 
-most_counts : (own full : List ℕ) (r : ℕ) → IsCardSet own → r < 13 → IsCardSet full → apart own full ≡ true → cards_of_rank own r + cards_of_rank full r < 5
+pub most_counts : (own full : List ℕ) (r : ℕ) → IsCardSet own → r < 13 → IsCardSet full → apart own full ≡ true → cards_of_rank own r + cards_of_rank full r < 5
 most_counts own full r p h q a = omega (arith, both_counts own full r p q a, few_of_rank (union own full) r (union-IsCardSet own full) h)
 
 -- where no card of the lower rank is left, no full board has these ranks
@@ -59,7 +59,7 @@ free_of a b k l free =
 has_with : (cards : List ℕ) (card k : ℕ) → k < 52 → has_card (with_card cards card) k ≡ ((k == card) || has_card cards k)
 has_with cards card k l = has-cards_where (λ k. (k == card) || has_card cards k) k l
 
-apart_with : (own board : List ℕ) (card : ℕ) → IsCardSet own → Apart own board → has_card own card ≡ false → Apart own (with_card board card)
+pub apart_with : (own board : List ℕ) (card : ℕ) → IsCardSet own → Apart own board → has_card own card ≡ false → Apart own (with_card board card)
 apart_with own board card p a free = λ k x y. elim (cases_eq k card) [
   | inl same ↦ true≢false (sym x ∙ ap (has_card own) same ∙ free)
   | inr ne ↦

@@ -252,7 +252,7 @@ same_plain Draw5 own board other is placed also same = absurd (true≢false (sym
 same_plain Lowball27 own board other is placed also same = absurd (true≢false (sym is))
 same_plain Triple27 own board other is placed also same = absurd (true≢false (sym is))
 
-composed : (f : ℕ → ℕ) (h : List ℕ → ℕ) (o : Option (List ℕ)) → option_map f (option_map h o) ≡ option_map (λ x. f (h x)) o
+pub composed : (f : ℕ → ℕ) (h : List ℕ → ℕ) (o : Option (List ℕ)) → option_map f (option_map h o) ≡ option_map (λ x. f (h x)) o
 composed f h None = refl
 composed f h (Some x) = refl
 

@@ -3,6 +3,7 @@ pub mod HighLaws
 pub mod HighCalls
 pub mod RankCounts
 pub mod FullBoards
+pub mod ThreeCards
 pub mod PairListing
 pub mod ListingMembers
 pub mod ListingRanges

@@ -22,9 +22,8 @@ use Rattle.showdown_tally.specs.Numbers.{side_number, turned}
 use Rattle.showdown_tally.specs.Showdown.{has_two_sides, Showdown, best, is_beaten_by, winners, own_after, board_after, value_after, eligible_in}
 use Rattle.showdown_tally.specs.Sides.{side_outcome}
 use Rattle.runout_walk.specs.Bests.{best_value, best_set, some_set}
-use Rattle.runout_walk.specs.Rivals.{others_of, value_with, winner_by}
+use Rattle.runout_walk.specs.Rivals.{others_of, value_with, winner_by, won_set}
 use Rattle.runout_walk.specs.Worth.{or_zero, worth_after}
-use Rattle.runout_walk.proofs.DrawOrders.{above_top, at_top}
 use Rattle.runout_walk.proofs.DrawWinners.{at_most, best_others, best_split, filter_same, no_cards, not_less_max, ones_are, ones_of, outcome_best, pick_same, winner_is, worth_ordered}
 
 -- the high of two sides
@@ -234,12 +233,20 @@ low_winner_is values mask l n t s below equal above value inside top set is_belo
         ∙ ap (λ xs. max t (best_value (value_with values l value) xs)) once
         ∙ ap (λ k. max t k) (one b)
 
--- the sets that win a pot are sets of ten hands
-pub small_sets : (values hands : List ℕ) (last mask n t b e a : ℕ) → hands ≡ hands_below mask n → n ≤ 10 → ((value : ℕ) → winner_by t b e a value ≡ best_set (value_with values last value) hands) → (e < 1024) × (a < 1024)
-small_sets values hands last mask n t b e a are few is = ((let s = small t in omega (arith, s, at_top t b e a)), (let s = small (t + 1) in omega (arith, s, above_top t b e a)))
-  where
-    small : (value : ℕ) → winner_by t b e a value < 1024
-    small value =
-        let power : 2 ^ n ≤ 2 ^ 10 = pow-le-pow_right (let z : 0 < 2 = omega arith in z) few in
-        let set : best_set (value_with values last value) (hands_below mask n) < 2 ^ n = mask_below (λ h. value_with values last value h == best_value (value_with values last value) (hands_below mask n)) mask n in
-        omega (arith, is value, ap (best_set (value_with values last value)) are, set, power)
+-- the set that wins a pot is one of ten hands
+small_best : (v : ℕ → ℕ) (mask n : ℕ) → n ≤ 10 → best_set v (hands_below mask n) < 1024
+small_best v mask n few =
+    let power : 2 ^ n ≤ 2 ^ 10 = pow-le-pow_right (let z : 0 < 2 = omega arith in z) few in
+    let set : best_set v (hands_below mask n) < 2 ^ n = mask_below (λ h. v h == best_value v (hands_below mask n)) mask n in
+    omega (arith, set, power)
+
+if_small : (b : Bool) (s n : ℕ) → s < n → cond b 0 s < n
+if_small true s n l = omega arith
+if_small false s n l = l
+
+small_won : (qualify : Bool) (v : ℕ → ℕ) (mask n : ℕ) → n ≤ 10 → won_set qualify v (hands_below mask n) < 1024
+small_won true v mask n few = if_small (best_value v (hands_below mask n) == 0) (best_set v (hands_below mask n)) 1024 (small_best v mask n few)
+small_won false v mask n few = small_best v mask n few
+
+pub small_set : (qualify : Bool) (v : ℕ → ℕ) (hands : List ℕ) (mask n set : ℕ) → hands ≡ hands_below mask n → n ≤ 10 → set ≡ won_set qualify v hands → set < 1024
+small_set qualify v hands mask n set are few is = let same : won_set qualify v hands ≡ won_set qualify v (hands_below mask n) = ap (won_set qualify v) are in omega (arith, is, same, small_won qualify v mask n few)

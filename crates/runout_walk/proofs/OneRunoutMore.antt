@@ -90,9 +90,28 @@ more_cleared game pot first a b c far one two = λ p at s. go s p at
     go Low p at = two p at Low ∙ ap (cond (has_side Low game && (p == pot)) 0) (one p at Low ∙ far p at Low) ∙ one_pot_more (has_side Low game) p pot (count_at first p Low at)
 
 -- the place of a runout by the sets that win
-place_is : (s : Side) (deal : Showdown) (pot : ℕ) (runout : List (List ℕ)) → set_place s (side_outcome High deal pot runout) (side_outcome Low deal pot runout) ≡ count_place deal pot s runout
+pub place_is : (s : Side) (deal : Showdown) (pot : ℕ) (runout : List (List ℕ)) → set_place s (side_outcome High deal pot runout) (side_outcome Low deal pot runout) ≡ count_place deal pot s runout
 place_is High deal pot runout = refl
 place_is Low deal pot runout = refl
+
+-- on each side of the pots below one there is one more at a place
+pub record IsAdded (game : Game) (places : ℕ → Side → ℕ) (pot : ℕ) (old new : List (List ℕ)) : Type 0 where
+  pub done : (p at : ℕ) (s : Side) → has_side s game ≡ true → p < pot → count_at new p s at ≡ count_at old p s at + cond (places p s == at) 1 0
+  pub later : (p at : ℕ) (s : Side) → has_side s game ≡ true → pot ≤ p → count_at new p s at ≡ count_at old p s at
+
+pub one_added : (game : Game) (places : ℕ → Side → ℕ) (pot high low : ℕ) (first old new : List (List ℕ)) → ((s : Side) → set_place s high low ≡ places pot s)
+    → IsAdded game places pot first old → AddsOne game pot high low old new → IsAdded game places (pot + 1) first new
+one_added game places pot high low first old new there far one = record {
+  done = λ p at s has less. elim (cases_lt p pot) [
+    | inl lt ↦ let f : (p == pot) ≡ false = grind arith in one p at s ∙ rw (has, f) (add_zero (count_at old p s at)) ∙ far.done p at s has lt
+    | inr ge ↦
+        let here : p ≡ pot = omega arith in
+        let t : (p == pot) ≡ true = grind arith in
+        let place : set_place s high low ≡ places p s = there s ∙ ap (λ n. places n s) (sym here) in
+        one p at s ∙ rw (has, t, place) (ap (λ n. n + cond (places p s == at) 1 0) (far.later p at s has ge))
+  ];
+  later = λ p at s has less. let f : (p == pot) ≡ false = grind arith in one p at s ∙ rw (has, f) (add_zero (count_at old p s at)) ∙ far.later p at s has (omega arith);
+}
 
 -- one runout is counted for the pots below one
 pub record IsCounted (deal : Showdown) (runout : List (List ℕ)) (pot : ℕ) (old new : List (List ℕ)) : Type 0 where
@@ -101,14 +120,7 @@ pub record IsCounted (deal : Showdown) (runout : List (List ℕ)) (pot : ℕ) (o
 
 pub one_counted : (deal : Showdown) (runout : List (List ℕ)) (pot high low : ℕ) (first old new : List (List ℕ)) → high ≡ side_outcome High deal pot runout → low ≡ side_outcome Low deal pot runout
     → IsCounted deal runout pot first old → AddsOne deal.state.game pot high low old new → IsCounted deal runout (pot + 1) first new
-one_counted deal runout pot high low first old new h l far one = record {
-  done = λ p at s has less. elim (cases_lt p pot) [
-    | inl lt ↦ let f : (p == pot) ≡ false = grind arith in one p at s ∙ rw (has, f) (add_zero (count_at old p s at)) ∙ far.done p at s has lt
-    | inr ge ↦
-        let here : p ≡ pot = omega arith in
-        let t : (p == pot) ≡ true = grind arith in
-        let place : set_place s high low ≡ count_place deal p s runout = ap (λ x. set_place s x low) h ∙ ap (λ x. set_place s (side_outcome High deal pot runout) x) l ∙ place_is s deal pot runout ∙ ap (λ n. count_place deal n s runout) (sym here) in
-        one p at s ∙ rw (has, t, place) (ap (λ n. n + cond (count_place deal p s runout == at) 1 0) (far.later p at s has ge))
-  ];
-  later = λ p at s has less. let f : (p == pot) ≡ false = grind arith in one p at s ∙ rw (has, f) (add_zero (count_at old p s at)) ∙ far.later p at s has (omega arith);
-}
+one_counted deal runout pot high low first old new h l far one =
+    let there : (s : Side) → set_place s high low ≡ count_place deal pot s runout = (λ s. ap (λ x. set_place s x low) h ∙ ap (λ x. set_place s (side_outcome High deal pot runout) x) l ∙ place_is s deal pot runout) in
+    let more = one_added deal.state.game (λ p s. count_place deal p s runout) pot high low first old new there (record { done = far.done; later = far.later }) one in
+    record { done = more.done; later = more.later }

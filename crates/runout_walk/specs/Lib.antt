@@ -25,6 +25,7 @@ pub mod Values
 pub mod HighParts
 pub mod BoardWith
 pub mod Suits
+pub mod Threes
 pub mod Bests
 pub mod Boards
 pub mod SideRows

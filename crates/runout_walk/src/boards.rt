@@ -43,8 +43,8 @@ pub fn are_boards(table: &Table, shape: &Shape) -> bool
     table.known.game.has_board() && 2 <= board_lacks(shape)
 }
 
-/// The room that boards are counted in. It asks for up to 830 kB of the heap, of which rows, codes and sieves are written where a count
-/// wants them first.
+/// The room that boards are counted in. It asks for up to 1 MB of the heap, of which rows, codes, sieves and threes of ranks are written where
+/// a count wants them first.
 /// It is made once, and keeps what the next count of the same deal can use; what it held before makes no other difference.
 #[derive(Drop)]
 pub struct Boards {

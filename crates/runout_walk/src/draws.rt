@@ -22,9 +22,8 @@ use crate::counts::side_row;
 use crate::filled::filled;
 use crate::last::{DRAWS, Range, TWOS, put_draws};
 use crate::leaf::{Leaf, Tail};
-use crate::low_draws::put_lows;
-use crate::numbers::{Lows, Numbers, full_worth};
-use crate::rivals::{count_highs, count_lows, count_pots};
+use crate::numbers::{Numbers, PLANES, full_worth};
+use crate::rivals::{count_pots, count_sides};
 use card_sets::{Card, CardSet, Game, Known, Memory, Side};
 use runout_ranges::{Receiver, Shape, Slot};
 use showdown_tally::Table;
@@ -114,7 +113,7 @@ pub struct Draws {
     /// What it is worth with each draw, as a high in a game that is played for both sides.
     numbers: Numbers,
     /// What it is worth with each draw as a low in such a game.
-    lows: Lows,
+    lows: Numbers,
     /// Room for the numbers of the draws of a leaf.
     values: Vec<u32>,
     /// Room for their numbers as lows.
@@ -123,6 +122,8 @@ pub struct Draws {
     ghost room: { length values.items ≡ 22100 },
     /// and for the lows of all draws of two.
     ghost low_room: { length low_values.items ≡ 1326 },
+    /// There is room for the tables of three cards.
+    ghost planes: { length numbers.planes.items ≡ 1327 },
     /// The game has no board.
     ghost no_board: { board_size table.known.game ≡ 0 },
     /// The hand is that of the last slot.
@@ -137,9 +138,9 @@ pub struct Draws {
     /// There are as many lows,
     ghost low_deep: { has_two_sides table.known.game ≡ true → lows.count ≡ numbers.count },
     /// and they are those of that hand.
-    ghost low_right: { has_two_sides table.known.game ≡ true → (planes : List (List ℕ))
+    ghost low_right: { has_two_sides table.known.game ≡ true
         → AreNumbers lows.count Low table.known.game
-        (slice_index_or (state_of table.known).hands last []) lows.rows.items planes },
+        (slice_index_or (state_of table.known).hands last []) lows.rows.items lows.planes.items },
     /// These are fewer.
     ghost low_few: { has_two_sides table.known.game ≡ true → numbers.count ≤ 2 },
 }
@@ -180,8 +181,8 @@ impl Draws {
     /// An empty leaf, which counts nothing before it serves a table. `Memory` where there is none for its tables.
     #[inline(never)]
     pub fn new(alloc: Global) -> Result<Draws, Memory> {
-        let numbers = Numbers::none(alloc)?;
-        let lows = Lows::none(alloc)?;
+        let numbers = Numbers::none(alloc, PLANES)?;
+        let lows = Numbers::none(alloc, 0)?;
         let values = filled(alloc, 0, DRAWS)?;
         let low_values = filled(alloc, 0, TWOS)?;
         Ok(Draws {
@@ -205,7 +206,7 @@ impl Draws {
         let game = table.known.game;
         self.numbers.serve(game.only_side(), game, own, last.count);
         self.lows
-            .serve_where(has_two_sides(game), game, own, last.count);
+            .serve_where(has_two_sides(game), Side::Low, game, own, last.count);
         self.table = *table;
         self.last = last.hand;
     }
@@ -254,14 +255,8 @@ fn numbers_with(side: Side, known: &Known, sets: &[CardSet]) -> [u32; 10]
     numbers
 }
 
-/// Writes the numbers of the draws between two places of their listing to the front of the room for them. It takes a step a draw.
-fn write_draws<L: Ledger>(
-    numbers: &Numbers,
-    cards: &[Card],
-    range: Range,
-    values: &mut Vec<u32>,
-    steps: &mut Steps<L>,
-)
+/// Writes the numbers of the draws between two places of their listing to the front of the room for them.
+fn write_draws(numbers: &Numbers, cards: &[Card], range: Range, values: &mut Vec<u32>)
     // The numbers are of draws of one to three cards, out of those of a deck.
     requires some { 1 ≤ numbers.now.count }
     requires few { numbers.now.count ≤ 3 }
@@ -277,31 +272,8 @@ fn write_draws<L: Ledger>(
         ≡ map (number_of numbers.now.rows.items numbers.now.planes.items)
         (slice_range (choose numbers.now.count cards.now) range.lo range.hi) }
     ensures room { length values.new.items ≡ length values.old.items }
-    ensures steps { steps.new ≡ steps.old + (range.hi - range.lo) }
 {
-    put_draws(numbers, cards, range, values.as_mut_slice(), steps);
-}
-
-/// Writes the numbers of the same draws as lows, where they have one or two cards. They took their steps as highs.
-fn write_lows(lows: &Lows, cards: &[Card], range: Range, values: &mut Vec<u32>)
-    // The numbers are of draws of one or two cards, out of those of a deck.
-    requires some { 1 ≤ lows.now.count }
-    requires few { lows.now.count ≤ 2 }
-    requires short { length cards.now ≤ 52 }
-
-    // Both places lie in the listing of the draws, and there is room for the numbers of those between them.
-    requires order { range.lo ≤ range.hi }
-    requires inside { range.hi ≤ length (choose lows.now.count cards.now) }
-    requires room { range.hi - range.lo ≤ length values.old.items }
-
-    // A table of three cards isn't looked at, whichever it is.
-    ensures numbers { (planes : List (List ℕ))
-        → take (range.hi - range.lo) values.new.items
-        ≡ map (number_of lows.now.rows.items planes)
-        (slice_range (choose lows.now.count cards.now) range.lo range.hi) }
-    ensures room { length values.new.items ≡ length values.old.items }
-{
-    put_lows(lows, cards, range, values.as_mut_slice());
+    put_draws(numbers, cards, range, values.as_mut_slice());
 }
 
 impl Leaf for Draws {
@@ -332,17 +304,16 @@ impl Leaf for Draws {
         };
         let cards = CardList::of(tail.rest);
         let values = &mut self.values;
-        write_draws(&self.numbers, cards.as_slice(), range, values, steps);
+        write_draws(&self.numbers, cards.as_slice(), range, values);
         if has_two_sides(game) {
             let lows = numbers_with(Side::Low, &self.table.known, front);
             let low_values = &mut self.low_values;
-            write_lows(&self.lows, cards.as_slice(), range, low_values);
+            write_draws(&self.lows, cards.as_slice(), range, low_values);
             let all_highs = self.values.as_slice();
             let all_lows = self.low_values.as_slice();
             let values = &all_highs[..range.hi - range.lo];
             let low_values = &all_lows[..range.hi - range.lo];
-            count_lows(&self.table, self.last, &lows, low_values, counts);
-            count_highs(
+            count_sides(
                 &self.table,
                 self.last,
                 &numbers,
@@ -350,6 +321,7 @@ impl Leaf for Draws {
                 values,
                 low_values,
                 counts,
+                steps,
             );
         } else {
             let all = self.values.as_slice();
@@ -361,6 +333,7 @@ impl Leaf for Draws {
                 &numbers,
                 values,
                 counts,
+                steps,
             );
         }
     }

@@ -10,6 +10,7 @@ ghost use Rattle.runout_walk.specs.SideRows.{AreRanksOf, IsSideRow};
 
 use crate::row::{PLACES, Row};
 use crate::sides::{Worths, pot_ends, worths_with};
+use crate::threes::Threes;
 use card_sets::CardSet;
 use showdown_tally::Table;
 
@@ -67,6 +68,7 @@ pub(crate) fn fill_rows(
     rows: &mut [Row],
     base: usize,
     table: &Table,
+    threes: &Threes,
     taken: CardSet,
     ranks: [u8; 3],
     least: u8,
@@ -105,7 +107,7 @@ pub(crate) fn fill_rows(
         if !is_met(least, low, high) {
             continue;
         }
-        let worths = worths_with(&table.known, taken, low, high);
+        let worths = worths_with(threes, &table.known, taken, low, high);
         put_ends(rows, base, table, place, &worths);
     }
 }

@@ -9,8 +9,6 @@ use crate::card_list::DECK;
 use crate::numbers::{Numbers, plane_base};
 use card_sets::Card;
 use runout_ranges::count_choices;
-use std::sync::ledger::Ledger;
-use step_count::Steps;
 
 /// How many draws of three cards there are of a whole deck.
 pub(crate) const DRAWS: usize = 22100;
@@ -27,38 +25,29 @@ pub(crate) struct Range {
     pub(crate) hi: usize,
 }
 
-/// Puts the numbers that a row has for some cards behind the first `used`. It takes a step a card.
+/// Puts the numbers that a row has for some cards behind the first `used`.
 #[inline]
-fn put_row<L: Ledger>(
-    row: &[u32],
-    cards: &[Card],
-    values: &mut [u32],
-    used: usize,
-    steps: &mut Steps<L>,
-)
+fn put_row(row: &[u32], cards: &[Card], values: &mut [u32], used: usize)
     requires places { length row.now ≡ 52 }
     requires room { used + length cards.now ≤ length values.old }
     ensures numbers { take (used + length cards.now) values.new
         ≡ take used values.old ++ map (slice_index row.now) cards.now }
     ensures room { length values.new ≡ length values.old }
-    ensures steps { steps.new ≡ steps.old + length cards.now }
 {
     for (place, card) in cards.iter().enumerate() {
-        steps.tick();
         values[used + place] = row[usize::from(card.number())];
     }
 }
 
 /// Puts the numbers of the draws of two of some rising cards behind the first `used`, from one place of the listing of these draws to
-/// another, where the rows of their table begin at one. It takes a step a draw.
-fn put_pairs<L: Ledger>(
+/// another, where the rows of their table begin at one.
+fn put_pairs(
     rows: &[[u32; DECK]],
     base: usize,
     cards: &[Card],
     range: Range,
     values: &mut [u32],
     used: usize,
-    steps: &mut Steps<L>,
 )
     // From the base on the table has a row for each lower card of a draw.
     requires places { base + 52 ≤ length rows.now }
@@ -73,7 +62,6 @@ fn put_pairs<L: Ledger>(
         ≡ take used values.old
         ++ map (number_at rows.now base) (slice_range (choose 2 cards.now) range.lo range.hi) }
     ensures room { length values.new ≡ length values.old }
-    ensures steps { steps.new ≡ steps.old + (range.hi - range.lo) }
 {
     let mut rest = cards;
     let mut lo = range.lo;
@@ -84,7 +72,7 @@ fn put_pairs<L: Ledger>(
         let start = lo.min(count);
         let end = hi.min(count);
         let row = &rows[base + usize::from(low.number())];
-        put_row(row, &highs[start..end], values, used, steps);
+        put_row(row, &highs[start..end], values, used);
         used += end - start;
         lo = lo.saturating_sub(count);
         hi = hi.saturating_sub(count);
@@ -93,13 +81,7 @@ fn put_pairs<L: Ledger>(
 }
 
 /// The same of draws of one card, at the front.
-fn put_singles<L: Ledger>(
-    rows: &[[u32; DECK]],
-    cards: &[Card],
-    range: Range,
-    values: &mut [u32],
-    steps: &mut Steps<L>,
-)
+fn put_singles(rows: &[[u32; DECK]], cards: &[Card], range: Range, values: &mut [u32])
     // The table has a row a card; draws of one card have the first one.
     requires places { length rows.now ≡ 52 }
 
@@ -113,19 +95,12 @@ fn put_singles<L: Ledger>(
         → take (range.hi - range.lo) values.new
         ≡ map (number_of rows.now planes) (slice_range (choose 1 cards.now) range.lo range.hi) }
     ensures room { length values.new ≡ length values.old }
-    ensures steps { steps.new ≡ steps.old + (range.hi - range.lo) }
 {
-    put_row(&rows[0], &cards[range.lo..range.hi], values, 0, steps);
+    put_row(&rows[0], &cards[range.lo..range.hi], values, 0);
 }
 
 /// The same of draws of two cards.
-fn put_twos<L: Ledger>(
-    rows: &[[u32; DECK]],
-    cards: &[Card],
-    range: Range,
-    values: &mut [u32],
-    steps: &mut Steps<L>,
-)
+fn put_twos(rows: &[[u32; DECK]], cards: &[Card], range: Range, values: &mut [u32])
     // The table has a row for each lower card of a draw.
     requires places { length rows.now ≡ 52 }
 
@@ -139,9 +114,8 @@ fn put_twos<L: Ledger>(
         → take (range.hi - range.lo) values.new
         ≡ map (number_of rows.now planes) (slice_range (choose 2 cards.now) range.lo range.hi) }
     ensures room { length values.new ≡ length values.old }
-    ensures steps { steps.new ≡ steps.old + (range.hi - range.lo) }
 {
-    put_pairs(rows, 0, cards, range, values, 0, steps);
+    put_pairs(rows, 0, cards, range, values, 0);
 }
 
 /// How many draws of two of some cards there are.
@@ -158,13 +132,7 @@ fn count_pairs(cards: &[Card]) -> usize
 }
 
 /// The same of draws of three cards.
-fn put_triples<L: Ledger>(
-    planes: &[[u32; DECK]],
-    cards: &[Card],
-    range: Range,
-    values: &mut [u32],
-    steps: &mut Steps<L>,
-)
+fn put_triples(planes: &[[u32; DECK]], cards: &[Card], range: Range, values: &mut [u32])
     // There is room for the tables of all lowest cards, and a deck has no more cards.
     requires places { length planes.now ≡ 1327 }
     requires few { length cards.now ≤ 52 }
@@ -179,7 +147,6 @@ fn put_triples<L: Ledger>(
         → take (range.hi - range.lo) values.new
         ≡ map (number_of rows planes.now) (slice_range (choose 3 cards.now) range.lo range.hi) }
     ensures room { length values.new ≡ length values.old }
-    ensures steps { steps.new ≡ steps.old + (range.hi - range.lo) }
 {
     let mut rest = cards;
     let mut lo = range.lo;
@@ -192,7 +159,7 @@ fn put_triples<L: Ledger>(
         let end = hi.min(count);
         let part = Range { lo: start, hi: end };
         let base = plane_base(*low);
-        put_pairs(planes, base, others, part, values, used, steps);
+        put_pairs(planes, base, others, part, values, used);
         used += end - start;
         lo = lo.saturating_sub(count);
         hi = hi.saturating_sub(count);
@@ -202,15 +169,9 @@ fn put_triples<L: Ledger>(
 }
 
 /// Puts the numbers of the draws of one to three of some rising cards at the front, from one place of the listing of these draws to
-/// another. It takes a step a draw.
+/// another.
 #[tactic(auto, using(crate::proofs::DrawLists::one_length))]
-pub(crate) fn put_draws<L: Ledger>(
-    numbers: &Numbers,
-    cards: &[Card],
-    range: Range,
-    values: &mut [u32],
-    steps: &mut Steps<L>,
-)
+pub(crate) fn put_draws(numbers: &Numbers, cards: &[Card], range: Range, values: &mut [u32])
     // The numbers are of draws of one to three cards, out of those of a deck.
     requires some { 1 ≤ numbers.now.count }
     requires few { numbers.now.count ≤ 3 }
@@ -226,15 +187,14 @@ pub(crate) fn put_draws<L: Ledger>(
         ≡ map (number_of numbers.now.rows.items numbers.now.planes.items)
         (slice_range (choose numbers.now.count cards.now) range.lo range.hi) }
     ensures room { length values.new ≡ length values.old }
-    ensures steps { steps.new ≡ steps.old + (range.hi - range.lo) }
 {
     let rows = numbers.rows.as_slice();
     let planes = numbers.planes.as_slice();
     if numbers.count == 1 {
-        put_singles(rows, cards, range, values, steps);
+        put_singles(rows, cards, range, values);
     } else if numbers.count == 2 {
-        put_twos(rows, cards, range, values, steps);
+        put_twos(rows, cards, range, values);
     } else {
-        put_triples(planes, cards, range, values, steps);
+        put_triples(planes, cards, range, values);
     }
 }

@@ -8,7 +8,9 @@
 //!
 //! 1. *A row by ranks.* Suits aside, who wins depends on the ranks of the pair alone: for the first cards' ranks a row of each pot
 //!    has, at 13 times the lower rank and the higher, who wins the high and the low. A row is filled where its ranks are met first,
-//!    and kept: at most 91 places, each of which costs a value a hand and side. Before the flop there are 455 rows.
+//!    and kept: at most 91 places, each of which costs a value a hand and side. Before the flop there are 455 rows. Where two own
+//!    cards come to three of the board, of which fewer than three are known, a value is the best of ten look-ups: what the own cards
+//!    are worth with each three ranks is worked out once a hand and side, 455 numbers, and a board has ten threes of cards.
 //! 2. *A code.* The outcomes of a row, each of all pots and sides together, are numbered: up to seven codes. Each pair of last cards
 //!    is looked up by its ranks, and adds a one to its code's field, one of nine bits, of a sum, with a step. The fields go to the counts
 //!    after 511 pairs at most. Where a row has more than seven outcomes, each pair is added to the counts themselves.
@@ -24,10 +26,10 @@
 //! thirteen boards, each worked out where its rank is met first. Cards with which somebody has five of a suit are settled hand by hand.
 //!
 //! **Draws** ([`Draws`]: games without a board whose last slot takes one to three cards, or one or two where there are two sides). What
-//! the last hand is worth with each draw stands in a table, filled once a spot. The numbers of a whole range are copied into a row,
-//! which is compared once for each pot with the best of the others. A game of two sides has a table and a row for each; a hand without
-//! a low has the number 0 there, and the high is counted by pairs of numbers, since its places tell whether somebody has a low. A draw
-//! takes its step where its high is looked up. For the lows of three cards there is no room: 380 kB more.
+//! the last hand is worth with each draw stands in a table, filled once a spot. The numbers of a whole range are copied into a row. Each
+//! of them then takes its step, and in each pot adds a one to those below the best of the others, the same, or above it; a set of winners
+//! belongs to each of the three. A game of two sides has a table and a row for each, by the same calls; a hand without a low has the number
+//! 0 there, and each draw goes to the counts of both sides at once. For the lows of three cards there is no room: 380 kB more.
 //!
 //! **One by one** ([`Plain`]: any other deal). Each hand's value on a side is computed once a runout, for all pots.
 //!
@@ -58,7 +60,6 @@ mod front;
 mod high;
 mod last;
 mod leaf;
-mod low_draws;
 mod numbers;
 mod orders;
 mod packed;
@@ -72,6 +73,7 @@ mod rivals;
 mod rivers;
 mod row;
 mod rows;
+mod side_threes;
 mod sides;
 mod sieve;
 mod sieve_leaf;
@@ -79,6 +81,10 @@ mod sieves;
 mod spot;
 mod suited;
 mod suits;
+mod ten_threes;
+mod three_ranks;
+mod threes;
+mod winners;
 mod worth;
 
 pub use all::count_runouts_of;

@@ -3,7 +3,6 @@
 ghost use Rattle.std.specs.Prelude.{◌≡◌, ℕ, ◌+◌, ◌<◌, ◌≤◌, [], List, length, slice_index, slice_index_or, IfOk, IsTrue};
 ghost use Rattle.card_sets.specs.Cards.{with_card};
 ghost use Rattle.card_sets.specs.Games.{own_size, board_size};
-ghost use Rattle.card_sets.specs.declared.games.Side.TheVariants.{Low};
 ghost use Rattle.runout_walk.specs.Worth.{AreNumbers, ArePairsFrom, full_worth, plane_base};
 
 use crate::card_list::DECK;
@@ -13,7 +12,7 @@ use showdown_tally::side_value;
 use std::alloc::Global;
 
 /// How many rows the tables of three cards have: those of two cards above each lowest card, one behind the other.
-const PLANES: usize = 1327;
+pub(crate) const PLANES: usize = 1327;
 
 /// What a hand is worth on a side with each draw of so many cards, as numbers that are greater for better.
 #[derive(Drop)]
@@ -32,8 +31,8 @@ pub(crate) struct Numbers {
     pub(crate) planes: Vec<[u32; DECK]>,
     /// There is a row a card,
     pub(crate) ghost row_places: { length rows.items ≡ 52 },
-    /// and room for all tables of three cards.
-    pub(crate) ghost plane_places: { length planes.items ≡ 1327 },
+    /// and where three are drawn room for all tables of three cards.
+    pub(crate) ghost plane_places: { 2 < count → length planes.items ≡ 1327 },
     /// They are right.
     pub(crate) ghost right: { AreNumbers count side game own rows.items planes.items },
 }
@@ -167,7 +166,7 @@ fn fill(
     count: u8,
 )
     requires rows { length rows.old ≡ 52 }
-    requires planes { length planes.old ≡ 1327 }
+    requires planes { 2 < count → length planes.old ≡ 1327 }
     requires no_board { board_size game ≡ 0 }
     requires few { count ≤ 3 }
     ensures numbers { AreNumbers count side game own rows.new planes.new }
@@ -183,12 +182,13 @@ fn fill(
 }
 
 impl Numbers {
-    /// No numbers.
-    pub(crate) fn none(alloc: Global) -> Result<Numbers, Memory>
-        ensures { IfOk result (λ numbers. numbers.count ≡ 0) }
+    /// No numbers, with so many rows for the tables of three cards: none where no more than two are drawn.
+    pub(crate) fn none(alloc: Global, tables: usize) -> Result<Numbers, Memory>
+        ensures nothing { IfOk result (λ numbers. numbers.count ≡ 0) }
+        ensures planes { IfOk result (λ numbers. length numbers.planes.items ≡ tables) }
     {
         let rows = filled(alloc, [0; DECK], DECK)?;
-        let planes = filled(alloc, [0; DECK], PLANES)?;
+        let planes = filled(alloc, [0; DECK], tables)?;
         Ok(Numbers {
             side: Side::High,
             game: Game::Stud,
@@ -201,15 +201,17 @@ impl Numbers {
 
     /// Makes them the numbers of a hand on a side, which are filled in where they aren't kept.
     pub(crate) fn serve(&mut self, side: Side, game: Game, own: CardSet, count: u8)
-        // The game has no board, and the hand draws up to three cards.
+        // The game has no board, and the hand draws up to three cards, for which there is room.
         requires no_board { board_size game ≡ 0 }
         requires few { count ≤ 3 }
+        requires room { 2 < count → length self.old.planes.items ≡ 1327 }
 
         // It is said of what they are the numbers; that they are right they keep of themselves.
         ensures side { self.new.side ≡ side }
         ensures game { self.new.game ≡ game }
         ensures own { self.new.own ≡ own }
         ensures count { self.new.count ≡ count }
+        ensures same { length self.new.planes.items ≡ length self.old.planes.items }
     {
         if self.count == count && self.side == side && self.game == game && self.own == own {
             return;
@@ -223,83 +225,25 @@ impl Numbers {
         self.own = own;
         self.count = count;
     }
-}
 
-/// What a hand is worth as a low with each draw of one or two cards.
-#[derive(Drop)]
-pub(crate) struct Lows {
-    /// The game.
-    pub(crate) game: Game,
-    /// The hand.
-    pub(crate) own: CardSet,
-    /// How many cards it draws: one or two, and 0 where there are no numbers.
-    pub(crate) count: u8,
-    /// The numbers of two cards, by the lower card and then the higher one. Those of one card alone stand in the first row.
-    pub(crate) rows: Vec<[u32; DECK]>,
-    /// There is a row a card.
-    pub(crate) ghost row_places: { length rows.items ≡ 52 },
-    /// They are right.
-    pub(crate) ghost right: { (planes : List (List ℕ))
-        → AreNumbers count Low game own rows.items planes },
-}
-
-/// Fills in what a hand is worth as a low with each draw of one or two cards.
-fn fill_lows(rows: &mut [[u32; DECK]], game: Game, own: CardSet, count: u8)
-    requires rows { length rows.old ≡ 52 }
-    requires no_board { board_size game ≡ 0 }
-    requires few { count ≤ 2 }
-    ensures numbers { (planes : List (List ℕ)) → AreNumbers count Low game own rows.new planes }
-    ensures places { length rows.new ≡ length rows.old }
-{
-    match count {
-        1 => fill_singles(rows, Side::Low, game, own),
-        2 => fill_twos(rows, Side::Low, game, own),
-        _ => {}
-    }
-}
-
-impl Lows {
-    /// No numbers.
-    pub(crate) fn none(alloc: Global) -> Result<Lows, Memory>
-        ensures { IfOk result (λ lows. lows.count ≡ 0) }
-    {
-        let rows = filled(alloc, [0; DECK], DECK)?;
-        Ok(Lows {
-            game: Game::Stud,
-            own: CardSet::empty(),
-            count: 0,
-            rows,
-        })
-    }
-
-    /// Makes them the numbers of a hand, which are filled in where they aren't kept.
-    pub(crate) fn serve(&mut self, game: Game, own: CardSet, count: u8)
-        requires no_board { board_size game ≡ 0 }
-        requires few { count ≤ 2 }
-        ensures game { self.new.game ≡ game }
-        ensures own { self.new.own ≡ own }
-        ensures count { self.new.count ≡ count }
-    {
-        if self.count == count && self.game == game && self.own == own {
-            return;
-        }
-        self.count = 0;
-        fill_lows(self.rows.as_mut_slice(), game, own, count);
-        self.game = game;
-        self.own = own;
-        self.count = count;
-    }
-
-    /// The same where they are wanted.
-    pub(crate) fn serve_where(&mut self, wanted: bool, game: Game, own: CardSet, count: u8)
+    /// The same where they are wanted, of up to two cards.
+    pub(crate) fn serve_where(
+        &mut self,
+        wanted: bool,
+        side: Side,
+        game: Game,
+        own: CardSet,
+        count: u8,
+    )
         requires no_board { board_size game ≡ 0 }
         requires few { IsTrue wanted → count ≤ 2 }
+        ensures side { IsTrue wanted → self.new.side ≡ side }
         ensures game { IsTrue wanted → self.new.game ≡ game }
         ensures own { IsTrue wanted → self.new.own ≡ own }
         ensures count { IsTrue wanted → self.new.count ≡ count }
     {
         if wanted {
-            self.serve(game, own, count);
+            self.serve(side, game, own, count);
         }
     }
 }

@@ -1,27 +1,20 @@
-//! How often each of three sets wins a pot, by how some numbers stand to another.
+//! How often each of three sets wins a pot, by how some numbers stand to another. Each number takes its step in the loop that adds it.
 
-ghost use Rattle.std.specs.Prelude.{◌≡◌, ℕ, ◌+◌, ◌<◌, ◌==◌, ◌^◌, if◌then◌else◌, length, nat_lt, slice_index};
-ghost use Rattle.std.specs.List.{count_by};
-ghost use Rattle.showdown_tally.specs.SideCounts.{low_mark};
-ghost use Rattle.runout_walk.specs.Rivals.{count_both, times_at, winner_by};
+ghost use Rattle.std.specs.Prelude.{◌≡◌, ℕ, ◌+◌, ◌*◌, ◌<◌, ◌≤◌, ◌==◌, ◌^◌, if◌then◌else◌, true, length, slice_index};
+ghost use Rattle.card_sets.specs.Games.{has_side};
+ghost use Rattle.card_sets.specs.declared.games.Side.{Side};
+ghost use Rattle.showdown_tally.specs.SideCounts.{count_at};
+ghost use Rattle.runout_walk.specs.OneMore.{set_place};
+ghost use Rattle.runout_walk.specs.Rivals.{AreStepped, AreSums, HaveRoom, count_both, is_above, is_below, is_equal, times_at, won_at, won_by};
 
-use crate::counts::{add_at, low_mark};
+use crate::counts::add_one;
+use crate::places::add_times;
+use crate::winners::Rivals;
+use card_sets::Game;
+use std::sync::ledger::Ledger;
+use step_count::Steps;
 
-/// Who wins a pot, by how the number of the last hand stands to the greatest of the others: a set of hands each, as the number with
-/// their bits.
-#[derive(Clone, Copy)]
-pub(crate) struct Rivals {
-    /// The greatest number of the others.
-    pub(crate) top: u32,
-    /// Who wins where the number of the last hand is below it.
-    pub(crate) below: u16,
-    /// Where it is the same.
-    pub(crate) equal: u16,
-    /// Where it is above.
-    pub(crate) above: u16,
-}
-
-/// How often the number of the last hand is below another, the same, and above.
+/// How often the number of the last hand is below the greatest of the others, the same, and above, in a pot.
 #[derive(Clone, Copy)]
 pub(crate) struct Orders {
     /// How often it is below.
@@ -32,59 +25,121 @@ pub(crate) struct Orders {
     pub(crate) above: u32,
 }
 
-/// Counts how some numbers stand to another.
-#[inline]
-fn compare(values: &[u32], top: u32) -> Orders
-    requires { length values.now < 2 ^ 32 }
-    ensures below { result.below ≡ count_by (λ value. nat_lt value top) values.now }
-    ensures equal { result.equal ≡ count_by (λ value. value == top) values.now }
-    ensures all { result.below + result.equal + result.above ≡ length values.now }
+/// The same in each pot.
+#[derive(Clone, Copy)]
+pub(crate) struct PotOrders {
+    /// How often it is below.
+    pub(crate) below: [u32; 10],
+    /// How often it is the same.
+    pub(crate) equal: [u32; 10],
+    /// How often it is above.
+    pub(crate) above: [u32; 10],
+}
+
+/// Adds a one for each of the first pots, by how a number stands to the greatest of the others there.
+#[inline(always)]
+fn add_orders(
+    rivals: &[Rivals],
+    pots: u8,
+    value: u32,
+    below: &mut [u32],
+    equal: &mut [u32],
+    above: &mut [u32],
+)
+    // For each pot it is known who wins, and the three sums have room for one more.
+    requires rivals { pots ≤ length rivals.now }
+    requires below { HaveRoom pots below.old }
+    requires equal { HaveRoom pots equal.old }
+    requires above { HaveRoom pots above.old }
+
+    // One of the three is greater by one, whichever the number's place is.
+    ensures below { AreStepped (is_below rivals.now value) pots below.old below.new }
+    ensures equal { AreStepped (is_equal rivals.now value) pots equal.old equal.new }
+    ensures above { AreStepped (is_above rivals.now value) pots above.old above.new }
 {
-    let mut below = 0u32;
-    let mut equal = 0u32;
-    for value in values {
-        below += u32::from(*value < top);
-        equal += u32::from(*value == top);
+    for pot in 0..pots {
+        let at = usize::from(pot);
+        let sets = &rivals[at];
+        let top = sets.top;
+        let place = u16::from(pot);
+        let under = u32::from(value < top);
+        let same = u32::from(value == top);
+        let over = u32::from(top < value);
+        add_times(below, place, under);
+        add_times(equal, place, same);
+        add_times(above, place, over);
     }
-    let above = values.len() as u32 - below - equal;
-    Orders {
+}
+
+/// Counts how some numbers stand to the greatest of the others in each of the first pots. It takes a step a number, where that is added.
+#[inline(always)]
+fn compare<L: Ledger>(
+    rivals: &[Rivals],
+    pots: u8,
+    values: &[u32],
+    steps: &mut Steps<L>,
+) -> PotOrders
+    // There are up to ten pots, for each of which it is known who wins.
+    requires pots { pots ≤ 10 }
+    requires rivals { pots ≤ length rivals.now }
+    requires few { length values.now < 2 ^ 32 }
+
+    // In each pot each number adds one to one of the three.
+    ensures below { AreSums (is_below rivals.now) pots values.now result.below }
+    ensures equal { AreSums (is_equal rivals.now) pots values.now result.equal }
+    ensures above { AreSums (is_above rivals.now) pots values.now result.above }
+    ensures steps { steps.new ≡ steps.old + length values.now }
+{
+    let mut below = [0u32; 10];
+    let mut equal = [0u32; 10];
+    let mut above = [0u32; 10];
+    for value in values {
+        steps.tick();
+        add_orders(rivals, pots, *value, &mut below, &mut equal, &mut above);
+    }
+    PotOrders {
         below,
         equal,
         above,
     }
 }
 
-/// How often the last hand is below, the same and above, where its numbers are these. Where the same set wins in any case, all count as
-/// below.
-#[inline]
-fn orders_of(rivals: &Rivals, values: &[u32]) -> Orders
-    requires { length values.now < 2 ^ 32 }
-    ensures times { (set : ℕ)
-        → times_at rivals.now.below result.below set + times_at rivals.now.equal result.equal set
-        + times_at rivals.now.above result.above set
-        ≡ count_by
-        (λ value. winner_by rivals.now.top rivals.now.below rivals.now.equal rivals.now.above value
-        == set) values.now }
-    ensures all { result.below + result.equal + result.above ≡ length values.now }
+/// The same. One, two and three pots have a loop each, and more have one of ten, so that the compiler knows how many there are, keeps their
+/// sums at hand and takes several numbers at once.
+pub(crate) fn compare_pots<L: Ledger>(
+    rivals: &[Rivals],
+    pots: u8,
+    values: &[u32],
+    steps: &mut Steps<L>,
+) -> PotOrders
+    // There are up to ten pots, for each of which it is known who wins.
+    requires pots { pots ≤ 10 }
+    requires rivals { length rivals.now ≡ 10 }
+    requires few { length values.now < 2 ^ 32 }
+
+    // In each pot each number adds one to one of the three.
+    ensures below { AreSums (is_below rivals.now) pots values.now result.below }
+    ensures equal { AreSums (is_equal rivals.now) pots values.now result.equal }
+    ensures above { AreSums (is_above rivals.now) pots values.now result.above }
+    ensures steps { steps.new ≡ steps.old + length values.now }
 {
-    if rivals.below == rivals.equal && rivals.equal == rivals.above {
-        return Orders {
-            below: values.len() as u32,
-            equal: 0,
-            above: 0,
-        };
+    if pots == 1 {
+        return compare(rivals, 1, values, steps);
     }
-    compare(values, rivals.top)
+    if pots == 2 {
+        return compare(rivals, 2, values, steps);
+    }
+    if pots == 3 {
+        return compare(rivals, 3, values, steps);
+    }
+    compare(rivals, 10, values, steps)
 }
 
 /// Adds how often each set wins.
 #[inline]
-fn add_orders(row: &mut [u32], rivals: &Rivals, orders: Orders)
+pub(crate) fn put_orders(row: &mut [u32], rivals: &Rivals, orders: Orders)
     // The row has a place for each set of up to ten hands, with a low and without one.
     requires places { length row.old ≡ 2048 }
-    requires below { rivals.now.below < 2048 }
-    requires equal { rivals.now.equal < 2048 }
-    requires above { rivals.now.above < 2048 }
 
     // Each count has room for all of them, since the three sets may be the same.
     requires fits { (set : ℕ) → set < 2048
@@ -101,34 +156,10 @@ fn add_orders(row: &mut [u32], rivals: &Rivals, orders: Orders)
     row[usize::from(rivals.above)] += orders.above;
 }
 
-/// Counts who wins a pot where the last hand has each of some numbers.
-pub(crate) fn count_values(row: &mut [u32], rivals: &Rivals, values: &[u32])
-    // The row has a place for each set of up to ten hands, with a low and without one.
-    requires places { length row.old ≡ 2048 }
-    requires below { rivals.now.below < 2048 }
-    requires equal { rivals.now.equal < 2048 }
-    requires above { rivals.now.above < 2048 }
-
-    // Each count has room for all of the numbers, with which the same set may win.
-    requires few { length values.now < 2 ^ 32 }
-    requires fits { (set : ℕ) → set < 2048 → slice_index row.old set + length values.now < 2 ^ 32 }
-
-    // Each number adds one to the set that wins with it.
-    ensures counts { (set : ℕ) → slice_index row.new set ≡ slice_index row.old set
-        + count_by
-        (λ value. winner_by rivals.now.top rivals.now.below rivals.now.equal rivals.now.above value
-        == set) values.now }
-    ensures places { length row.new ≡ length row.old }
-{
-    let orders = orders_of(rivals, values);
-    add_orders(row, rivals, orders);
-}
-
 /// The set that wins with a number.
 #[inline]
 fn winner(rivals: &Rivals, value: u32) -> u16
-    ensures { result
-        ≡ winner_by rivals.now.top rivals.now.below rivals.now.equal rivals.now.above value }
+    ensures { result ≡ won_by rivals.now value }
 {
     if value < rivals.top {
         rivals.below
@@ -139,39 +170,89 @@ fn winner(rivals: &Rivals, value: u32) -> u16
     }
 }
 
-/// Counts who wins the high of a pot where the last hand has each of some numbers on the high side and on the low side: 1,024 places
-/// further where somebody has a low.
-pub(crate) fn count_marked(
-    row: &mut [u32],
-    high: &Rivals,
-    low: &Rivals,
-    values: &[u32],
-    lows: &[u32],
+/// Counts who wins each of the first pots where the last hand has a number as a high and another as a low: on each side one more.
+#[inline(always)]
+fn add_draw(
+    game: Game,
+    highs: &[Rivals],
+    lows: &[Rivals],
+    pots: u8,
+    value: u32,
+    low_value: u32,
+    counts: &mut [[u32; 2048]],
 )
-    // The row has a place for each set of up to ten hands, and 1,024 further one with a low.
-    requires places { length row.old ≡ 2048 }
-    requires below { high.now.below < 1024 }
-    requires equal { high.now.equal < 1024 }
-    requires above { high.now.above < 1024 }
+    // For each pot it is known who wins both sides: sets of up to ten hands.
+    requires highs { pots ≤ length highs.now }
+    requires lows { pots ≤ length lows.now }
+    requires few_highs { (pot value : ℕ) → pot < pots → won_at highs.now pot value < 1024 }
+    requires few_lows { (pot value : ℕ) → pot < pots → won_at lows.now pot value < 1024 }
 
-    // Each number has one on the low side, and each count has room for all of them.
-    requires same { length lows.now ≡ length values.now }
-    requires fits { (set : ℕ) → set < 2048 → slice_index row.old set + length values.now < 2 ^ 32 }
+    // Each pot has its two rows, and each of their counts has room for one more.
+    requires places { 2 * pots ≤ length counts.old }
+    requires fits { (pot place : ℕ) (side : Side) → pot < pots → has_side side game ≡ true
+        → place < 2048 → count_at counts.old pot side place + 1 < 2 ^ 32 }
 
-    // Each number adds one to the set that wins the high with it, at the place that its low says.
-    ensures counts { (set : ℕ) → slice_index row.new set ≡ slice_index row.old set
+    // On each side of each pot the count of those who win it is greater by one.
+    ensures counts { (pot place : ℕ) (side : Side) → pot < pots → has_side side game ≡ true
+        → count_at counts.new pot side place ≡ count_at counts.old pot side place
+        + (if set_place side (won_at highs.now pot value) (won_at lows.now pot low_value) == place
+        then 1 else 0) }
+    ensures same { length counts.new ≡ length counts.old }
+{
+    for pot in 0..pots {
+        let at = usize::from(pot);
+        let high = winner(&highs[at], value);
+        let low = winner(&lows[at], low_value);
+        add_one(counts, game, pot, high, low);
+    }
+}
+
+/// Counts who wins both sides of each of the first pots where the last hand has each of some numbers as a high and as a low. It takes a
+/// step for each two numbers, where they are added.
+#[inline(always)]
+pub(crate) fn count_draws<L: Ledger>(
+    game: Game,
+    highs: &[Rivals],
+    lows: &[Rivals],
+    pots: u8,
+    values: &[u32],
+    low_values: &[u32],
+    counts: &mut [[u32; 2048]],
+    steps: &mut Steps<L>,
+)
+    // For each pot it is known who wins both sides: sets of up to ten hands.
+    requires highs { pots ≤ length highs.now }
+    requires lows { pots ≤ length lows.now }
+    requires few_highs { (pot value : ℕ) → pot < pots → won_at highs.now pot value < 1024 }
+    requires few_lows { (pot value : ℕ) → pot < pots → won_at lows.now pot value < 1024 }
+
+    // Each number as a high has one as a low.
+    requires each { length low_values.now ≡ length values.now }
+
+    // Each pot has its two rows, and each of their counts has room for all of the numbers.
+    requires places { 2 * pots ≤ length counts.old }
+    requires fits { (pot place : ℕ) (side : Side) → pot < pots → has_side side game ≡ true
+        → place < 2048 → count_at counts.old pot side place + length values.now < 2 ^ 32 }
+
+    // On each side of each pot each two numbers add one to the count of those who win it with them.
+    ensures counts { (pot place : ℕ) (side : Side) → pot < pots → has_side side game ≡ true
+        → count_at counts.new pot side place ≡ count_at counts.old pot side place
         + count_both
-        (λ value low_value. winner_by high.now.top high.now.below high.now.equal high.now.above
-        value
-        + low_mark
-        (winner_by low.now.top low.now.below low.now.equal low.now.above low_value) == set)
-        values.now lows.now }
-    ensures places { length row.new ≡ length row.old }
+        (λ value low. set_place side (won_at highs.now pot value) (won_at lows.now pot low)
+        == place) values.now low_values.now }
+    ensures same { length counts.new ≡ length counts.old }
+    ensures steps { steps.new ≡ steps.old + length values.now }
 {
     for place in 0..values.len() {
-        let set = winner(high, values[place]);
-        let low_set = winner(low, lows[place]);
-        let mark = low_mark(low_set);
-        add_at(row, set + mark);
+        steps.tick();
+        add_draw(
+            game,
+            highs,
+            lows,
+            pots,
+            values[place],
+            low_values[place],
+            counts,
+        );
     }
 }

@@ -1,18 +1,24 @@
 //! Who wins a pot, by the best of all hands but one and by the number of that one.
 
-ghost use Rattle.std.specs.Prelude.{◌≡◌, ℕ, ◌+◌, ◌*◌, ◌<◌, ◌≤◌, ◌==◌, ◌^◌, [], if◌then◌else◌, length, slice_index, slice_index_or};
+ghost use Rattle.std.specs.Prelude.{◌≡◌, ℕ, ◌+◌, ◌*◌, ◌<◌, ◌≤◌, ◌==◌, ◌^◌, [], if◌then◌else◌, true, length, slice_index, slice_index_or};
 ghost use Rattle.std.specs.List.{count_by};
+ghost use Rattle.card_sets.specs.Games.{has_side};
 ghost use Rattle.card_sets.specs.PlayerSets.{has_player, hands_below};
+ghost use Rattle.card_sets.specs.declared.games.Side.{Side};
 ghost use Rattle.showdown_tally.specs.Deals.{deal_of};
 ghost use Rattle.showdown_tally.specs.Showdown.{eligible_in};
-ghost use Rattle.showdown_tally.specs.SideCounts.{low_mark};
+ghost use Rattle.showdown_tally.specs.SideCounts.{count_at};
 ghost use Rattle.runout_walk.specs.Bests.{best_set, best_value, some_set};
-ghost use Rattle.runout_walk.specs.Rivals.{count_both, value_with, winner_by};
+ghost use Rattle.runout_walk.specs.OneMore.{set_place};
+ghost use Rattle.runout_walk.specs.Rivals.{count_both, value_with, won_at, won_by, won_set};
 
 use crate::bests::{Best, best_of, ten_places};
-use crate::orders::{Rivals, count_marked, count_values};
+use crate::orders::{Orders, compare_pots, count_draws, put_orders};
+use crate::winners::Rivals;
 use card_sets::PlayerSet;
 use showdown_tally::Table;
+use std::sync::ledger::Ledger;
+use step_count::Steps;
 
 /// The three sets that win a pot, where the best of the others is known and the last hand is eligible, or isn't.
 #[inline]
@@ -27,11 +33,6 @@ fn sets_of(best: Best, last: u8, plays: bool) -> Rivals
     ensures below { result.below ≡ best.set }
     ensures equal { result.equal ≡ best.set + (if plays then 2 ^ last else 0) }
     ensures above { result.above ≡ (if plays then 2 ^ last else best.set) }
-
-    // Each of the sets is a place of a row.
-    ensures below_small { result.below < 2048 }
-    ensures equal_small { result.equal < 2048 }
-    ensures above_small { result.above < 2048 }
 {
     let bit = 1u16 << last;
     if plays {
@@ -51,37 +52,92 @@ fn sets_of(best: Best, last: u8, plays: bool) -> Rivals
     }
 }
 
-/// Who wins a pot, by the number of the last hand.
+/// The same where a hand has to qualify, and 0 is the number of one that doesn't: nobody where all have it.
 #[inline]
-fn rivals_of(table: &Table, pot: u8, last: u8, values: &[u32; 10]) -> Rivals
+fn low_sets_of(best: Best, last: u8, plays: bool) -> Rivals
+    // The last hand is one of ten, and so are the best of the others.
+    requires last { last < 10 }
+    requires room { 2 ^ last ≤ 512 }
+    requires small { best.set < 1024 }
+
+    // As of a high, but that nobody wins with the number 0.
+    ensures top { result.top ≡ best.top }
+    ensures below { result.below ≡ (if best.top == 0 then 0 else best.set) }
+    ensures equal { result.equal
+        ≡ (if best.top == 0 then 0 else best.set + (if plays then 2 ^ last else 0)) }
+    ensures above { result.above
+        ≡ (if plays then 2 ^ last else (if best.top == 0 then 0 else best.set)) }
+{
+    let sets = sets_of(best, last, plays);
+    if best.top == 0 {
+        return Rivals {
+            top: 0,
+            below: 0,
+            equal: 0,
+            above: if plays { sets.above } else { 0 },
+        };
+    }
+    sets
+}
+
+/// Who wins a pot, by the number of the last hand, where hands have to qualify or needn't.
+#[inline]
+fn rivals_of(table: &Table, pot: u8, last: u8, values: &[u32; 10], qualify: bool) -> Rivals
     // The pot and the hand are of the table.
     requires inside { pot < table.now.pots }
     requires last { last < table.now.known.count }
 
-    // Whatever the number of the last hand is, the set that it picks of the three is that of the best.
+    // Whatever the number of the last hand is, the set that it picks of the three is that of those who win with it.
     ensures winner { (value : ℕ)
-        → winner_by result.top result.below result.equal result.above value
-        ≡ best_set (value_with values.now last value) (eligible_in (deal_of table.now) pot) }
+        → won_by result value
+        ≡ won_set qualify (value_with values.now last value)
+        (eligible_in (deal_of table.now) pot) }
 
-    // Each of them is a set of up to ten hands.
-    ensures below { result.below < 1024 }
-    ensures equal { result.equal < 1024 }
-    ensures above { result.above < 1024 }
+    // That is a set of up to ten hands.
+    ensures small { (value : ℕ) → won_by result value < 1024 }
 {
     ten_places(table);
     let hands = PlayerSet::of(table.eligible[pot as usize]);
     let best = best_of(values, hands.without(last), table.known.count);
-    sets_of(best, last, hands.has(last))
+    let plays = hands.has(last);
+    if qualify {
+        return low_sets_of(best, last, plays);
+    }
+    sets_of(best, last, plays)
 }
 
-/// Counts who wins each pot where the last hand has each of some numbers and the others have theirs, in the row of a side.
-pub(crate) fn count_pots(
+/// The same of each pot.
+fn pot_rivals(table: &Table, last: u8, values: &[u32; 10], qualify: bool) -> [Rivals; 10]
+    // The hand is of the table.
+    requires { last < table.now.known.count }
+
+    // In each pot the number of the last hand picks the set of those who win with it, which is one of up to ten hands.
+    ensures winners { (pot value : ℕ) → pot < table.now.pots
+        → won_at result pot value
+        ≡ won_set qualify (value_with values.now last value)
+        (eligible_in (deal_of table.now) pot) }
+    ensures small { (pot value : ℕ) → pot < table.now.pots → won_at result pot value < 1024 }
+    ensures ten { length result ≡ 10 }
+{
+    ten_places(table);
+    let none = Rivals::none();
+    let mut all = [none; 10];
+    for pot in 0..table.pots {
+        all[usize::from(pot)] = rivals_of(table, pot, last, values, qualify);
+    }
+    all
+}
+
+/// Counts who wins each pot where the last hand has each of some numbers and the others have theirs, in the row of a side. It takes a
+/// step a number, where that is added.
+pub(crate) fn count_pots<L: Ledger>(
     table: &Table,
     row: usize,
     last: u8,
     numbers: &[u32; 10],
     values: &[u32],
     counts: &mut [[u32; 2048]],
+    steps: &mut Steps<L>,
 )
     // The high's row of each pot or the low's, and a hand of the table.
     requires row { row < 2 }
@@ -102,108 +158,24 @@ pub(crate) fn count_pots(
         (λ value. best_set (value_with numbers.now last value)
         (eligible_in (deal_of table.now) pot) == set) values.now }
     ensures places { length counts.new ≡ length counts.old }
+    ensures steps { steps.new ≡ steps.old + length values.now }
 {
+    let rivals = pot_rivals(table, last, numbers, false);
+    let all = compare_pots(&rivals, table.pots, values, steps);
     for pot in 0..table.pots {
-        let rivals = rivals_of(table, pot, last, numbers);
-        count_values(&mut counts[2 * (pot as usize) + row], &rivals, values);
-    }
-}
-
-/// The three sets that win the low of a pot, where 0 is the number of a hand without one: nobody where all have it.
-#[inline]
-fn low_sets_of(best: Best, last: u8, plays: bool) -> Rivals
-    // The last hand is one of ten, and so are the best of the others.
-    requires last { last < 10 }
-    requires room { 2 ^ last ≤ 512 }
-    requires small { best.set < 1024 }
-
-    // As of a high, but that nobody wins with the number 0.
-    ensures top { result.top ≡ best.top }
-    ensures below { result.below ≡ (if best.top == 0 then 0 else best.set) }
-    ensures equal { result.equal
-        ≡ (if best.top == 0 then 0 else best.set + (if plays then 2 ^ last else 0)) }
-    ensures above { result.above
-        ≡ (if plays then 2 ^ last else (if best.top == 0 then 0 else best.set)) }
-
-    // Each of the sets is a place of a row.
-    ensures below_small { result.below < 2048 }
-    ensures equal_small { result.equal < 2048 }
-    ensures above_small { result.above < 2048 }
-{
-    let sets = sets_of(best, last, plays);
-    if best.top == 0 {
-        return Rivals {
-            top: 0,
-            below: 0,
-            equal: 0,
-            above: if plays { sets.above } else { 0 },
+        let at = usize::from(pot);
+        let orders = Orders {
+            below: all.below[at],
+            equal: all.equal[at],
+            above: all.above[at],
         };
-    }
-    sets
-}
-
-/// Who wins the low of a pot, by the number of the last hand.
-#[inline]
-fn low_rivals_of(table: &Table, pot: u8, last: u8, values: &[u32; 10]) -> Rivals
-    // The pot and the hand are of the table.
-    requires inside { pot < table.now.pots }
-    requires last { last < table.now.known.count }
-
-    // Whatever the number of the last hand is, the set that it picks is that of the best low, or of nobody.
-    ensures winner { (value : ℕ)
-        → winner_by result.top result.below result.equal result.above value
-        ≡ some_set (value_with values.now last value) (eligible_in (deal_of table.now) pot) }
-
-    // Each of the sets is a place of a row.
-    ensures below { result.below < 2048 }
-    ensures equal { result.equal < 2048 }
-    ensures above { result.above < 2048 }
-{
-    ten_places(table);
-    let hands = PlayerSet::of(table.eligible[pot as usize]);
-    let best = best_of(values, hands.without(last), table.known.count);
-    low_sets_of(best, last, hands.has(last))
-}
-
-/// Counts who wins the low of each pot where the last hand has each of some numbers and the others have theirs.
-pub(crate) fn count_lows(
-    table: &Table,
-    last: u8,
-    numbers: &[u32; 10],
-    values: &[u32],
-    counts: &mut [[u32; 2048]],
-)
-    // The last hand is of the table, and each pot has its two rows, of which each low's count has room for all numbers.
-    requires last { last < table.now.known.count }
-    requires few { length values.now < 2 ^ 32 }
-    requires places { 2 * table.now.pots ≤ length counts.old }
-    requires fits { (pot set : ℕ) → pot < table.now.pots → set < 2048
-        → slice_index (slice_index_or counts.old (2 * pot + 1) []) set + length values.now
-        < 2 ^ 32 }
-
-    // For each pot each number adds one to the set of those who have the best low with it, or to nobody's.
-    ensures counts { (pot set : ℕ) → pot < table.now.pots → set < 2048
-        → slice_index (slice_index_or counts.new (2 * pot + 1) []) set
-        ≡ slice_index (slice_index_or counts.old (2 * pot + 1) []) set
-        + count_by
-        (λ value. some_set (value_with numbers.now last value)
-        (eligible_in (deal_of table.now) pot) == set) values.now }
-
-    // The high's rows don't change.
-    ensures highs { (pot set : ℕ)
-        → slice_index (slice_index_or counts.new (2 * pot) []) set
-        ≡ slice_index (slice_index_or counts.old (2 * pot) []) set }
-    ensures places { length counts.new ≡ length counts.old }
-{
-    for pot in 0..table.pots {
-        let rivals = low_rivals_of(table, pot, last, numbers);
-        count_values(&mut counts[2 * (pot as usize) + 1], &rivals, values);
+        put_orders(&mut counts[2 * at + row], &rivals[at], orders);
     }
 }
 
-/// Counts who wins the high of each pot where the last hand has each of some numbers on both sides and the others have theirs: 1,024
-/// places further where somebody has a low.
-pub(crate) fn count_highs(
+/// Counts who wins both sides of each pot where the last hand has each of some numbers as a high and as a low, and the others have theirs.
+/// It takes a step for each two numbers, where they are added.
+pub(crate) fn count_sides<L: Ledger>(
     table: &Table,
     last: u8,
     highs: &[u32; 10],
@@ -211,42 +183,40 @@ pub(crate) fn count_highs(
     values: &[u32],
     low_values: &[u32],
     counts: &mut [[u32; 2048]],
+    steps: &mut Steps<L>,
 )
-    // The last hand is of the table, and each of its numbers has one on the low side.
+    // The last hand is of the table, and each of its numbers as a high has one as a low.
     requires last { last < table.now.known.count }
-    requires same { length low_values.now ≡ length values.now }
+    requires each { length low_values.now ≡ length values.now }
 
-    // Each pot has its two rows, of which each high's count has room for all numbers.
+    // Each pot has its two rows, and each of their counts has room for all of the numbers.
     requires places { 2 * table.now.pots ≤ length counts.old }
-    requires fits { (pot set : ℕ) → pot < table.now.pots → set < 2048
-        → slice_index (slice_index_or counts.old (2 * pot) []) set + length values.now < 2 ^ 32 }
+    requires fits { (pot place : ℕ) (side : Side) → pot < table.now.pots
+        → has_side side table.now.known.game ≡ true → place < 2048
+        → count_at counts.old pot side place + length values.now < 2 ^ 32 }
 
-    // For each pot each number adds one to the set of those who have the best high with it, where its low says.
-    ensures counts { (pot set : ℕ) → pot < table.now.pots → set < 2048
-        → slice_index (slice_index_or counts.new (2 * pot) []) set
-        ≡ slice_index (slice_index_or counts.old (2 * pot) []) set
+    // On each side of each pot each two numbers add one to the count of those who win it with them: of the low nobody, where nobody has one.
+    ensures counts { (pot place : ℕ) (side : Side) → pot < table.now.pots
+        → has_side side table.now.known.game ≡ true
+        → count_at counts.new pot side place ≡ count_at counts.old pot side place
         + count_both
-        (λ value low. best_set (value_with highs.now last value)
-        (eligible_in (deal_of table.now) pot)
-        + low_mark
-        (some_set (value_with lows.now last low) (eligible_in (deal_of table.now) pot)) == set)
-        values.now low_values.now }
-
-    // The low's rows don't change.
-    ensures lows { (pot set : ℕ)
-        → slice_index (slice_index_or counts.new (2 * pot + 1) []) set
-        ≡ slice_index (slice_index_or counts.old (2 * pot + 1) []) set }
-    ensures places { length counts.new ≡ length counts.old }
+        (λ value low. set_place side
+        (best_set (value_with highs.now last value) (eligible_in (deal_of table.now) pot))
+        (some_set (value_with lows.now last low) (eligible_in (deal_of table.now) pot))
+        == place) values.now low_values.now }
+    ensures same { length counts.new ≡ length counts.old }
+    ensures steps { steps.new ≡ steps.old + length values.now }
 {
-    for pot in 0..table.pots {
-        let high = rivals_of(table, pot, last, highs);
-        let low = low_rivals_of(table, pot, last, lows);
-        count_marked(
-            &mut counts[2 * (pot as usize)],
-            &high,
-            &low,
-            values,
-            low_values,
+    let game = table.known.game;
+    let high_sets = pot_rivals(table, last, highs, false);
+    let low_sets = pot_rivals(table, last, lows, true);
+    if table.pots == 1 {
+        count_draws(
+            game, &high_sets, &low_sets, 1, values, low_values, counts, steps,
         );
+        return;
     }
+    count_draws(
+        game, &high_sets, &low_sets, table.pots, values, low_values, counts, steps,
+    );
 }

@@ -12,6 +12,7 @@ ghost use Rattle.runout_walk.specs.SideRows.{AreRanksOf};
 
 use crate::fill::fill_rows;
 use crate::row::Row;
+use crate::threes::Threes;
 use card_sets::{CardSet, Memory};
 use showdown_tally::Table;
 use std::alloc::Global;
@@ -34,6 +35,8 @@ pub(crate) struct Rows {
     bases: [u8; GROUPS],
     /// The rows.
     pub(crate) rows: Vec<Row>,
+    /// What the hands are worth with each three ranks of the board, where rows are filled by them.
+    threes: Threes,
     /// There is room for so many.
     pub(crate) ghost room: { 192 ≤ vec_capacity rows },
 }
@@ -62,9 +65,11 @@ impl Rows {
         ensures { IfOk result (λ rows. (deal : Showdown) → AreRows deal rows.rows.items) }
     {
         let rows = Vec::with_capacity(alloc, ROWS)?;
+        let threes = Threes::none(alloc)?;
         Ok(Rows {
             bases: [NOWHERE; GROUPS],
             rows,
+            threes,
         })
     }
 
@@ -244,8 +249,9 @@ impl Rows {
         ensures right { AreRows (deal_of table.now) self.new.rows.items }
     {
         let base = self.place_for(group, table.pots);
+        self.threes.serve(&table.known);
         let rows = self.rows.as_mut_slice();
-        fill_rows(rows, base, table, taken, ranks, least);
+        fill_rows(rows, base, table, &self.threes, taken, ranks, least);
         base
     }
 

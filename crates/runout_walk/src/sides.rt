@@ -15,6 +15,7 @@ ghost use Rattle.runout_walk.specs.SideRows.{IsBestOf};
 use crate::bests::pot_best;
 use crate::counts::low_mark;
 use crate::plain::winners_on;
+use crate::threes::Threes;
 use crate::worth::worth_with;
 use card_sets::{CardSet, Known, Side};
 use showdown_tally::Table;
@@ -40,7 +41,13 @@ pub(crate) struct Ends {
 }
 
 /// What each hand is worth with first cards of the board and one card of each of two ranks more, as a high if there were no flushes.
-pub(crate) fn worths_with(known: &Known, taken: CardSet, low: u8, high: u8) -> Worths
+pub(crate) fn worths_with(
+    threes: &Threes,
+    known: &Known,
+    taken: CardSet,
+    low: u8,
+    high: u8,
+) -> Worths
     // The game has a board, which lacks two cards behind the first ones, and each hand has all its own cards.
     requires dealt { IsTrue (has_board known.now.game) }
     requires first { AreFirst (state_of known.now) taken }
@@ -71,7 +78,7 @@ pub(crate) fn worths_with(known: &Known, taken: CardSet, low: u8, high: u8) -> W
     let hands = &known.hands[..known.count as usize];
     for (hand, own) in hands.iter().enumerate() {
         own.rising();
-        let worth = worth_with(known.game, *own, board, low, high);
+        let worth = worth_with(threes, hand, known.game, *own, board, low, high);
         highs[hand] = worth.high;
         lows[hand] = worth.low;
     }

@@ -6,9 +6,8 @@ ghost use Rattle.card_sets.specs.Games.{has_board, own_size};
 ghost use Rattle.runout_walk.specs.BoardWith.{AreWorthWith};
 
 use crate::board::board_with;
-use crate::high::plain_value;
-use card_sets::{CardSet, Game, Side};
-use showdown_tally::side_value;
+use crate::threes::Threes;
+use card_sets::{CardSet, Game};
 
 /// What own cards are worth on both sides, each as a number that is greater for better.
 #[derive(Clone, Copy)]
@@ -19,9 +18,17 @@ pub(crate) struct Worth {
     pub(crate) low: Option<u32>,
 }
 
-/// What full own cards are worth with three cards of the board and one card of each of two ranks more, whichever cards these are: as a
-/// high, if there were no flushes, and as a low. Where there are no such cards the answer says nothing.
-pub(crate) fn worth_with(game: Game, own: CardSet, board: CardSet, low: u8, high: u8) -> Worth
+/// What full own cards of a hand are worth with three cards of the board and one card of each of two ranks more, whichever cards these
+/// are: as a high, if there were no flushes, and as a low. Where there are no such cards the answer says nothing.
+pub(crate) fn worth_with(
+    threes: &Threes,
+    hand: usize,
+    game: Game,
+    own: CardSet,
+    board: CardSet,
+    low: u8,
+    high: u8,
+) -> Worth
     // The game has a board, and these are all own cards of a hand.
     requires game { IsTrue (has_board game) }
     requires own { length own ≡ own_size game }
@@ -43,7 +50,7 @@ pub(crate) fn worth_with(game: Game, own: CardSet, board: CardSet, low: u8, high
         return Worth { high: 0, low: None };
     };
     Worth {
-        high: plain_value(game, own, full),
-        low: side_value(Side::Low, game, own, full),
+        high: threes.plain_value(hand, game, own, full),
+        low: threes.low_value(hand, game, own, full),
     }
 }

@@ -10,8 +10,8 @@ use Rattle.runout_ranges.specs.Slots.{slots, unseen, slot_of, counts_of}
 use Rattle.runout_ranges.specs.declared.shapes.Slot.{Slot}
 use Rattle.runout_ranges.proofs.CallerLemmas.{left_length, choose_has, rising_left}
 use Rattle.showdown_tally.proofs.CallerLemmas.{Deals, runout_deals}
-use Rattle.equity_job.specs.Jobs.{IsDeckShort}
-use Rattle.equity_job.specs.declared.limits.TheConstants.{RUNOUT_MAX}
+use Rattle.runout_ranges.specs.Jobs.{IsDeckShort}
+use Rattle.runout_ranges.specs.declared.limits.TheConstants.{RUNOUT_MAX}
 use Rattle.showdown_tally.specs.Tallies.{runouts_after}
 use Rattle.std.proofs.Math.Nat.{le-mul_of_pos_right, mul_comm}
 use Rattle.street_walk.specs.Streets.{gets, next_of, next_slots, choices_of, after, divisions}

@@ -11,7 +11,7 @@ use Rattle.showdown_tally.specs.Cells.{Sums, IsSum, CellFits, cell_plus, cell_at
 use Rattle.showdown_tally.specs.CountLaws.{units_small}
 use Rattle.showdown_tally.specs.Showdown.{Showdown, wins, ties, loses, units}
 use Rattle.showdown_tally.specs.Tallies.{Counts, runouts_after}
-use Rattle.equity_job.specs.declared.limits.TheConstants.{RUNOUT_MAX}
+use Rattle.runout_ranges.specs.declared.limits.TheConstants.{RUNOUT_MAX}
 use Rattle.street_walk.specs.Streets.{choices_of, after, divisions}
 use Rattle.street_walk.specs.StreetSums.{deal_after, full_runouts, full_cell, full_units, IsStreetLaw, IsSumOver, IsDivided, AreTooMany}
 

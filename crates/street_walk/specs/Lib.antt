@@ -7,6 +7,6 @@ pub use Rattle.showdown_tally.specs.Deals
 pub use Rattle.showdown_tally.specs.Tallies
 pub use Rattle.showdown_tally.specs.Cells
 pub use Rattle.showdown_tally.specs.Showdown
-pub use Rattle.equity_job.specs.Jobs
+pub use Rattle.runout_ranges.specs.Jobs
 pub mod Streets
 pub mod StreetSums

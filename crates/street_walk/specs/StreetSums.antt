@@ -4,7 +4,7 @@ use Rattle.std.specs.List.{sum_by}
 use Rattle.card_sets.specs.Cards.{IsCardSet}
 use Rattle.card_sets.specs.State.{State}
 use Rattle.card_sets.specs.declared.games.Side.{Side}
-use Rattle.equity_job.specs.declared.limits.TheConstants.{RUNOUT_MAX}
+use Rattle.runout_ranges.specs.declared.limits.TheConstants.{RUNOUT_MAX}
 use Rattle.showdown_tally.specs.Cells.{Sums, cell_at, units_at}
 use Rattle.showdown_tally.specs.Showdown.{Showdown}
 use Rattle.showdown_tally.specs.Tallies.{cell_over, units_over, runouts_after}

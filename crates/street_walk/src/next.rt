@@ -4,7 +4,7 @@ ghost use Rattle.std.specs.Prelude.{◌≡◌, ◌≤◌, ◌<◌, ◌^◌, ◌�
 ghost use Rattle.card_sets.specs.Games.{family_of};
 ghost use Rattle.card_sets.specs.State.{state_of};
 ghost use Rattle.runout_ranges.specs.Slots.{counts_of};
-ghost use Rattle.equity_job.specs.Jobs.{IsDeckShort};
+ghost use Rattle.runout_ranges.specs.Jobs.{IsDeckShort};
 ghost use Rattle.street_walk.specs.Streets.{IsNextOf, IsLastStreet, board_gets, hand_gets, gets, next_of, divided_of, divisions};
 
 use card_sets::{Family, Game, Known};

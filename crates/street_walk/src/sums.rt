@@ -7,7 +7,7 @@ ghost use Rattle.runout_ranges.specs.Runouts.{HasMember};
 ghost use Rattle.runout_ranges.specs.Shapes.{IsShapeOf, runouts_of};
 ghost use Rattle.showdown_tally.specs.Deals.{deal_of};
 ghost use Rattle.showdown_tally.specs.Tallies.{Counts, runouts_after};
-ghost use Rattle.equity_job.specs.Jobs.{IsDeckShort};
+ghost use Rattle.runout_ranges.specs.Jobs.{IsDeckShort};
 ghost use Rattle.street_walk.specs.Streets.{IsNextOf, IsLastStreet, after};
 ghost use Rattle.street_walk.specs.StreetSums.{deal_after, IsStreetSum, IsDivided, AreTooMany};
 

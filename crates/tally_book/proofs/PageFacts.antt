@@ -8,7 +8,7 @@ use Rattle.showdown_tally.specs.Cells.{Sums, cell_at, units_at, cell_plus, CellF
 use Rattle.showdown_tally.specs.Showdown.{Showdown, wins, ties, loses, units}
 use Rattle.showdown_tally.specs.Tallies.{Counts, runouts_after}
 use Rattle.equity_job.specs.Blocks.{block_of, blocks_of}
-use Rattle.equity_job.specs.declared.limits.TheConstants.{RUNOUT_MAX}
+use Rattle.runout_ranges.specs.declared.limits.TheConstants.{RUNOUT_MAX}
 use Rattle.equity_job.proofs.CallerLemmas.{cells_fit, units_fit}
 use Rattle.tally_book.specs.Pages.{marked_of, marked_from, IsPage}
 use Rattle.tally_book.proofs.MarkedBlocks.{all_blocks, ones, marked_more, marked_few, none_marked, all_marked, count_none, count_all}

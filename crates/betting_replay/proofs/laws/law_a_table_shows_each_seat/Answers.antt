@@ -1,6 +1,6 @@
 use Rattle.std.proofs.Common.{◌≡◌, ◌<◌, ap, ℕ, List}
-use Rattle.history_text.specs.declared.events.Header.{Header}
-use Rattle.history_text.specs.declared.events.Event.{Event}
+use Rattle.hand_events.specs.declared.events.Header.{Header}
+use Rattle.hand_events.specs.declared.events.Event.{Event}
 use Rattle.betting_replay.specs.declared.seats.SeatState.{SeatState}
 use Rattle.betting_replay.specs.Table.{seat_at, holding_at, final_at, known_at}
 use Rattle.betting_replay.specs.TableAfter.{table_of, point, seat_state}

@@ -1,6 +1,6 @@
 use Rattle.betting_replay.specs.Faults.{out_of_turn, nothing_owed, street_early}
 use Rattle.betting_replay.specs.TableAfter.{table_of}
-use Rattle.history_text.specs.declared.events.Event.TheVariants.{Act, Street}
+use Rattle.hand_events.specs.declared.events.Event.TheVariants.{Act, Street}
 use Rattle.betting_replay.proofs.lemmas.chips.AffordedChips.{not_not}
 use Rattle.betting_replay.proofs.lemmas.steps.PassedTests.{passed, not_failed}
 use Rattle.betting_replay.proofs.lemmas.steps.NextTable.{no_card}

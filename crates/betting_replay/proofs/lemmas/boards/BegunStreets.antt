@@ -6,7 +6,7 @@ use Rattle.card_sets.specs.Cards.{union}
 use Rattle.card_sets.specs.declared.games.Game.{Game}
 use Rattle.card_sets.specs.declared.games.Family.TheVariants as family
 use Rattle.card_sets.specs.Games.{family_of, is_board as is_board_family, has_board, board_size_by, board_size}
-use Rattle.history_text.specs.declared.events.Event.{Event}
+use Rattle.hand_events.specs.declared.events.Event.{Event}
 use Rattle.card_sets.specs.declared.streets.Street.{Street as StreetName}
 use Rattle.card_sets.specs.declared.streets.Street.TheVariants.{First, Flop, Turn, Fourth, Fifth, Sixth, River, Draw, FirstDraw, SecondDraw, ThirdDraw, ShowDown, Summary}
 use Rattle.betting_replay.specs.Boards.{board_on, board_up_to, shared_by, shared}

@@ -4,10 +4,10 @@ use Rattle.std.specs.Prelude.{Option, Some, None, if◌then◌else◌, is_some}
 use mathlib.Core.Bool.{true≢false}
 use Rattle.card_sets.specs.Cards.{has_card, with_card, union, IsCardSet}
 use Rattle.card_sets.specs.Bits.{IsCardSet-cards_where}
-use Rattle.history_text.specs.declared.events.Header.{Header}
-use Rattle.history_text.specs.declared.events.BoardNumber.{BoardNumber}
-use Rattle.history_text.specs.declared.events.Event.{Event}
-use Rattle.history_text.specs.declared.events.Event.TheVariants.{Deal, Street, Act, Show, SeatCards, Discard}
+use Rattle.hand_events.specs.declared.events.Header.{Header}
+use Rattle.hand_events.specs.declared.events.BoardNumber.{BoardNumber}
+use Rattle.hand_events.specs.declared.events.Event.{Event}
+use Rattle.hand_events.specs.declared.events.Event.TheVariants.{Deal, Street, Act, Show, SeatCards, Discard}
 use Rattle.card_sets.specs.declared.streets.Street.{Street as StreetName}
 use Rattle.betting_replay.specs.Accepted.{IsAccepted}
 use Rattle.betting_replay.specs.Boards.{board_on, named_on, second_on, named_second}

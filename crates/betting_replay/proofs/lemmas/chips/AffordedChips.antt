@@ -2,11 +2,11 @@
 use Rattle.std.proofs.Common.{◌≡◌, ℕ, ◌+◌, ◌≤◌, refl, Bool, true, false, not, arith}
 use Rattle.std.specs.Prelude.{None, nat_lt}
 use Rattle.std.proofs.lemmas.Bool.Decides.{nat_tests}
-use Rattle.history_text.specs.declared.events.Event.{Event}
-use Rattle.history_text.specs.declared.events.Event.TheVariants.{Seat, Post, Act, Uncalled}
-use Rattle.history_text.specs.declared.events.PostKind.{PostKind}
-use Rattle.history_text.specs.declared.events.PostKind.TheVariants.{Small, Big, Both, Ante, BringIn}
-use Rattle.betting_replay.specs.declared.faults.BetFault.{BetFault}
+use Rattle.hand_events.specs.declared.events.Event.{Event}
+use Rattle.hand_events.specs.declared.events.Event.TheVariants.{Seat, Post, Act, Uncalled}
+use Rattle.hand_events.specs.declared.events.PostKind.{PostKind}
+use Rattle.hand_events.specs.declared.events.PostKind.TheVariants.{Small, Big, Both, Ante, BringIn}
+use Rattle.hand_events.specs.declared.faults.BetFault.{BetFault}
 use Rattle.betting_replay.specs.Events.{seat_of, live_part, dead_part, ante_part, act_chips}
 use Rattle.betting_replay.specs.Limits.{InLimits, Affords, AmountsFit}
 use Rattle.betting_replay.specs.TableAfter.{ReplayState, chips_at}

@@ -1,9 +1,9 @@
 -- Accepted events keep each seat's chips.
 use Rattle.std.proofs.Common.{◌≡◌, ℕ, ◌+◌, ◌<◌, ◌≤◌, List, [], ◌∷◌, refl, sym, ap, ◌∙◌, Bool, true, false, arith, subst, ◌||◌, ◌&&◌, ◌==◌, ◌^◌}
 use Rattle.std.specs.Prelude.{None, if◌then◌else◌}
-use Rattle.history_text.specs.declared.events.Header.{Header}
-use Rattle.history_text.specs.declared.events.Event.{Event}
-use Rattle.history_text.specs.declared.events.Event.TheVariants.{Seat}
+use Rattle.hand_events.specs.declared.events.Header.{Header}
+use Rattle.hand_events.specs.declared.events.Event.{Event}
+use Rattle.hand_events.specs.declared.events.Event.TheVariants.{Seat}
 use Rattle.betting_replay.specs.declared.seats.Chips.{Chips}
 use Rattle.betting_replay.specs.Events.{seat_of, bought, returned, ante_in, live_in, dead_in, is_seat_line}
 use Rattle.betting_replay.specs.Limits.{InLimits, Affords, Fits}

@@ -4,8 +4,8 @@ use Rattle.std.specs.Prelude.{Option, Some, None}
 use Rattle.card_sets.specs.Cards.{union}
 use Rattle.card_sets.specs.Games.{family_of, own_size}
 use Rattle.card_sets.specs.declared.games.Family.TheVariants as family
-use Rattle.history_text.specs.declared.events.Header.{Header}
-use Rattle.history_text.specs.declared.events.Event.{Event}
+use Rattle.hand_events.specs.declared.events.Header.{Header}
+use Rattle.hand_events.specs.declared.events.Event.{Event}
 use Rattle.card_sets.specs.declared.streets.Street.{Street as StreetName}
 use Rattle.card_sets.specs.declared.streets.Street.TheVariants.{First, Fourth, Fifth, Sixth}
 use Rattle.betting_replay.specs.Known.{Holding, holding_of, cards_at, with_first, so_many, known_stud, known_in}

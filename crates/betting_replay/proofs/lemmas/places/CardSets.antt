@@ -5,8 +5,8 @@ use Rattle.card_sets.specs.Cards.{has_card, union, minus, IsCardSet}
 use Rattle.card_sets.specs.Bits.{IsCardSet-cards_where}
 use Rattle.card_sets.specs.declared.streets.Street.{Street as StreetName}
 use Rattle.card_sets.proofs.CallerLemmas.{no_cards}
-use Rattle.history_text.specs.declared.events.Header.{Header}
-use Rattle.history_text.specs.declared.events.Event.{Event}
+use Rattle.hand_events.specs.declared.events.Header.{Header}
+use Rattle.hand_events.specs.declared.events.Event.{Event}
 use Rattle.betting_replay.specs.Boards.{board_on, named_on, second_on, named_second}
 use Rattle.betting_replay.specs.Dealing.{dealt_on, dealt_then, gathered, is_late, held_before, thrown_late}
 use Rattle.betting_replay.specs.Events.{seat_of, cards_named}

@@ -2,11 +2,11 @@
 use Rattle.std.proofs.Common.{◌≡◌, ℕ, List, [], ◌∷◌, refl, sym, ap, ◌∙◌, Bool, true, false, not, arith, ◌||◌, ◌&&◌, ◌==◌, ◌<◌}
 use Rattle.std.specs.Prelude.{Option, Some, None, is_some, if◌then◌else◌}
 use mathlib.Core.Bool.{true≢false}
-use Rattle.history_text.specs.declared.events.Event.{Event}
-use Rattle.history_text.specs.declared.events.Event.TheVariants.{Street, Discard}
+use Rattle.hand_events.specs.declared.events.Event.{Event}
+use Rattle.hand_events.specs.declared.events.Event.TheVariants.{Street, Discard}
 use Rattle.card_sets.specs.Cards.{has_card, with_card, union, minus, IsCardSet}
 use Rattle.card_sets.specs.declared.streets.Street.{Street as StreetName}
-use Rattle.history_text.specs.declared.events.BoardNumber.{BoardNumber}
+use Rattle.hand_events.specs.declared.events.BoardNumber.{BoardNumber}
 use Rattle.card_sets.proofs.CallerLemmas.{union-nil, minus-nil}
 use Rattle.card_sets.specs.Games.{may_come_again}
 use Rattle.card_sets.specs.declared.games.Game.{Game}

@@ -4,8 +4,8 @@ use Rattle.std.specs.Prelude.{Option, Some, None, if◌then◌else◌}
 use Rattle.card_sets.specs.Cards.{has_card, union, minus}
 use Rattle.card_sets.specs.Bits.{cards_where_same}
 use Rattle.card_sets.specs.Games.{may_come_again}
-use Rattle.history_text.specs.declared.events.Header.{Header}
-use Rattle.history_text.specs.declared.events.Event.{Event}
+use Rattle.hand_events.specs.declared.events.Header.{Header}
+use Rattle.hand_events.specs.declared.events.Event.{Event}
 use Rattle.betting_replay.specs.Accepted.{IsAccepted}
 use Rattle.betting_replay.specs.Events.{cards_named}
 use Rattle.betting_replay.specs.PlaceLaws.{first_place, ever_thrown, since}

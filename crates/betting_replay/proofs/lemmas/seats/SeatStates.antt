@@ -1,8 +1,8 @@
 -- What a table has at a seat is what the events make of the seat.
 use Rattle.std.proofs.Common.{◌≡◌, ℕ, ◌<◌, List, ap}
 use Rattle.std.specs.Prelude.{Option}
-use Rattle.history_text.specs.declared.events.Header.{Header}
-use Rattle.history_text.specs.declared.events.Event.{Event}
+use Rattle.hand_events.specs.declared.events.Header.{Header}
+use Rattle.hand_events.specs.declared.events.Event.{Event}
 use Rattle.betting_replay.specs.declared.points.Point.{Point}
 use Rattle.betting_replay.specs.declared.seats.SeatState.{SeatState}
 use Rattle.betting_replay.specs.Places.{owned}

@@ -9,9 +9,9 @@ use Rattle.card_sets.specs.Bits.{IsCardSet-cards_where}
 use Rattle.card_sets.specs.Cards.{union, minus, IsCardSet}
 use Rattle.card_sets.specs.Games.{own_size}
 use Rattle.card_sets.proofs.CallerLemmas.{union-nil, minus-nil, no_cards}
-use Rattle.history_text.specs.declared.events.Header.{Header}
-use Rattle.history_text.specs.declared.events.Event.{Event}
-use Rattle.history_text.specs.declared.events.Event.TheVariants.{Deal, Street, Act, Show, SeatCards, Discard, Pat}
+use Rattle.hand_events.specs.declared.events.Header.{Header}
+use Rattle.hand_events.specs.declared.events.Event.{Event}
+use Rattle.hand_events.specs.declared.events.Event.TheVariants.{Deal, Street, Act, Show, SeatCards, Discard, Pat}
 use Rattle.betting_replay.specs.declared.boards.Board.{Board}
 use Rattle.betting_replay.specs.declared.seats.Chips.{Chips}
 use Rattle.betting_replay.specs.declared.seats.Acts.{Acts}

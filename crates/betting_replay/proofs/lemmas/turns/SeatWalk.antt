@@ -1,11 +1,11 @@
 -- The walk around the table: the first seat from one on that passes a test.
-use Rattle.std.specs.Prelude.{Option, Some, None, IfSome, IsNone, nat_le, if◌then◌else◌}
+use Rattle.std.specs.Prelude.{Option, Some, None, IfSome, IsNone, nat_le, ◌&&◌, if◌then◌else◌}
 use Rattle.std.specs.Option.{option_or}
 use Rattle.std.proofs.lemmas.Bool.Decides.{nat_tests}
 use Rattle.std.proofs.Common.{◌≡◌, ℕ, zero, suc, ◌+◌, ◌-◌, ◌<◌, ◌≤◌, ◌==◌, refl, sym, ap, ◌∙◌, Bool, true, false, arith}
 use Rattle.betting_replay.specs.Seats.{first_from, first_after, or_else}
 use Rattle.betting_replay.specs.Table.{ReplayState}
-use Rattle.betting_replay.specs.Turns.{contender_count, is_open, is_played, owes}
+use Rattle.betting_replay.specs.Turns.{contender_count, has_chips, is_contender, is_open, is_pending, is_played, owes}
 
 -- the first of the seats from one that doesn't pass is the first of those behind it
 pub first_from-next : (test : ℕ → Bool) (p end : ℕ) → test p ≡ false → p < end → first_from test p (end - p) ≡ first_from test (p + 1) (end - (p + 1))
@@ -89,3 +89,15 @@ none_owes t p closed = by (is_open t) (nat_le 2 (contender_count t)) refl refl
 pub nobody_owes : (t : ReplayState) (from n : ℕ) → is_played t ≡ false → first_from (owes t) from n ≡ None
 nobody_owes t from zero closed = refl
 nobody_owes t from (suc n) closed = rw (none_owes t from closed) (nobody_owes t (from + 1) n closed)
+
+-- who has folded, or has no chips left, owes none
+unfunded : (free many in_hand funded pending : Bool) → (in_hand && funded) ≡ false → (free && many && in_hand && funded && pending) ≡ false
+unfunded false many in_hand funded pending none = refl
+unfunded true false in_hand funded pending none = refl
+unfunded true true false funded pending none = refl
+unfunded true true true false pending none = refl
+unfunded true true true true pending none = cc
+
+pub unfunded_owes : (t : ReplayState) (p : ℕ) → (is_contender t p && has_chips t p) ≡ false → owes t p ≡ false
+unfolding owes
+unfunded_owes t p none = unfunded (is_open t) (nat_le 2 (contender_count t)) (is_contender t p) (has_chips t p) (is_pending t p) none

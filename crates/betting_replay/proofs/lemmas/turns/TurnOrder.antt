@@ -3,13 +3,13 @@ use Rattle.std.proofs.Common.{◌≡◌, ℕ, zero, suc, ◌+◌, ◌-◌, ◌<�
 use Rattle.std.specs.Prelude.{Option, Some, None, nat_lt, if◌then◌else◌}
 use Rattle.std.proofs.lemmas.Bool.Decides.{nat_tests}
 use mathlib.Core.Bool.{true≢false}
-use Rattle.history_text.specs.declared.events.Header.{Header}
-use Rattle.history_text.specs.declared.events.Event.{Event}
-use Rattle.history_text.specs.declared.events.Event.TheVariants.{Act}
-use Rattle.history_text.specs.declared.events.Act.{Act as Deed}
-use Rattle.history_text.specs.declared.events.Act.TheVariants.{Fold, Check, Call, Bet, Raise}
-use Rattle.betting_replay.specs.declared.faults.BetFault.{BetFault}
-use Rattle.betting_replay.specs.declared.faults.BetFault.TheVariants.{NotInHand, OutOfTurn, NothingOwed, AboveStack, AllInWord, CardTwice, TooManyCards}
+use Rattle.hand_events.specs.declared.events.Header.{Header}
+use Rattle.hand_events.specs.declared.events.Event.{Event}
+use Rattle.hand_events.specs.declared.events.Event.TheVariants.{Act}
+use Rattle.hand_events.specs.declared.events.Act.{Act as Deed}
+use Rattle.hand_events.specs.declared.events.Act.TheVariants.{Fold, Check, Call, Bet, Raise}
+use Rattle.hand_events.specs.declared.faults.BetFault.{BetFault}
+use Rattle.hand_events.specs.declared.faults.BetFault.TheVariants.{NotInHand, OutOfTurn, NothingOwed, AboveStack, AllInWord, CardTwice, TooManyCards}
 use Rattle.betting_replay.specs.Accepted.{IsAccepted}
 use Rattle.betting_replay.specs.Events.{seat_of, is_act}
 use Rattle.betting_replay.specs.Faults.{legal, fault_at, first_fault, fault_if, fault_with, not_in_hand, out_of_turn, nothing_owed, act_amiss, amount_amiss, above_stack, all_in_word, street_early, street_order, uncalled_amiss, card_twice, post_late, seat_twice, too_many_cards}

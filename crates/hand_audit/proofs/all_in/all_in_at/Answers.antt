@@ -1,7 +1,7 @@
 use Rattle.std.proofs.Common.{◌∙◌, ap, arith}
 use Rattle.card_sets.specs.PlayerSets.{seats_in}
 use Rattle.hand_audit.specs.AllIns.{known_with}
-use Rattle.hand_audit.specs.declared.verdicts.AllIn.TheVariants.{Known}
+use Rattle.hand_verdict.specs.declared.verdicts.AllIn.TheVariants.{Known}
 use Rattle.hand_audit.specs.PotSeats.{eligible_of}
 use Rattle.hand_audit.proofs.lemmas.tables.PointTable.{unknown_at, known_at}
 use Rattle.hand_audit.proofs.all_in.all_in_at.Goals as goal

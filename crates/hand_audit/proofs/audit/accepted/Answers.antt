@@ -2,9 +2,9 @@ use Rattle.std.proofs.Common.{◌≡◌, ℕ, List, sym, ap, ◌∙◌, refl}
 use Rattle.pot_layers.specs.declared.paid.Paid.{Paid}
 use Rattle.pot_layers.specs.Pots.{pots}
 use Rattle.betting_replay.specs.Table.{ReplayState}
-use Rattle.hand_audit.specs.declared.verdicts.AllIn.{AllIn}
-use Rattle.hand_audit.specs.declared.verdicts.HandAudit.TheVariants.{Accepted}
-use Rattle.hand_audit.specs.declared.settlement.Settlement.{Settlement}
+use Rattle.hand_verdict.specs.declared.verdicts.AllIn.{AllIn}
+use Rattle.hand_verdict.specs.declared.verdicts.HandAudit.TheVariants.{Accepted}
+use Rattle.hand_verdict.specs.declared.settlement.Settlement.{Settlement}
 use Rattle.hand_audit.specs.AllIns.{eligible_in, all_in_by}
 use Rattle.hand_audit.specs.PotSeats.{eligible_of}
 use Rattle.hand_audit.specs.Settle.{Settled}

@@ -1,6 +1,6 @@
 use Rattle.std.proofs.Common.{◌≡◌, ℕ, List, refl}
-use Rattle.hand_audit.specs.declared.parts.SplitHand.{SplitHand}
-use Rattle.hand_audit.specs.declared.settlement.Settlement.{Settlement}
+use Rattle.hand_verdict.specs.declared.parts.SplitHand.{SplitHand}
+use Rattle.hand_verdict.specs.declared.settlement.Settlement.{Settlement}
 use Rattle.hand_audit.proofs.audit.split_hand.Goals as goal
 
 same_hand : (a b : Settlement) (m n : List (ℕ × List ℕ)) (players : ℕ) → a ≡ b → m ≡ n

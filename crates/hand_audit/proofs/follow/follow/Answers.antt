@@ -1,7 +1,7 @@
 use Rattle.std.proofs.Common.{◌≡◌, ◌∷◌, subst, refl, arith, length, ap}
 use Rattle.std.specs.Prelude.{Option, slice_range, drop}
 use Rattle.line_text.specs.Lines.{lines}
-use Rattle.hand_audit.specs.declared.cause.Cause.{Cause}
+use Rattle.hand_verdict.specs.declared.cause.Cause.{Cause}
 use Rattle.hand_audit.specs.Keeping.{Goes, EndsAs, IsRead}
 use Rattle.hand_audit.specs.Lines.{read_at}
 use Rattle.hand_audit.proofs.lemmas.lines.ReadOnce.{first_read, first_stands, others_left, some_of}

@@ -1,7 +1,7 @@
 use Rattle.std.proofs.Common.{◌∙◌, ap, set}
 use Rattle.card_sets.specs.PlayerSets.{seats_in}
 use Rattle.hand_audit.specs.KnownTables.{places_in}
-use Rattle.hand_audit.specs.declared.settlement.PotLine.{PotLine}
+use Rattle.hand_verdict.specs.declared.settlement.PotLine.{PotLine}
 use Rattle.hand_audit.proofs.lemmas.seats.TenPlaces.{ten_none, fill_next}
 use Rattle.hand_audit.proofs.known_tables.eligible_of.Goals as goal
 

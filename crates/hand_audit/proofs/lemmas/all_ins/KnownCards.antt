@@ -7,8 +7,8 @@ use Rattle.card_sets.specs.PlayerSets.{seats_in}
 use Rattle.card_sets.specs.Cards.{has_card}
 use Rattle.card_sets.specs.declared.games.Game.{Game}
 use Rattle.card_sets.specs.declared.streets.Street.{Street}
-use Rattle.history_text.specs.declared.events.Header.{Header}
-use Rattle.history_text.specs.declared.events.Event.{Event}
+use Rattle.hand_events.specs.declared.events.Header.{Header}
+use Rattle.hand_events.specs.declared.events.Event.{Event}
 use Rattle.history_text.specs.Headers.{header_of}
 use Rattle.pot_layers.specs.Split.{InRange}
 use Rattle.pot_layers.specs.Pots.{pots}
@@ -29,9 +29,9 @@ use Rattle.hand_audit.specs.CardsKnown.{IsHandOf, IsStillHidden, KnowsCards}
 use Rattle.hand_audit.specs.KnownTables.{Bare, ten, holds, with_facts, table_if, table_from, all_hold}
 use Rattle.hand_audit.specs.Showings.{paid_in}
 use Rattle.hand_audit.specs.declared.at_point.AtPoint.{AtPoint}
-use Rattle.hand_audit.specs.declared.verdicts.AllIn.TheVariants.{Unknown, Known}
-use Rattle.hand_audit.specs.declared.verdicts.HandAudit.TheVariants.{Accepted}
-use Rattle.hand_audit.specs.declared.settlement.Settlement.{Settlement}
+use Rattle.hand_verdict.specs.declared.verdicts.AllIn.TheVariants.{Unknown, Known}
+use Rattle.hand_verdict.specs.declared.verdicts.HandAudit.TheVariants.{Accepted}
+use Rattle.hand_verdict.specs.declared.settlement.Settlement.{Settlement}
 use Rattle.hand_audit.specs.Lines.{nothing}
 use Rattle.hand_audit.specs.Verdict.{audit_of, events_of}
 use Rattle.hand_audit.proofs.lemmas.seats.SeatLists.{range_from}

@@ -2,7 +2,7 @@
 use Rattle.std.proofs.Common.{◌≡◌, ℕ, ◌+◌, ◌≤◌, List, [], ◌∷◌, ◌++◌, refl, ap, ◌∙◌, Bool, true, false, ◌==◌, ◌&&◌, arith}
 use Rattle.std.specs.Prelude.{if◌then◌else◌}
 use Rattle.std.proofs.lemmas.List.Sums.{sum_by-cons}
-use Rattle.history_text.specs.declared.events.PotName.{PotName}
+use Rattle.hand_events.specs.declared.events.PotName.{PotName}
 use Rattle.hand_audit.specs.declared.collections.Collection.{Collection}
 use Rattle.hand_audit.specs.Chips.{over_seats}
 use Rattle.hand_audit.specs.Collections.{taken, taken_from, got_from}

@@ -2,8 +2,8 @@
 use Rattle.std.proofs.Common.{◌≡◌, ℕ, ◌+◌, ◌≤◌, List, refl, ap, ◌∙◌, true, arith, ◌∷◌, subst}
 use Rattle.std.specs.Prelude.{None, Some, Ok}
 use Rattle.std.specs.List.{list_any}
-use Rattle.history_text.specs.declared.events.Header.{Header}
-use Rattle.history_text.specs.declared.events.Event.{Event}
+use Rattle.hand_events.specs.declared.events.Header.{Header}
+use Rattle.hand_events.specs.declared.events.Event.{Event}
 use Rattle.history_text.specs.Headers.{header_of}
 use Rattle.betting_replay.specs.Accepted.{opening}
 use Rattle.betting_replay.specs.Sums.{paid, dead}
@@ -14,9 +14,9 @@ use Rattle.hand_audit.specs.Showings.{rake}
 use Rattle.hand_audit.specs.Departs.{is_total, departs_from, put_in_by, collected}
 use Rattle.hand_audit.specs.Verdict.{read_all, events_of, audit_of}
 use Rattle.hand_audit.specs.Chips.{KeepsChips, sum_from, over_seats, closing, collected_at}
-use Rattle.hand_audit.specs.declared.verdicts.AllIn.{AllIn}
-use Rattle.hand_audit.specs.declared.verdicts.HandAudit.TheVariants.{Accepted}
-use Rattle.hand_audit.specs.declared.settlement.Settlement.{Settlement}
+use Rattle.hand_verdict.specs.declared.verdicts.AllIn.{AllIn}
+use Rattle.hand_verdict.specs.declared.verdicts.HandAudit.TheVariants.{Accepted}
+use Rattle.hand_verdict.specs.declared.settlement.Settlement.{Settlement}
 use Rattle.hand_audit.proofs.lemmas.chips.AllPutIn.{Idle, put_is_sum, closing_is}
 use Rattle.hand_audit.proofs.lemmas.chips.Collected.{got_is_taken}
 use Rattle.hand_audit.proofs.lemmas.seats.SeatSums.{sum_same, sum_plus}

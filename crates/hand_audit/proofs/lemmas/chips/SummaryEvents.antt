@@ -2,10 +2,10 @@
 use Rattle.std.proofs.Common.{◌≡◌, ℕ, zero, suc, ◌+◌, ◌-◌, ◌<◌, ◌≤◌, List, ◌∷◌, refl, sym, ◌∙◌, Bool, true, false, ◌==◌, ◌&&◌, ◌||◌, not, arith, append-nil}
 use Rattle.std.specs.Prelude.{if◌then◌else◌}
 use Rattle.card_sets.specs.PlayerSets.{has_player}
-use Rattle.history_text.specs.declared.events.Header.{Header}
-use Rattle.history_text.specs.declared.events.Event.{Event}
-use Rattle.history_text.specs.declared.events.Event.TheVariants.{Total, SeatCards, Remark}
-use Rattle.history_text.specs.declared.events.Part.TheVariants.{Summary as SummaryPart}
+use Rattle.hand_events.specs.declared.events.Header.{Header}
+use Rattle.hand_events.specs.declared.events.Event.{Event}
+use Rattle.hand_events.specs.declared.events.Event.TheVariants.{Total, SeatCards, Remark}
+use Rattle.hand_events.specs.declared.events.Part.TheVariants.{Summary as SummaryPart}
 use Rattle.history_text.specs.Within.{stands_in}
 use Rattle.betting_replay.specs.Accounts.{paid_by}
 use Rattle.betting_replay.specs.Sums.{paid, dead, folded}

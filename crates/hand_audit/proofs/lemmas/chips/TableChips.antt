@@ -1,9 +1,9 @@
 -- What a table has at a seat is what the events say that the seat had and put in: `audit_with_chips`.
 use Rattle.std.proofs.Common.{◌≡◌, ℕ, ◌+◌, ◌<◌, ◌^◌, List, [], ◌∷◌, refl, sym, ap, ◌∙◌, subst, Bool, true, false, ◌==◌, ◌&&◌, length, arith}
 use Rattle.std.specs.Prelude.{if◌then◌else◌, Ok}
-use Rattle.history_text.specs.declared.events.Header.{Header}
-use Rattle.history_text.specs.declared.events.Event.{Event}
-use Rattle.history_text.specs.declared.events.Event.TheVariants.{Seat}
+use Rattle.hand_events.specs.declared.events.Header.{Header}
+use Rattle.hand_events.specs.declared.events.Event.{Event}
+use Rattle.hand_events.specs.declared.events.Event.TheVariants.{Seat}
 use Rattle.history_text.specs.Headers.{header_of}
 use Rattle.betting_replay.specs.Accepted.{IsAccepted, opening}
 use Rattle.betting_replay.specs.Accounts.{stack_at}
@@ -14,7 +14,7 @@ use Rattle.betting_replay.specs.Sums.{paid, dead, stack}
 use Rattle.betting_replay.specs.TableAfter.{table_of, point}
 use Rattle.betting_replay.proofs.CallerLemmas.{at_by_seat, chips_are, chips_stay}
 use Rattle.hand_audit.specs.declared.hand.AuditState.{AuditState}
-use Rattle.hand_audit.specs.declared.seat_chips.SeatChips.{SeatChips}
+use Rattle.hand_verdict.specs.declared.seat_chips.SeatChips.{SeatChips}
 use Rattle.hand_audit.specs.Keeping.{Keeps}
 use Rattle.hand_audit.specs.Lines.{SoFar}
 use Rattle.hand_audit.specs.SeatChips.{AreWithin, all_chips_on, chips_after, chips_behind, chips_in, chips_on, put_on, seat_chips}

@@ -3,8 +3,8 @@ use Rattle.std.proofs.Common.{◌≡◌, ℕ, zero, suc, ◌+◌, ◌<◌, ◌�
 use Rattle.std.specs.Prelude.{All, Ok, Some, sum_by}
 use Rattle.std.proofs.lemmas.List.Sums.{sum_by-cons}
 use Rattle.history_text.specs.Headers.{header_of}
-use Rattle.history_text.specs.declared.events.Event.{Event}
-use Rattle.history_text.specs.declared.events.Header.{Header}
+use Rattle.hand_events.specs.declared.events.Event.{Event}
+use Rattle.hand_events.specs.declared.events.Header.{Header}
 use Rattle.hand_choice.specs.AllowedFives.{AllowsFives}
 use Rattle.betting_replay.specs.Accepted.{ShowsSeats}
 use Rattle.betting_replay.specs.CardLaws.{PlacesAreApart, CardsBelongAfter, WholeBoards}
@@ -14,18 +14,18 @@ use Rattle.pot_layers.specs.Pots.{pots}
 use Rattle.pot_layers.specs.Split.{OrdersItsSeats}
 use Rattle.pot_layers.specs.declared.paid.Pot.{Pot}
 use Rattle.hand_audit.specs.Chips.{over_seats, sum_from}
-use Rattle.hand_audit.specs.Dues.{DuesAddUp, due_by, due_of}
-use Rattle.hand_audit.specs.Nets.{got_by, got_of}
+use Rattle.hand_audit.specs.Dues.{DuesAddUp}
+use Rattle.hand_verdict.specs.SeatSums.{due_by, due_of, got_by, got_of}
 use Rattle.hand_audit.specs.PotSums.{IsPaidOut, PotsAddUp, all_due, all_got}
 use Rattle.hand_audit.specs.Settle.{Settled, Showing, pay_of, payments_from, pot_line, pot_lines, settled, settled_of}
 use Rattle.hand_audit.specs.Showings.{rake, showing_of}
 use Rattle.hand_audit.specs.Verdict.{audit_of, events_of, settlement_by, settlement_of}
 use Rattle.hand_audit.specs.declared.pot_names.Source.TheVariants.{Numbered}
-use Rattle.hand_audit.specs.declared.settlement.Payment.{Payment}
-use Rattle.hand_audit.specs.declared.settlement.PotLine.{PotLine}
-use Rattle.hand_audit.specs.declared.settlement.Settlement.{Settlement}
-use Rattle.hand_audit.specs.declared.verdicts.AllIn.{AllIn}
-use Rattle.hand_audit.specs.declared.verdicts.HandAudit.TheVariants.{Accepted}
+use Rattle.hand_verdict.specs.declared.settlement.Payment.{Payment}
+use Rattle.hand_verdict.specs.declared.settlement.PotLine.{PotLine}
+use Rattle.hand_verdict.specs.declared.settlement.Settlement.{Settlement}
+use Rattle.hand_verdict.specs.declared.verdicts.AllIn.{AllIn}
+use Rattle.hand_verdict.specs.declared.verdicts.HandAudit.TheVariants.{Accepted}
 use Rattle.hand_audit.proofs.lemmas.lines.AcceptedHand.{accepted_is}
 use Rattle.hand_audit.proofs.lemmas.nets.GotPayments.{OwnSeats, paid_at}
 use Rattle.hand_audit.proofs.lemmas.pot_sums.AddedPots.{accepted_adds, settled_fits}

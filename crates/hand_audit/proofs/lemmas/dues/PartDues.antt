@@ -15,7 +15,7 @@ use Rattle.hand_audit.specs.Dues.{PartsGiveDues, units_of}
 use Rattle.hand_audit.specs.Orders.{odd_order, by_marks, by_marks_below}
 use Rattle.hand_audit.specs.Parts.{part_share, side_parts, both_sides, shares_on, shares_on_boards, is_contested, part_shares_if, part_shares}
 use Rattle.hand_audit.specs.Settle.{Showing, Part, due_of_seat, first_side, second_side, first_winners, second_winners, is_alone, is_checked, mark_at, net_of, order_of, parts_of, pot_line, shares_among, shares_by, shares_if, shares_of_parts, shares_of_pot, side_winners}
-use Rattle.hand_audit.specs.declared.parts.PartShare.{PartShare}
+use Rattle.hand_verdict.specs.declared.parts.PartShare.{PartShare}
 use Rattle.hand_audit.specs.declared.pot_names.Source.{Source}
 use Rattle.hand_audit.proofs.lemmas.seats.FilteredSeats.{among_filter}
 use Rattle.hand_audit.proofs.lemmas.splits.PartShares.{nobody_shares}

@@ -4,10 +4,10 @@ use Rattle.std.specs.Prelude.{All, Err, Ok, Result, Some, if◌then◌else◌, s
 use Rattle.std.proofs.lemmas.List.Sums.{sum_by-cons}
 use Rattle.card_sets.specs.PlayerSets.{has_player, seats_in}
 use Rattle.history_text.specs.Headers.{header_of}
-use Rattle.history_text.specs.declared.events.Event.{Event}
-use Rattle.history_text.specs.declared.events.Header.{Header}
-use Rattle.history_text.specs.declared.events.PotName.{PotName}
-use Rattle.history_text.specs.declared.events.TextFault.{TextFault}
+use Rattle.hand_events.specs.declared.events.Event.{Event}
+use Rattle.hand_events.specs.declared.events.Header.{Header}
+use Rattle.hand_events.specs.declared.events.PotName.{PotName}
+use Rattle.hand_events.specs.declared.events.TextFault.{TextFault}
 use Rattle.hand_choice.specs.AllowedFives.{AllowsFives}
 use Rattle.betting_replay.specs.Accepted.{IsAccepted, ShowsSeats}
 use Rattle.betting_replay.specs.CardLaws.{CardsBelongAfter, PlacesAreApart, WholeBoards}
@@ -20,9 +20,9 @@ use Rattle.pot_layers.specs.declared.paid.Pot.{Pot}
 use Rattle.hand_audit.specs.Chips.{collected_at, over_seats}
 use Rattle.hand_audit.specs.Collections.{got_from}
 use Rattle.hand_audit.specs.Departs.{departs_from, is_split}
-use Rattle.hand_audit.specs.Dues.{DuesAddUp, PlayersAreDue, SplitAddsUp, due_by, due_of}
+use Rattle.hand_audit.specs.Dues.{DuesAddUp, SplitAddsUp}
+use Rattle.hand_verdict.specs.SeatSums.{PlayersAreDue, due_by, due_of, got_of}
 use Rattle.hand_audit.specs.Lines.{nothing, players_of}
-use Rattle.hand_audit.specs.Nets.{got_of}
 use Rattle.hand_audit.specs.PotNames.{counts_from, fits}
 use Rattle.hand_audit.specs.PotSums.{PotsAddUp}
 use Rattle.hand_audit.specs.Settle.{Settled, Showing, due_of_seat, is_checked, pay_of, payments_from, pot_line, pot_lines, settled, shares_of_pot}
@@ -30,17 +30,17 @@ use Rattle.hand_audit.specs.Showings.{showing_of}
 use Rattle.hand_audit.specs.SplitHands.{split_behind, split_by, split_of}
 use Rattle.hand_audit.specs.Verdict.{audit_of, events_of, read_all, settlement_of}
 use Rattle.hand_audit.specs.Winning.{AreDecided}
-use Rattle.hand_audit.specs.declared.cause.Cause.{Cause}
-use Rattle.hand_audit.specs.declared.cause.Cause.TheVariants.{Bet, Chips, Split, Text, Unfinished}
+use Rattle.hand_verdict.specs.declared.cause.Cause.{Cause}
+use Rattle.hand_verdict.specs.declared.cause.Cause.TheVariants.{Bet, Chips, Split, Text, Unfinished}
 use Rattle.hand_audit.specs.declared.collections.Collection.{Collection}
-use Rattle.hand_audit.specs.declared.parts.SplitHand.{SplitHand}
+use Rattle.hand_verdict.specs.declared.parts.SplitHand.{SplitHand}
 use Rattle.hand_audit.specs.declared.pot_names.Source.{Source}
 use Rattle.hand_audit.specs.declared.pot_names.Source.TheVariants.{Numbered}
-use Rattle.hand_audit.specs.declared.settlement.PotLine.{PotLine}
-use Rattle.hand_audit.specs.declared.settlement.Settlement.{Settlement}
-use Rattle.hand_audit.specs.declared.verdicts.AllIn.{AllIn}
-use Rattle.hand_audit.specs.declared.verdicts.HandAudit.{HandAudit}
-use Rattle.hand_audit.specs.declared.verdicts.HandAudit.TheVariants.{Accepted, Rejected}
+use Rattle.hand_verdict.specs.declared.settlement.PotLine.{PotLine}
+use Rattle.hand_verdict.specs.declared.settlement.Settlement.{Settlement}
+use Rattle.hand_verdict.specs.declared.verdicts.AllIn.{AllIn}
+use Rattle.hand_verdict.specs.declared.verdicts.HandAudit.{HandAudit}
+use Rattle.hand_verdict.specs.declared.verdicts.HandAudit.TheVariants.{Accepted, Rejected}
 use Rattle.hand_audit.proofs.lemmas.dues.DueSums.{accepted_dues, dues_add, sum_in}
 use Rattle.hand_audit.proofs.lemmas.dues.OtherSeats.{no_due, no_pot}
 use Rattle.hand_audit.proofs.lemmas.lines.AcceptedHand.{accepted_is}

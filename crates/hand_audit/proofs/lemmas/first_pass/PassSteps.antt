@@ -10,10 +10,10 @@ use Rattle.std.specs.Ordering.{nat_cmp}
 use Rattle.std.specs.Prelude.{Option, cond, option_map, Some, None, Ok, Err, nat_lt}
 use Rattle.card_sets.specs.PlayerSetLaws.{has_player-above, has_player-where, players_where-same, players_where-small, same_players}
 use Rattle.card_sets.specs.PlayerSets.{has_player, with_player}
-use Rattle.history_text.specs.declared.events.Header.{Header}
-use Rattle.history_text.specs.declared.events.Event.{Event}
-use Rattle.history_text.specs.declared.events.Part.{Part}
-use Rattle.history_text.specs.declared.events.TextFault.{TextFault}
+use Rattle.hand_events.specs.declared.events.Header.{Header}
+use Rattle.hand_events.specs.declared.events.Event.{Event}
+use Rattle.hand_events.specs.declared.events.Part.{Part}
+use Rattle.hand_events.specs.declared.events.TextFault.{TextFault}
 use Rattle.history_text.specs.Lines.{line_event}
 use Rattle.betting_replay.specs.Events.{SeatFits}
 use Rattle.betting_replay.specs.Places.{is_at}

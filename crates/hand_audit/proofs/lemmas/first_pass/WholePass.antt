@@ -5,13 +5,13 @@ use Rattle.std.specs.List.{list_any}
 use Rattle.std.proofs.lemmas.List.Folds.{list_any-append}
 use Rattle.card_sets.specs.PlayerSetLaws.{has_player-where}
 use Rattle.card_sets.specs.PlayerSets.{has_player}
-use Rattle.history_text.specs.declared.events.Header.{Header}
-use Rattle.history_text.specs.declared.events.Event.{Event}
-use Rattle.history_text.specs.declared.events.Event.TheVariants.{Seat, Post, Act}
-use Rattle.history_text.specs.declared.events.Part.{Part}
-use Rattle.history_text.specs.declared.events.Part.TheVariants.{Preamble, Play, Summary as SummaryPart}
-use Rattle.history_text.specs.declared.events.TextFault.{TextFault}
-use Rattle.history_text.specs.declared.events.TextFault.TheVariants.{BadHeader}
+use Rattle.hand_events.specs.declared.events.Header.{Header}
+use Rattle.hand_events.specs.declared.events.Event.{Event}
+use Rattle.hand_events.specs.declared.events.Event.TheVariants.{Seat, Post, Act}
+use Rattle.hand_events.specs.declared.events.Part.{Part}
+use Rattle.hand_events.specs.declared.events.Part.TheVariants.{Preamble, Play, Summary as SummaryPart}
+use Rattle.hand_events.specs.declared.events.TextFault.{TextFault}
+use Rattle.hand_events.specs.declared.events.TextFault.TheVariants.{BadHeader}
 use Rattle.history_text.specs.Lines.{line_event}
 use Rattle.line_text.specs.Amounts.{digit_count, number_of}
 use Rattle.history_text.specs.Reading.{◌>>=◌, or_fault, money, follows, seat_front, seat_of as seat_in_text}
@@ -21,7 +21,7 @@ use Rattle.betting_replay.specs.Events.{seat_of, SeatFits, is_seat_line, ante_in
 use Rattle.betting_replay.specs.Sums.{seated, paid, dead, live, small_posted}
 use Rattle.betting_replay.specs.TableAfter.{table_of, point, chips_at, chips_of}
 use Rattle.betting_replay.specs.Faults.{legal, seat_twice}
-use Rattle.betting_replay.specs.declared.faults.BetFault.TheVariants.{SeatTwice}
+use Rattle.hand_events.specs.declared.faults.BetFault.TheVariants.{SeatTwice}
 use Rattle.betting_replay.proofs.CallerLemmas.{passed, not_failed, chips_are, seat_below}
 use Rattle.hand_audit.specs.Departs.{departs_from, departs_by, event_cause}
 use Rattle.hand_audit.specs.Lines.{SoFar, nothing, read_at, part_of, with_event, with_line, with_line_by, seat_number, seat_at, is_again, with_seat, makes_player, plays, players_in, players_of, read_events}

@@ -4,8 +4,8 @@ use Rattle.std.specs.Prelude.{Option, Some, None, All, is_some, slice_index_or, 
 use Rattle.std.specs.List.{list_all}
 use Rattle.card_sets.specs.PlayerSets.{seats_in}
 use Rattle.card_sets.specs.declared.streets.Street.{Street}
-use Rattle.history_text.specs.declared.events.Header.{Header}
-use Rattle.history_text.specs.declared.events.Event.{Event}
+use Rattle.hand_events.specs.declared.events.Header.{Header}
+use Rattle.hand_events.specs.declared.events.Event.{Event}
 use Rattle.history_text.specs.Headers.{header_of}
 use Rattle.pot_layers.specs.Pots.{pots}
 use Rattle.betting_replay.specs.declared.points.Point.{Point}
@@ -22,10 +22,10 @@ use Rattle.hand_audit.specs.LaterCards.{IsKnownOn}
 use Rattle.hand_audit.specs.Showings.{paid_in}
 use Rattle.hand_audit.specs.Streets.{table_in, state_on, states_on, states_of}
 use Rattle.hand_audit.specs.declared.at_point.AtPoint.{AtPoint}
-use Rattle.hand_audit.specs.declared.verdicts.AllIn.TheVariants.{Unknown, Known}
-use Rattle.hand_audit.specs.declared.verdicts.AllIn.{AllIn}
-use Rattle.hand_audit.specs.declared.verdicts.HandAudit.TheVariants.{Accepted}
-use Rattle.hand_audit.specs.declared.settlement.Settlement.{Settlement}
+use Rattle.hand_verdict.specs.declared.verdicts.AllIn.TheVariants.{Unknown, Known}
+use Rattle.hand_verdict.specs.declared.verdicts.AllIn.{AllIn}
+use Rattle.hand_verdict.specs.declared.verdicts.HandAudit.TheVariants.{Accepted}
+use Rattle.hand_verdict.specs.declared.settlement.Settlement.{Settlement}
 use Rattle.hand_audit.specs.Lines.{nothing}
 use Rattle.hand_audit.specs.Verdict.{audit_of, events_of}
 use Rattle.hand_audit.proofs.lemmas.all_ins.KnownCards.{made_of, known_made}
@@ -50,7 +50,7 @@ none_is p all is = by (list_all (λ q. is_some (slice_index_or p.cards q None)) 
     by true h = from (table_from (bare_of p all)) h
     by false h = refl
 
-some_is : (p : AtPoint) (all : List ℕ) (table : Table) → table_in (all_in_at p all) ≡ Some table → all_in_at p all ≡ Known p.street (ten 0 (seats_in p.contenders)) table
+pub some_is : (p : AtPoint) (all : List ℕ) (table : Table) → table_in (all_in_at p all) ≡ Some table → all_in_at p all ≡ Known p.street (ten 0 (seats_in p.contenders)) table
 unfolding all_in_at
 some_is p all table is = by (list_all (λ q. is_some (slice_index_or p.cards q None)) (seats_in p.contenders)) is
   where

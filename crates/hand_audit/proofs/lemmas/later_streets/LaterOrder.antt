@@ -10,11 +10,11 @@ use Rattle.card_sets.specs.declared.games.Family.{Family}
 use Rattle.card_sets.specs.declared.games.Family.TheVariants as family
 use Rattle.card_sets.specs.declared.streets.Street.{Street as StreetName}
 use Rattle.card_sets.specs.declared.streets.Street.TheVariants.{First, Flop, Turn, Fourth, Fifth, Sixth, River, Draw, FirstDraw, SecondDraw, ThirdDraw, ShowDown, Summary}
-use Rattle.history_text.specs.declared.events.Header.{Header}
-use Rattle.history_text.specs.declared.events.BoardNumber.{BoardNumber}
-use Rattle.history_text.specs.declared.events.BoardNumber.TheVariants as board
-use Rattle.history_text.specs.declared.events.Event.{Event}
-use Rattle.history_text.specs.declared.events.Event.TheVariants.{Street, Discard, Pat}
+use Rattle.hand_events.specs.declared.events.Header.{Header}
+use Rattle.hand_events.specs.declared.events.BoardNumber.{BoardNumber}
+use Rattle.hand_events.specs.declared.events.BoardNumber.TheVariants as board
+use Rattle.hand_events.specs.declared.events.Event.{Event}
+use Rattle.hand_events.specs.declared.events.Event.TheVariants.{Street, Discard, Pat}
 use Rattle.history_text.specs.Headers.{header_of}
 use Rattle.pot_layers.specs.Pots.{pots}
 use Rattle.betting_replay.specs.declared.points.Point.{Point}
@@ -34,10 +34,10 @@ use Rattle.betting_replay.proofs.CallerLemmas.{marker_of, no_draw, none_begun, n
 use Rattle.std.proofs.lemmas.Bool.{and_parts}
 use Rattle.hand_audit.specs.LaterOrder.{ComeInOrder}
 use Rattle.hand_audit.specs.Streets.{state_on, states_of}
-use Rattle.hand_audit.specs.declared.streets.StreetState.{StreetState}
-use Rattle.hand_audit.specs.declared.verdicts.AllIn.{AllIn}
-use Rattle.hand_audit.specs.declared.verdicts.HandAudit.TheVariants.{Accepted}
-use Rattle.hand_audit.specs.declared.settlement.Settlement.{Settlement}
+use Rattle.hand_verdict.specs.declared.streets.StreetState.{StreetState}
+use Rattle.hand_verdict.specs.declared.verdicts.AllIn.{AllIn}
+use Rattle.hand_verdict.specs.declared.verdicts.HandAudit.TheVariants.{Accepted}
+use Rattle.hand_verdict.specs.declared.settlement.Settlement.{Settlement}
 use Rattle.hand_audit.specs.AllIns.{eligible_in}
 use Rattle.hand_audit.specs.Lines.{nothing}
 use Rattle.hand_audit.specs.Showings.{paid_in}
@@ -46,7 +46,7 @@ use Rattle.hand_audit.proofs.lemmas.lines.AcceptedLines.{sound_all, start}
 use Rattle.hand_audit.proofs.lemmas.lines.AcceptedHand.{accepted_is}
 
 -- the last of some streets, or else the one before them
-abbrev last_in : StreetName → List StreetName → StreetName
+abbrev pub last_in : StreetName → List StreetName → StreetName
 last_in before [] = before
 last_in before (s ∷ rest) = last_in s rest
 
@@ -279,7 +279,7 @@ point_begins g players e h found none is =
     point_at (table_with g players (e ∷ h) None) found (ap (λ (o : Option Point). or_else o (point_now (table_with g players (e ∷ h) None))) (sym none) ∙ is)
 
 -- while no showdown's marker and no second board's stood, the street that comes next is the one behind this
-abbrev IsBehind : Header → List Event → StreetName → Type 0
+abbrev pub IsBehind : Header → List Event → StreetName → Type 0
 IsBehind g h last = any_shown (showdowns_of h) ≡ false → is_second (marker_board h) ≡ false → (s : StreetName) → next_street g.game (street g h) ≡ Some s → next_street g.game (Some last) ≡ Some s
 
 on_it : (g : Header) (h : List Event) (last : StreetName) → street g h ≡ Some last → IsBehind g h last
@@ -336,9 +336,9 @@ keeps g players (Pat seat) h last ok some none before =
 keeps g players _ h last ok some none before = before
 
 -- the later streets so far come in order, and the next is the one behind the last of them
-record InOrder (g : Header) (players : ℕ) (h : List Event) (found : Point) : Type 0 where
-  order : ComeInOrder g.game found.street (later_streets g players h)
-  behind : IsBehind g h (last_in found.street (later_streets g players h))
+pub record InOrder (g : Header) (players : ℕ) (h : List Event) (found : Point) : Type 0 where
+  pub order : ComeInOrder g.game found.street (later_streets g players h)
+  pub behind : IsBehind g h (last_in found.street (later_streets g players h))
 
 at_point : (g : Header) (players : ℕ) (e : Event) (h : List Event) (found : Point) → point g players h ≡ None → point g players (e ∷ h) ≡ Some found → InOrder g players (e ∷ h) found
 at_point g players e h found none is =
@@ -373,7 +373,7 @@ no_point : (g : Header) (players : ℕ) (found : Point) → point g players [] �
 unfolding point
 no_point g players found is = cc
 
-in_order : (g : Header) (players : ℕ) (h : List Event) → IsAccepted g players h → (found : Point) → point g players h ≡ Some found → InOrder g players h found
+pub in_order : (g : Header) (players : ℕ) (h : List Event) → IsAccepted g players h → (found : Point) → point g players h ≡ Some found → InOrder g players h found
 in_order g players [] ok found is = absurd (no_point g players found is)
 in_order g players (e ∷ h) ok found is = by (point g players h) refl (λ before. in_order g players h ok.2 found before)
   where

@@ -2,13 +2,13 @@
 use Rattle.std.proofs.Common.{◌≡◌, ℕ, List, ◌∷◌, sym, ap, ◌∙◌, true, false, map}
 use Rattle.std.specs.Prelude.{Some, Ok, Err}
 use Rattle.history_text.specs.Headers.{header_of}
-use Rattle.history_text.specs.declared.events.Header.{Header}
-use Rattle.history_text.specs.declared.events.TextFault.{TextFault}
+use Rattle.hand_events.specs.declared.events.Header.{Header}
+use Rattle.hand_events.specs.declared.events.TextFault.{TextFault}
 use Rattle.pot_layers.specs.declared.paid.Paid.{Paid}
 use Rattle.pot_layers.specs.Pots.{pots}
 use Rattle.betting_replay.specs.Table.{ReplayState}
 use Rattle.betting_replay.specs.TableAfter.{table_of}
-use Rattle.hand_audit.specs.declared.cause.Cause.{Cause}
+use Rattle.hand_verdict.specs.declared.cause.Cause.{Cause}
 use Rattle.hand_audit.specs.declared.hand.AuditState.{AuditState}
 use Rattle.hand_audit.specs.declared.settling.HandSettled.{HandSettled}
 use Rattle.hand_audit.specs.AllIns.{eligible_in}

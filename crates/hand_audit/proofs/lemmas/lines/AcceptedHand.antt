@@ -1,12 +1,12 @@
 -- Of a hand that is accepted no line departs, and its verdict is what the definitions say. Each law on accepted hands begins with it.
 use Rattle.std.proofs.Common.{◌≡◌, ℕ, List, ◌∷◌, refl, sym, ap, ◌∙◌}
 use Rattle.std.specs.Prelude.{Option, Some, None, Ok}
-use Rattle.history_text.specs.declared.events.Header.{Header}
+use Rattle.hand_events.specs.declared.events.Header.{Header}
 use Rattle.history_text.specs.Headers.{header_of}
-use Rattle.hand_audit.specs.declared.verdicts.AllIn.{AllIn}
-use Rattle.hand_audit.specs.declared.verdicts.HandAudit.TheVariants.{Accepted}
-use Rattle.hand_audit.specs.declared.cause.Cause.{Cause}
-use Rattle.hand_audit.specs.declared.settlement.Settlement.{Settlement}
+use Rattle.hand_verdict.specs.declared.verdicts.AllIn.{AllIn}
+use Rattle.hand_verdict.specs.declared.verdicts.HandAudit.TheVariants.{Accepted}
+use Rattle.hand_verdict.specs.declared.cause.Cause.{Cause}
+use Rattle.hand_verdict.specs.declared.settlement.Settlement.{Settlement}
 use Rattle.hand_audit.specs.AllIns.{all_in_of}
 use Rattle.hand_audit.specs.Departs.{departs, departs_behind, departs_from}
 use Rattle.hand_audit.specs.Lines.{nothing, players_of}

@@ -3,12 +3,12 @@ use Rattle.std.proofs.Common.{◌≡◌, ℕ, ◌+◌, List, [], ◌∷◌, refl
 use Rattle.std.specs.Prelude.{Option, Some, None, Result, Ok, Err, IfOk, All, if◌then◌else◌}
 use Rattle.std.specs.List.{list_any}
 use Rattle.std.proofs.lemmas.List.Elements.{All-push}
-use Rattle.history_text.specs.declared.events.Header.{Header}
-use Rattle.history_text.specs.declared.events.Event.{Event}
-use Rattle.history_text.specs.declared.events.Event.TheVariants.{Seat, Collect, Total, SeatCards, Remark}
-use Rattle.history_text.specs.declared.events.Part.{Part}
-use Rattle.history_text.specs.declared.events.Part.TheVariants.{Preamble, Play, Summary as SummaryPart}
-use Rattle.history_text.specs.declared.events.TextFault.{TextFault}
+use Rattle.hand_events.specs.declared.events.Header.{Header}
+use Rattle.hand_events.specs.declared.events.Event.{Event}
+use Rattle.hand_events.specs.declared.events.Event.TheVariants.{Seat, Collect, Total, SeatCards, Remark}
+use Rattle.hand_events.specs.declared.events.Part.{Part}
+use Rattle.hand_events.specs.declared.events.Part.TheVariants.{Preamble, Play, Summary as SummaryPart}
+use Rattle.hand_events.specs.declared.events.TextFault.{TextFault}
 use Rattle.history_text.specs.Within.{IsSeated, IsWithin, stands_in}
 use Rattle.history_text.proofs.CallerLemmas.{line_fits, within, stands}
 use Rattle.pot_layers.specs.Pots.{put_in_all}
@@ -18,9 +18,9 @@ use Rattle.betting_replay.specs.Accepted.{IsAccepted}
 use Rattle.betting_replay.specs.CardLaws.{MarkerFits, MarkersFit}
 use Rattle.betting_replay.specs.Limits.{Fits}
 use Rattle.betting_replay.specs.Faults.{legal}
-use Rattle.betting_replay.specs.declared.faults.BetFault.{BetFault}
-use Rattle.hand_audit.specs.declared.cause.Cause.{Cause}
-use Rattle.hand_audit.specs.declared.cause.Cause.TheVariants.{Chips, Unfinished}
+use Rattle.hand_events.specs.declared.faults.BetFault.{BetFault}
+use Rattle.hand_verdict.specs.declared.cause.Cause.{Cause}
+use Rattle.hand_verdict.specs.declared.cause.Cause.TheVariants.{Chips, Unfinished}
 use Rattle.hand_audit.specs.Settle.{beyond}
 use Rattle.hand_audit.specs.Departs.{split_cause, is_total, bet_cause, total_cause, event_cause, end_cause, departs_from, departs_by, at_line, put_in_by, collected}
 use Rattle.hand_audit.specs.Showings.{showing_of, rake}

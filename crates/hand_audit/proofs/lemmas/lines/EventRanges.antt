@@ -1,11 +1,11 @@
 -- What a line says keeps the ranges that the replay asks for.
 use Rattle.std.proofs.Common.{List, ℕ}
 use Rattle.std.specs.Prelude.{Result, Ok, Err, IfOk}
-use Rattle.history_text.specs.declared.events.Event.{Event}
-use Rattle.history_text.specs.declared.events.Event.TheVariants.{Seat, Button, Post, Deal, Street, Act, Uncalled, Collect, Show, Muck, Total, SeatCards, Discard, Pat, Remark}
-use Rattle.history_text.specs.declared.events.Act.{Act as Deed}
-use Rattle.history_text.specs.declared.events.Act.TheVariants.{Fold, Check, Call, Bet, Raise}
-use Rattle.history_text.specs.declared.events.TextFault.{TextFault}
+use Rattle.hand_events.specs.declared.events.Event.{Event}
+use Rattle.hand_events.specs.declared.events.Event.TheVariants.{Seat, Button, Post, Deal, Street, Act, Uncalled, Collect, Show, Muck, Total, SeatCards, Discard, Pat, Remark}
+use Rattle.hand_events.specs.declared.events.Act.{Act as Deed}
+use Rattle.hand_events.specs.declared.events.Act.TheVariants.{Fold, Check, Call, Bet, Raise}
+use Rattle.hand_events.specs.declared.events.TextFault.{TextFault}
 use Rattle.history_text.specs.Within.{IsWithin, ActIsWithin}
 use Rattle.betting_replay.specs.Limits.{Fits, ActFits}
 use Rattle.hand_audit.specs.Keeping.{HasName}

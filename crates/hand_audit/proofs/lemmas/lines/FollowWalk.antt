@@ -1,11 +1,11 @@
 -- The walk of `follow` over the lines: the first that departs, or what is kept at their end.
 use Rattle.std.proofs.Common.{◌≡◌, ℕ, ◌+◌, List, [], ◌∷◌, refl, sym, ap, ◌∙◌, subst, arith, length}
 use Rattle.std.specs.Prelude.{Some, None, Result, Ok, Err}
-use Rattle.history_text.specs.declared.events.Header.{Header}
-use Rattle.history_text.specs.declared.events.Event.{Event}
-use Rattle.history_text.specs.declared.events.TextFault.{TextFault}
-use Rattle.hand_audit.specs.declared.cause.Cause.{Cause}
-use Rattle.hand_audit.specs.declared.cause.Cause.TheVariants.{Text}
+use Rattle.hand_events.specs.declared.events.Header.{Header}
+use Rattle.hand_events.specs.declared.events.Event.{Event}
+use Rattle.hand_events.specs.declared.events.TextFault.{TextFault}
+use Rattle.hand_verdict.specs.declared.cause.Cause.{Cause}
+use Rattle.hand_verdict.specs.declared.cause.Cause.TheVariants.{Text}
 use Rattle.hand_audit.specs.declared.hand.AuditState.{AuditState}
 use Rattle.hand_audit.specs.Lines.{SoFar, nothing, read_at, with_event}
 use Rattle.hand_audit.specs.Departs.{departs_from, at_line}

@@ -1,10 +1,10 @@
 -- What each kept state has, whatever the hand, it has after a line more.
 use Rattle.std.proofs.Common.{◌≡◌, ℕ, ◌+◌, ◌^◌, ◌<◌, ◌≤◌, [], ◌++◌, refl, sym, ap, ◌∙◌, subst, Bool, true, false, ◌||◌, arith, append-nil}
 use Rattle.std.specs.Prelude.{None}
-use Rattle.history_text.specs.declared.events.Event.{Event}
-use Rattle.history_text.specs.declared.events.Event.TheVariants.{Button, Total, SeatCards, Remark}
-use Rattle.history_text.specs.declared.events.Part.{Part}
-use Rattle.history_text.specs.declared.events.Part.TheVariants.{Summary as SummaryPart}
+use Rattle.hand_events.specs.declared.events.Event.{Event}
+use Rattle.hand_events.specs.declared.events.Event.TheVariants.{Button, Total, SeatCards, Remark}
+use Rattle.hand_events.specs.declared.events.Part.{Part}
+use Rattle.hand_events.specs.declared.events.Part.TheVariants.{Summary as SummaryPart}
 use Rattle.history_text.specs.Within.{stands_in}
 use Rattle.betting_replay.specs.Events.{button_after}
 use Rattle.betting_replay.specs.Limits.{Fits}

@@ -3,12 +3,12 @@ use Rattle.std.proofs.Common.{◌≡◌, ℕ, ◌+◌, ◌==◌, append-nil, Lis
 use Rattle.std.specs.Prelude.{Option, Some, None, is_some, Result, Ok, Err, All, Bool, ◌&&◌, not, if◌then◌else◌}
 use Rattle.std.specs.List.{list_any}
 use Rattle.std.proofs.lemmas.List.Elements.{All-push}
-use Rattle.history_text.specs.declared.events.Header.{Header}
-use Rattle.history_text.specs.declared.events.Event.{Event}
-use Rattle.history_text.specs.declared.events.Event.TheVariants.{Remark, Seat, Total}
-use Rattle.history_text.specs.declared.events.TextFault.{TextFault}
+use Rattle.hand_events.specs.declared.events.Header.{Header}
+use Rattle.hand_events.specs.declared.events.Event.{Event}
+use Rattle.hand_events.specs.declared.events.Event.TheVariants.{Remark, Seat, Total}
+use Rattle.hand_events.specs.declared.events.TextFault.{TextFault}
 use Rattle.history_text.specs.Lines.{line_event}
-use Rattle.betting_replay.specs.declared.faults.BetFault.{BetFault}
+use Rattle.hand_events.specs.declared.faults.BetFault.{BetFault}
 use Rattle.betting_replay.specs.Events.{SeatFits}
 use Rattle.betting_replay.specs.CardLaws.{MarkerFits, MarkersFit}
 use Rattle.betting_replay.specs.Later.{listed, later_begun, later_by}
@@ -17,14 +17,14 @@ use Rattle.betting_replay.specs.TableAfter.{StandsFor, table_of}
 use Rattle.betting_replay.specs.Faults.{legal, verdict}
 use Rattle.betting_replay.specs.Turns.{any_shown}
 use Rattle.betting_replay.proofs.CallerLemmas.{no_fault, remark_kept, remark_stands}
-use Rattle.history_text.specs.declared.events.Part.TheVariants.{Summary as SummaryPart}
+use Rattle.hand_events.specs.declared.events.Part.TheVariants.{Summary as SummaryPart}
 use Rattle.betting_replay.specs.Accepted.{IsAccepted}
 use Rattle.betting_replay.specs.Table.{ReplayState}
 use Rattle.pot_layers.specs.declared.paid.Pot.{Pot}
 use Rattle.pot_layers.specs.Pots.{pots, put_in_all}
 use Rattle.hand_audit.specs.Winning.{AreDecided}
-use Rattle.hand_audit.specs.declared.cause.Cause.{Cause}
-use Rattle.hand_audit.specs.declared.cause.Cause.TheVariants.{Text, Bet, Chips, Unfinished}
+use Rattle.hand_verdict.specs.declared.cause.Cause.{Cause}
+use Rattle.hand_verdict.specs.declared.cause.Cause.TheVariants.{Text, Bet, Chips, Unfinished}
 use Rattle.hand_audit.specs.declared.hand.AuditState.{AuditState}
 use Rattle.hand_audit.specs.Lines.{SoFar, part_after, part_of, read_at, named_by}
 use Rattle.hand_audit.specs.Collections.{collected_by, taken}
@@ -34,7 +34,7 @@ use Rattle.hand_audit.specs.Departs.{is_total, bet_cause, total_cause, event_cau
 use Rattle.hand_audit.specs.Settle.{Showing, beyond}
 use Rattle.card_sets.specs.declared.games.Game.{Game}
 use Rattle.card_sets.specs.declared.streets.Street.{Street}
-use Rattle.hand_audit.specs.declared.settlement.Payment.{Payment}
+use Rattle.hand_verdict.specs.declared.settlement.Payment.{Payment}
 use Rattle.hand_audit.specs.declared.settling.HandSettled.{HandSettled}
 use Rattle.hand_audit.specs.SettlementAnswers.{IsOfHand}
 use Rattle.hand_audit.specs.Keeping.{Keeps, Goes, EndsAs}

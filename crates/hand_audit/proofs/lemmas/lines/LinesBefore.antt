@@ -1,14 +1,14 @@
 -- The lines before the first that departs stand: `law_lines_before_stand`.
 use Rattle.std.proofs.Common.{◌≡◌, ℕ, zero, suc, ◌+◌, ◌-◌, ◌≤◌, List, [], ◌∷◌, refl, sym, ap, ◌∙◌, subst, Bool, arith}
 use Rattle.std.specs.Prelude.{Option, Some, None, Result, Ok, Err}
-use Rattle.history_text.specs.declared.events.Header.{Header}
-use Rattle.history_text.specs.declared.events.Event.{Event}
-use Rattle.history_text.specs.declared.events.TextFault.{TextFault}
+use Rattle.hand_events.specs.declared.events.Header.{Header}
+use Rattle.hand_events.specs.declared.events.Event.{Event}
+use Rattle.hand_events.specs.declared.events.TextFault.{TextFault}
 use Rattle.history_text.specs.Headers.{header_of}
 use Rattle.betting_replay.specs.Seats.{or_else}
-use Rattle.hand_audit.specs.declared.verdicts.HandAudit.TheVariants.{Rejected}
-use Rattle.hand_audit.specs.declared.cause.Cause.{Cause}
-use Rattle.hand_audit.specs.declared.cause.Cause.TheVariants.{Text}
+use Rattle.hand_verdict.specs.declared.verdicts.HandAudit.TheVariants.{Rejected}
+use Rattle.hand_verdict.specs.declared.cause.Cause.{Cause}
+use Rattle.hand_verdict.specs.declared.cause.Cause.TheVariants.{Text}
 use Rattle.hand_audit.specs.Before.{Stand, StandsBy}
 use Rattle.hand_audit.specs.Departs.{departs, departs_behind, departs_from, departs_by, at_line, end_cause, event_cause}
 use Rattle.hand_audit.specs.Lines.{SoFar, nothing, read_at, with_event, players_of}

@@ -3,11 +3,11 @@ use Rattle.std.proofs.Common.{◌≡◌, ℕ, ◌<◌, List, [], ◌∷◌, ◌+
 use Rattle.std.specs.Prelude.{slice_range, Option, Some, None, Result, Ok, Err, IfOk, IfSome, option_map, nat_lt, if◌then◌else◌}
 use denote.Ref.{Bor}
 use Rattle.line_text.specs.declared.lines.Line.{Line}
-use Rattle.history_text.specs.declared.events.Header.{Header}
-use Rattle.history_text.specs.declared.events.Event.{Event}
-use Rattle.history_text.specs.declared.events.Part.{Part}
-use Rattle.history_text.specs.declared.events.Part.TheVariants.{Preamble}
-use Rattle.history_text.specs.declared.events.TextFault.{TextFault}
+use Rattle.hand_events.specs.declared.events.Header.{Header}
+use Rattle.hand_events.specs.declared.events.Event.{Event}
+use Rattle.hand_events.specs.declared.events.Part.{Part}
+use Rattle.hand_events.specs.declared.events.Part.TheVariants.{Preamble}
+use Rattle.hand_events.specs.declared.events.TextFault.{TextFault}
 use Rattle.hand_audit.specs.declared.first_pass.PlayerScan.{PlayerScan}
 use Rattle.hand_audit.specs.declared.hand.AuditState.{AuditState}
 use Rattle.hand_audit.specs.declared.hand.LineReading.{LineReading}

@@ -3,17 +3,17 @@ use Rattle.std.proofs.Common.{◌≡◌, ℕ, ◌+◌, List, [], ◌∷◌, refl
 use Rattle.std.specs.Prelude.{Option, Some, None, Result, Ok, Err, if◌then◌else◌}
 use Rattle.std.specs.List.{list_any}
 use Rattle.history_text.specs.Headers.{header_of}
-use Rattle.history_text.specs.declared.events.Header.{Header}
-use Rattle.history_text.specs.declared.events.Event.{Event}
-use Rattle.history_text.specs.declared.events.Event.TheVariants.{Total}
-use Rattle.history_text.specs.declared.events.TextFault.{TextFault}
+use Rattle.hand_events.specs.declared.events.Header.{Header}
+use Rattle.hand_events.specs.declared.events.Event.{Event}
+use Rattle.hand_events.specs.declared.events.Event.TheVariants.{Total}
+use Rattle.hand_events.specs.declared.events.TextFault.{TextFault}
 use Rattle.pot_layers.specs.Pots.{pots}
 use Rattle.betting_replay.specs.Seats.{or_else}
 use Rattle.betting_replay.specs.Faults.{legal}
-use Rattle.betting_replay.specs.declared.faults.BetFault.{BetFault}
-use Rattle.hand_audit.specs.declared.cause.Cause.{Cause}
-use Rattle.hand_audit.specs.declared.cause.Cause.TheVariants.{Text, Bet, Chips, Unfinished}
-use Rattle.hand_audit.specs.declared.verdicts.HandAudit.TheVariants.{Rejected}
+use Rattle.hand_events.specs.declared.faults.BetFault.{BetFault}
+use Rattle.hand_verdict.specs.declared.cause.Cause.{Cause}
+use Rattle.hand_verdict.specs.declared.cause.Cause.TheVariants.{Text, Bet, Chips, Unfinished}
+use Rattle.hand_verdict.specs.declared.verdicts.HandAudit.TheVariants.{Rejected}
 use Rattle.hand_audit.specs.Departs.{at_line, bet_cause, collected, departs, departs_behind, departs_by, departs_from, end_cause, event_cause, is_split, is_total, put_in_by, split_cause, total_cause}
 use Rattle.hand_audit.specs.Lines.{SoFar, nothing, players_of, read_at, with_event}
 use Rattle.hand_audit.specs.PotNames.{fits}

@@ -14,7 +14,7 @@ use Rattle.card_sets.specs.declared.games.Game.{Game}
 use Rattle.card_sets.specs.declared.games.Game.TheVariants.{Stud, Stud8, Razz}
 use Rattle.card_sets.specs.declared.games.Side.{Side}
 use Rattle.card_sets.specs.declared.games.Side.TheVariants.{High, Low}
-use Rattle.history_text.specs.declared.events.Header.{Header}
+use Rattle.hand_events.specs.declared.events.Header.{Header}
 use Rattle.history_text.specs.Headers.{header_of}
 use Rattle.hand_choice.specs.AllowedFives.{AreFives, AllowsFives}
 use Rattle.pot_layers.specs.Pots.{pots}
@@ -32,9 +32,9 @@ use Rattle.hand_audit.specs.MarkLaws.{IsMarkOf, MarksIn, MarksAreCards}
 use Rattle.hand_audit.specs.MarkNumbers.{number_of_five, top_number}
 use Rattle.hand_audit.specs.Settle.{Showing, hand_of, mark_at, value_on, worth_on, side_winners, first_side, first_winners}
 use Rattle.hand_audit.specs.Winning.{AreFullOn, AreDecided}
-use Rattle.hand_audit.specs.declared.verdicts.AllIn.{AllIn}
-use Rattle.hand_audit.specs.declared.verdicts.HandAudit.TheVariants.{Accepted}
-use Rattle.hand_audit.specs.declared.settlement.Settlement.{Settlement}
+use Rattle.hand_verdict.specs.declared.verdicts.AllIn.{AllIn}
+use Rattle.hand_verdict.specs.declared.verdicts.HandAudit.TheVariants.{Accepted}
+use Rattle.hand_verdict.specs.declared.settlement.Settlement.{Settlement}
 use Rattle.hand_audit.specs.Lines.{nothing}
 use Rattle.hand_audit.specs.Showings.{showing_of}
 use Rattle.hand_audit.specs.Verdict.{audit_of, events_of}

@@ -3,10 +3,10 @@ use Rattle.std.proofs.Common.{◌≡◌, ℕ, zero, suc, ◌+◌, ◌<◌, ◌�
 use Rattle.std.specs.Prelude.{None, sum_by, if◌then◌else◌}
 use Rattle.std.proofs.lemmas.List.Sums.{sum_by-append, sum_by-cons}
 use Rattle.card_sets.specs.PlayerSets.{has_player, players_from, seats_in}
-use Rattle.history_text.specs.declared.events.Header.{Header}
-use Rattle.history_text.specs.declared.events.Event.{Event}
-use Rattle.history_text.specs.declared.events.Event.TheVariants.{Collect}
-use Rattle.betting_replay.specs.declared.faults.BetFault.TheVariants.{NotInHand}
+use Rattle.hand_events.specs.declared.events.Header.{Header}
+use Rattle.hand_events.specs.declared.events.Event.{Event}
+use Rattle.hand_events.specs.declared.events.Event.TheVariants.{Collect}
+use Rattle.hand_events.specs.declared.faults.BetFault.TheVariants.{NotInHand}
 use Rattle.betting_replay.specs.Accepted.{IsAccepted}
 use Rattle.betting_replay.specs.Faults.{not_in_hand}
 use Rattle.betting_replay.specs.TableAfter.{ReplayState, acts_at, table_of}

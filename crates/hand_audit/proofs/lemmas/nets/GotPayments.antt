@@ -4,15 +4,15 @@ use Rattle.std.specs.Prelude.{find, is_some, sum_by, if◌then◌else◌}
 use Rattle.std.specs.List.{list_all}
 use Rattle.std.specs.Option.{option_map_or}
 use Rattle.std.proofs.lemmas.List.Sums.{sum_by-cons}
-use Rattle.history_text.specs.declared.events.PotName.{PotName}
+use Rattle.hand_events.specs.declared.events.PotName.{PotName}
 use Rattle.pot_layers.specs.declared.paid.Pot.{Pot}
 use Rattle.pot_layers.specs.Pots.{pots}
 use Rattle.hand_audit.specs.declared.collections.Collection.{Collection}
 use Rattle.hand_audit.specs.declared.pot_names.Source.TheVariants.{Numbered}
-use Rattle.hand_audit.specs.declared.settlement.Payment.{Payment}
-use Rattle.hand_audit.specs.declared.settlement.PotLine.{PotLine}
+use Rattle.hand_verdict.specs.declared.settlement.Payment.{Payment}
+use Rattle.hand_verdict.specs.declared.settlement.PotLine.{PotLine}
 use Rattle.hand_audit.specs.Collections.{got_from, taken, taken_from}
-use Rattle.hand_audit.specs.Nets.{got_by}
+use Rattle.hand_verdict.specs.SeatSums.{got_by}
 use Rattle.hand_audit.specs.PotNames.{each_taken, fits, names_pot, pot_named}
 use Rattle.hand_audit.specs.Settle.{Showing, hand_payment, is_payment, pay_of, payments_from, pot_line, pot_lines, settled, settled_of, unfit_line}
 use Rattle.hand_audit.proofs.lemmas.chips.Collected.{both_tests}

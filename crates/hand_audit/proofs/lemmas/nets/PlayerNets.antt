@@ -4,9 +4,9 @@ use Rattle.std.specs.Prelude.{Ok, Result, Some, sum_by}
 use Rattle.std.proofs.lemmas.List.{length-map}
 use Rattle.std.proofs.lemmas.List.Sums.{sum_by-cons}
 use Rattle.card_sets.specs.PlayerSets.{seats_in}
-use Rattle.history_text.specs.declared.events.Header.{Header}
-use Rattle.history_text.specs.declared.events.Event.{Event}
-use Rattle.history_text.specs.declared.events.TextFault.{TextFault}
+use Rattle.hand_events.specs.declared.events.Header.{Header}
+use Rattle.hand_events.specs.declared.events.Event.{Event}
+use Rattle.hand_events.specs.declared.events.TextFault.{TextFault}
 use Rattle.history_text.specs.Headers.{header_of}
 use Rattle.pot_layers.specs.declared.paid.Pot.{Pot}
 use Rattle.pot_layers.specs.Pots.{held, pots, put_in_all}
@@ -18,18 +18,19 @@ use Rattle.hand_audit.specs.Chips.{IsBalanced, collected_at, over_seats}
 use Rattle.hand_audit.specs.Collections.{collections, got_from, taken}
 use Rattle.hand_audit.specs.Departs.{collected, departs_from, put_in_by}
 use Rattle.hand_audit.specs.Lines.{nothing}
-use Rattle.hand_audit.specs.Nets.{NetsAddUp, chips_at, got_of}
+use Rattle.hand_audit.specs.Nets.{NetsAddUp}
+use Rattle.hand_verdict.specs.SeatSums.{chips_at, got_of}
 use Rattle.hand_audit.specs.PotNames.{fits}
 use Rattle.hand_audit.specs.SeatChips.{chips_after, chips_behind, chips_of, seat_chips}
 use Rattle.hand_audit.specs.Settle.{Showing, pot_line, pot_lines, settled, settled_of, unfit_line}
 use Rattle.hand_audit.specs.Showings.{rake, showing_of}
 use Rattle.hand_audit.specs.Verdict.{audit_of, events_of, settlement_of}
 use Rattle.hand_audit.specs.declared.pot_names.Source.TheVariants.{Numbered}
-use Rattle.hand_audit.specs.declared.seat_chips.SeatChips.{SeatChips}
-use Rattle.hand_audit.specs.declared.settlement.PotLine.{PotLine}
-use Rattle.hand_audit.specs.declared.settlement.Settlement.{Settlement}
-use Rattle.hand_audit.specs.declared.verdicts.AllIn.{AllIn}
-use Rattle.hand_audit.specs.declared.verdicts.HandAudit.TheVariants.{Accepted}
+use Rattle.hand_verdict.specs.declared.seat_chips.SeatChips.{SeatChips}
+use Rattle.hand_verdict.specs.declared.settlement.PotLine.{PotLine}
+use Rattle.hand_verdict.specs.declared.settlement.Settlement.{Settlement}
+use Rattle.hand_verdict.specs.declared.verdicts.AllIn.{AllIn}
+use Rattle.hand_verdict.specs.declared.verdicts.HandAudit.TheVariants.{Accepted}
 use Rattle.hand_audit.proofs.lemmas.chips.AllPutIn.{Idle, put_is_sum}
 use Rattle.hand_audit.proofs.lemmas.chips.Collected.{AreSeats, got_is_taken}
 use Rattle.hand_audit.proofs.lemmas.first_pass.WholePass.{others_idle}

@@ -3,8 +3,8 @@ use Rattle.std.proofs.Common.{◌≡◌, ℕ, zero, suc, ◌+◌, ◌-◌, ◌<�
 use Rattle.std.specs.Prelude.{Option, Some, None, All, slice_get, slice_index_or, Ok}
 use Rattle.std.proofs.lemmas.Option.{slice_get-get_or}
 use Rattle.card_sets.specs.PlayerSets.{seats_in}
-use Rattle.history_text.specs.declared.events.Header.{Header}
-use Rattle.history_text.specs.declared.events.Event.{Event}
+use Rattle.hand_events.specs.declared.events.Header.{Header}
+use Rattle.hand_events.specs.declared.events.Event.{Event}
 use Rattle.history_text.specs.Headers.{header_of}
 use Rattle.hand_choice.specs.AllowedFives.{AllowsFives}
 use Rattle.pot_layers.specs.declared.paid.Pot.{Pot}
@@ -30,9 +30,9 @@ use Rattle.hand_audit.specs.Showings.{rake, showing_at, showing_of}
 use Rattle.hand_audit.specs.Splits.{IsWonBySomebody}
 use Rattle.hand_audit.specs.Verdict.{settlement_by, audit_of, events_of}
 use Rattle.hand_audit.specs.Winning.{AreDecided}
-use Rattle.hand_audit.specs.declared.verdicts.AllIn.{AllIn}
-use Rattle.hand_audit.specs.declared.verdicts.HandAudit.TheVariants.{Accepted}
-use Rattle.hand_audit.specs.declared.settlement.Settlement.{Settlement}
+use Rattle.hand_verdict.specs.declared.verdicts.AllIn.{AllIn}
+use Rattle.hand_verdict.specs.declared.verdicts.HandAudit.TheVariants.{Accepted}
+use Rattle.hand_verdict.specs.declared.settlement.Settlement.{Settlement}
 use Rattle.hand_audit.specs.Lines.{nothing}
 use Rattle.hand_audit.proofs.lemmas.pot_sums.PotDues.{IsGiven, IsWon, parts_given, small_marks}
 use Rattle.hand_audit.proofs.lemmas.pot_sums.OpenPots.{IsOpen, AreOpen, open_in, pots_open}

@@ -4,7 +4,7 @@ use Rattle.std.specs.Prelude.{nat_lt, if◌then◌else◌}
 use Rattle.std.proofs.lemmas.List.Sums.{sum_by-cons, sum_by-append}
 use Rattle.pot_layers.specs.declared.paid.Share.{Share}
 use Rattle.pot_layers.specs.Split.{given_in_all, shares, shares_from, sides_won, side_share, high_half, low_half}
-use Rattle.hand_audit.specs.declared.settlement.Payment.{Payment}
+use Rattle.hand_verdict.specs.declared.settlement.Payment.{Payment}
 use Rattle.hand_audit.specs.Chips.{sum_from, over_seats}
 use Rattle.hand_audit.specs.PotSums.{all_got, all_due}
 use Rattle.hand_audit.specs.Settle.{due_of_seat, is_payment, payments_from}

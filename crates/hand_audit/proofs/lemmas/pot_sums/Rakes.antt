@@ -3,15 +3,15 @@ use Rattle.std.proofs.Common.{◌≡◌, ℕ, zero, suc, ◌+◌, ◌-◌, ◌<�
 use Rattle.std.specs.Prelude.{nat_le, nat_lt, sum_by, is_some, slice_index_or, Option, Some, None, if◌then◌else◌}
 use Rattle.std.specs.List.{list_all}
 use Rattle.std.proofs.lemmas.List.Sums.{sum_by-cons}
-use Rattle.history_text.specs.declared.events.PotName.{PotName}
-use Rattle.history_text.specs.declared.events.PotName.TheVariants.{Only, Main, Side, SideNumber}
+use Rattle.hand_events.specs.declared.events.PotName.{PotName}
+use Rattle.hand_events.specs.declared.events.PotName.TheVariants.{Only, Main, Side, SideNumber}
 use Rattle.pot_layers.specs.declared.paid.Paid.{Paid}
 use Rattle.pot_layers.specs.declared.paid.Pot.{Pot}
 use Rattle.pot_layers.specs.Pots.{pots, held, levels, with_level, is_in, any_contender, or_one, pots_from, more_first, more_last, above, highest, all_dead, put_in_all}
 use Rattle.pot_layers.proofs.CallerLemmas.{pots_hold_all}
 use Rattle.betting_replay.specs.Places.{is_at}
 use Rattle.hand_audit.specs.declared.collections.Collection.{Collection}
-use Rattle.hand_audit.specs.declared.settlement.PotLine.{PotLine}
+use Rattle.hand_verdict.specs.declared.settlement.PotLine.{PotLine}
 use Rattle.hand_audit.specs.declared.pot_names.Source.TheVariants.{Numbered}
 use Rattle.hand_audit.specs.Collections.{taken, taken_from, any_from}
 use Rattle.hand_audit.specs.PotNames.{pot_named, names_pot, each_taken, fits}

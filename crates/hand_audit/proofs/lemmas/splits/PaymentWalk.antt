@@ -3,9 +3,9 @@ use Rattle.std.proofs.Common.{◌≡◌, ℕ, zero, suc, ◌+◌, ◌-◌, ◌<�
 use Rattle.std.specs.Prelude.{nat_lt, if◌then◌else◌}
 use Rattle.std.proofs.lemmas.Bool.Decides.{nat_tests}
 use Rattle.std.proofs.lemmas.List.Sums.{sum_by-cons}
-use Rattle.history_text.specs.declared.events.PotName.{PotName}
+use Rattle.hand_events.specs.declared.events.PotName.{PotName}
 use Rattle.hand_audit.specs.declared.collections.Collection.{Collection}
-use Rattle.hand_audit.specs.declared.settlement.Payment.{Payment}
+use Rattle.hand_verdict.specs.declared.settlement.Payment.{Payment}
 use Rattle.hand_audit.specs.Collections.{taken_from, got_from}
 use Rattle.pot_layers.specs.declared.paid.Share.{Share}
 use Rattle.pot_layers.specs.Split.{given_in_all}

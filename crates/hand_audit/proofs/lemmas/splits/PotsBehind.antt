@@ -6,8 +6,8 @@ use Rattle.std.proofs.lemmas.List.{take_all}
 use Rattle.pot_layers.specs.declared.paid.Pot.{Pot}
 use Rattle.betting_replay.specs.Seats.{or_else}
 use Rattle.hand_audit.specs.declared.pot_names.Source.TheVariants.{Numbered}
-use Rattle.hand_audit.specs.declared.settlement.Payment.{Payment}
-use Rattle.hand_audit.specs.declared.settlement.PotLine.{PotLine}
+use Rattle.hand_verdict.specs.declared.settlement.Payment.{Payment}
+use Rattle.hand_verdict.specs.declared.settlement.PotLine.{PotLine}
 use Rattle.hand_audit.specs.declared.settling.PotSettled.{PotSettled}
 use Rattle.hand_audit.specs.Settle.{Showing, pot_lines, beyond_of}
 use Rattle.hand_audit.specs.SettlementAnswers.{IsOfPot, AreOfPots}

@@ -3,23 +3,23 @@ use Rattle.std.proofs.Common.{◌≡◌, ℕ, List, refl, sym, ap, ◌∙◌, tr
 use Rattle.std.specs.Prelude.{Option, Some, None, if◌then◌else◌, Ok, slice_get, nat_lt}
 use Rattle.std.specs.List.{list_any}
 use Rattle.std.proofs.lemmas.Bool.{cases_eq}
-use Rattle.history_text.specs.declared.events.Header.{Header}
-use Rattle.history_text.specs.declared.events.Event.{Event}
+use Rattle.hand_events.specs.declared.events.Header.{Header}
+use Rattle.hand_events.specs.declared.events.Event.{Event}
 use Rattle.history_text.specs.Headers.{header_of}
 use Rattle.pot_layers.specs.declared.paid.Pot.{Pot}
 use Rattle.pot_layers.specs.Pots.{pots}
 use Rattle.betting_replay.specs.Seats.{or_else}
-use Rattle.hand_audit.specs.declared.cause.Cause.TheVariants.{Unfinished}
+use Rattle.hand_verdict.specs.declared.cause.Cause.TheVariants.{Unfinished}
 use Rattle.hand_audit.specs.Settle.{beyond, Showing, beyond_if, beyond_in, beyond_of, beyond_from, settled, settled_of, pay_of, shares_of_pot, due_of_seat, sides_of_seat, distance}
-use Rattle.hand_audit.specs.declared.settlement.Payment.{Payment}
+use Rattle.hand_verdict.specs.declared.settlement.Payment.{Payment}
 use Rattle.hand_audit.specs.Departs.{split_cause, is_total, end_cause, departs_from}
 use Rattle.hand_audit.specs.Showings.{showing_of}
 use Rattle.hand_audit.specs.Lines.{nothing}
 use Rattle.hand_audit.specs.Verdict.{events_of, audit_of}
-use Rattle.hand_audit.specs.declared.verdicts.AllIn.{AllIn}
-use Rattle.hand_audit.specs.declared.verdicts.HandAudit.TheVariants.{Accepted}
+use Rattle.hand_verdict.specs.declared.verdicts.AllIn.{AllIn}
+use Rattle.hand_verdict.specs.declared.verdicts.HandAudit.TheVariants.{Accepted}
 use Rattle.hand_audit.specs.declared.pot_names.Source.TheVariants.{Numbered}
-use Rattle.hand_audit.specs.declared.settlement.Settlement.{Settlement}
+use Rattle.hand_verdict.specs.declared.settlement.Settlement.{Settlement}
 use Rattle.hand_audit.specs.PotNames.{fits}
 use Rattle.hand_audit.specs.Splits.{IsSplitRightly}
 use Rattle.hand_audit.proofs.lemmas.lines.AcceptedLines.{sound_all, has_total, start}

@@ -7,8 +7,8 @@ use Rattle.pot_layers.specs.Pots.{pots}
 use Rattle.hand_audit.specs.declared.collections.Collection.{Collection}
 use Rattle.hand_audit.specs.declared.pot_names.Source.{Source}
 use Rattle.hand_audit.specs.declared.pot_names.Source.TheVariants.{Any}
-use Rattle.hand_audit.specs.declared.settlement.Payment.{Payment}
-use Rattle.hand_audit.specs.declared.settlement.PotLine.{PotLine}
+use Rattle.hand_verdict.specs.declared.settlement.Payment.{Payment}
+use Rattle.hand_verdict.specs.declared.settlement.PotLine.{PotLine}
 use Rattle.hand_audit.specs.Collections.{taken_from, got_from}
 use Rattle.hand_audit.specs.PotNames.{counts_from, fits, each_taken}
 use Rattle.hand_audit.specs.Settle.{Showing, settled, settled_of, beyond, beyond_if, is_checked, parts_of, shares_if, shares_of_pot, payment, payments_from, beyond_from, sides_of_seat, pot_lines, beyond_in, unfit_line}

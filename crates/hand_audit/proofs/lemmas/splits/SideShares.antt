@@ -8,8 +8,8 @@ use Rattle.pot_layers.specs.declared.paid.Pot.{Pot}
 use Rattle.pot_layers.specs.declared.paid.Share.{Share}
 use Rattle.pot_layers.specs.Pots.{pots}
 use Rattle.pot_layers.specs.Split.{IsOrder, shares, first_half, second_half, high_half, low_half}
-use Rattle.hand_audit.specs.declared.parts.PartShare.{PartShare}
-use Rattle.hand_audit.specs.declared.settlement.PotLine.{PotLine}
+use Rattle.hand_verdict.specs.declared.parts.PartShare.{PartShare}
+use Rattle.hand_verdict.specs.declared.settlement.PotLine.{PotLine}
 use Rattle.hand_audit.specs.declared.worths.OnBoard.{OnBoard}
 use Rattle.hand_audit.specs.AllIns.{eligible_in}
 use Rattle.hand_audit.specs.Parts.{part_share, side_parts, both_sides, shares_on, shares_on_boards, is_contested, part_shares_if, part_shares}

@@ -2,9 +2,9 @@
 use Rattle.std.proofs.Common.{◌≡◌, ℕ, List, [], ◌∷◌, refl, sym, ap, ◌∙◌, false}
 use Rattle.std.specs.Prelude.{Some, None, Ok}
 use Rattle.history_text.specs.Headers.{header_of}
-use Rattle.history_text.specs.declared.events.Header.{Header}
-use Rattle.hand_audit.specs.declared.cause.Cause.{Cause}
-use Rattle.hand_audit.specs.declared.cause.Cause.TheVariants.{Text, Bet, Chips, Split, Unfinished}
+use Rattle.hand_events.specs.declared.events.Header.{Header}
+use Rattle.hand_verdict.specs.declared.cause.Cause.{Cause}
+use Rattle.hand_verdict.specs.declared.cause.Cause.TheVariants.{Text, Bet, Chips, Split, Unfinished}
 use Rattle.hand_audit.specs.Departs.{is_split}
 use Rattle.hand_audit.specs.Lines.{nothing, players_of}
 use Rattle.hand_audit.specs.Parts.{hand_parts}

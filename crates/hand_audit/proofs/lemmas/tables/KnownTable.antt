@@ -9,8 +9,8 @@ use Rattle.card_sets.specs.Disjoint.{apart, all_apart, all_empty}
 use Rattle.card_sets.specs.Games.{own_size, board_size, all_fit}
 use Rattle.card_sets.specs.declared.games.Game.{Game}
 use Rattle.card_sets.specs.declared.streets.Street.{Street}
-use Rattle.history_text.specs.declared.events.Header.{Header}
-use Rattle.history_text.specs.declared.events.Event.{Event}
+use Rattle.hand_events.specs.declared.events.Header.{Header}
+use Rattle.hand_events.specs.declared.events.Event.{Event}
 use Rattle.betting_replay.specs.declared.points.Point.{Point}
 use Rattle.betting_replay.specs.Boards.{board_up_to}
 use Rattle.betting_replay.specs.CardLaws.{PlacesAreApart, CardsBelong, Among, HasBoard}

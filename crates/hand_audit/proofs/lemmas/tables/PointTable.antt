@@ -10,12 +10,12 @@ use Rattle.pot_layers.specs.Pots.{pots}
 use Rattle.betting_replay.specs.AllIn.{point_street}
 use Rattle.betting_replay.specs.Table.{ReplayState}
 use Rattle.hand_audit.specs.Showings.{paid_in}
-use Rattle.hand_audit.specs.declared.settlement.PotLine.{PotLine}
+use Rattle.hand_verdict.specs.declared.settlement.PotLine.{PotLine}
 use Rattle.hand_audit.specs.KnownTables.{ten, places_in, Bare, table_from}
 use Rattle.hand_audit.specs.PotSeats.{eligible_of}
 use Rattle.hand_audit.specs.AllIns.{cards_or_none, bare_of, all_in_at, known_with, known_there, eligible_in, all_in_on, all_in_by}
 use Rattle.hand_audit.specs.declared.at_point.AtPoint.{AtPoint}
-use Rattle.hand_audit.specs.declared.verdicts.AllIn.TheVariants.{None as NoAllIn, Unknown}
+use Rattle.hand_verdict.specs.declared.verdicts.AllIn.TheVariants.{None as NoAllIn, Unknown}
 use Rattle.hand_audit.proofs.lemmas.tables.TableFacts.{many_pots}
 
 map_twice : (f : ℕ → ℕ) (pots : List PotLine) → map (λ pot. f pot.eligible) pots ≡ map f (eligible_of pots)

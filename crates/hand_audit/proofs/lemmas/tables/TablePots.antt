@@ -6,8 +6,8 @@ use Rattle.std.proofs.lemmas.List.{length-map, length-take-le}
 use Rattle.card_sets.specs.PlayerSetLaws.{has_player-where}
 use Rattle.card_sets.specs.PlayerSets.{has_player, seats_in, hands_of}
 use Rattle.card_sets.specs.declared.streets.Street.{Street}
-use Rattle.history_text.specs.declared.events.Header.{Header}
-use Rattle.history_text.specs.declared.events.Event.{Event}
+use Rattle.hand_events.specs.declared.events.Header.{Header}
+use Rattle.hand_events.specs.declared.events.Event.{Event}
 use Rattle.history_text.specs.Headers.{header_of}
 use Rattle.pot_layers.specs.Pots.{pots}
 use Rattle.betting_replay.specs.AllIn.{point_street, point_contenders}
@@ -22,10 +22,10 @@ use Rattle.hand_audit.specs.Settle.{settled}
 use Rattle.hand_audit.specs.Showings.{paid_in, showing_of}
 use Rattle.hand_audit.specs.TablePots.{HasPotsOf}
 use Rattle.hand_audit.specs.Verdict.{settlement_of, audit_of, events_of}
-use Rattle.hand_audit.specs.declared.verdicts.AllIn.TheVariants.{Known}
-use Rattle.hand_audit.specs.declared.settlement.PotLine.{PotLine}
-use Rattle.hand_audit.specs.declared.verdicts.HandAudit.TheVariants.{Accepted}
-use Rattle.hand_audit.specs.declared.settlement.Settlement.{Settlement}
+use Rattle.hand_verdict.specs.declared.verdicts.AllIn.TheVariants.{Known}
+use Rattle.hand_verdict.specs.declared.settlement.PotLine.{PotLine}
+use Rattle.hand_verdict.specs.declared.verdicts.HandAudit.TheVariants.{Accepted}
+use Rattle.hand_verdict.specs.declared.settlement.Settlement.{Settlement}
 use Rattle.hand_audit.proofs.lemmas.tables.FewPots.{few_pots}
 use Rattle.hand_audit.proofs.lemmas.all_ins.KnownCards.{IsMade, made_at}
 use Rattle.hand_audit.proofs.lemmas.seats.TenPlaces.{in_ten, in_map}

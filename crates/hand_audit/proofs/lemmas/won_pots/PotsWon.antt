@@ -6,8 +6,8 @@ use Rattle.card_sets.specs.PlayerSets.{seats_in}
 use Rattle.card_sets.specs.Cards.{IsCardSet, cards_where}
 use Rattle.card_sets.specs.Bits.{IsCardSet-cards_where}
 use Rattle.card_sets.specs.declared.games.Game.{Game}
-use Rattle.history_text.specs.declared.events.Header.{Header}
-use Rattle.history_text.specs.declared.events.Event.{Event}
+use Rattle.hand_events.specs.declared.events.Header.{Header}
+use Rattle.hand_events.specs.declared.events.Event.{Event}
 use Rattle.history_text.specs.Headers.{header_of}
 use Rattle.pot_layers.specs.declared.paid.Paid.{Paid}
 use Rattle.pot_layers.specs.declared.paid.Pot.{Pot}
@@ -27,9 +27,9 @@ use Rattle.hand_audit.specs.Settle.{Showing, Part, IsBoardOf, parts_by, parts_of
 use Rattle.hand_audit.specs.Showings.{paid_in, second_if, showing_at, showing_of}
 use Rattle.hand_audit.specs.Splits.{IsWonBySomebody}
 use Rattle.hand_audit.specs.Winning.{Ranks, number_on, is_full, AreFullOn, AreFull, IsDecided, AreDecided}
-use Rattle.hand_audit.specs.declared.verdicts.AllIn.{AllIn}
-use Rattle.hand_audit.specs.declared.verdicts.HandAudit.TheVariants.{Accepted}
-use Rattle.hand_audit.specs.declared.settlement.Settlement.{Settlement}
+use Rattle.hand_verdict.specs.declared.verdicts.AllIn.{AllIn}
+use Rattle.hand_verdict.specs.declared.verdicts.HandAudit.TheVariants.{Accepted}
+use Rattle.hand_verdict.specs.declared.settlement.Settlement.{Settlement}
 use Rattle.hand_audit.specs.Lines.{nothing}
 use Rattle.hand_audit.specs.Verdict.{audit_of, events_of}
 use Rattle.hand_audit.proofs.lemmas.splits.HandNumbers.{KeepsOrder, ranked, full_from}

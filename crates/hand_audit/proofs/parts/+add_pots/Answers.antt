@@ -1,7 +1,7 @@
 use Rattle.std.proofs.Common.{sym, ap, ◌∙◌, subst, arith}
 use Rattle.hand_audit.specs.Parts.{part_shares}
 use Rattle.hand_audit.specs.Winning.{IsDecided}
-use Rattle.hand_audit.specs.declared.settlement.PotLine.{PotLine}
+use Rattle.hand_verdict.specs.declared.settlement.PotLine.{PotLine}
 use Rattle.hand_audit.proofs.lemmas.splits.SideShares.{decided_behind, parts_more}
 use Rattle.hand_audit.proofs.parts.+add_pots.Goals as goal
 

@@ -4,7 +4,7 @@ use Rattle.hand_audit.specs.Parts.{part_shares}
 use Rattle.hand_audit.specs.Settle.{Showing, Settled, settled}
 use Rattle.hand_audit.specs.Showings.{showing_of}
 use Rattle.hand_audit.specs.Winning.{IsDecided, Tells}
-use Rattle.hand_audit.specs.declared.settlement.PotLine.{PotLine}
+use Rattle.hand_verdict.specs.declared.settlement.PotLine.{PotLine}
 use Rattle.hand_audit.proofs.lemmas.lines.LineSteps.{showing_kept}
 use Rattle.hand_audit.proofs.lemmas.splits.SideShares.{decided_lines}
 use Rattle.hand_audit.proofs.parts.hand_parts.Goals as goal

@@ -1,5 +1,5 @@
 use Rattle.std.proofs.Common.{◌≡◌, ℕ, ◌∙◌, ap, true, false, arith}
-use Rattle.hand_audit.specs.declared.settlement.Payment.{Payment}
+use Rattle.hand_verdict.specs.declared.settlement.Payment.{Payment}
 use Rattle.hand_audit.specs.Collections.{got_from}
 use Rattle.hand_audit.specs.PotNames.{counts_from}
 use Rattle.hand_audit.specs.Settle.{payment, is_payment}

@@ -1,5 +1,5 @@
 use Rattle.std.specs.Prelude.{◌≡◌, ◌<◌, ℕ, length}
-use Rattle.hand_audit.specs.Nets.{chips_at}
+use Rattle.hand_verdict.specs.SeatSums.{chips_at}
 use Rattle.hand_audit.specs.SeatChips.{chips_on}
 use Rattle.hand_audit.proofs.seat_chips.all_chips_on.Given as goal
 

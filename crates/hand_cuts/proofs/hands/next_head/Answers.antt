@@ -5,8 +5,8 @@ use Rattle.hand_cuts.proofs.LineParts.{line_at}
 use Rattle.hand_cuts.proofs.ScanSteps.{fewer_passed, pass_other, read_text}
 use Rattle.hand_cuts.proofs.hands.next_head.Goals as goal
 
-pub returns-then-is_header-clause-some : goal.returns-then-is_header-clause-some
-returns-then-is_header-clause-some c =
+pub returns-then-is_head-clause-some : goal.returns-then-is_head-clause-some
+returns-then-is_head-clause-some c =
     let s = c.lines.scan in
     let bytes = c.args.bytes.now in
     record {
@@ -19,7 +19,7 @@ returns-then-is_header-clause-some c =
       next = c.in-Some.next;
       text = text_of (front_line (drop s.looked bytes));
       found = line_at bytes s.looked c.in-Some.next c.in-Some.ensures;
-      header = read_text bytes c.text_of.result.now s.looked c.in-Some.next true c.in-Some.ensures c.text_of.ensures c.if-is_header.ensures;
+      header = read_text bytes _ s.looked c.in-Some.next true c.in-Some.ensures refl c.if-is_head.ensures;
       after = c.pass.ensures;
     }
 
@@ -28,7 +28,7 @@ lines-preserved c =
     let s = c.lines.scan in
     let bytes = c.args.bytes.now in
     let line = line_at bytes s.looked c.in-Some.next c.in-Some.ensures in
-    let other : is_header (text_of (front_line (drop s.looked bytes))) ≡ false = read_text bytes c.text_of.result.now s.looked c.in-Some.next false c.in-Some.ensures c.text_of.ensures c.if-is_header.ensures in
+    let other : is_header (text_of (front_line (drop s.looked bytes))) ≡ false = read_text bytes _ s.looked c.in-Some.next false c.in-Some.ensures refl c.if-is_head.ensures in
     let step = fewer_passed bytes s c.in-Some.next _ line in
     let so_far = c.lines.invariant.fewer in
     rw c.pass.ensures (record {

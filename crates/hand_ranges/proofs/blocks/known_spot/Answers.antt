@@ -1,6 +1,6 @@
 use Rattle.std.proofs.Common.{◌≡◌, length, ap, ◌∙◌, subst, Ok, Result, arith}
 use Rattle.std.proofs.lemmas.Result.{on_ok_weaker}
-use Rattle.report_table.specs.Sheets.{with_lines}
+use Rattle.report_sheet.specs.Sheets.{with_lines}
 use Rattle.hand_ranges.specs.declared.tally.RangeJobFault.{RangeJobFault}
 use Rattle.hand_ranges.specs.declared.tally.RangeTally.{RangeTally}
 use Rattle.hand_ranges.specs.Counted.{IsCountOf}

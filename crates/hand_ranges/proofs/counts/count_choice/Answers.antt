@@ -1,7 +1,7 @@
 use Rattle.std.proofs.Common.{◌≡◌, ◌≤◌, length, ap, sym, subst, arith}
 use Rattle.card_sets.specs.State.{state_of}
-use Rattle.equity_job.specs.Jobs.{IsDeckShort}
-use Rattle.equity_job.specs.declared.limits.TheConstants.{RUNOUT_MAX}
+use Rattle.runout_ranges.specs.Jobs.{IsDeckShort}
+use Rattle.runout_ranges.specs.declared.limits.TheConstants.{RUNOUT_MAX}
 use Rattle.showdown_tally.specs.Tallies.{runouts_after}
 use Rattle.hand_ranges.specs.Choices.{deal_of_choice}
 use Rattle.hand_ranges.specs.RangeSpot.{ranges_in}

@@ -1,5 +1,5 @@
-use Rattle.report_table.proofs.CallerLemmas.{line_ends, then_words}
-use Rattle.report_table.specs.Spots.{spot_name}
+use Rattle.report_sheet.proofs.CallerLemmas.{line_ends, then_words}
+use Rattle.report_sheet.specs.SpotLines.{spot_name}
 use Rattle.hand_ranges.specs.Blocks.{counted_line}
 use Rattle.hand_ranges.proofs.lines.counted_line.Goals as goal
 

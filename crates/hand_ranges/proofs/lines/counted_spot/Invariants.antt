@@ -1,9 +1,9 @@
 use Rattle.std.proofs.Common.{◌≡◌, ◌*◌, ◌++◌}
 use Rattle.std.specs.List.{flat_map}
 use Rattle.card_sets.specs.declared.games.Game.TheVariants.{Holdem}
-use Rattle.report_table.specs.Lines.{line_in}
-use Rattle.report_table.specs.Sheets.{with_lines}
-use Rattle.report_table.specs.Spots.{every_hand, hand_lines}
+use Rattle.report_sheet.specs.Lines.{line_in}
+use Rattle.report_sheet.specs.Sheets.{with_lines}
+use Rattle.report_sheet.specs.SpotLines.{every_hand, hand_lines}
 use Rattle.hand_ranges.specs.Blocks.{counted_line, tally_ends, tally_units}
 use Rattle.hand_ranges.proofs.lines.counted_spot.Given as goal
 

@@ -40,7 +40,7 @@ returns c =
     ∙ sym (c.law_only_low_cards.ensures c.args.own c.args.board placed)
 
 pub best_own-worth-requires-clause-most : goal.best_own-worth-requires-clause-most
-best_own-worth-requires-clause-most c = omega (arith, ap length c.low_cards-low_board.ensures, fewer is_low c.args.board, c.requires.board)
+best_own-worth-requires-clause-most c = omega (arith, ap length c.low_cards-low_board.ensures, fewer is_low c.args.board, c.requires.most)
 
 pub best_own-worth-requires-clause-others : goal.best_own-worth-requires-clause-others
 best_own-worth-requires-clause-others c =

@@ -1,5 +1,5 @@
 use Rattle.std.proofs.Common.{List, ℕ, ap, ◌∙◌, arith}
-use Rattle.hand_audit.specs.declared.settlement.PotLine.{PotLine}
+use Rattle.hand_verdict.specs.declared.settlement.PotLine.{PotLine}
 use Rattle.report_table.specs.HandEquities.{expected_units, given_to, tally_figures}
 use Rattle.report_table.specs.Results.{contenders, shared_pots}
 use Rattle.report_table.proofs.EquityFacts.{whole_units}

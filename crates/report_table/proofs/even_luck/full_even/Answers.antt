@@ -1,7 +1,7 @@
 use Rattle.std.proofs.Common.{ap, sym, ◌∙◌, arith}
 use Rattle.std.specs.Option.{option_map_or}
 use Rattle.std.specs.Prelude.{Some}
-use Rattle.hand_audit.specs.Nets.{got_of}
+use Rattle.hand_verdict.specs.SeatSums.{got_of}
 use Rattle.report_table.specs.Results.{even_got}
 use Rattle.report_table.proofs.EvenFacts.{even_counted, even_refused}
 use Rattle.report_table.proofs.SumFacts.{counted_none, counted_some}

@@ -1,6 +1,6 @@
 use Rattle.std.proofs.Common.{◌≡◌, ◌*◌, ◌≤◌, ◌^◌, take}
 use Rattle.std.specs.List.{sum_by}
-use Rattle.hand_audit.specs.Nets.{got_by}
+use Rattle.hand_verdict.specs.SeatSums.{got_by}
 use Rattle.report_table.proofs.even_luck.got_of.Given as goal
 
 abbrev pub invariant-loop-pot : goal.invariant-loop-pot

@@ -1,7 +1,7 @@
 use Rattle.std.proofs.Common.{◌≡◌, length, take, ap, ◌∙◌, arith}
 use Rattle.std.proofs.Math.Seq.{take-length}
 use Rattle.std.specs.List.{sum_by}
-use Rattle.hand_audit.specs.Nets.{got_by}
+use Rattle.hand_verdict.specs.SeatSums.{got_by}
 use Rattle.report_table.specs.Totals.{paid_from}
 use Rattle.report_table.proofs.EvenFacts.{got_shared}
 use Rattle.report_table.proofs.even_luck.got_together.Goals as goal

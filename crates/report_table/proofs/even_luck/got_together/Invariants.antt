@@ -1,6 +1,6 @@
 use Rattle.std.proofs.Common.{◌≡◌, ◌*◌, ◌≤◌, ◌^◌, take}
 use Rattle.std.specs.List.{sum_by}
-use Rattle.hand_audit.specs.Nets.{got_by}
+use Rattle.hand_verdict.specs.SeatSums.{got_by}
 use Rattle.report_table.specs.Totals.{paid_from}
 use Rattle.report_table.proofs.even_luck.got_together.Given as goal
 

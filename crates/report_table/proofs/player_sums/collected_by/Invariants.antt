@@ -1,6 +1,6 @@
 use Rattle.std.proofs.Common.{◌≡◌, ◌≤◌, ◌*◌, ◌^◌}
 use Rattle.std.specs.List.{sum_by}
-use Rattle.hand_audit.specs.Nets.{got_by}
+use Rattle.hand_verdict.specs.SeatSums.{got_by}
 use Rattle.report_table.specs.HandEquities.{every_pot}
 use Rattle.report_table.specs.Totals.{paid_from}
 use Rattle.report_table.proofs.player_sums.collected_by.Given as goal

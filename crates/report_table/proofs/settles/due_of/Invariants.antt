@@ -1,6 +1,6 @@
 use Rattle.std.proofs.Common.{◌≡◌, ◌*◌, ◌≤◌, ◌^◌, take}
 use Rattle.std.specs.List.{sum_by}
-use Rattle.hand_audit.specs.Dues.{due_by}
+use Rattle.hand_verdict.specs.SeatSums.{due_by}
 use Rattle.report_table.proofs.settles.due_of.Given as goal
 
 abbrev pub invariant-loop-pot : goal.invariant-loop-pot

@@ -1,5 +1,5 @@
 use Rattle.std.proofs.Common.{◌++◌, ap, sym, ◌∙◌}
-use Rattle.report_table.specs.Lines.{line_in}
+use Rattle.report_sheet.specs.Lines.{line_in}
 use Rattle.report_table.specs.TotalsSeen.{player_of}
 use Rattle.report_table.proofs.PlayerFacts.{lines_more, lines_same}
 use Rattle.report_table.proofs.total_lines.write_players.Goals as goal

@@ -11,18 +11,17 @@ use Rattle.runout_walk.proofs.DrawLists.{filling_begins, filling_ends, filling_g
 use Rattle.runout_walk.proofs.last.put_pairs.Goals as goal
 
 pub loop-rest-init : goal.loop-rest-init
-loop-rest-init g c =
+loop-rest-init c =
     let room = c.requires.room in
     record {
       way = filling_begins (number_at c.args.rows.now c.args.base) (take c.args.used c.args.values.now) (slice_range (choose 2 c.args.cards.now) c.args.range.lo c.args.range.hi) c.args.used c.args.values.now (omega (arith, room, length-take c.args.used c.args.values.now)) refl;
       room = refl;
-      steps = omega arith;
       order = c.requires.order;
       inside = c.requires.inside;
     }
 
 pub put_row-requires-clause-room : goal.put_row-requires-clause-room
-put_row-requires-clause-room g c =
+put_row-requires-clause-room c =
     let rest = c.loop-rest.rest.now in
     let inv = c.loop-rest.invariant in
     let highs : List ℕ = take (length rest - 1) (drop 1 rest) in
@@ -36,7 +35,7 @@ put_row-requires-clause-room g c =
     omega (arith, fits, whole, room, same, length-take c.args.used c.args.values.now, length-map part (λ high. c.low-item.result ∷ high ∷ []))
 
 pub loop-rest-preserved : goal.loop-rest-preserved
-loop-rest-preserved g c =
+loop-rest-preserved c =
     let rest = c.loop-rest.rest.now in
     let inv = c.loop-rest.invariant in
     let highs : List ℕ = take (length rest - 1) (drop 1 rest) in
@@ -51,13 +50,12 @@ loop-rest-preserved g c =
       way = filling_goes_on (number_at c.args.rows.now c.args.base) _ _ _ (pairs_with c.low-item.result part) _ c.loop-rest.used (length part) _ c.loop-rest.values c.put_row.new.values (map (slice_index (slice_index_or c.args.rows.now (c.args.base + c.from.result) [])) part)
           inv.way split (sym (length-map part _)) (pair_numbers c.args.rows.now c.args.base c.low-item.result c.from.result part same) c.put_row.ensures.numbers (omega (arith, size));
       room = c.put_row.ensures.room ∙ inv.room;
-      steps = (let s = inv.steps in let t = c.put_row.ensures.steps in omega (arith, s, t, size));
       order = omega (arith, c.saturating_sub-lo.ensures, c.saturating_sub-hi.ensures, order);
       inside = omega (arith, c.saturating_sub-hi.ensures, inside, two-first-length c.low-item.result rest highs first);
     }
 
 pub returns : goal.returns
-returns g c =
+returns c =
     let inv = c.loop-rest.invariant in
     let none : c.loop-rest.rest.now ≡ [] = no_list c.loop-rest.rest.now c.in_default.len_below in
     let todo : slice_range (choose 2 c.loop-rest.rest.now) c.loop-rest.lo c.loop-rest.hi ≡ [] = ap (λ l. slice_range (choose 2 l) c.loop-rest.lo c.loop-rest.hi) none ∙ range-none c.loop-rest.lo c.loop-rest.hi in
@@ -68,5 +66,4 @@ returns g c =
     record {
       numbers = ap (λ n. take n c.loop-rest.values) (sym all) ∙ ends.1;
       room = inv.room;
-      steps = (let s = inv.steps in omega (arith, s, all));
     }

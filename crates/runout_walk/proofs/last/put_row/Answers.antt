@@ -4,7 +4,7 @@ use Rattle.runout_walk.proofs.DrawLists.{put_value}
 use Rattle.runout_walk.proofs.last.put_row.Goals as goal
 
 pub loop-place-preserved : goal.loop-place-preserved
-loop-place-preserved g c =
+loop-place-preserved c =
     let inv = c.loop-place.invariant in
     let same : c.from.result ≡ c.index-cards-place.result = c.from.ensures ∙ c.number.ensures.value in
     let inside : c.loop-place.place < length c.args.cards.now = c.loop-place-test.true in
@@ -12,5 +12,4 @@ loop-place-preserved g c =
     record {
       numbers = put_value c.args.values.now c.loop-place.values c.args.row.now c.args.cards.now c.args.used c.loop-place.place c.index-cards-place.result c.from.result room inside c.index-cards-place.is same inv.numbers;
       room = length-set c.loop-place.values _ _ ∙ inv.room;
-      steps = (let s = inv.steps in omega (arith, c.tick.ensures));
     }

@@ -10,10 +10,9 @@ use Rattle.runout_walk.proofs.DrawLists.{choices_length, choices_split, filling_
 use Rattle.runout_walk.proofs.last.put_triples.Goals as goal
 
 pub loop-rest-init : goal.loop-rest-init
-loop-rest-init g c = record {
+loop-rest-init c = record {
   way = λ rows. filling_begins (number_of rows c.args.planes.now) [] (slice_range (choose 3 c.args.cards.now) c.args.range.lo c.args.range.hi) 0 c.args.values.now refl refl;
   room = refl;
-  steps = omega arith;
   order = c.requires.order;
   inside = c.requires.inside;
   few = c.requires.few;
@@ -21,7 +20,7 @@ loop-rest-init g c = record {
 }
 
 pub overflow_sub-count : goal.overflow_sub-count
-overflow_sub-count g c =
+overflow_sub-count c =
     let rest = c.loop-rest.rest.now in
     let pairs = c.loop-rest.invariant.pairs in
     let others : List ℕ = take (length rest - 1) (drop 1 rest) in
@@ -29,12 +28,12 @@ overflow_sub-count g c =
     omega (arith, pairs, two-first-length c.low-item.result rest others first)
 
 pub put_pairs-requires-clause-order : goal.put_pairs-requires-clause-order
-put_pairs-requires-clause-order g c =
+put_pairs-requires-clause-order c =
     let order = c.loop-rest.invariant.order in
     omega (arith, c.min-start.ensures, c.min-end.ensures, order)
 
 pub put_pairs-requires-clause-inside : goal.put_pairs-requires-clause-inside
-put_pairs-requires-clause-inside g c =
+put_pairs-requires-clause-inside c =
     let rest = c.loop-rest.rest.now in
     let pairs = c.loop-rest.invariant.pairs in
     let others : List ℕ = take (length rest - 1) (drop 1 rest) in
@@ -44,7 +43,7 @@ put_pairs-requires-clause-inside g c =
     omega (arith, c.min-end.ensures, count_is)
 
 pub put_pairs-requires-clause-room : goal.put_pairs-requires-clause-room
-put_pairs-requires-clause-room g c =
+put_pairs-requires-clause-room c =
     let rest = c.loop-rest.rest.now in
     let inv = c.loop-rest.invariant in
     let others : List ℕ = take (length rest - 1) (drop 1 rest) in
@@ -63,7 +62,7 @@ put_pairs-requires-clause-room g c =
     omega (arith, fits, whole, room, same, size, length-map part (λ draw. c.low-item.result ∷ draw))
 
 pub overflow_add-used : goal.overflow_add-used
-overflow_add-used g c =
+overflow_add-used c =
     let rest = c.loop-rest.rest.now in
     let inv = c.loop-rest.invariant in
     let others : List ℕ = take (length rest - 1) (drop 1 rest) in
@@ -82,7 +81,7 @@ overflow_add-used g c =
     omega (arith, fits, whole, room, same, size, length-map part (λ draw. c.low-item.result ∷ draw))
 
 pub loop-rest-preserved : goal.loop-rest-preserved
-loop-rest-preserved g c =
+loop-rest-preserved c =
     let rest = c.loop-rest.rest.now in
     let inv = c.loop-rest.invariant in
     let others : List ℕ = take (length rest - 1) (drop 1 rest) in
@@ -100,7 +99,6 @@ loop-rest-preserved g c =
       way = λ rows. filling_goes_on (number_of rows c.args.planes.now) _ _ _ (map (λ draw. c.low-item.result ∷ draw) part) _ c.loop-rest.used (c.min-end.result - c.min-start.result) _ c.loop-rest.values c.put_pairs.new.values
           (map (number_at c.args.planes.now c.plane_base-base.result) part) (inv.way rows) split (sym (length-map part _ ∙ size)) (three_numbers rows c.args.planes.now c.low-item.result c.plane_base-base.result others c.min-start.result c.min-end.result c.plane_base-base.ensures.value) c.put_pairs.ensures.numbers (omega arith);
       room = c.put_pairs.ensures.room ∙ inv.room;
-      steps = (let s = inv.steps in let t = c.put_pairs.ensures.steps in omega (arith, s, t));
       order = omega (arith, c.saturating_sub-lo.ensures, c.saturating_sub-hi.ensures, order);
       inside = omega (arith, c.saturating_sub-hi.ensures, inside, choices_length 2 c.low-item.result rest others first, count_is);
       few = omega (arith, ap length first, few);
@@ -108,7 +106,7 @@ loop-rest-preserved g c =
     }
 
 pub returns : goal.returns
-returns g c =
+returns c =
     let inv = c.loop-rest.invariant in
     let none : c.loop-rest.rest.now ≡ [] = no_list c.loop-rest.rest.now c.in_default.len_below in
     let todo : slice_range (choose 3 c.loop-rest.rest.now) c.loop-rest.lo c.loop-rest.hi ≡ [] = ap (λ l. slice_range (choose 3 l) c.loop-rest.lo c.loop-rest.hi) none ∙ range-none c.loop-rest.lo c.loop-rest.hi in
@@ -118,5 +116,4 @@ returns g c =
     record {
       numbers = λ rows. ap (λ n. take n c.loop-rest.values) (sym all) ∙ (ends rows).1;
       room = inv.room;
-      steps = (let s = inv.steps in omega (arith, s, all));
     }

@@ -1,10 +1,11 @@
-use Rattle.std.proofs.Common.{◌≡◌, ◌==◌, take}
-use Rattle.std.specs.Prelude.{nat_lt}
-use Rattle.std.specs.List.{count_by}
+use Rattle.std.proofs.Common.{◌≡◌, ◌+◌, take}
+use Rattle.runout_walk.specs.Rivals.{AreSums, is_above, is_below, is_equal}
 use Rattle.runout_walk.proofs.orders.compare.Given as goal
 
 abbrev pub invariant-loop-value : goal.invariant-loop-value
-invariant-loop-value l = record {
-  below : l.below ≡ count_by (λ value. nat_lt value l.top) (take l.value-index l.values);
-  equal : l.equal ≡ count_by (λ value. value == l.top) (take l.value-index l.values);
+invariant-loop-value g l = record {
+  below : AreSums (is_below l.rivals) l.pots (take l.value-index l.values) l.below;
+  equal : AreSums (is_equal l.rivals) l.pots (take l.value-index l.values) l.equal;
+  above : AreSums (is_above l.rivals) l.pots (take l.value-index l.values) l.above;
+  steps : l.steps ≡ l.fn.steps + l.value-index;
 }

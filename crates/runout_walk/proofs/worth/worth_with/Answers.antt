@@ -1,6 +1,5 @@
 use Rattle.std.proofs.Common.{arith}
 use Rattle.runout_walk.proofs.FullBoards.{worth_of_all, worth_of_none}
-use Rattle.runout_walk.proofs.HighLaws.{board_is_five}
 use Rattle.runout_walk.proofs.worth.worth_with.Goals as goal
 
 pub returns-in_default : goal.returns-in_default
@@ -9,8 +8,8 @@ returns-in_default c = worth_of_none c.args.game c.args.own c.args.board c.args.
 pub plain_value-requires-clause-board : goal.plain_value-requires-clause-board
 plain_value-requires-clause-board c = omega (arith, c.in-Some.ensures.1, c.requires.board)
 
-pub side_value-requires-clause-board : goal.side_value-requires-clause-board
-side_value-requires-clause-board c = omega (arith, c.in-Some.ensures.1, c.requires.board, board_is_five c.args.game c.requires.game)
+pub low_value-requires-clause-board : goal.low_value-requires-clause-board
+low_value-requires-clause-board c = omega (arith, c.in-Some.ensures.1, c.requires.board)
 
 pub returns : goal.returns
-returns c = worth_of_all c.args.game c.args.own c.args.board c.in-Some.full c.args.low c.args.high c.plain_value.result c.side_value.result c.requires.game c.rising.ensures.set c.in-Some.ensures.0 c.plain_value.ensures c.side_value.ensures
+returns c = worth_of_all c.args.game c.args.own c.args.board c.in-Some.full c.args.low c.args.high c.plain_value.result c.low_value.result c.requires.game c.rising.ensures.set c.in-Some.ensures.0 c.plain_value.ensures c.low_value.ensures

@@ -6,7 +6,7 @@ use Rattle.card_sets.specs.State.{State, state_of}
 use Rattle.runout_ranges.specs.Shapes.{IsShapeOf, runouts_of}
 use Rattle.runout_ranges.specs.declared.shapes.Shape.{Shape}
 use Rattle.showdown_tally.specs.Tallies.{runouts_after}
-use Rattle.equity_job.specs.declared.limits.TheConstants.{RUNOUT_MAX}
+use Rattle.runout_ranges.specs.declared.limits.TheConstants.{RUNOUT_MAX}
 use Rattle.equity_job.proofs.CallerLemmas.{of_state}
 use Rattle.street_walk.specs.Streets.{divisions}
 use Rattle.street_walk.proofs.EnoughAfter.{above_all}

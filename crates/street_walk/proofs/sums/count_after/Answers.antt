@@ -6,10 +6,10 @@ use Rattle.card_sets.specs.State.{State, state_of}
 use Rattle.runout_ranges.specs.Runouts.{HasMember}
 use Rattle.showdown_tally.specs.Deals.{deal_of}
 use Rattle.showdown_tally.specs.Tallies.{runouts_after}
-use Rattle.equity_job.specs.Jobs.{IsDeckShort, IsAboveLimit}
-use Rattle.equity_job.specs.declared.limits.TheConstants.{RUNOUT_MAX}
-use Rattle.equity_job.specs.declared.jobs.JobFault.{JobFault}
-use Rattle.equity_job.specs.declared.jobs.JobFault.TheVariants.{DeckShort, AboveLimit}
+use Rattle.runout_ranges.specs.Jobs.{IsDeckShort, IsAboveLimit}
+use Rattle.runout_ranges.specs.declared.limits.TheConstants.{RUNOUT_MAX}
+use Rattle.runout_ranges.specs.declared.limits.JobFault.{JobFault}
+use Rattle.runout_ranges.specs.declared.limits.JobFault.TheVariants.{DeckShort, AboveLimit}
 use Rattle.street_walk.specs.Streets.{choices_of}
 use Rattle.street_walk.proofs.AfterStreet.{of_next}
 use Rattle.street_walk.proofs.EnoughAfter.{enough_after}

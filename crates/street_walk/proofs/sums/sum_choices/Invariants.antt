@@ -1,6 +1,6 @@
 use Rattle.std.proofs.Common.{◌≡◌, ◌+◌, ◌-◌}
 use Rattle.showdown_tally.specs.Deals.{deal_of}
-use Rattle.equity_job.specs.declared.limits.TheConstants.{RUNOUT_MAX}
+use Rattle.runout_ranges.specs.declared.limits.TheConstants.{RUNOUT_MAX}
 use Rattle.street_walk.proofs.SumWalk.{IsStreetWalk}
 use Rattle.street_walk.proofs.sums.sum_choices.Given as goal
 

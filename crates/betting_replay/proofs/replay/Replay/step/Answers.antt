@@ -1,5 +1,5 @@
 use Rattle.std.proofs.Common.{◌∷◌, ◌≡◌, ap, ◌∙◌, sym, subst, None}
-use Rattle.history_text.specs.declared.events.Event.{Event}
+use Rattle.hand_events.specs.declared.events.Event.{Event}
 use Rattle.betting_replay.specs.TableAfter.{ReplayState, StandsFor, table_of}
 use Rattle.betting_replay.specs.Counting.{begun, pointed, after}
 use Rattle.betting_replay.specs.Faults.{verdict, fault_at}

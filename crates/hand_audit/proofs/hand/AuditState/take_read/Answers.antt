@@ -1,7 +1,7 @@
 use Rattle.std.proofs.Common.{◌≡◌, ◌∙◌, ◌++◌, ap, sym, subst, ◌||◌, arith}
 use Rattle.std.specs.Prelude.{Ok}
-use Rattle.history_text.specs.declared.events.Event.{Event}
-use Rattle.history_text.specs.declared.events.Event.TheVariants.{Remark}
+use Rattle.hand_events.specs.declared.events.Event.{Event}
+use Rattle.hand_events.specs.declared.events.Event.TheVariants.{Remark}
 use Rattle.history_text.specs.Lines.{line_event}
 use Rattle.betting_replay.specs.CardLaws.{MarkerFits}
 use Rattle.betting_replay.specs.Limits.{Fits}

@@ -1,5 +1,5 @@
 use Rattle.std.proofs.Common.{◌≡◌, ◌+◌, ◌^◌, ◌∷◌, [], ◌++◌, map, ap, subst, sym, ◌∙◌, arith}
-use Rattle.hand_audit.specs.declared.verdicts.HandAudit.{HandAudit}
+use Rattle.hand_verdict.specs.declared.verdicts.HandAudit.{HandAudit}
 use Rattle.report_table.specs.Balance.{RunBalance, balance_of, seated_balance}
 use Rattle.report_table.specs.BalanceSeen.{balance_is_sums, both}
 use Rattle.report_table.specs.SumsSeen.{with_given}

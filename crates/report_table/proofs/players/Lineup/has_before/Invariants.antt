@@ -1,5 +1,5 @@
 use Rattle.std.proofs.Common.{◌≡◌, take, None}
-use Rattle.history_text.specs.Names.{seat_named}
+use Rattle.hand_events.specs.Names.{seat_named}
 use Rattle.report_table.specs.Totals.{playing}
 use Rattle.report_table.proofs.players.Lineup.has_before.Given as goal
 

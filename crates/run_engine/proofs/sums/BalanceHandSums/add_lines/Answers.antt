@@ -2,7 +2,7 @@ use Rattle.std.proofs.Common.{◌≡◌, ◌∙◌, Some, sym, ap}
 use Rattle.std.specs.Prelude.{option_map}
 use Rattle.hand_cuts.specs.Units.{UnitLines}
 use Rattle.hand_audit.specs.SeatChips.{chips_of}
-use Rattle.hand_audit.specs.declared.seat_chips.AuditedChips.{AuditedChips}
+use Rattle.hand_verdict.specs.declared.seat_chips.AuditedChips.{AuditedChips}
 use Rattle.line_text.specs.Lines.{lines}
 use Rattle.std.specs.List.{filter_map}
 use Rattle.run_engine.specs.Histories.{chips_hand, verdict_of, with_chips}

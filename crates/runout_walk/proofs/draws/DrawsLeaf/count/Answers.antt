@@ -1,28 +1,27 @@
-use Rattle.std.proofs.Common.{◌≡◌, true, false, ◌-◌, ◌<◌, ◌≤◌, ◌+◌, ◌*◌, ◌==◌, ◌++◌, ◌^◌, [], ◌∷◌, ℕ, List, length, map, suc, take, refl, sym, ap, ◌∙◌, arith, subst}
+use Rattle.std.proofs.Common.{◌≡◌, true, false, ◌-◌, ◌<◌, ◌≤◌, ◌+◌, ◌*◌, ◌==◌, ◌++◌, [], ℕ, List, length, map, suc, take, refl, sym, ap, ◌∙◌, arith, subst}
 use Rattle.std.specs.Prelude.{slice_index, slice_index_or}
 use Rattle.std.specs.List.{count_by, slice_range}
 use Rattle.std.proofs.lemmas.List.{length-map, length-take}
 use Rattle.card_sets.specs.Choose.{choose}
-use Rattle.card_sets.specs.Games.{has_side, only_side}
+use Rattle.card_sets.specs.Games.{only_side}
 use Rattle.card_sets.specs.PlayerSets.{AreBelow, hands_below, hands_of}
 use Rattle.card_sets.specs.PlayerSetLaws.{AreBelow-hands_below}
 use Rattle.card_sets.specs.State.{State, state_of}
 use Rattle.card_sets.specs.declared.games.Side.{Side}
-use Rattle.card_sets.specs.declared.games.Side.TheVariants.{High, Low}
+use Rattle.card_sets.specs.declared.games.Side.TheVariants.{Low}
 use Rattle.runout_ranges.specs.Runouts.{HasMember}
 use Rattle.runout_ranges.specs.Slots.{slots}
-use Rattle.std.proofs.lemmas.Bool.{and_parts}
 use Rattle.showdown_tally.proofs.CallerLemmas.{hand_of, eligible_pot}
 use Rattle.showdown_tally.specs.Cells.{side_place}
 use Rattle.showdown_tally.specs.Deals.{deal_of}
 use Rattle.showdown_tally.specs.Showdown.{eligible_in, has_two_sides}
-use Rattle.showdown_tally.specs.SideCounts.{count_at, count_place, low_mark}
-use Rattle.runout_walk.specs.Bests.{best_set, some_set}
+use Rattle.showdown_tally.specs.SideCounts.{count_at}
+use Rattle.runout_walk.specs.Bests.{best_set}
 use Rattle.runout_walk.specs.Draws.{last_hand}
 use Rattle.runout_walk.specs.Listing.{last_count}
-use Rattle.runout_walk.specs.Rivals.{count_both, value_with}
+use Rattle.runout_walk.specs.Rivals.{value_with}
 use Rattle.runout_walk.specs.Worth.{number_of, worth}
-use Rattle.runout_walk.proofs.DrawLeaf.{AreOthers, IsLeafDraw, last_inside, leaf_counts, leaf_draw, leaf_highs, leaf_lows, leaf_values}
+use Rattle.runout_walk.proofs.DrawLeaf.{AreOthers, IsLeafDraw, last_inside, leaf_counts, leaf_draw, leaf_sides, leaf_values}
 use Rattle.runout_walk.proofs.ListingMembers.{in_range, taken_none}
 use Rattle.runout_walk.proofs.DrawLists.{few_draws, few_twos}
 use Rattle.runout_walk.proofs.DrawWinners.{only_one}
@@ -61,15 +60,6 @@ count_pots-requires-clause-last g c =
     let inside = last_inside st leaf.no_board (omega arith) in
     let at : leaf.last ≡ last_hand (slots st) = leaf.last_is in
     omega (arith, inside.0, at, length-take known.count known.hands)
-
-both_rows : (side : Side) (old new : List (List ℕ)) (pot place : ℕ) (won : Side → ℕ) → slice_index (slice_index_or new (2 * pot) []) place ≡ slice_index (slice_index_or old (2 * pot) []) place + won High
-    → slice_index (slice_index_or new (2 * pot + 1) []) place ≡ slice_index (slice_index_or old (2 * pot + 1) []) place + won Low
-    → count_at new pot side place ≡ count_at old pot side place + won side
-both_rows High old new pot place won high low =
-    let e : 2 * pot + 0 ≡ 2 * pot = omega arith in
-    let P : ℕ → Type 0 = λ r. slice_index (slice_index_or new r []) place ≡ slice_index (slice_index_or old r []) place + won High in
-    subst P (sym e) high
-both_rows Low old new pot place won high low = low
 
 pub returns-else-has_two_sides-clause-counts : goal.returns-else-has_two_sides-clause-counts
 returns-else-has_two_sides-clause-counts g c = λ pot place side p has m.
@@ -170,16 +160,16 @@ returns-then-has_two_sides-clause-counts g c = λ pot place side p has m.
     let two : has_two_sides known.game ≡ true = sym c.has_two_sides.ensures ∙ c.if-has_two_sides.true in
     let lows : List ℕ = c.numbers_with-lows.result in
     let low_rows : List (List ℕ) = leaf.lows.rows.items in
-    let low_planes : List (List ℕ) = leaf.numbers.planes.items in
+    let low_planes : List (List ℕ) = leaf.lows.planes.items in
     let low_values : List ℕ = take (hi - lo) c.as_slice-all_lows.result.now in
     let low_count : leaf.lows.count ≡ last_count (slots st) = leaf.low_deep two ∙ deep in
     let low_is : leaf.lows.count ≡ left = low_count ∙ sym left_is in
     let low_cards_is : c.as_slice-then-has_two_sides.result.now ≡ rest = c.as_slice-then-has_two_sides.ensures ∙ c.of-cards.ensures in
     let low_values_is : low_values ≡ map (worth Low known.game (hand_of st last)) (slice_range (choose left rest) lo hi) =
     ap (take (hi - lo)) c.as_slice-all_lows.ensures.value
-    ∙ c.write_lows.ensures.numbers low_planes
+    ∙ c.write_draws-then-has_two_sides.ensures.numbers
     ∙ ap (λ l. map (number_of low_rows low_planes) (slice_range (choose leaf.lows.count l) lo hi)) low_cards_is
-    ∙ leaf_values Low st front low_rows low_planes taken rest leaf.lows.count last lo hi low_count at (omega (arith, inside.1, low_count)) (leaf.low_right two low_planes) empty (λ more m. each more (subst (M more) low_is m))
+    ∙ leaf_values Low st front low_rows low_planes taken rest leaf.lows.count last lo hi low_count at (omega (arith, inside.1, low_count)) (leaf.low_right two) empty (λ more m. each more (subst (M more) low_is m))
     ∙ ap (λ n. map (worth Low known.game (hand_of st last)) (slice_range (choose n rest) lo hi)) low_is in
     let low_others : AreOthers Low st front lows = c.numbers_with-lows.ensures.numbers in
     let pots = table.few_pots in
@@ -192,18 +182,8 @@ returns-then-has_two_sides-clause-counts g c = λ pot place side p has m.
     let below : AreBelow (length st.hands) (eligible_in deal pot) = subst A (sym hands) (subst B all (AreBelow-hands_below (slice_index_or table.eligible pot 0) known.count)) in
     let range : List (List ℕ) = slice_range (choose left rest) lo hi in
     let reached : (more : List ℕ) → HasMember range more → IsLeafDraw st front (taken ++ more) = (λ more m. each more (in_range (choose left rest) lo hi more m)) in
-    let low_won = leaf_lows deal pot place last front taken lows low_values range leaf.no_board two below at empty low_others reached low_values_is in
-    let high_won = leaf_highs deal pot place last front taken numbers lows values low_values range leaf.no_board two below at empty others low_others reached values_is low_values_is in
-    let old : List (List ℕ) = c.args.counts.now in
-    let new : List (List ℕ) = c.count_highs.new.counts in
-    let runouts : List (List (List ℕ)) = map (λ more. front ++ (taken ++ more) ∷ []) range in
-    let high_row : slice_index (slice_index_or new (2 * pot) []) place ≡ slice_index (slice_index_or old (2 * pot) []) place + count_by (λ runout. count_place deal pot High runout == place) runouts =
-    c.count_highs.ensures.counts pot place there m
-    ∙ ap (λ n. n + count_both (λ value low. best_set (value_with numbers last value) (eligible_in deal pot) + low_mark (some_set (value_with lows last low) (eligible_in deal pot)) == place) values low_values) (c.count_lows.ensures.highs pot place)
-    ∙ ap (λ n. slice_index (slice_index_or old (2 * pot) []) place + n) high_won in
-    let low_row : slice_index (slice_index_or new (2 * pot + 1) []) place ≡ slice_index (slice_index_or old (2 * pot + 1) []) place + count_by (λ runout. count_place deal pot Low runout == place) runouts =
-    c.count_highs.ensures.lows pot place ∙ c.count_lows.ensures.counts pot place there m ∙ ap (λ n. slice_index (slice_index_or old (2 * pot + 1) []) place + n) low_won in
-    both_rows side old new pot place (λ s. count_by (λ runout. count_place deal pot s runout == place) runouts) high_row low_row
+    let won = leaf_sides side deal pot place last front taken numbers lows values low_values range leaf.no_board two below at empty others low_others reached values_is low_values_is in
+    c.count_sides.ensures.counts pot place side there has ∙ ap (λ n. count_at c.args.counts.now pot side place + n) won
 
 pub write_draws-requires-clause-short : goal.write_draws-requires-clause-short
 write_draws-requires-clause-short g c =
@@ -211,8 +191,8 @@ write_draws-requires-clause-short g c =
     let few = cards.few in
     omega (arith, ap length c.as_slice.ensures, length-take cards.used cards.cards)
 
-pub write_lows-requires-clause-some : goal.write_lows-requires-clause-some
-write_lows-requires-clause-some g c =
+pub write_draws-requires-then-has_two_sides-clause-some : goal.write_draws-requires-then-has_two_sides-clause-some
+write_draws-requires-then-has_two_sides-clause-some g c =
     let leaf = c.args.self.now in
     let st : State = state_of leaf.table.known in
     let size : suc (length c.args.front.now) ≡ length (slots st) = c.requires.last in
@@ -221,8 +201,8 @@ write_lows-requires-clause-some g c =
     let deep : leaf.numbers.count ≡ last_count (slots st) = leaf.deep in
     omega (arith, inside.1, deep, leaf.low_deep two)
 
-pub count_lows-requires-clause-last : goal.count_lows-requires-clause-last
-count_lows-requires-clause-last g c =
+pub count_sides-requires-clause-last : goal.count_sides-requires-clause-last
+count_sides-requires-clause-last g c =
     let leaf = c.args.self.now in
     let known = leaf.table.known in
     let st : State = state_of known in
@@ -231,48 +211,21 @@ count_lows-requires-clause-last g c =
     let at : leaf.last ≡ last_hand (slots st) = leaf.last_is in
     omega (arith, inside.0, at, length-take known.count known.hands)
 
-pub count_highs-requires-clause-last : goal.count_highs-requires-clause-last
-count_highs-requires-clause-last g c =
-    let leaf = c.args.self.now in
-    let known = leaf.table.known in
-    let st : State = state_of known in
-    let size : suc (length c.args.front.now) ≡ length (slots st) = c.requires.last in
-    let inside = last_inside st leaf.no_board (omega arith) in
-    let at : leaf.last ≡ last_hand (slots st) = leaf.last_is in
-    omega (arith, inside.0, at, length-take known.count known.hands)
-
-pub count_lows-requires-clause-fits : goal.count_lows-requires-clause-fits
-count_lows-requires-clause-fits g c = λ pot place l m.
+pub count_sides-requires-clause-fits : goal.count_sides-requires-clause-fits
+count_sides-requires-clause-fits g c = λ pot place side l has m.
     let table = c.args.self.now.table in
-    let game = table.known.game in
-    let two : has_two_sides game ≡ true = sym c.has_two_sides.ensures ∙ c.if-has_two_sides.true in
-    let sides = and_parts (has_side High game) (has_side Low game) two in
     let pots = table.few_pots in
     let among : pot < length (deal_of table).pots = omega (arith, l, pots, length-map (take table.pots table.eligible) hands_of, length-take table.pots table.eligible, c.ten_places.ensures.pots) in
-    let room = c.requires.fits pot place Low among sides.1 m in
-    omega (arith, room, length-take (c.args.hi - c.args.lo) c.as_slice-all_lows.result.now)
+    omega (arith, c.requires.fits pot place side among has m, length-take (c.args.hi - c.args.lo) c.as_slice-all_highs.result.now)
 
-pub count_highs-requires-clause-fits : goal.count_highs-requires-clause-fits
-count_highs-requires-clause-fits g c = λ pot place l m.
-    let table = c.args.self.now.table in
-    let game = table.known.game in
-    let two : has_two_sides game ≡ true = sym c.has_two_sides.ensures ∙ c.if-has_two_sides.true in
-    let sides = and_parts (has_side High game) (has_side Low game) two in
-    let pots = table.few_pots in
-    let among : pot < length (deal_of table).pots = omega (arith, l, pots, length-map (take table.pots table.eligible) hands_of, length-take table.pots table.eligible, c.ten_places.ensures.pots) in
-    let Room : ℕ → Type 0 = λ row. slice_index (slice_index_or c.args.counts.now row []) place + (c.args.hi - c.args.lo) < 2 ^ 32 in
-    let same : 2 * pot + 0 ≡ 2 * pot = omega arith in
-    let room : Room (2 * pot) = subst Room same (c.requires.fits pot place High among sides.0 m) in
-    omega (arith, room, c.count_lows.ensures.highs pot place, length-take (c.args.hi - c.args.lo) c.as_slice-all_highs.result.now)
-
-pub write_lows-requires-clause-few : goal.write_lows-requires-clause-few
-write_lows-requires-clause-few g c =
+pub write_draws-requires-then-has_two_sides-clause-few : goal.write_draws-requires-then-has_two_sides-clause-few
+write_draws-requires-then-has_two_sides-clause-few g c =
     let leaf = c.args.self.now in
     let two : has_two_sides leaf.table.known.game ≡ true = sym c.has_two_sides.ensures ∙ c.if-has_two_sides.true in
     omega (arith, leaf.low_few two, leaf.low_deep two)
 
-pub write_lows-requires-clause-room : goal.write_lows-requires-clause-room
-write_lows-requires-clause-room g c =
+pub write_draws-requires-then-has_two_sides-clause-room : goal.write_draws-requires-then-has_two_sides-clause-room
+write_draws-requires-then-has_two_sides-clause-room g c =
     let leaf = c.args.self.now in
     let st : State = state_of leaf.table.known in
     let two : has_two_sides leaf.table.known.game ≡ true = sym c.has_two_sides.ensures ∙ c.if-has_two_sides.true in
@@ -302,11 +255,11 @@ slice_bounds-low_values-length g c =
     let most = few_twos c.args.tail.rest c.args.tail.left short (omega (arith, inside.1, left)) (omega (arith, few, left, deep)) in
     let end = c.requires.inside in
     let span : ℕ = c.args.hi - c.args.lo in
-    let lows : span ≤ length c.as_slice-all_lows.result.now = omega (arith, most, end, leaf.low_room, c.write_lows.ensures.room, ap length c.as_slice-all_lows.ensures.value) in
+    let lows : span ≤ length c.as_slice-all_lows.result.now = omega (arith, most, end, leaf.low_room, c.write_draws-then-has_two_sides.ensures.room, ap length c.as_slice-all_lows.ensures.value) in
     omega (arith, lows, length-take span c.as_slice-all_lows.result.now)
 
-pub count_highs-requires-clause-same : goal.count_highs-requires-clause-same
-count_highs-requires-clause-same g c =
+pub count_sides-requires-clause-each : goal.count_sides-requires-clause-each
+count_sides-requires-clause-each g c =
     let leaf = c.args.self.now in
     let st : State = state_of leaf.table.known in
     let two : has_two_sides leaf.table.known.game ≡ true = sym c.has_two_sides.ensures ∙ c.if-has_two_sides.true in
@@ -321,6 +274,40 @@ count_highs-requires-clause-same g c =
     let end = c.requires.inside in
     let draws = few_draws c.args.tail.rest c.args.tail.left short (omega (arith, inside.1, left)) (omega (arith, leaf.few, left, deep)) in
     let span : ℕ = c.args.hi - c.args.lo in
-    let lows : span ≤ length c.as_slice-all_lows.result.now = omega (arith, most, end, leaf.low_room, c.write_lows.ensures.room, ap length c.as_slice-all_lows.ensures.value) in
+    let lows : span ≤ length c.as_slice-all_lows.result.now = omega (arith, most, end, leaf.low_room, c.write_draws-then-has_two_sides.ensures.room, ap length c.as_slice-all_lows.ensures.value) in
     let values : span ≤ length c.as_slice-all_highs.result.now = omega (arith, draws, end, leaf.room, c.write_draws.ensures.room, ap length c.as_slice-all_highs.ensures.value) in
     omega (arith, lows, values, length-take span c.as_slice-all_lows.result.now, length-take span c.as_slice-all_highs.result.now)
+
+pub returns-else-has_two_sides-clause-steps : goal.returns-else-has_two_sides-clause-steps
+returns-else-has_two_sides-clause-steps g c =
+    let leaf = c.args.self.now in
+    let st : State = state_of leaf.table.known in
+    let size : suc (length c.args.front.now) ≡ length (slots st) = c.requires.last in
+    let inside = last_inside st leaf.no_board (omega arith) in
+    let deep : leaf.numbers.count ≡ last_count (slots st) = leaf.deep in
+    let left : c.args.tail.left ≡ last_count (slots st) = c.requires.deep in
+    let few = leaf.few in
+    let cards = c.of-cards.result in
+    let short : length c.args.tail.rest ≤ 52 = (let f = cards.few in omega (arith, ap length c.of-cards.ensures, length-take cards.used cards.cards)) in
+    let most = few_draws c.args.tail.rest c.args.tail.left short (omega (arith, inside.1, left)) (omega (arith, few, left, deep)) in
+    let end = c.requires.inside in
+    let span : ℕ = c.args.hi - c.args.lo in
+    let values : span ≤ length c.as_slice-all.result.now = omega (arith, most, end, leaf.room, c.write_draws.ensures.room, ap length c.as_slice-all.ensures.value) in
+    omega (arith, c.count_pots.ensures.steps, values, length-take span c.as_slice-all.result.now)
+
+pub returns-then-has_two_sides-clause-steps : goal.returns-then-has_two_sides-clause-steps
+returns-then-has_two_sides-clause-steps g c =
+    let leaf = c.args.self.now in
+    let st : State = state_of leaf.table.known in
+    let size : suc (length c.args.front.now) ≡ length (slots st) = c.requires.last in
+    let inside = last_inside st leaf.no_board (omega arith) in
+    let deep : leaf.numbers.count ≡ last_count (slots st) = leaf.deep in
+    let left : c.args.tail.left ≡ last_count (slots st) = c.requires.deep in
+    let few = leaf.few in
+    let cards = c.of-cards.result in
+    let short : length c.args.tail.rest ≤ 52 = (let f = cards.few in omega (arith, ap length c.of-cards.ensures, length-take cards.used cards.cards)) in
+    let most = few_draws c.args.tail.rest c.args.tail.left short (omega (arith, inside.1, left)) (omega (arith, few, left, deep)) in
+    let end = c.requires.inside in
+    let span : ℕ = c.args.hi - c.args.lo in
+    let values : span ≤ length c.as_slice-all_highs.result.now = omega (arith, most, end, leaf.room, c.write_draws.ensures.room, ap length c.as_slice-all_highs.ensures.value) in
+    omega (arith, c.count_sides.ensures.steps, values, length-take span c.as_slice-all_highs.result.now)

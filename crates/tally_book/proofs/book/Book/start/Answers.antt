@@ -3,7 +3,7 @@ use Rattle.showdown_tally.specs.CountLaws.{Counts-none}
 use Rattle.showdown_tally.specs.Showdown.{Showdown}
 use Rattle.showdown_tally.specs.Tallies.{runouts_after}
 use Rattle.equity_job.specs.Blocks.{blocks_of}
-use Rattle.equity_job.specs.declared.limits.TheConstants.{RUNOUT_MAX}
+use Rattle.runout_ranges.specs.declared.limits.TheConstants.{RUNOUT_MAX}
 use Rattle.tally_book.proofs.PageFacts.{blank_page}
 use Rattle.tally_book.proofs.book.Book.start.Goals as goal
 

@@ -1,0 +1,5 @@
+pub mod BetFaultNames
+pub mod TextFaultNames
+pub mod Names
+pub mod Seated
+pub mod MarkerCards

@@ -1,0 +1,2 @@
+pub mod CauseNames
+pub mod SeatSums

@@ -1,0 +1,79 @@
+//! What the winners of each side of each part of a pot get.
+
+use crate::settlement::Settlement;
+use crate::verdicts::HandAudit;
+use card_sets::Side;
+use hand_events::Names;
+use std::marker::Model;
+
+/// What a winner gets of a side of a part of a pot.
+#[derive(Clone, Copy)]
+pub struct PartShare {
+    /// The board that the part goes by, 1 or 2; 1 in a game without a board.
+    pub board: u8,
+    /// The side.
+    pub side: Side,
+    /// The winner's seat.
+    pub seat: u8,
+    /// What he gets of it, in units.
+    pub units: u64,
+    /// Whether one of them is an odd unit: one of those that are left over when the side is shared in equal parts.
+    pub odd: bool,
+}
+
+/// The shares of the parts of a pot: board by board, the first side of each before the second, and the winners of
+/// a side by rising seat. Clauses see the list of them.
+#[derive(Drop)]
+pub struct PartShares {
+    items: Vec<PartShare>,
+}
+
+impl Model for PartShares {
+    ghost use Rattle.std.specs.Prelude.{List};
+    ghost use Rattle.hand_verdict.specs.declared.parts.PartShare.{PartShare};
+
+    ghost Value = { List PartShare };
+
+    ghost view = { λ p. p.items.items };
+}
+
+impl PartShares {
+    ghost use Rattle.std.specs.Prelude.{◌≡◌};
+
+    /// Of these.
+    pub fn of(items: Vec<PartShare>) -> PartShares
+        ensures { result ≡ items.items }
+    {
+        PartShares { items }
+    }
+
+    /// The shares.
+    pub fn items(&self) -> &[PartShare]
+        ensures { result.now ≡ self.now }
+    {
+        self.items.as_slice()
+    }
+}
+
+/// What became of the chips of a hand that is rejected for its payments alone.
+#[derive(Drop)]
+pub struct SplitHand {
+    /// What became of them.
+    pub settlement: Settlement,
+    /// The seats and names of all seat lines before the first street, in their order.
+    pub names: Names,
+    /// Who plays: bit s for seat s.
+    pub players: u16,
+}
+
+/// A verdict on a hand, and what the rules give of its pots.
+#[derive(Drop)]
+pub struct AuditedShares {
+    /// The verdict.
+    pub audit: HandAudit,
+    /// What became of the chips of a hand that is rejected for its payments alone; none of another.
+    pub split: Option<SplitHand>,
+    /// The shares of the parts of each pot of a hand that is accepted or rejected for its payments alone: none of
+    /// a pot of which it isn't known who wins it, or that one player alone may win.
+    pub parts: Vec<PartShares>,
+}

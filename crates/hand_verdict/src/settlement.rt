@@ -1,0 +1,116 @@
+//! What each pot holds, and who got what of it.
+
+use card_sets::Game;
+use std::marker::Model;
+
+/// What a seat got, and what the rules give it.
+#[derive(Clone, Copy, Debug, PartialEq, Eq)]
+pub struct Payment {
+    /// The seat.
+    pub seat: u8,
+    /// What it collected, in units.
+    pub got: u64,
+    /// What it is due.
+    pub due: u64,
+}
+
+/// Some payments, by rising seat. Clauses see the list of them.
+#[derive(Drop)]
+pub struct Payments {
+    items: Vec<Payment>,
+}
+
+impl Model for Payments {
+    ghost use Rattle.std.specs.Prelude.{List};
+    ghost use Rattle.hand_verdict.specs.declared.settlement.Payment.{Payment};
+
+    ghost Value = { List Payment };
+
+    ghost view = { λ p. p.items.items };
+}
+
+impl Payments {
+    ghost use Rattle.std.specs.Prelude.{◌≡◌};
+
+    /// Of these.
+    pub fn of(items: Vec<Payment>) -> Payments
+        ensures { result ≡ items.items }
+    {
+        Payments { items }
+    }
+
+    /// The payments.
+    pub fn items(&self) -> &[Payment]
+        ensures { result.now ≡ self.now }
+    {
+        self.items.as_slice()
+    }
+}
+
+/// What a pot holds, and who got what of it.
+#[derive(Drop)]
+pub struct PotLine {
+    /// What it holds, in units.
+    pub gross: u64,
+    /// What of it was not collected; 0 where the names of the pots don't fit.
+    pub rake: u64,
+    /// Who may win it: bit s for seat s.
+    pub eligible: u16,
+    /// Whether it is known who wins it.
+    pub checked: bool,
+    /// The payments out of it; none where the names of the pots don't fit.
+    pub paid: Payments,
+}
+
+/// The pots of a hand, the main pot first. Clauses see the list of them.
+#[derive(Drop)]
+pub struct PotLines {
+    items: Vec<PotLine>,
+}
+
+impl Model for PotLines {
+    ghost use Rattle.std.specs.Prelude.{List};
+    ghost use Rattle.hand_verdict.specs.declared.settlement.PotLine.{PotLine};
+
+    ghost Value = { List PotLine };
+
+    ghost view = { λ p. p.items.items };
+}
+
+impl PotLines {
+    ghost use Rattle.std.specs.Prelude.{◌≡◌};
+
+    /// Of these.
+    pub fn of(items: Vec<PotLine>) -> PotLines
+        ensures { result ≡ items.items }
+    {
+        PotLines { items }
+    }
+
+    /// The pots.
+    pub fn items(&self) -> &[PotLine]
+        ensures { result.now ≡ self.now }
+    {
+        self.items.as_slice()
+    }
+}
+
+/// What became of the chips of a hand.
+#[derive(Drop)]
+pub struct Settlement {
+    /// The game.
+    pub game: Game,
+    /// Whether a unit is a hundredth, or else a chip.
+    pub hundredths: bool,
+    /// The stated rake.
+    pub rake: u64,
+    /// Whether each collection names one of the pots, each pot has one or more of them, and none has more
+    /// collected than it holds.
+    pub fits: bool,
+    /// Whether the hand was run twice: a marker of a first board stood.
+    pub twice: bool,
+    /// The pots.
+    pub pots: PotLines,
+    /// The payments of the hand where the names don't fit, and else none.
+    pub paid: Payments,
+}

@@ -1,0 +1,2 @@
+pub mod BalanceLaws
+pub mod SettleLaws

@@ -1,0 +1,3 @@
+pub mod SheetFacts
+pub mod EveryHand
+pub mod CallerLemmas

@@ -1,0 +1,6 @@
+pub use Rattle.card_sets.specs.Games
+pub use Rattle.share_fractions.specs.Round
+pub mod Lines
+pub mod Sheets
+pub mod Numbers
+pub mod SpotLines

@@ -1,0 +1,12 @@
+use Rattle.report_table.specs.Balance.{balance_nets}
+use Rattle.report_sheet.proofs.CallerLemmas.{then_words, words_more}
+use Rattle.report_table.proofs.balance_lines.balance_nets.Goals as goal
+
+pub returns : goal.returns
+unfolding balance_nets
+returns c =
+    let two = then_words _ _ _ _ _ c.in_ok-text.ensures c.in_ok-difference.ensures in
+    let three = then_words _ _ _ _ _ two c.in_ok-text-2.ensures in
+    let four = then_words _ _ _ _ _ three c.in_ok-difference-2.ensures in
+    let five = then_words _ _ _ _ _ four c.in_ok-text-3.ensures in
+    rw (five, words_more) at c.number.ensures

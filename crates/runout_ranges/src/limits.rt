@@ -1,0 +1,13 @@
+//! How much is counted.
+
+/// The most runouts that an equity is counted over.
+pub const RUNOUT_MAX: u64 = 200_000_000;
+
+/// Why an equity isn't counted.
+#[derive(Clone, Copy, Debug, PartialEq, Eq)]
+pub enum JobFault {
+    /// Fewer cards may come than the board and the hands lack.
+    DeckShort,
+    /// There are more than `RUNOUT_MAX` runouts.
+    AboveLimit,
+}
