@@ -67,29 +67,27 @@ fn showdowns_after(e: &Event, before: Showdowns) -> Showdowns
     }
 }
 
-/// How far the hand has come after an event, but for the street that it begins.
-pub(crate) fn course_after(e: &Event, course: Course) -> Course
+/// An event counts for how far the hand has come, but for the street that it begins. Each kind touches what it
+/// changes alone.
+pub(crate) fn note_course(e: &Event, course: &mut Course)
     requires seat { SeatFits e.now }
-    requires few { IfSome course.last_actor (λ seat. seat ≤ 10) }
-    ensures value { result ≡ course_after e.now course }
-    ensures few { IfSome result.last_actor (λ seat. seat ≤ 10) }
+    requires few { IfSome course.old.last_actor (λ seat. seat ≤ 10) }
+    ensures value { course.new ≡ course_after e.now course.old }
+    ensures few { IfSome course.new.last_actor (λ seat. seat ≤ 10) }
 {
     match *e {
-        Event::Street { board, .. } => Course {
-            marker: board,
-            showdowns: showdowns_after(e, course.showdowns),
-            split_from: course.split_from.or(begins_on(BoardNumber::First, e)),
-            second_street: begins_on(BoardNumber::Second, e).or(course.second_street),
-            ..course
-        },
-        Event::Post { kind, .. } => Course {
-            small_posted: kind == PostKind::Small || course.small_posted,
-            ..course
-        },
-        Event::Act { seat, .. } => Course {
-            last_actor: Some(seat),
-            ..course
-        },
-        _ => course,
+        Event::Street { board, .. } => {
+            course.marker = board;
+            course.showdowns = showdowns_after(e, course.showdowns);
+            course.split_from = course.split_from.or(begins_on(BoardNumber::First, e));
+            course.second_street = begins_on(BoardNumber::Second, e).or(course.second_street);
+        }
+        Event::Post { kind, .. } => {
+            course.small_posted = kind == PostKind::Small || course.small_posted;
+        }
+        Event::Act { seat, .. } => {
+            course.last_actor = Some(seat);
+        }
+        _ => {}
     }
 }

@@ -11,7 +11,7 @@ ghost use Rattle.betting_replay.specs.Faults.{verdict, legal, fault_at};
 
 use crate::boards::{Board, board_after, second_after};
 use crate::counting::pay_seat;
-use crate::course::{Course, course_after};
+use crate::course::{Course, note_course};
 use crate::dealing::deal_seat;
 use crate::places::{cards_named, cards_thrown, seat_of, with_cards, with_given, without_cards};
 use crate::replay::Replay;
@@ -106,7 +106,7 @@ impl Replay {
         ensures { self.new ≡ noted_after self.old e.now }
     {
         self.button = button_after(e, self.button);
-        self.course = course_after(e, self.course);
+        note_course(e, &mut self.course);
     }
 
     /// The event, which passed each test, counts. Cards are looked at only where it moves some.

@@ -1,5 +1,5 @@
 -- The choices of so many members of a list: how many there are at the edges, that each is a part, and the greatest number of all.
-use Rattle.std.proofs.Common.{◌≡◌, ℕ, suc, zero, ◌-◌, ◌+◌, ◌≤◌, ◌<◌, List, ◌++◌, ◌∷◌, [], refl, ap, ◌∙◌, sym, arith, length, inl, inr, map, max, append_assoc, subst, Some}
+use Rattle.std.proofs.Common.{◌≡◌, ℕ, suc, zero, ◌+◌, ◌≤◌, ◌<◌, List, ◌++◌, ◌∷◌, [], refl, ap, ◌∙◌, sym, arith, length, inl, inr, map, max, append_assoc, subst, Some}
 use Rattle.std.specs.Prelude.{slice_get}
 use Rattle.card_sets.specs.Cards.{IsCardSet, IsRising, RisingFrom, with_card, without_card}
 use Rattle.card_sets.specs.Bits.{first_rest}

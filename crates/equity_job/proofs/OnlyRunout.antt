@@ -1,5 +1,5 @@
 -- The listing of a shape is that of its known state, and the only runout of one in which nobody lacks cards.
-use Rattle.std.proofs.Common.{◌≡◌, ℕ, suc, ◌+◌, ◌*◌, ◌<◌, ◌≤◌, List, [], ◌∷◌, length, take, refl, ap, sym, ◌∙◌, arith, subst}
+use Rattle.std.proofs.Common.{◌≡◌, ℕ, suc, ◌<◌, List, [], ◌∷◌, length, take, refl, ap, sym, ◌∙◌, arith, subst}
 use Rattle.card_sets.specs.State.{State}
 use Rattle.runout_ranges.specs.Runouts.{runouts, Begins, HasMember}
 use Rattle.runout_ranges.specs.Slots.{counts_of, unseen}

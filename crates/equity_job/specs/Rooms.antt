@@ -1,8 +1,8 @@
 -- Which parts a room for counts has.
 use Rattle.std.specs.Prelude.{◌≡◌, ◌*◌, ◌≤◌, ℕ, List, true, length, Option, Some, None, MatchOption, IsSome}
 use Rattle.std.proofs.Common.{Vec, Global}
-use Rattle.runout_walk.specs.Boards.{are_boards}
-use Rattle.runout_walk.specs.Draws.{are_draws}
+use Rattle.board_runouts.specs.Boards.{are_boards}
+use Rattle.draw_runouts.specs.Draws.{are_draws}
 use Rattle.equity_job.specs.declared.jobs.Job.{Job}
 use Rattle.equity_job.specs.declared.scratch.Scratch.{Scratch}
 

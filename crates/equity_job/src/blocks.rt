@@ -11,11 +11,10 @@ ghost use Rattle.runout_walk.specs.Listing.{last_count};
 ghost use Rattle.equity_job.specs.Blocks.{block_of, blocks_of};
 
 use crate::{BLOCK, Job, Scratch};
+use board_runouts::{Boards, Rivers, are_boards, are_rivers};
+use draw_runouts::{Draws, are_draws};
 use runout_ranges::{Runout, first_runout};
-use runout_walk::{
-    Boards, Draws, Leaf, Plain, Rivers, are_boards, are_draws, are_rivers, clear_counts,
-    count_runouts_of,
-};
+use runout_walk::{Leaf, Plain, clear_counts, count_runouts_of};
 use showdown_tally::{Tally, fill_tally, settle_runout};
 use std::sync::ledger::Ledger;
 use step_count::Steps;

@@ -4,9 +4,9 @@
 //! one `Tally`. The runouts stand in blocks of `BLOCK`, in the order of their listing, and `count_block` counts one of them,
 //! so that a job can be counted in parts. `count_job` counts them all. Only [`Scratch::ready`] asks for memory.
 //!
-//! A block is counted in the [`Scratch`] that is lent: by what is lacking a leaf of `runout_walk` is chosen, which says how often
-//! each set of hands wins, and of that the block's tally is made. What the scratch held before makes no difference, and what a
-//! leaf keeps in it of the same job spares work in the next block.
+//! A block is counted in the [`Scratch`] that is lent: by what is lacking a leaf of `board_runouts`, of `draw_runouts` or of
+//! `runout_walk` is chosen, which says how often each set of hands wins, and of that the block's tally is made. What the scratch
+//! held before makes no difference, and what a leaf keeps in it of the same job spares work in the next block.
 #![tactic(auto)]
 
 mod blocks;

@@ -5,8 +5,9 @@ ghost use Rattle.equity_job.specs.Rooms.{HasRows, IsReady, newer};
 
 use crate::Job;
 use crate::blocks::is_full;
+use board_runouts::{Boards, are_boards};
 use card_sets::Memory;
-use runout_walk::{Boards, Draws, are_boards, are_draws};
+use draw_runouts::{Draws, are_draws};
 use std::alloc::Global;
 
 /// The room that counts work in. It is made without memory, and has its parts on the heap once [`Scratch::ready`] was asked for

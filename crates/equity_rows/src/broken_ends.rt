@@ -241,20 +241,43 @@ fn leaves<R: Threads + Wait + Sync + Abort>(
     Ok(())
 }
 
-/// Where a read fails and the write of a block too, the run ends with status 4 and the blocks before.
+/// How many of the first blocks are written by one write, of reads of so many bytes: in `check` those of the hands that one
+/// read closes, where the input is one piece, and else one.
+fn written_together(row: &Broken, input: &[u8], piece: usize) -> usize {
+    if row.mode == "check" {
+        closed_by(row, line_count(front(input, piece))).max(1)
+    } else {
+        1
+    }
+}
+
+/// Where a read fails and a write of blocks too, the run ends with status 4 and the blocks before.
 fn each_block_fails<R: Threads + Wait + Sync + Abort>(
     rt: &R,
     alloc: Global,
-    mode: &str,
+    row: &Broken,
     is_csv: bool,
     input: &[u8],
     piece: usize,
     read: usize,
     blocks: &[&str],
 ) -> Result<(), Fail> {
+    let together = written_together(row, input, piece);
     for write in 0..blocks.len() {
-        let edges = failing(piece, read, Some(write as u64));
-        leaves(rt, alloc, mode, is_csv, input, edges, 4, &blocks[..write])?;
+        let before = write.saturating_mul(together);
+        if before < blocks.len() {
+            let edges = failing(piece, read, Some(write as u64));
+            leaves(
+                rt,
+                alloc,
+                row.mode,
+                is_csv,
+                input,
+                edges,
+                4,
+                &blocks[..before],
+            )?;
+        }
     }
     Ok(())
 }
@@ -273,7 +296,7 @@ fn read_fails<R: Threads + Wait + Sync + Abort>(
     let (status, blocks) = told_behind(row, input, piece, read);
     let edges = failing(piece, read, None);
     leaves(rt, alloc, row.mode, is_csv, input, edges, status, blocks)?;
-    each_block_fails(rt, alloc, row.mode, is_csv, input, piece, read, blocks)
+    each_block_fails(rt, alloc, row, is_csv, input, piece, read, blocks)
 }
 
 /// So it is at each read of so many bytes.

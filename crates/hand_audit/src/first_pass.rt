@@ -175,22 +175,17 @@ impl<'a> PlayerScan<'a> {
             return Ok(true);
         }
         note_seat(&mut self.seats, seat)?;
-        match read(&self.names, header, self.part, line) {
+        let said = read(&self.names, header, self.part, line);
+        match &said {
             Ok(e) => {
-                seat_name(&mut self.names, &e, line)?;
-                self.players = with_player_of(self.players, &e);
-                self.part = part_after(&e, self.part);
-                keep_read(&mut self.reads, LineReading { place, said: Ok(e) })?;
+                seat_name(&mut self.names, e, line)?;
+                self.players = with_player_of(self.players, e);
+                self.part = part_after(e, self.part);
+                keep_read(&mut self.reads, LineReading { place, said })?;
                 Ok(false)
             }
-            Err(fault) => {
-                keep_read(
-                    &mut self.reads,
-                    LineReading {
-                        place,
-                        said: Err(fault),
-                    },
-                )?;
+            Err(_fault) => {
+                keep_read(&mut self.reads, LineReading { place, said })?;
                 Ok(false)
             }
         }

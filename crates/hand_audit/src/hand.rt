@@ -103,6 +103,7 @@ pub(crate) fn seat_name(names: &mut Names, e: &Event, line: &[u8]) -> Result<(),
 }
 
 /// A collection is kept.
+#[inline]
 fn collect(all: &mut Vec<Collection>, e: &Event) -> Result<(), AllocError>
     ensures { OnOk result (all.new.items ≡ all.old.items ++ collected_by e.now) }
 {
@@ -116,6 +117,7 @@ fn collect(all: &mut Vec<Collection>, e: &Event) -> Result<(), AllocError>
 }
 
 /// A later street that began is kept.
+#[inline]
 fn note(streets: &mut Vec<Street>, begun: Option<Street>) -> Result<(), AllocError>
     ensures { OnOk result (streets.new.items ≡ streets.old.items ++ listed begun) }
 {

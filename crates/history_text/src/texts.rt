@@ -19,6 +19,26 @@ fn begin_apart(text: &[u8], front: &[u8]) -> bool
     }
 }
 
+/// What stands behind two bytes that the text begins with.
+#[inline]
+#[tactic(auto, unfolding(crate::specs::Texts::behind))]
+fn behind_two(text: &[u8], first: u8, second: u8) -> Option<&[u8]>
+    ensures value { option_map (λ rest. rest.now) result
+        ≡ behind (first ∷ second ∷ []) text.now }
+    ensures length { IfSome result (λ rest. length rest.now + 2 ≡ length text.now) }
+{
+    match text {
+        [mine, next, rest @ ..] => {
+            if *mine == first && *next == second {
+                Some(rest)
+            } else {
+                None
+            }
+        }
+        _ => None,
+    }
+}
+
 /// What stands behind a front that the text begins with.
 #[inline]
 #[tactic(auto, unfolding(crate::specs::Texts::behind))]
@@ -26,6 +46,9 @@ pub(crate) fn behind<'a>(text: &'a [u8], front: &[u8]) -> Option<&'a [u8]>
     ensures value { option_map (λ rest. rest.now) result ≡ behind front.now text.now }
     ensures length { IfSome result (λ rest. length rest.now + length front.now ≡ length text.now) }
 {
+    if let [first, second] = front {
+        return behind_two(text, *first, *second);
+    }
     if begin_apart(text, front) {
         return None;
     }

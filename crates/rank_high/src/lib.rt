@@ -19,7 +19,8 @@
 //!    straight, and five or four categories more make it a flush or a straight flush.
 //!
 //! [`high_by_ranks`] and [`high_of_suit`] are the two parts, for a caller who knows of which suit a flush
-//! may be. [`high_of_five`] counts ranks and looks at suits as the rules say, five cards at a time: a
+//! may be, and [`high_of_ranks`] is the first of them for a caller who knows the ranks and not the cards.
+//! [`high_of_five`] counts ranks and looks at suits as the rules say, five cards at a time: a
 //! plain body. No call takes memory, and none knows a game or a board.
 #![tactic(auto)]
 
@@ -30,7 +31,7 @@ mod laws;
 mod rank_groups;
 mod values;
 
-pub use best_five::{high_by_ranks, high_of_set, high_of_suit};
+pub use best_five::{high_by_ranks, high_of_ranks, high_of_set, high_of_suit};
 pub use five_cards::{category, high_of_five, is_flush};
 pub use laws::{
     law_best_is_unbeaten, law_best_numbers_keep_order, law_best_of_five, law_categories_are_usual,

@@ -1,3 +1,4 @@
 pub mod SheetFacts
+pub mod RecordText
 pub mod EveryHand
 pub mod CallerLemmas

@@ -12,6 +12,7 @@
 
 mod form;
 mod numbers;
+mod records;
 mod sheet;
 mod spots;
 mod words;

@@ -2,13 +2,14 @@
 //! straight into the bytes; the fields of a record are gathered until it ends, since a record has
 //! thirteen of them and the name is the last. Where memory is refused, a part may have been appended.
 
-ghost use Rattle.std.specs.Prelude.{◌≡◌, ◌-◌, [], ◌∷◌, ◌++◌, false, codes, length, replicate, IfOk, OnOk};
+ghost use Rattle.std.specs.Prelude.{◌≡◌, ◌-◌, [], ◌∷◌, ◌++◌, false, codes, length, replicate, OnOk};
 ghost use Rattle.csv.specs.Writing.{default_writer, row_text};
 ghost use Rattle.report_sheet.specs.Lines.{thirteen};
 ghost use Rattle.report_sheet.specs.Sheets.{nothing_in, with_end, with_name, with_words};
 
 use crate::form::Form;
-use csv::{ByteRecord, Error, WriterBuilder};
+use crate::records::put_record;
+use csv::ByteRecord;
 use std::alloc::{AllocError, Global};
 use std::marker::Model;
 
@@ -101,29 +102,14 @@ impl Fields {
         Ok(())
     }
 
-    /// The text of a record of these fields.
-    fn text(&self, alloc: Global) -> Result<Vec<u8>, Error>
-        ensures { IfOk result (λ text. text.items ≡ row_text default_writer self.now) }
-    {
-        let mut writer = WriterBuilder::new().from_writer(Vec::new(alloc));
-        writer.write_byte_record(&self.row)?;
-        match writer.into_inner() {
-            Ok(text) => Ok(text),
-            Err(error) => Err(error.into_error()),
-        }
-    }
-
-    /// The text of a record of thirteen fields, the last of which is a name.
-    fn with_name(&mut self, alloc: Global, name: &[u8]) -> Result<Vec<u8>, AllocError>
-        ensures { IfOk result (λ text. text.items
-            ≡ row_text default_writer (thirteen self.old name.now)) }
+    /// Appends the text of a record of thirteen fields, the last of which is a name.
+    fn put_with_name(&mut self, bytes: &mut Vec<u8>, name: &[u8]) -> Result<(), AllocError>
+        ensures { OnOk result (bytes.new.items
+            ≡ bytes.old.items ++ row_text default_writer (thirteen self.old name.now)) }
     {
         self.pad()?;
         self.push(name)?;
-        match self.text(alloc) {
-            Ok(text) => Ok(text),
-            Err(_) => Err(AllocError),
-        }
+        put_record(bytes, &self.row)
     }
 }
 
@@ -172,8 +158,7 @@ impl Sheet {
           fields = [];
         }) }
     {
-        let text = self.fields.with_name(*self.bytes.allocator(), name)?;
-        self.bytes.extend_from_slice(&text)?;
+        self.fields.put_with_name(&mut self.bytes, name)?;
         self.fields.clear();
         Ok(())
     }

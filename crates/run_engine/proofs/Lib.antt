@@ -11,6 +11,8 @@ pub mod LaterFacts
 pub mod RangeFacts
 pub mod WritingFacts
 pub mod OrderFacts
+pub mod GatherFacts
+pub mod JoinedWrites
 pub mod UsageOrder
 pub mod OrderTells
 pub mod SumOrder

@@ -54,21 +54,21 @@ due_units asked listed ending bytes is =
     due_all asked ending bytes (listed_blocks asked.mode listed is) ∙ ap concat (blocks_by_units asked asked.mode listed ending bytes is)
 
 -- all is written of what is closed
-written_all : (asked : Command) (listed : BlockKind) (ending : Ending) (bytes : List ℕ) (done : List UnitLines) → block_kind_in asked.mode ≡ Some listed → units_in (listed_kind listed) (is_whole ending) 1 bytes ≡ done → text asked listed done ≡ due asked ending bytes
+pub written_all : (asked : Command) (listed : BlockKind) (ending : Ending) (bytes : List ℕ) (done : List UnitLines) → block_kind_in asked.mode ≡ Some listed → units_in (listed_kind listed) (is_whole ending) 1 bytes ≡ done → text asked listed done ≡ due asked ending bytes
 written_all asked listed ending bytes done is all = ap (text asked listed) (sym all) ∙ sym (due_units asked listed ending bytes is)
 
 -- what is written of some first units is a front of what is due
-front_of : (asked : Command) (listed : BlockKind) (ending : Ending) (bytes : List ℕ) (done : List UnitLines) → block_kind_in asked.mode ≡ Some listed → Begins (listed_kind listed) ending bytes done → IsFront (text asked listed done) (due asked ending bytes)
+pub front_of : (asked : Command) (listed : BlockKind) (ending : Ending) (bytes : List ℕ) (done : List UnitLines) → block_kind_in asked.mode ≡ Some listed → Begins (listed_kind listed) ending bytes done → IsFront (text asked listed done) (due asked ending bytes)
 front_of asked listed ending bytes done is b =
     let later = unit_blocks asked.form listed (place_after asked.form listed 1 done) b.0 in
     (concat later, due_units asked listed ending bytes is ∙ ap (text asked listed) b.1 ∙ ap concat (blocks-append asked.form listed 1 done b.0) ∙ concat-append (unit_blocks asked.form listed 1 done) later)
 
-begins_so_far : (limit : ℕ) (kind : CutKind) (input : Input) (bytes : List ℕ) (done : List UnitLines) → Cuts limit kind input bytes done → Begins kind input.ending bytes done
+pub begins_so_far : (limit : ℕ) (kind : CutKind) (input : Input) (bytes : List ℕ) (done : List UnitLines) → Cuts limit kind input bytes done → Begins kind input.ending bytes done
 begins_so_far limit kind input bytes done s =
     let whole = is_whole input.ending in
     (units_in kind whole input.cutter.line (drop input.cutter.at input.cutter.held ++ []), ap (units_in kind whole 1) (sym (append-nil bytes)) ∙ s.split whole [] (λ e. (sym s.closed_is ∙ e, refl)))
 
-begins_before : (kind : CutKind) (ending : Ending) (bytes : List ℕ) (done : List UnitLines) (u : UnitLines) → Begins kind ending bytes (done ++ u ∷ []) → Begins kind ending bytes done
+pub begins_before : (kind : CutKind) (ending : Ending) (bytes : List ℕ) (done : List UnitLines) (u : UnitLines) → Begins kind ending bytes (done ++ u ∷ []) → Begins kind ending bytes done
 begins_before kind ending bytes done u b = (u ∷ b.0, b.1 ∙ append_assoc done (u ∷ []) b.0)
 
 -- what a run that has to do all that is left does in all
@@ -77,33 +77,8 @@ Leads {S} {K} reads writes limit asked s0 k0 ending bytes wrote s k =
     (status : ℕ) (s' : S) (k' : K) → GoesOn reads writes limit asked ending bytes wrote s k status s' k'
     → GoesOn reads writes limit asked Open [] [] s0 k0 status s' k'
 
--- the units that were handed out are written, and what was done so far is in order
-pub record Ordered {S K : Type 0} (reads : S → S → Option (List ℕ) → Type 0) (writes : K → K → Option (List ℕ) → Type 0)
-    (limit : ℕ) (asked : Command) (listed : BlockKind) (s0 : S) (k0 : K) (s : S) (k : K) (input : Input) (place rejected : ℕ) : Type 0 where
-  pub bytes : List ℕ
-  pub done : List UnitLines
-  pub cuts : Cuts limit (listed_kind listed) input bytes done
-  pub place_is : place ≡ place_after asked.form listed 1 done
-  pub count : rejected ≡ rejected_units listed done
-  pub room : place + left_over limit input ≤ limit + 1
-  pub fewer : rejected < place
-  pub leads : Leads reads writes limit asked s0 k0 input.ending bytes (text asked listed done) s k
-
-pub ordered_start : {S K : Type 0} (reads : S → S → Option (List ℕ) → Type 0) (writes : K → K → Option (List ℕ) → Type 0) (limit : ℕ) (asked : Command) (listed : BlockKind) (s : S) (k : K)
-    → Ordered reads writes limit asked listed s k s k (started (listed_kind listed)) 1 0
-ordered_start reads writes limit asked listed s k = record {
-  bytes = [];
-  done = [];
-  cuts = cuts_start limit (listed_kind listed);
-  place_is = refl;
-  count = refl;
-  room = omega arith;
-  fewer = omega arith;
-  leads = λ status s' k' g. g;
-}
-
 -- what is read while no more is closed goes before
-reads_before : {S K : Type 0} (reads : S → S → Option (List ℕ) → Type 0) (writes : K → K → Option (List ℕ) → Type 0) (limit : ℕ) (asked : Command) (listed : BlockKind) (done : List UnitLines) (is : block_kind_in asked.mode ≡ Some listed)
+pub reads_before : {S K : Type 0} (reads : S → S → Option (List ℕ) → Type 0) (writes : K → K → Option (List ℕ) → Type 0) (limit : ℕ) (asked : Command) (listed : BlockKind) (done : List UnitLines) (is : block_kind_in asked.mode ≡ Some listed)
     (s : S) (ending : Ending) (bytes : List ℕ) (made : List (Option (List ℕ))) (mid : S) (ending' : Ending) (bytes' : List ℕ) (k : K) (status : ℕ) (s' : S) (k' : K)
     → ReadsOn reads limit (listed_kind listed) done s ending bytes made mid ending' bytes' → GoesOn reads writes limit asked ending' bytes' (text asked listed done) mid k status s' k'
     → GoesOn reads writes limit asked ending bytes (text asked listed done) s k status s' k'
@@ -138,7 +113,7 @@ writes_before {S} {K} reads writes limit asked ending bytes wrote s k (part ∷ 
     }
 
 -- a block that is due is written
-block_before : {S K : Type 0} (reads : S → S → Option (List ℕ) → Type 0) (writes : K → K → Option (List ℕ) → Type 0) (limit : ℕ) (asked : Command) (ending : Ending) (bytes wrote block : List ℕ) (s : S) (k now : K) (status : ℕ) (s' : S) (k' : K)
+pub block_before : {S K : Type 0} (reads : S → S → Option (List ℕ) → Type 0) (writes : K → K → Option (List ℕ) → Type 0) (limit : ℕ) (asked : Command) (ending : Ending) (bytes wrote block : List ℕ) (s : S) (k now : K) (status : ℕ) (s' : S) (k' : K)
     → IsFront (wrote ++ block) (due asked ending bytes) → WritesOut writes k now block (Ok tt) → GoesOn reads writes limit asked ending bytes (wrote ++ block) s now status s' k'
     → GoesOn reads writes limit asked ending bytes wrote s k status s' k'
 block_before reads writes limit asked ending bytes wrote block s k now status s' k' front w g =
@@ -147,7 +122,7 @@ block_before reads writes limit asked ending bytes wrote block s k now status s'
     (subst (λ (xs : List ℕ). GoesOn reads writes limit asked ending bytes xs s now status s' k') whole g)
 
 -- or a write of it fails, and is the last
-block_fails : {S K : Type 0} (reads : S → S → Option (List ℕ) → Type 0) (writes : K → K → Option (List ℕ) → Type 0) (limit : ℕ) (asked : Command) (ending : Ending) (bytes wrote block : List ℕ) (s : S) (k now : K) (fault : Fault)
+pub block_fails : {S K : Type 0} (reads : S → S → Option (List ℕ) → Type 0) (writes : K → K → Option (List ℕ) → Type 0) (limit : ℕ) (asked : Command) (ending : Ending) (bytes wrote block : List ℕ) (s : S) (k now : K) (fault : Fault)
     → IsFront (wrote ++ block) (due asked ending bytes) → WritesOut writes k now block (Err fault) → GoesOn reads writes limit asked ending bytes wrote s k 4 s now
 block_fails reads writes limit asked ending bytes wrote block s k now fault front w =
     let part = concat w.0 in
@@ -160,100 +135,14 @@ block_fails reads writes limit asked ending bytes wrote block s k now fault fron
       follows = ((w.1 ++ front.0, some, whole), refl, refl);
     })
 
--- a unit without a block is handed out
-pub ordered_passed : {S K : Type 0} (reads : S → S → Option (List ℕ) → Type 0) (writes : K → K → Option (List ℕ) → Type 0) (limit : ℕ) (asked : Command) (listed : BlockKind) (s0 : S) (k0 : K) (s new : S) (k : K) (input input' : Input) (place rejected : ℕ)
-    (unit : UnitPlace) → block_kind_in asked.mode ≡ Some listed → (o : Ordered reads writes limit asked listed s0 k0 s k input place rejected)
-    → (p : PullsOne reads limit s new (listed_kind listed) input input' o.bytes o.done (Ok (Some unit)))
-    → unit_block asked.form listed place (seen input'.cutter.held unit) ≡ None → is_rejected_unit listed (seen input'.cutter.held unit) ≡ false
-    → Ordered reads writes limit asked listed s0 k0 new k input' place rejected
-ordered_passed {S} {K} reads writes limit asked listed s0 k0 s new k input input' place rejected unit is o p made fine =
-    let u = seen input'.cutter.held unit in
-    let form = asked.form in
-    let none : unit_blocks form listed 1 (o.done ++ u ∷ []) ≡ unit_blocks form listed 1 o.done =
-    blocks-append form listed 1 o.done (u ∷ []) ∙ ap (λ n. unit_blocks form listed 1 o.done ++ before (unit_block form listed n u) []) (sym o.place_is) ∙ ap (λ b. unit_blocks form listed 1 o.done ++ before b []) made ∙ append-nil (unit_blocks form listed 1 o.done) in
-    record {
-      bytes = p.behind;
-      done = o.done ++ u ∷ [];
-      cuts = p.hands.1.cuts;
-      place_is = sym (place-more form listed 1 o.done u ∙ ap (λ n. place_behind n (unit_block form listed n u)) (sym o.place_is) ∙ ap (place_behind place) made);
-      count = o.count ∙ sym (rejected-more listed o.done u ∙ ap (λ b. rejected_units listed o.done + one_if b) fine ∙ (let e : rejected_units listed o.done + 0 ≡ rejected_units listed o.done = omega arith in e));
-      room = (let r = o.room in let f = p.hands.1.fewer in omega arith);
-      fewer = o.fewer;
-      leads = λ status s' k' g.
-          let a = subst (λ (e : Ending). GoesOn reads writes limit asked e p.behind (text asked listed (o.done ++ u ∷ [])) new k status s' k') p.hands.0 g in
-          let b = subst (λ (bs : List (List ℕ)). GoesOn reads writes limit asked p.ending p.behind (concat bs) new k status s' k') none a in
-          o.leads status s' k' (reads_before reads writes limit asked listed o.done is s input.ending o.bytes p.made new p.ending p.behind k status s' k' p.order b);
-    }
-
 -- the text of one unit more
-text_more : (asked : Command) (listed : BlockKind) (done : List UnitLines) (u : UnitLines) (place : ℕ) (block : List ℕ) → place ≡ place_after asked.form listed 1 done → unit_block asked.form listed place u ≡ Some block
+pub text_more : (asked : Command) (listed : BlockKind) (done : List UnitLines) (u : UnitLines) (place : ℕ) (block : List ℕ) → place ≡ place_after asked.form listed 1 done → unit_block asked.form listed place u ≡ Some block
     → text asked listed (done ++ u ∷ []) ≡ text asked listed done ++ block
 text_more asked listed done u place block is made =
     ap concat (blocks_more asked.form listed done u place block is made) ∙ concat-append (unit_blocks asked.form listed 1 done) (block ∷ []) ∙ ap (λ z. text asked listed done ++ z) (append-nil block)
 
-front_more : (limit : ℕ) (asked : Command) (listed : BlockKind) (input : Input) (ending : Ending) (bytes : List ℕ) (done : List UnitLines) (u : UnitLines) (place : ℕ) (block : List ℕ) → block_kind_in asked.mode ≡ Some listed → input.ending ≡ ending
-    → Cuts limit (listed_kind listed) input bytes (done ++ u ∷ []) → place ≡ place_after asked.form listed 1 done → unit_block asked.form listed place u ≡ Some block → IsFront (text asked listed done ++ block) (due asked ending bytes)
-front_more limit asked listed input ending bytes done u place block is same cuts at made =
-    let b : Begins (listed_kind listed) ending bytes (done ++ u ∷ []) = subst (λ (e : Ending). Begins (listed_kind listed) e bytes (done ++ u ∷ [])) same (begins_so_far limit (listed_kind listed) input bytes (done ++ u ∷ []) cuts) in
-    subst (λ (xs : List ℕ). IsFront xs (due asked ending bytes)) (text_more asked listed done u place block at made) (front_of asked listed ending bytes (done ++ u ∷ []) is b)
-
--- a unit with a block is handed out, and the block is written
-pub ordered_more : {S K : Type 0} (reads : S → S → Option (List ℕ) → Type 0) (writes : K → K → Option (List ℕ) → Type 0) (limit : ℕ) (asked : Command) (listed : BlockKind) (s0 : S) (k0 : K) (s new : S) (k now : K) (input input' : Input) (place rejected : ℕ)
-    (unit : UnitPlace) (block : List ℕ) (told : Bool) → block_kind_in asked.mode ≡ Some listed → (o : Ordered reads writes limit asked listed s0 k0 s k input place rejected)
-    → (p : PullsOne reads limit s new (listed_kind listed) input input' o.bytes o.done (Ok (Some unit)))
-    → unit_block asked.form listed place (seen input'.cutter.held unit) ≡ Some block → is_rejected_unit listed (seen input'.cutter.held unit) ≡ told
-    → WritesOut writes k now block (Ok tt)
-    → Ordered reads writes limit asked listed s0 k0 new now input' (place + 1) (rejected + one_if told)
-ordered_more {S} {K} reads writes limit asked listed s0 k0 s new k now input input' place rejected unit block told is o p made is_told written =
-    let u = seen input'.cutter.held unit in
-    let form = asked.form in
-    record {
-      bytes = p.behind;
-      done = o.done ++ u ∷ [];
-      cuts = p.hands.1.cuts;
-      place_is = sym (place-more form listed 1 o.done u ∙ ap (λ n. place_behind n (unit_block form listed n u)) (sym o.place_is) ∙ ap (place_behind place) made);
-      count = ap (λ n. n + one_if told) o.count ∙ sym (rejected-more listed o.done u ∙ ap (λ b. rejected_units listed o.done + one_if b) is_told);
-      room = (let r = o.room in let f = p.hands.1.fewer in omega arith);
-      fewer = (let small : one_if told ≤ 1 = one_small told in let f = o.fewer in omega arith);
-      leads = λ status s' k' g.
-          let a = subst (λ (e : Ending). GoesOn reads writes limit asked e p.behind (text asked listed (o.done ++ u ∷ [])) new now status s' k') p.hands.0 g in
-          let b = subst (λ (xs : List ℕ). GoesOn reads writes limit asked p.ending p.behind xs new now status s' k') (text_more asked listed o.done u place block o.place_is made) a in
-          let front = front_more limit asked listed input' p.ending p.behind o.done u place block is p.hands.0 p.hands.1.cuts o.place_is made in
-          let c = block_before reads writes limit asked p.ending p.behind (text asked listed o.done) block new k now status s' k' front written b in
-          o.leads status s' k' (reads_before reads writes limit asked listed o.done is s input.ending o.bytes p.made new p.ending p.behind k status s' k' p.order c);
-    }
-
--- or the write fails
-pub ordered_failed : {S K : Type 0} (reads : S → S → Option (List ℕ) → Type 0) (writes : K → K → Option (List ℕ) → Type 0) (limit : ℕ) (asked : Command) (listed : BlockKind) (s0 : S) (k0 : K) (s new : S) (k now : K) (input input' : Input) (place rejected : ℕ)
-    (unit : UnitPlace) (block : List ℕ) (fault : Fault) → block_kind_in asked.mode ≡ Some listed → (o : Ordered reads writes limit asked listed s0 k0 s k input place rejected)
-    → (p : PullsOne reads limit s new (listed_kind listed) input input' o.bytes o.done (Ok (Some unit)))
-    → unit_block asked.form listed place (seen input'.cutter.held unit) ≡ Some block → WritesOut writes k now block (Err fault)
-    → GoesOn reads writes limit asked Open [] [] s0 k0 4 new now
-ordered_failed reads writes limit asked listed s0 k0 s new k now input input' place rejected unit block fault is o p made written =
-    let u = seen input'.cutter.held unit in
-    let front = front_more limit asked listed input' p.ending p.behind o.done u place block is p.hands.0 p.hands.1.cuts o.place_is made in
-    let c = block_fails reads writes limit asked p.ending p.behind (text asked listed o.done) block new k now fault front written in
-    o.leads 4 new now (reads_before reads writes limit asked listed o.done is s input.ending o.bytes p.made new p.ending p.behind k 4 new now p.order c)
-
--- no unit is left, and the reading has ended
-pub ordered_ended : {S K : Type 0} (reads : S → S → Option (List ℕ) → Type 0) (writes : K → K → Option (List ℕ) → Type 0) (limit : ℕ) (asked : Command) (listed : BlockKind) (s0 : S) (k0 : K) (s new : S) (k : K) (input input' : Input) (place rejected : ℕ)
-    → block_kind_in asked.mode ≡ Some listed → (o : Ordered reads writes limit asked listed s0 k0 s k input place rejected)
-    → (p : PullsOne reads limit s new (listed_kind listed) input input' o.bytes o.done (Ok None))
-    → GoesOn reads writes limit asked Open [] [] s0 k0 (written_status input'.ending rejected) new k
-unfolding rejects
-ordered_ended {S} {K} reads writes limit asked listed s0 k0 s new k input input' place rejected is o p =
-    let status = written_status input'.ending rejected in
-    let all : rejects asked (reported asked.mode p.ending p.behind) ≡ rejected = rejects_by_units asked asked.mode listed p.ending p.behind is ∙ ap (rejected_units listed) p.hands.2 ∙ sym o.count in
-    let same : status ≡ written_status p.ending (rejects asked (reported asked.mode p.ending p.behind)) = ap (λ (e : Ending). written_status e rejected) p.hands.0 ∙ ap (written_status p.ending) (sym all) in
-    let c : GoesOn reads writes limit asked p.ending p.behind (text asked listed o.done) new k status new k = record {
-      events = [];
-      went = (refl, refl);
-      follows = inl (p.hands.1, written_all asked listed p.ending p.behind o.done is p.hands.2, same);
-    } in
-    o.leads status new k (reads_before reads writes limit asked listed o.done is s input.ending o.bytes p.made new p.ending p.behind k status new k p.order c)
-
 -- memory ran out, when some first units were written
-short_of : {S K : Type 0} (reads : S → S → Option (List ℕ) → Type 0) (writes : K → K → Option (List ℕ) → Type 0) (limit : ℕ) (asked : Command) (listed : BlockKind) (new : S) (k : K) (ending : Ending) (bytes : List ℕ) (done : List UnitLines)
+pub short_of : {S K : Type 0} (reads : S → S → Option (List ℕ) → Type 0) (writes : K → K → Option (List ℕ) → Type 0) (limit : ℕ) (asked : Command) (listed : BlockKind) (new : S) (k : K) (ending : Ending) (bytes : List ℕ) (done : List UnitLines)
     → block_kind_in asked.mode ≡ Some listed → Begins (listed_kind listed) ending bytes done → GoesOn reads writes limit asked ending bytes (text asked listed done) new k 6 new k
 short_of reads writes limit asked listed new k ending bytes done is b =
     let first = unit_blocks asked.form listed 1 done in
@@ -265,23 +154,6 @@ short_of reads writes limit asked listed new k ending bytes done is b =
       went = (refl, refl);
       follows = inr (refl, length first, ap concat (sym front));
     }
-
-pub ordered_short : {S K : Type 0} (reads : S → S → Option (List ℕ) → Type 0) (writes : K → K → Option (List ℕ) → Type 0) (limit : ℕ) (asked : Command) (listed : BlockKind) (s0 : S) (k0 : K) (s new : S) (k : K) (input input' : Input) (place rejected : ℕ)
-    → block_kind_in asked.mode ≡ Some listed → (o : Ordered reads writes limit asked listed s0 k0 s k input place rejected) → (made : List (Option (List ℕ))) (ending : Ending) (behind : List ℕ)
-    → ReadsOn reads limit (listed_kind listed) o.done s input.ending o.bytes made new ending behind → Begins (listed_kind listed) ending behind o.done
-    → GoesOn reads writes limit asked Open [] [] s0 k0 6 new k
-ordered_short {S} {K} reads writes limit asked listed s0 k0 s new k input input' place rejected is o made ending behind order begun =
-    o.leads 6 new k (reads_before reads writes limit asked listed o.done is s input.ending o.bytes made new ending behind k 6 new k order (short_of reads writes limit asked listed new k ending behind o.done is begun))
-
--- memory ran out for the block of a unit that was handed out
-pub ordered_short_block : {S K : Type 0} (reads : S → S → Option (List ℕ) → Type 0) (writes : K → K → Option (List ℕ) → Type 0) (limit : ℕ) (asked : Command) (listed : BlockKind) (s0 : S) (k0 : K) (s new : S) (k : K) (input input' : Input) (place rejected : ℕ)
-    (unit : UnitPlace) → block_kind_in asked.mode ≡ Some listed → (o : Ordered reads writes limit asked listed s0 k0 s k input place rejected)
-    → (p : PullsOne reads limit s new (listed_kind listed) input input' o.bytes o.done (Ok (Some unit)))
-    → GoesOn reads writes limit asked Open [] [] s0 k0 6 new k
-ordered_short_block {S} {K} reads writes limit asked listed s0 k0 s new k input input' place rejected unit is o p =
-    let u = seen input'.cutter.held unit in
-    let b : Begins (listed_kind listed) p.ending p.behind (o.done ++ u ∷ []) = subst (λ (e : Ending). Begins (listed_kind listed) e p.behind (o.done ++ u ∷ [])) p.hands.0 (begins_so_far limit (listed_kind listed) input' p.behind (o.done ++ u ∷ []) p.hands.1.cuts) in
-    ordered_short reads writes limit asked listed s0 k0 s new k input input' place rejected is o p.made p.ending p.behind p.order (begins_before (listed_kind listed) p.ending p.behind o.done u b)
 
 -- what is in order for the command that the words name is so for the words
 pub in_order_asked : {S K : Type 0} (reads : S → S → Option (List ℕ) → Type 0) (writes : K → K → Option (List ℕ) → Type 0) (limit : ℕ) (words : Option Command) (asked : Command) (status : ℕ) (s : S) (k : K) (s' : S) (k' : K)

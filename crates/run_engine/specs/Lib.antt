@@ -38,4 +38,5 @@ pub mod UnitSums
 pub mod Reporting
 pub mod Order
 pub mod Cutting
+pub mod Gathering
 pub mod TextReads

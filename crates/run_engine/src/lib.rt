@@ -6,8 +6,9 @@
 //! 1. *Words* (`words`, `command`). `read_words` has `clap` read them, and makes a `Command` of them, or none.
 //! 2. *Reading* (`reading`). Pieces of 16 kB are given to a `Cutter` until a hand, or a line of spots, is closed. What was handed out is
 //!    forgotten. More than `INPUT_MAX` bytes are too long.
-//! 3. *Blocks* (`report`, `hands`, `spots`). Each hand or spot has a block, which is made whole in memory and then written. So whatever
-//!    fails, what stands in the output are whole blocks of the report, but where the output itself took a part of one.
+//! 3. *Blocks* (`report`, `gathering`, `hands`, `spots`). Each hand or spot has a block, which is made whole in memory and then written.
+//!    Where none takes long, those that a piece closes are written together. So whatever fails, what stands in the output are whole blocks
+//!    of the report, but where the output itself took a part of one.
 //! 4. *Sums* (`sums`, `totals`, `made`). In other modes one loop adds up the hands, and one block is written at the end.
 //! 5. *Who counts* (`counter`, `shared`). A `EquityCounter` has the last equity that was asked for. `Alone` counts it here; `Shared` has workers
 //!    count it where it has many blocks.
@@ -21,6 +22,7 @@ mod block_kinds;
 mod closing;
 mod command;
 mod counter;
+mod gathering;
 mod hands;
 mod later;
 mod made;

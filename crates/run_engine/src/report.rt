@@ -14,12 +14,13 @@ ghost use Rattle.run_engine.specs.declared.reading.Ending.TheVariants.{Open};
 use crate::block_kinds::{BlockKind, UnitPosition, block_kind_in};
 use crate::command::{Command, Mode};
 use crate::counter::{Counter, EquityCounter};
+use crate::gathering::{gather, may_wait, next_written, write_rest};
 use crate::hands::{write_lines, write_result_lines, write_settlement_lines};
-use crate::reading::{Input, next_unit};
+use crate::reading::Input;
 use crate::spots::write_spot_line;
 use crate::totals::write_sums;
 use crate::write_fault::WriteFault;
-use byte_ends::{Sink, Source, write_all};
+use byte_ends::{Sink, Source};
 use card_sets::Memory;
 use hand_cuts::INPUT_MAX;
 use report_table::{Balance, Form, Totals};
@@ -62,8 +63,9 @@ fn write_unit<C: Counter>(
     }
 }
 
-/// Writes the blocks of the input, one after the other, each made whole before any of it is written, and
-/// written as soon as its spot or hand is closed. Answers how many spots or hands are rejected.
+/// Writes the blocks of the input, one after the other, each made whole before any of it is written. Each is
+/// written by itself, or with those that the same piece closes; all are written before the next piece is
+/// read. Answers how many spots or hands are rejected.
 fn write_blocks<C: Counter, S: Source, K: Sink>(
     alloc: Global,
     asked: Command,
@@ -79,13 +81,15 @@ fn write_blocks<C: Counter, S: Source, K: Sink>(
     ensures { GoesOn S.reads K.writes INPUT_MAX asked Open [] [] source.old sink.old
         (told_status input.new.ending result) source.new sink.new }
 {
+    let waits = may_wait(listed);
     let mut block = Vec::new(alloc);
+    let mut ready = Vec::new(alloc);
     let mut place = 1;
     let mut rejects = 0;
     'each: loop {
-        let next = match next_unit(source, input) {
+        let next = match next_written(source, input, &mut ready, sink) {
             Ok(next) => next,
-            Err(Memory) => return Err(WriteFault::Memory),
+            Err(fault) => return Err(fault),
         };
         let Some(unit) = next else {
             return Ok(rejects);
@@ -100,12 +104,12 @@ fn write_blocks<C: Counter, S: Source, K: Sink>(
             alloc, asked.form, listed, numbers, bytes, equities, &mut block,
         ) {
             Ok(told) => told,
-            Err(Memory) => return Err(WriteFault::Memory),
+            Err(Memory) => return Err(write_rest(&ready, sink)),
         };
         let Some(rejected) = told else {
             continue;
         };
-        match write_all(sink, &block) {
+        match gather(waits, &block, &mut ready, sink) {
             Ok(()) => {}
             Err(_) => return Err(WriteFault::Failed),
         }

@@ -1,9 +1,6 @@
 -- The best of some hands by numbers.
-use Rattle.std.specs.Prelude.{◌≡◌, ℕ, ◌<◌, ◌==◌, if◌then◌else◌, List, [], ◌∷◌, filter, length, max, slice_index, slice_index_or}
+use Rattle.std.specs.Prelude.{ℕ, ◌==◌, if◌then◌else◌, List, [], ◌∷◌, filter, max}
 use Rattle.card_sets.specs.PlayerSets.{set_of_players}
-use Rattle.card_sets.specs.State.{State}
-use Rattle.showdown_tally.specs.Showdown.{Showdown, own_after, board_after, eligible_in}
-use Rattle.runout_walk.specs.HighParts.{high_number, plain_number, suited_number}
 
 -- the greatest number of some hands, 0 for none
 abbrev pub best_value : (ℕ → ℕ) → List ℕ → ℕ
@@ -17,23 +14,3 @@ best_set value hands = set_of_players (filter (λ h. value h == best_value value
 -- the same where 0 is the number of a hand that has no value: nobody where all have it
 abbrev pub some_set : (ℕ → ℕ) → List ℕ → ℕ
 some_set value hands = if best_value value hands == 0 then 0 else best_set value hands
-
--- what a hand is worth as a high after a runout, by ranks alone and with flushes
-abbrev pub plain_of : State → List (List ℕ) → ℕ → ℕ
-plain_of state runout h = plain_number state.game (own_after state runout h) (board_after state runout)
-
-abbrev pub high_of : State → List (List ℕ) → ℕ → ℕ
-high_of state runout h = high_number state.game (own_after state runout h) (board_after state runout)
-
--- and with cards of one suit on the board, as a flush
-abbrev pub flush_of : State → List ℕ → ℕ → ℕ → ℕ
-flush_of state cards suit h = suited_number state.game (slice_index_or state.hands h []) cards suit
-
--- what each hand is worth so
-abbrev pub AreFlushesOf : State → List ℕ → ℕ → List ℕ → Type 0
-AreFlushesOf state cards suit values = (h : ℕ) → h < length state.hands → slice_index values h ≡ flush_of state cards suit h
-
--- the best flush of the hands of a pot, and where there is one, whose it is
-pub record IsBestFlush (deal : Showdown) (pot : ℕ) (cards : List ℕ) (suit top set : ℕ) : Type 0 where
-  pub greatest : top ≡ best_value (flush_of deal.state cards suit) (eligible_in deal pot)
-  pub winners : 0 < top → set ≡ best_set (flush_of deal.state cards suit) (eligible_in deal pot)

@@ -9,7 +9,7 @@ ghost use Rattle.showdown_tally.specs.Tallies.{runouts_after};
 ghost use Rattle.runout_walk.specs.Listing.{last_count};
 
 use crate::branch::Branch;
-use crate::leaf::{Leaf, Tail};
+use crate::leaf::{Leaf, OpenSlot};
 use crate::range::{count_range, count_ways};
 use card_sets::CardSet;
 use runout_ranges::Shape;
@@ -65,7 +65,7 @@ pub fn count_runouts_of<F: Leaf, L: Ledger>(
         later,
         each: count_ways(cards.count() - count, later),
         unseen: cards,
-        tail: Tail {
+        tail: OpenSlot {
             taken: CardSet::empty(),
             rest: cards,
             left: count,

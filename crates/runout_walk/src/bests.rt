@@ -12,11 +12,11 @@ use showdown_tally::Table;
 
 /// The greatest number of some hands, and those that have it, as the number with their bits.
 #[derive(Clone, Copy)]
-pub(crate) struct Best {
+pub struct Best {
     /// The number, 0 for no hands.
-    pub(crate) top: u32,
+    pub top: u32,
     /// The hands.
-    pub(crate) set: u16,
+    pub set: u16,
 }
 
 /// The number of a hand of a set, and else 0.
@@ -45,9 +45,9 @@ fn top_of(values: &[u32; 10], hands: PlayerSet, count: u8) -> u32
     top
 }
 
-/// The best of the first `count` hands that are in a set.
+/// The best of the first `count` hands that are in a set, by numbers of the hands.
 #[inline]
-pub(crate) fn best_of(values: &[u32; 10], hands: PlayerSet, count: u8) -> Best
+pub fn best_of(values: &[u32; 10], hands: PlayerSet, count: u8) -> Best
     requires { count ≤ 10 }
     ensures top { result.top ≡ best_value (slice_index values.now) (hands_below hands count) }
     ensures set { result.set ≡ best_set (slice_index values.now) (hands_below hands count) }
@@ -63,9 +63,9 @@ pub(crate) fn best_of(values: &[u32; 10], hands: PlayerSet, count: u8) -> Best
     Best { top, set }
 }
 
-/// There are ten places for hands and for pots.
+/// A law: a table has ten places for hands and for pots.
 #[inline]
-pub(crate) fn ten_places(table: &Table)
+pub fn ten_places(table: &Table)
     ensures hands { length table.now.known.hands ≡ 10 }
     ensures pots { length table.now.eligible ≡ 10 }
 {
@@ -73,9 +73,9 @@ pub(crate) fn ten_places(table: &Table)
     let _pots: &[u16] = &table.eligible;
 }
 
-/// The eligible hands of a pot are among the hands.
+/// A law: the eligible hands of a pot are among the hands of the table.
 #[inline]
-pub(crate) fn are_hands(table: &Table, pot: u8)
+pub fn are_hands(table: &Table, pot: u8)
     requires { pot < table.now.pots }
     ensures { AreBelow (length (state_of table.now.known).hands)
         (eligible_in (deal_of table.now) pot) }
@@ -85,15 +85,15 @@ pub(crate) fn are_hands(table: &Table, pot: u8)
 
 /// The same of each pot.
 #[inline]
-pub(crate) fn all_are_hands(table: &Table)
+pub fn all_are_hands(table: &Table)
     ensures { (pot : ℕ) → pot < table.now.pots
         → AreBelow (length (state_of table.now.known).hands) (eligible_in (deal_of table.now) pot) }
 {
     ten_places(table);
 }
 
-/// The best of the hands that are eligible in a pot, by numbers of the hands.
-pub(crate) fn pot_best(table: &Table, pot: u8, values: &[u32; 10]) -> Best
+/// The best of the hands that are eligible in a pot, by numbers of the hands: the greatest number, and who has it.
+pub fn pot_best(table: &Table, pot: u8, values: &[u32; 10]) -> Best
     requires { pot < table.now.pots }
     ensures best { (value : ℕ → ℕ)
         → ((h : ℕ) → h < length (state_of table.now.known).hands

@@ -1,6 +1,6 @@
 //! Where a walk over the slots of a runout stands.
 
-use crate::leaf::Tail;
+use crate::leaf::OpenSlot;
 use card_sets::CardSet;
 use runout_ranges::Slot;
 
@@ -16,5 +16,5 @@ pub(crate) struct Branch<'a> {
     /// The cards that the slots before it left.
     pub(crate) unseen: CardSet,
     /// What it has, and what may come to it.
-    pub(crate) tail: Tail,
+    pub(crate) tail: OpenSlot,
 }

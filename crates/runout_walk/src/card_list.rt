@@ -3,19 +3,28 @@
 ghost use Rattle.std.specs.Prelude.{◌≡◌, ◌≤◌, length, take};
 
 use card_sets::{Card, CardSet};
+use std::marker::Model;
 
 /// How many cards a deck has.
-pub(crate) const DECK: usize = 52;
+pub const DECK: usize = 52;
 
-/// Some cards, rising.
-#[derive(Clone, Copy)]
-pub(crate) struct CardList {
+/// Some cards as a list, on the stack. Clauses see it as that list.
+#[derive(Drop)]
+pub struct CardList {
     /// The cards, and others behind them.
     cards: [Card; DECK],
     /// How many they are.
     used: usize,
-    /// There are places for all.
-    pub(crate) ghost few: { used ≤ 52 },
+}
+
+impl Model for CardList {
+    ghost use Rattle.std.specs.Prelude.{ℕ, List, take, ◌≤◌};
+
+    ghost Value = { List ℕ };
+
+    ghost view = { λ l. take l.used l.cards };
+
+    ghost invariant = { λ l. l.used ≤ 52 };
 }
 
 /// Puts the cards of a set at the front.
@@ -43,10 +52,11 @@ fn any_card() -> Card {
 }
 
 impl CardList {
-    /// The cards of a set.
+    /// The cards of a set, rising.
     #[inline]
-    pub(crate) fn of(set: CardSet) -> CardList
-        ensures { take result.used result.cards ≡ set }
+    pub fn of(set: CardSet) -> CardList
+        ensures cards { result ≡ set }
+        ensures few { length set ≤ 52 }
     {
         let mut cards = [any_card(); DECK];
         let used = set.count() as usize;
@@ -56,8 +66,8 @@ impl CardList {
 
     /// The cards as a slice.
     #[inline]
-    pub(crate) fn as_slice(&self) -> &[Card]
-        ensures { result.now ≡ take self.now.used self.now.cards }
+    pub fn as_slice(&self) -> &[Card]
+        ensures { result.now ≡ self.now }
     {
         &self.cards[..self.used]
     }

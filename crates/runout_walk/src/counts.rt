@@ -13,7 +13,7 @@ use showdown_tally::Table;
 
 /// The place of a side among the rows of a pot.
 #[inline]
-pub(crate) fn side_row(side: Side) -> usize
+pub fn side_row(side: Side) -> usize
     ensures value { result ≡ side_place side }
     ensures bound { result < 2 }
 {
@@ -43,9 +43,9 @@ fn clear_side(counts: &mut [[u32; 2048]], game: Game, side: Side, pot: u8)
     }
 }
 
-/// There are ten places for pots.
+/// A law: a table has ten places for pots.
 #[inline]
-pub(crate) fn ten_pots(table: &Table)
+pub fn ten_pots(table: &Table)
     ensures { length table.now.eligible ≡ 10 }
 {
     let _eligible: &[u16] = &table.eligible;
@@ -69,7 +69,7 @@ pub fn clear_counts(counts: &mut [[u32; 2048]], table: &Table)
 
 /// One more at a place of a row.
 #[inline]
-pub(crate) fn add_at(row: &mut [u32], place: u16)
+fn add_at(row: &mut [u32], place: u16)
     requires inside { place < length row.old }
     requires fits { slice_index row.old place + 1 < 2 ^ 32 }
     ensures counts { (at : ℕ)
@@ -77,6 +77,19 @@ pub(crate) fn add_at(row: &mut [u32], place: u16)
     ensures places { length row.new ≡ length row.old }
 {
     row[usize::from(place)] += 1;
+}
+
+/// So many runouts more at a place of a row.
+#[inline]
+pub fn add_times(cells: &mut [u32], place: u16, times: u32)
+    requires inside { place < length cells.old }
+    requires fits { slice_index cells.old place + times < 2 ^ 32 }
+    ensures counts { (other : ℕ)
+        → slice_index cells.new other
+        ≡ slice_index cells.old other + (if place == other then times else 0) }
+    ensures places { length cells.new ≡ length cells.old }
+{
+    cells[usize::from(place)] += times;
 }
 
 /// One more at a place of a side of a pot, where the game has the side.
@@ -96,7 +109,7 @@ fn add_side(counts: &mut [[u32; 2048]], game: Game, side: Side, pot: u8, place: 
 
 /// What is added to the place of a high's set where a set wins the low: nothing where nobody has one.
 #[inline]
-pub(crate) fn low_mark(low: u16) -> u16
+pub fn low_mark(low: u16) -> u16
     ensures value { result ≡ low_mark low }
     ensures small { result ≤ 1024 }
 {
@@ -106,7 +119,7 @@ pub(crate) fn low_mark(low: u16) -> u16
 /// Counts one runout for a pot whose high the one set of hands wins, and whose low the other, on each side that the game has: for the
 /// high at the place of its set, 1024 further where somebody has a low, and for the low at that of its set.
 #[inline]
-pub(crate) fn add_one(counts: &mut [[u32; 2048]], game: Game, pot: u8, high: u16, low: u16)
+pub fn add_one(counts: &mut [[u32; 2048]], game: Game, pot: u8, high: u16, low: u16)
     // The pot has its two rows, and the sets are of up to ten hands.
     requires inside { 2 * pot + 1 < length counts.old }
     requires high { high < 1024 }

@@ -17,7 +17,7 @@ use step_count::Steps;
 
 /// A slot that has some cards, and gets so many more of the rest.
 #[derive(Clone, Copy)]
-pub struct Tail {
+pub struct OpenSlot {
     /// The cards that it has.
     pub taken: CardSet,
     /// The cards that may come to them, which lie above them.
@@ -44,7 +44,7 @@ pub trait Leaf {
         &mut self,
         counts: &mut [[u32; 2048]],
         front: &[CardSet],
-        tail: Tail,
+        tail: OpenSlot,
         lo: u64,
         hi: u64,
         steps: &mut Steps<L>,

@@ -12,7 +12,7 @@ ghost use Rattle.showdown_tally.specs.Sides.{side_outcome, AreSideNumbersAfter};
 ghost use Rattle.showdown_tally.specs.Tallies.{runouts_after};
 
 use crate::counts::{add_one, ten_pots};
-use crate::leaf::{Leaf, Tail};
+use crate::leaf::{Leaf, OpenSlot};
 use card_sets::{CardSet, Side};
 use runout_ranges::Shape;
 use showdown_tally::{Table, side_outcome, values_after};
@@ -61,7 +61,7 @@ fn values_on(side: Side, table: &Table, shape: &Shape, sets: &[CardSet]) -> [Opt
 /// Who wins a side of a pot after each runout that gives the hands these values on it, by the number with their bits: nobody where the
 /// game hasn't the side.
 #[inline]
-pub(crate) fn winners_on(table: &Table, side: Side, values: &[Option<u32>; 10], pot: u8) -> u16
+pub fn winners_on(table: &Table, side: Side, values: &[Option<u32>; 10], pot: u8) -> u16
     requires { pot < table.now.pots }
     ensures value { (runout : List (List ℕ))
         → (has_side side table.now.known.game ≡ true
@@ -125,7 +125,7 @@ impl Leaf for Plain {
         &mut self,
         counts: &mut [[u32; 2048]],
         front: &[CardSet],
-        tail: Tail,
+        tail: OpenSlot,
         lo: u64,
         hi: u64,
         steps: &mut Steps<L>,

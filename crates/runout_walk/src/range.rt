@@ -9,7 +9,7 @@ ghost use Rattle.runout_walk.specs.Branches.{IsAt};
 ghost use Rattle.runout_walk.specs.Listing.{going_on};
 
 use crate::branch::Branch;
-use crate::leaf::{Leaf, Tail};
+use crate::leaf::{Leaf, OpenSlot};
 use card_sets::CardSet;
 use runout_ranges::{Slot, count_choices};
 use std::sync::ledger::Ledger;
@@ -128,7 +128,7 @@ pub(crate) fn count_range<F: Leaf, L: Ledger>(
             later: last,
             each: count_ways(cards.count() - count, last),
             unseen: cards,
-            tail: Tail {
+            tail: OpenSlot {
                 taken: CardSet::empty(),
                 rest: cards,
                 left: count,
@@ -144,7 +144,7 @@ pub(crate) fn count_range<F: Leaf, L: Ledger>(
     let more = tail.taken.with(card);
     let with_card = count_first(others.count(), tail.left, branch.each);
     let with = Branch {
-        tail: Tail {
+        tail: OpenSlot {
             taken: more,
             rest: others,
             left: tail.left - 1,
@@ -156,7 +156,7 @@ pub(crate) fn count_range<F: Leaf, L: Ledger>(
         return;
     }
     let without = Branch {
-        tail: Tail {
+        tail: OpenSlot {
             taken: tail.taken,
             rest: others,
             left: tail.left,

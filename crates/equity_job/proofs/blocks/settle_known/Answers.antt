@@ -1,4 +1,4 @@
-use Rattle.std.proofs.Common.{◌≡◌, ℕ, ◌+◌, List, [], ◌∷◌, length, ap, sym, ◌∙◌, arith, subst}
+use Rattle.std.proofs.Common.{◌+◌, [], length, ap, sym, ◌∙◌, arith, subst}
 use Rattle.card_sets.specs.State.{state_of}
 use Rattle.runout_ranges.specs.Runouts.{Begins}
 use Rattle.showdown_tally.specs.CountLaws.{Counts-none, Counts-more, Fits-few}

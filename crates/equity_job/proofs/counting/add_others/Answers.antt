@@ -1,8 +1,8 @@
-use Rattle.std.proofs.Common.{◌≡◌, ℕ, ◌+◌, ◌*◌, ◌≤◌, length, ap, ◌∙◌, arith, subst}
+use Rattle.std.proofs.Common.{◌+◌, length, ap, ◌∙◌, arith, subst}
 use Rattle.card_sets.specs.State.{state_of}
 use Rattle.showdown_tally.specs.Deals.{deal_of}
 use Rattle.showdown_tally.specs.Tallies.{Counts, runouts_after}
-use Rattle.equity_job.specs.Blocks.{block_of, blocks_of, blocks_below}
+use Rattle.equity_job.specs.Blocks.{block_of, blocks_below}
 use Rattle.equity_job.proofs.BlockLists.{blocks-all}
 use Rattle.equity_job.proofs.BlockSums.{cells_fit, units_fit, parts_few, more_blocks, length_more_blocks}
 use Rattle.equity_job.proofs.BlockTotals.{enough_below}

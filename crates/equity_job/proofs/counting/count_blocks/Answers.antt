@@ -1,9 +1,8 @@
-use Rattle.std.proofs.Common.{◌≡◌, ◌+◌, ◌*◌, ◌≤◌, length, ap, ◌∙◌, arith, subst}
+use Rattle.std.proofs.Common.{◌≡◌, ◌+◌, length, ap, ◌∙◌, arith, subst}
 use Rattle.card_sets.specs.State.{state_of}
 use Rattle.showdown_tally.specs.Deals.{deal_of}
 use Rattle.showdown_tally.specs.Tallies.{Counts, runouts_after}
 use Rattle.equity_job.specs.Blocks.{block_of}
-use Rattle.equity_job.specs.declared.limits.TheConstants.{BLOCK}
 use Rattle.equity_job.proofs.BlockLists.{blocks-all}
 use Rattle.equity_job.proofs.BlockTotals.{enough_blocks, some_runouts}
 use Rattle.equity_job.proofs.counting.count_blocks.Goals as goal

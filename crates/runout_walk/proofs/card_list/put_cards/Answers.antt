@@ -1,8 +1,7 @@
 use Rattle.std.proofs.Common.{◌≡◌, ◌∷◌, ◌++◌, [], sym, ap, ◌∙◌, arith, length, take, append-nil}
 use Rattle.std.proofs.Math.ListN.{length-set}
 use Rattle.card_sets.specs.Bits.{first_rest}
-use Rattle.runout_walk.proofs.PairListing.{none_there}
-use Rattle.runout_walk.proofs.DrawLists.{put_card}
+use Rattle.runout_walk.proofs.CardLists.{none_there, put_card}
 use Rattle.runout_walk.proofs.card_list.put_cards.Goals as goal
 
 pub loop-card-smaller : goal.loop-card-smaller

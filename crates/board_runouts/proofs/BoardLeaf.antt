@@ -1,0 +1,87 @@
+-- What a leaf of boards is given.
+use Rattle.std.proofs.Common.{Bool, true, false, cond, ◌≡◌, ℕ, suc, ◌<◌, ◌≤◌, List, [], ◌∷◌, ◌++◌, length, map, refl, sym, ap, arith, subst}
+use Rattle.std.specs.Prelude.{nat_le}
+use Rattle.std.specs.List.{slice_range}
+use Rattle.card_sets.specs.Choose.{choose}
+use Rattle.card_sets.specs.Games.{has_board, own_size}
+use Rattle.card_sets.specs.State.{State, state_of}
+use Rattle.runout_ranges.specs.Runouts.{HasMember}
+use Rattle.runout_ranges.specs.Shapes.{slots_of}
+use Rattle.runout_ranges.specs.Slots.{same_receiver, slots}
+use Rattle.runout_ranges.specs.declared.shapes.Receiver.TheVariants.{Board}
+use Rattle.runout_ranges.specs.declared.shapes.Shape.{Shape}
+use Rattle.runout_ranges.specs.declared.shapes.Slot.{Slot}
+use Rattle.showdown_tally.specs.Deals.{deal_of}
+use Rattle.showdown_tally.specs.SideCounts.{CountsGrow}
+use Rattle.showdown_tally.specs.Tallies.{runouts_after}
+use Rattle.showdown_tally.specs.declared.table.Table.{Table}
+use Rattle.std.proofs.lemmas.Bool.{and_parts}
+use Rattle.runout_ranges.proofs.CallerLemmas.{as_many}
+use Rattle.showdown_tally.proofs.CallerLemmas.{hand_of}
+use Rattle.board_runouts.specs.Boards.{AreFirst, IsBoardAlone, are_boards, board_lacks}
+use Rattle.runout_walk.specs.Listing.{IsEndOf, last_count, left_after}
+use Rattle.board_runouts.specs.declared.spot.BoardSpot.{BoardSpot}
+use Rattle.board_runouts.proofs.BoardDealt.{IsScene, first_cards, own_of, scene_of}
+use Rattle.runout_walk.proofs.CallerLemmas.{some_member}
+
+-- no slot stands before the board's
+pub front_none : (st : State) (front : List (List ℕ)) → IsBoardAlone st → suc (length front) ≡ length (slots st) → front ≡ []
+front_none st [] alone last = refl
+front_none st (set ∷ front) alone last = absurd (let one : length (slots st) ≡ 1 = ap length alone in omega arith)
+
+-- first cards, which two more make to runouts
+pub record IsLeafOf (spot : BoardSpot) (front : List (List ℕ)) (taken rest : List ℕ) : Type 0 where
+  pub none : front ≡ []
+  pub members : (more : List ℕ) → HasMember (choose 2 rest) more → HasMember (runouts_after (state_of spot.table.known)) ((taken ++ more) ∷ [])
+  pub first : AreFirst (state_of spot.table.known) taken
+  pub own : (h : ℕ) → h < length (state_of spot.table.known).hands → length (hand_of (state_of spot.table.known) h) ≡ own_size spot.table.known.game
+
+pub leaf_of : (spot : BoardSpot) (table : Table) (front : List (List ℕ)) (taken rest : List ℕ) (left lo hi : ℕ) → spot.table ≡ table → suc (length front) ≡ length (slots (state_of table.known)) → left ≡ 2
+    → ((more : List ℕ) → HasMember (choose left rest) more → HasMember (runouts_after (state_of table.known)) (front ++ (taken ++ more) ∷ [])) → lo < hi → hi ≤ length (choose left rest) → IsLeafOf spot front taken rest
+leaf_of spot table front taken rest left lo hi same last two all h k =
+    let S : Table → Type 0 = λ t. suc (length front) ≡ length (slots (state_of t.known)) in
+    let none : front ≡ [] = front_none (state_of spot.table.known) front spot.alone (subst S (sym same) last) in
+    let M : Table → Type 0 = λ t. (more : List ℕ) → HasMember (choose left rest) more → HasMember (runouts_after (state_of t.known)) (front ++ (taken ++ more) ∷ []) in
+    let L : ℕ → Type 0 = λ n. (more : List ℕ) → HasMember (choose n rest) more → HasMember (runouts_after (state_of spot.table.known)) (front ++ (taken ++ more) ∷ []) in
+    let F : List (List ℕ) → Type 0 = λ f. (more : List ℕ) → HasMember (choose 2 rest) more → HasMember (runouts_after (state_of spot.table.known)) (f ++ (taken ++ more) ∷ []) in
+    let members : F [] = subst F none (subst L two (subst M (sym same) all)) in
+    let size : length (choose left rest) ≡ length (choose 2 rest) = ap (λ n. length (choose n rest)) two in
+    let one = some_member (choose 2 rest) (omega arith) in
+    let scene : IsScene (state_of spot.table.known) (taken ++ one.0) = scene_of spot (taken ++ one.0) (members one.0 one.1) in
+    record {
+      none = none;
+      members = members;
+      first = first_cards (state_of spot.table.known) taken one.0 scene (sym (as_many 2 rest one.0 one.1));
+      own = λ h l. own_of (state_of spot.table.known) (taken ++ one.0) h scene l;
+    }
+
+-- the rest is the end of all cards that may come
+pub end_of_all : (front : List (List ℕ)) (rest cards all : List ℕ) → front ≡ [] → cards ≡ all → IsEndOf rest (left_after all front) → IsEndOf rest cards
+end_of_all front rest cards all none same end =
+    let F : List (List ℕ) → Type 0 = λ f. IsEndOf rest (left_after all f) in
+    subst (IsEndOf rest) (sym same) (subst F none end)
+
+-- where the runouts of a table are boards there is one slot, which takes two cards or more
+one_slot : (some : List Slot) → 2 ≤ board_lacks some → (0 < length some) × (2 ≤ last_count some)
+one_slot [] two = absurd (omega arith)
+one_slot (slot ∷ []) two = (omega arith, taken (same_receiver slot.receiver Board) two)
+  where
+    taken : (b : Bool) → 2 ≤ cond b slot.count 0 → 2 ≤ slot.count
+    taken true two = two
+    taken false two = absurd (omega arith)
+one_slot (slot ∷ next ∷ more) two = absurd (omega arith)
+
+pub boards_slots : (table : Table) (shape : Shape) (st : State) → are_boards table shape ≡ true → slots_of shape ≡ slots st → (0 < length (slots st)) × (2 ≤ last_count (slots st))
+boards_slots table shape st boards same =
+    let two : nat_le 2 (board_lacks (slots_of shape)) ≡ true = (and_parts (has_board table.known.game) (nat_le 2 (board_lacks (slots_of shape))) boards).1 in
+    let P : List Slot → Type 0 = λ some. (0 < length some) × (2 ≤ last_count some) in
+    subst P same (one_slot (slots_of shape) (grind (arith, two)))
+
+-- what a leaf is to count, as first cards with a pair
+pub leaf_grow : (spot : BoardSpot) (table : Table) (front : List (List ℕ)) (taken rest : List ℕ) (left lo hi : ℕ) (old new : List (List ℕ)) → spot.table ≡ table → front ≡ [] → left ≡ 2 → CountsGrow (deal_of spot.table) (map (λ more. (taken ++ more) ∷ []) (slice_range (choose 2 rest) lo hi)) old new
+    → CountsGrow (deal_of table) (map (λ more. front ++ (taken ++ more) ∷ []) (slice_range (choose left rest) lo hi)) old new
+leaf_grow spot table front taken rest left lo hi old new same none two grown =
+    let F : List (List ℕ) → Type 0 = λ f. CountsGrow (deal_of spot.table) (map (λ more. f ++ (taken ++ more) ∷ []) (slice_range (choose 2 rest) lo hi)) old new in
+    let T : Table → Type 0 = λ t. CountsGrow (deal_of t) (map (λ more. front ++ (taken ++ more) ∷ []) (slice_range (choose 2 rest) lo hi)) old new in
+    let L : ℕ → Type 0 = λ n. CountsGrow (deal_of table) (map (λ more. front ++ (taken ++ more) ∷ []) (slice_range (choose n rest) lo hi)) old new in
+    subst L (sym two) (subst T same (subst F (sym none) grown))

@@ -1,0 +1,24 @@
+use Rattle.std.proofs.Common.{◌≡◌, ◌-◌, ◌∙◌, length, arith}
+use Rattle.std.specs.List.{slice_range}
+use Rattle.showdown_tally.specs.Deals.{deal_of}
+use Rattle.board_runouts.proofs.CodedPairs.{grow_on}
+use Rattle.runout_walk.proofs.CallerLemmas.{in_range, length-range}
+use Rattle.board_runouts.proofs.board_leaf.count_coded.Goals as goal
+
+pub count_piece-requires-clause-pairs : goal.count_piece-requires-clause-pairs
+count_piece-requires-clause-pairs g c = λ pair m. c.requires.pairs pair (in_range c.args.pairs.now c.loop-at.at c.min-end.result pair m)
+
+pub loop-at-preserved : goal.loop-at-preserved
+loop-at-preserved g c =
+    let was = c.loop-at.invariant in
+    let e = c.count_piece.ensures in
+    let m = c.min-end.ensures in
+    let t = c.loop-at-test.true in
+    let size : length (slice_range c.args.pairs.now c.loop-at.at c.min-end.result) ≡ c.min-end.result - c.loop-at.at = length-range c.args.pairs.now c.loop-at.at c.min-end.result (omega arith) (omega arith) in
+    record {
+      within = omega arith;
+      grown = grow_on (deal_of c.args.spot.now.table) c.args.front.now.taken c.args.pairs.now c.loop-at.at c.min-end.result c.args.counts.now c.loop-at.counts c.count_piece.new.counts (omega arith) was.grown e.counts;
+      same = e.same ∙ was.same;
+      flushes = e.flushes;
+      steps = (let s = was.steps in let n = e.steps in omega arith);
+    }

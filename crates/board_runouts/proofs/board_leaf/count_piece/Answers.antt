@@ -1,0 +1,19 @@
+use Rattle.showdown_tally.specs.Deals.{deal_of}
+use Rattle.board_runouts.proofs.CodedPairs.{fields_fit, fields_put}
+use Rattle.board_runouts.proofs.board_leaf.count_piece.Goals as goal
+
+pub put_sum-requires-clause-fits : goal.put_sum-requires-clause-fits
+put_sum-requires-clause-fits g c = λ pot place side p has l.
+    fields_fit (deal_of c.args.spot.now.table) c.args.front.now.taken c.args.codes.now c.args.pairs.now c.sum_plain-sum.result c.args.counts.now c.args.counts.now pot place side c.requires.few c.seven.ensures c.requires.fits p has l (c.sum_plain-sum.ensures.sum c.args.counts.now)
+
+pub returns-then-front-clause-counts : goal.returns-then-front-clause-counts
+returns-then-front-clause-counts g c =
+    fields_put (deal_of c.args.spot.now.table) c.args.front.now.taken c.args.codes.now c.args.pairs.now c.sum_plain-sum.result c.args.counts.now c.args.counts.now c.put_sum.new.counts c.requires.few c.seven.ensures (c.sum_plain-sum.ensures.sum c.args.counts.now) c.put_sum.ensures.counts
+
+pub put_sum-requires-2-clause-fits : goal.put_sum-requires-2-clause-fits
+put_sum-requires-2-clause-fits g c = λ pot place side p has l.
+    fields_fit (deal_of c.args.spot.now.table) c.args.front.now.taken c.args.codes.now c.args.pairs.now c.sum_piece-sum.result c.args.counts.now c.sum_piece-sum.new.counts pot place side c.requires.few c.seven.ensures c.requires.fits p has l c.sum_piece-sum.ensures.counts
+
+pub returns-clause-counts : goal.returns-clause-counts
+returns-clause-counts g c =
+    fields_put (deal_of c.args.spot.now.table) c.args.front.now.taken c.args.codes.now c.args.pairs.now c.sum_piece-sum.result c.args.counts.now c.sum_piece-sum.new.counts c.put_sum-2.new.counts c.requires.few c.seven.ensures c.sum_piece-sum.ensures.counts c.put_sum-2.ensures.counts

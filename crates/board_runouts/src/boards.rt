@@ -1,0 +1,148 @@
+//! Runouts that are boards, by their last two cards.
+
+ghost use Rattle.std.specs.Prelude.{◌≡◌, IsTrue};
+ghost use Rattle.card_sets.specs.State.{state_of};
+ghost use Rattle.runout_ranges.specs.Shapes.{IsShapeOf, slots_of};
+ghost use Rattle.runout_ranges.specs.Slots.{unseen};
+ghost use Rattle.showdown_tally.specs.Deals.{deal_of};
+ghost use Rattle.board_runouts.specs.Boards.{are_boards, board_lacks};
+ghost use Rattle.board_runouts.specs.Codes.{AreAllCodes};
+ghost use Rattle.board_runouts.specs.KeptRows.{AreRows};
+ghost use Rattle.board_runouts.specs.KeptFlushes.{AreFlushes};
+
+use crate::coded_rows::CodedRows;
+use crate::deal::same_deal;
+use crate::flushes::Flushes;
+use crate::pairs::Pairs;
+use crate::row::{last_rank, ranks_of};
+use crate::rows::Rows;
+use crate::sieve_leaf::{count_sieved, count_whole};
+use crate::spot::BoardSpot;
+use card_sets::{CardSet, Memory};
+use runout_ranges::{Receiver, Shape};
+use runout_walk::{Leaf, OpenSlot};
+use showdown_tally::Table;
+use std::alloc::Global;
+use std::sync::ledger::Ledger;
+use step_count::Steps;
+
+/// How many cards the board lacks, where nobody else lacks any: 0 elsewhere.
+pub(crate) fn board_lacks(shape: &Shape) -> u32
+    ensures { result ≡ board_lacks (slots_of shape.now) }
+{
+    match &shape.slots[..shape.used as usize] {
+        [slot] if slot.receiver == Receiver::Board => u32::from(slot.count),
+        _ => 0,
+    }
+}
+
+/// Whether the runouts of a table are boards that lack two cards or more: a game with a board, which alone lacks cards.
+pub fn are_boards(table: &Table, shape: &Shape) -> bool
+    ensures { result ≡ are_boards table.now shape.now }
+{
+    table.known.game.has_board() && 2 <= board_lacks(shape)
+}
+
+/// The room that boards are counted in. It asks for up to 1 MB of the heap, of which rows, codes, sieves and threes of ranks are written where
+/// a count wants them first.
+/// It is made once, and keeps what the next count of the same deal can use; what it held before makes no other difference.
+#[derive(Drop)]
+pub struct Boards {
+    /// The table that it serves.
+    pub table: Table,
+    spot: BoardSpot,
+    cards: CardSet,
+    pairs: Pairs,
+    rows: Rows,
+    codes: CodedRows,
+    flushes: Flushes,
+    /// The table once more, with what is looked up at each pair.
+    ghost same: { spot.table ≡ table },
+    /// The cards are those that may come.
+    ghost all: { cards ≡ unseen (state_of table.known) },
+    /// The rows are the deal's.
+    ghost right: { AreRows (deal_of spot.table) rows.rows.items },
+    /// The codes are the deal's.
+    ghost coded: { AreAllCodes (deal_of spot.table) codes.list.items },
+    /// The flushes are the deal's.
+    ghost best: { AreFlushes (deal_of spot.table) flushes },
+}
+
+impl Boards {
+    /// An empty room. `Memory` where there is none for its tables.
+    #[inline(never)]
+    pub fn new(alloc: Global) -> Result<Boards, Memory> {
+        let spot = BoardSpot::none();
+        let pairs = Pairs::none(alloc)?;
+        let rows = Rows::none(alloc)?;
+        let codes = CodedRows::none(alloc)?;
+        let flushes = Flushes::none(alloc)?;
+        Ok(Boards {
+            table: spot.table,
+            spot,
+            cards: CardSet::empty(),
+            pairs,
+            rows,
+            codes,
+            flushes,
+        })
+    }
+
+    /// Makes it count the runouts of a table. What it keeps is dropped, but where the deal is the same.
+    pub fn serve(&mut self, table: &Table, shape: &Shape)
+        requires shape { IsShapeOf (state_of table.now.known) shape.now }
+        requires boards { IsTrue (are_boards table.now shape.now) }
+        ensures deal { deal_of self.new.table ≡ deal_of table.now }
+    {
+        if same_deal(&self.table, table) {
+            return;
+        }
+        self.rows.clear();
+        self.codes.clear();
+        self.flushes.clear();
+        self.cards = shape.unseen;
+        self.spot = BoardSpot::of(table, shape);
+        self.table = *table;
+    }
+}
+
+impl Leaf for Boards {
+    ghost deal = { λ b. deal_of b.table };
+
+    ghost depth = { λ _. 2 };
+
+    fn depth(&self) -> u32 {
+        2
+    }
+
+    fn count<L: Ledger>(
+        &mut self,
+        counts: &mut [[u32; 2048]],
+        front: &[CardSet],
+        tail: OpenSlot,
+        lo: u64,
+        hi: u64,
+        steps: &mut Steps<L>,
+    ) {
+        tail.rest.rising();
+        let spot = &self.spot;
+        let ranks = ranks_of(tail.taken);
+        let least = last_rank(tail.taken);
+        let base = self.rows.ready(&spot.table, tail.taken, &ranks, least);
+        let rows = self.rows.stretch(base, spot.table.pots);
+        let place = self.codes.ready(spot, base, rows, &ranks, least);
+        let codes = self.codes.codes_at(place);
+        let flushes = &mut self.flushes;
+        self.pairs.serve(self.cards);
+        let pairs = &mut self.pairs;
+        if tail.taken == CardSet::empty() {
+            count_whole(
+                spot, flushes, rows, codes, pairs, &tail, lo, hi, counts, steps,
+            );
+            return;
+        }
+        count_sieved(
+            spot, flushes, rows, codes, pairs, &tail, lo, hi, counts, steps,
+        );
+    }
+}

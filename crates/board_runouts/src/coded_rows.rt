@@ -1,0 +1,151 @@
+//! Codes that are kept from one count to the next.
+
+ghost use Rattle.std.specs.Prelude.{◌≡◌, ℕ, ◌<◌, ◌≤◌, ◌∷◌, ◌++◌, [], List, length, slice_get, vec_capacity, Some, IfOk, MatchOption, ⊤};
+ghost use Rattle.card_sets.specs.Cards.{IsRising, rank_of};
+ghost use Rattle.showdown_tally.specs.Deals.{deal_of};
+ghost use Rattle.showdown_tally.specs.Showdown.{Showdown};
+ghost use Rattle.board_runouts.specs.Codes.{AreAllCodes};
+ghost use Rattle.board_runouts.specs.SideRows.{IsSideRow};
+ghost use Rattle.board_runouts.specs.declared.codes.Codes.{Codes};
+ghost use Rattle.board_runouts.specs.declared.row.Row.{Row};
+
+use crate::codes::Codes;
+use crate::row::Row;
+use crate::spot::BoardSpot;
+use card_sets::{CardSet, Memory};
+use std::alloc::Global;
+
+/// How many there is room for.
+const ROOM: usize = 192;
+
+/// Codes of groups of rows.
+#[derive(Drop)]
+pub(crate) struct CodedRows {
+    /// Where the codes of the rows from each place on stand, if they do. What stands there is looked at before it is used.
+    at: [u8; 256],
+    /// The codes.
+    pub(crate) list: Vec<Codes>,
+    /// There is room for so many.
+    pub(crate) ghost room: { 192 ≤ vec_capacity list },
+}
+
+impl CodedRows {
+    /// No codes, and room for all.
+    pub(crate) fn none(alloc: Global) -> Result<CodedRows, Memory>
+        ensures { IfOk result (λ kept. (deal : Showdown) → AreAllCodes deal kept.list.items) }
+    {
+        let list = Vec::with_capacity(alloc, ROOM)?;
+        Ok(CodedRows {
+            at: [255; 256],
+            list,
+        })
+    }
+
+    /// Drops all codes.
+    pub(crate) fn clear(&mut self)
+        ensures none { self.new.list.items ≡ [] }
+        ensures right { (deal : Showdown) → AreAllCodes deal self.new.list.items }
+    {
+        self.list.clear();
+    }
+
+    /// Makes room for codes more: where there is none, all are dropped.
+    fn make_room(&mut self)
+        ensures room { length self.new.list.items < 192 }
+        ensures right { (deal : Showdown) → AreAllCodes deal self.old.list.items
+            → AreAllCodes deal self.new.list.items }
+    {
+        if self.list.len() < ROOM {
+            return;
+        }
+        self.clear();
+    }
+
+    /// Where codes are to stand: in the place given, if there are some, or else in one of their own.
+    fn place_for(&mut self, place: usize) -> usize
+        ensures place { result < length self.new.list.items }
+        ensures right { (deal : Showdown) → AreAllCodes deal self.old.list.items
+            → AreAllCodes deal self.new.list.items }
+    {
+        if place < self.list.len() {
+            return place;
+        }
+        self.make_room();
+        let last = self.list.len();
+        self.list.push_reserved(Codes::none());
+        last
+    }
+
+    /// Makes the codes of the rows of all pots for first cards of these ranks, and gives their place.
+    #[inline(never)]
+    fn put(
+        &mut self,
+        spot: &BoardSpot,
+        place: usize,
+        rows: &[Row],
+        ranks: [u8; 3],
+        least: u8,
+    ) -> usize
+        requires few { length rows.now ≤ 10 }
+        requires pots { length rows.now ≡ length (deal_of spot.now.table).pots }
+        requires right { AreAllCodes (deal_of spot.now.table) self.old.list.items }
+        requires rows { (pot : ℕ) (row : Row) → slice_get rows.now pot ≡ Some row
+            → IsSideRow (deal_of spot.now.table) pot ranks least row.mains row.lows row.tops }
+        ensures place { result < length self.new.list.items }
+        ensures ranks { (codes : Codes) → slice_get self.new.list.items result ≡ Some codes
+            → codes.ranks ≡ ranks }
+        ensures least { (codes : Codes) → slice_get self.new.list.items result ≡ Some codes
+            → codes.least ≡ least }
+        ensures right { AreAllCodes (deal_of spot.now.table) self.new.list.items }
+    {
+        let at = self.place_for(place);
+        let codes = &mut self.list[at];
+        codes.fill(rows, ranks, least);
+        at
+    }
+
+    /// Makes the codes of the rows of all pots for first cards stand in their place, where they aren't kept, and gives it. The rows
+    /// stand from a base on.
+    #[inline]
+    pub(crate) fn ready(
+        &mut self,
+        spot: &BoardSpot,
+        base: usize,
+        rows: &[Row],
+        ranks: &[u8; 3],
+        least: u8,
+    ) -> usize
+        // There is a row for each pot, for first cards of these ranks, and the codes are right.
+        requires few { length rows.now ≤ 10 }
+        requires pots { length rows.now ≡ length (deal_of spot.now.table).pots }
+        requires rows { (pot : ℕ) (row : Row) → slice_get rows.now pot ≡ Some row
+            → IsSideRow (deal_of spot.now.table) pot ranks.now least row.mains row.lows row.tops }
+        requires right { AreAllCodes (deal_of spot.now.table) self.old.list.items }
+
+        // In their place stand codes for first cards of these ranks, and all are right.
+        ensures place { result < length self.new.list.items }
+        ensures ranks { (codes : Codes) → slice_get self.new.list.items result ≡ Some codes
+            → codes.ranks ≡ ranks.now }
+        ensures least { (codes : Codes) → slice_get self.new.list.items result ≡ Some codes
+            → codes.least ≡ least }
+        ensures right { AreAllCodes (deal_of spot.now.table) self.new.list.items }
+    {
+        let group = base % 256;
+        let place = usize::from(self.at[group]);
+        if place < self.list.len() && self.list[place].are_for(ranks, least) {
+            return place;
+        }
+        let at = self.put(spot, place, rows, *ranks, least);
+        self.at[group] = (at % 256) as u8;
+        at
+    }
+
+    /// The codes in a place.
+    #[inline]
+    pub(crate) fn codes_at(&self, place: usize) -> &Codes
+        requires { place < length self.now.list.items }
+        ensures { slice_get self.now.list.items place ≡ Some result.now }
+    {
+        &self.list[place]
+    }
+}

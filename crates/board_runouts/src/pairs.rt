@@ -1,0 +1,185 @@
+//! All pairs of the cards that may come, in the order of the listing of choices.
+
+ghost use Rattle.std.specs.Prelude.{◌≡◌, ℕ, ◌+◌, ◌-◌, ◌<◌, ◌≤◌, ◌++◌, [], ◌∷◌, List, length, map, slice_get, slice_index, take, Some, IfOk};
+ghost use Rattle.std.specs.List.{slice_range};
+ghost use Rattle.card_sets.specs.Choose.{choose};
+ghost use Rattle.runout_ranges.specs.Ways.{binomial};
+ghost use Rattle.board_runouts.specs.KeptSieves.{AreSieves, IsSieve};
+ghost use Rattle.runout_walk.specs.Listing.{IsEndOf};
+ghost use Rattle.board_runouts.specs.Pairs.{cards_of_pair};
+ghost use Rattle.board_runouts.specs.declared.sieve.Sieve.{Sieve};
+
+use crate::pair::Pair;
+use crate::sieve::{PAIRS_MAX, Sieve};
+use crate::sieves::Sieves;
+use card_sets::{Card, CardSet, Memory};
+use runout_ranges::count_choices;
+use runout_walk::filled;
+use std::alloc::Global;
+
+/// All pairs of some cards, in the order of the listing of choices: room for those of a deck, on the heap.
+#[derive(Drop)]
+pub(crate) struct Pairs {
+    /// The cards.
+    pub(crate) cards: CardSet,
+    /// How many pairs there are.
+    pub(crate) used: usize,
+    /// The pairs, and others behind them.
+    pub(crate) pairs: Vec<Pair>,
+    /// Their sieves.
+    pub(crate) sieves: Sieves,
+    /// There are so many places,
+    pub(crate) ghost sized: { length pairs.items ≡ 1326 },
+    /// which are enough for all.
+    pub(crate) ghost few: { used ≤ 1326 },
+    /// They are all choices of two of the cards.
+    pub(crate) ghost listed: { map cards_of_pair (take used pairs.items) ≡ choose 2 cards },
+    /// The sieves part them.
+    pub(crate) ghost parted: { AreSieves (take used pairs.items) sieves.list.items },
+}
+
+/// A stretch of a listing, from one place to another.
+#[derive(Clone, Copy)]
+pub(crate) struct Stretch {
+    /// The first place.
+    pub(crate) start: usize,
+    /// The place after the last one.
+    pub(crate) end: usize,
+}
+
+/// Puts the pairs of a card with each of some others behind the first `used` ones, and gives how many there are then.
+fn put_pairs(pairs: &mut [Pair], used: usize, low: Card, others: CardSet) -> usize
+    requires { used + length others ≤ length pairs.old }
+    ensures used { result ≡ used + length others }
+    ensures pairs { map cards_of_pair (take result pairs.new)
+        ≡ map cards_of_pair (take used pairs.old) ++ map (λ high. low ∷ high ∷ []) others }
+    ensures same { length pairs.new ≡ length pairs.old }
+{
+    let mut used = used;
+    let mut rest = others;
+    while let Some(high) = rest.first() {
+        rest = rest.without(high);
+        pairs[used] = Pair::of(low, high);
+        used += 1;
+    }
+    used
+}
+
+/// Puts all pairs of some cards at the front, and gives how many they are.
+fn put_all_pairs(pairs: &mut [Pair], cards: CardSet) -> usize
+    requires { length pairs.old ≡ 1326 }
+    ensures used { result ≤ 1326 }
+    ensures pairs { map cards_of_pair (take result pairs.new) ≡ choose 2 cards }
+    ensures same { length pairs.new ≡ 1326 }
+{
+    cards.rising();
+    let mut used = 0;
+    let mut rest = cards;
+    while let Some(low) = rest.first() {
+        rest = rest.without(low);
+        used = put_pairs(pairs, used, low, rest);
+    }
+    used
+}
+
+/// Where the last pairs of a listing stand, those of so many cards, by their places among these.
+#[inline]
+fn last_pairs(size: usize, count: u32, lo: u64, hi: u64) -> Stretch
+    // So many cards have a pair, and the listing has as many pairs as they have, or more, up to those of a deck.
+    requires deck { count ≤ 52 }
+    requires two { 2 ≤ count }
+    requires enough { binomial count 2 ≤ size }
+    requires few { size ≤ 1326 }
+
+    // The places are among the pairs of so many cards.
+    requires order { lo < hi }
+    requires inside { hi ≤ binomial count 2 }
+
+    // The pairs of the last cards of a listing are its last ones, since lower cards come first.
+    ensures start { result.start ≡ (size - binomial count 2) + lo }
+    ensures end { result.end ≡ (size - binomial count 2) + hi }
+{
+    let before = size - count_choices(count, 2) as usize;
+    Stretch {
+        start: before + lo as usize,
+        end: before + hi as usize,
+    }
+}
+
+impl Pairs {
+    /// The pairs of no cards.
+    pub(crate) fn none(alloc: Global) -> Result<Pairs, Memory>
+        ensures { IfOk result (λ pairs. pairs.cards ≡ []) }
+    {
+        let pairs = filled(alloc, Pair::any(), PAIRS_MAX)?;
+        let sieves = Sieves::none(alloc)?;
+        Ok(Pairs {
+            cards: CardSet::empty(),
+            used: 0,
+            pairs,
+            sieves,
+        })
+    }
+
+    /// Makes them the pairs of some cards, in place. It does nothing where they are.
+    pub(crate) fn serve(&mut self, cards: CardSet)
+        ensures { self.new.cards ≡ cards }
+    {
+        if self.cards == cards {
+            return;
+        }
+        self.sieves.clear();
+        self.used = put_all_pairs(self.pairs.as_mut_slice(), cards);
+        self.cards = cards;
+    }
+
+    /// Where the pairs of the last cards of all stand, by their places in the listing of these pairs.
+    #[inline]
+    pub(crate) fn stretch(&self, rest: CardSet, lo: u64, hi: u64) -> Stretch
+        requires end { IsEndOf rest self.now.cards }
+        requires order { lo < hi }
+        requires inside { hi ≤ length (choose 2 rest) }
+        ensures order { result.start ≤ result.end }
+        ensures inside { result.end ≤ self.now.used }
+        ensures pairs { map cards_of_pair
+            (slice_range (take self.now.used self.now.pairs.items) result.start result.end)
+            ≡ slice_range (choose 2 rest) lo hi }
+    {
+        self.cards.rising();
+        rest.rising();
+        last_pairs(self.used, rest.count(), lo, hi)
+    }
+
+    /// The pairs.
+    #[inline]
+    pub(crate) fn listed(&self) -> &[Pair]
+        ensures pairs { result.now ≡ take self.now.used self.now.pairs.items }
+        ensures few { length result.now ≤ 1326 }
+        ensures count { length result.now ≡ self.now.used }
+    {
+        &self.pairs[..self.used]
+    }
+
+    /// Makes a sieve for so many cards of each suit stand in its place, where it isn't kept, and gives it.
+    #[inline]
+    pub(crate) fn ready(&mut self, counts: &[u32; 4]) -> usize
+        requires counts { (s : ℕ) → slice_index counts.now s ≤ 156 }
+        ensures place { result < length self.new.sieves.list.items }
+        ensures counts { (sieve : Sieve) → slice_get self.new.sieves.list.items result ≡ Some sieve
+            → sieve.counts ≡ counts.now }
+        ensures cards { self.new.cards ≡ self.old.cards }
+    {
+        let listed = &self.pairs[..self.used];
+        self.sieves.ready(listed, counts)
+    }
+
+    /// The sieve in a place.
+    #[inline]
+    pub(crate) fn sieve_at(&self, place: usize) -> &Sieve
+        requires { place < length self.now.sieves.list.items }
+        ensures there { slice_get self.now.sieves.list.items place ≡ Some result.now }
+        ensures parted { IsSieve (take self.now.used self.now.pairs.items) result.now }
+    {
+        self.sieves.sieve_at(place)
+    }
+}

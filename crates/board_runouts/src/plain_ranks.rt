@@ -1,0 +1,205 @@
+//! Pairs of last cards that make nobody a flush, by their ranks alone.
+
+ghost use Rattle.std.specs.Prelude.{◌≡◌, ℕ, ◌+◌, ◌*◌, ◌^◌, ◌<◌, ◌≤◌, ◌++◌, [], ◌∷◌, length, slice_index, IsTrue};
+ghost use Rattle.std.specs.List.{sum_by};
+ghost use Rattle.card_sets.specs.State.{state_of};
+ghost use Rattle.runout_ranges.specs.Runouts.{HasMember};
+ghost use Rattle.showdown_tally.specs.Deals.{deal_of};
+ghost use Rattle.showdown_tally.specs.SideCounts.{CountsFit};
+ghost use Rattle.showdown_tally.specs.Tallies.{runouts_after};
+ghost use Rattle.board_runouts.specs.Codes.{AreCodesFor};
+ghost use Rattle.board_runouts.specs.KeptRows.{AreRowsOf, PairsGrow};
+ghost use Rattle.board_runouts.specs.Pairs.{cards_of_pair};
+ghost use Rattle.board_runouts.specs.PlainRanks.{CodesGrow, HasCode, MainsGrow, RowsGrow};
+ghost use Rattle.board_runouts.specs.Sieves.{plain_pairs, plain_ranks};
+ghost use Rattle.board_runouts.specs.Suits.{AreFivesWith};
+ghost use Rattle.board_runouts.specs.declared.pair.Pair.{Pair};
+
+use crate::codes::Codes;
+use crate::front::FirstCards;
+use crate::packed::{PIECE, put_sum};
+use crate::pair::Pair;
+use crate::places::put_runout;
+use crate::row::Row;
+use crate::spot::BoardSpot;
+use card_sets::Side;
+use runout_walk::all_are_hands;
+use showdown_tally::law_values_keep_order;
+use std::sync::ledger::Ledger;
+use step_count::Steps;
+
+/// The sum of the ones in the fields of the codes of some ranks, each looked up and added by itself. It takes a step for each.
+#[inline(never)]
+fn sum_ranks<L: Ledger>(codes: &Codes, all: &[u8], steps: &mut Steps<L>) -> u64
+    // The ranks are places, and have codes.
+    requires inside { (ranks : ℕ) → HasMember all.now ranks → ranks < 169 }
+    requires coded { (ranks : ℕ) → HasMember all.now ranks → HasCode codes.now ranks }
+
+    // A field has room for all of them.
+    requires few { length all.now < 512 }
+
+    ensures sum { result ≡ sum_by (λ ranks. slice_index codes.now.adds ranks) all.now }
+    ensures steps { steps.new ≡ steps.old + length all.now }
+{
+    let mut sum = 0u64;
+    for ranks in all {
+        steps.tick();
+        sum += codes.adds[usize::from(*ranks)];
+    }
+    sum
+}
+
+/// Counts up to 511 ranks by their codes, for each pot. It takes a step for each.
+#[inline]
+fn count_piece<L: Ledger>(
+    spot: &BoardSpot,
+    codes: &Codes,
+    all: &[u8],
+    counts: &mut [[u32; 2048]],
+    steps: &mut Steps<L>,
+)
+    // The ranks are places, and have codes.
+    requires inside { (ranks : ℕ) → HasMember all.now ranks → ranks < 169 }
+    requires coded { (ranks : ℕ) → HasMember all.now ranks → HasCode codes.now ranks }
+
+    // Each count has room for all of them, and so has a field.
+    requires counts { 2 * spot.now.table.pots ≤ length counts.old }
+    requires fits { CountsFit (deal_of spot.now.table) counts.old (length all.now) }
+    requires few { length all.now < 512 }
+
+    // Each is counted for each pot.
+    ensures counts { CodesGrow (deal_of spot.now.table) codes.now all.now counts.old counts.new }
+    ensures same { length counts.new ≡ length counts.old }
+    ensures steps { steps.new ≡ steps.old + length all.now }
+{
+    codes.seven();
+    let sum = sum_ranks(codes, all, steps);
+    put_sum(spot, codes, sum, counts);
+}
+
+/// Counts some ranks by their codes, for each pot. It takes a step for each.
+fn count_codes<L: Ledger>(
+    spot: &BoardSpot,
+    codes: &Codes,
+    all: &[u8],
+    counts: &mut [[u32; 2048]],
+    steps: &mut Steps<L>,
+)
+    // The ranks are places, and have codes.
+    requires inside { (ranks : ℕ) → HasMember all.now ranks → ranks < 169 }
+    requires coded { (ranks : ℕ) → HasMember all.now ranks → HasCode codes.now ranks }
+
+    // Each count has room for all of them.
+    requires counts { 2 * spot.now.table.pots ≤ length counts.old }
+    requires fits { CountsFit (deal_of spot.now.table) counts.old (length all.now) }
+
+    // Each is counted for each pot.
+    ensures counts { CodesGrow (deal_of spot.now.table) codes.now all.now counts.old counts.new }
+    ensures same { length counts.new ≡ length counts.old }
+    ensures steps { steps.new ≡ steps.old + length all.now }
+{
+    let mut at = 0;
+    while at < all.len() {
+        let end = all.len().min(at + PIECE);
+        count_piece(spot, codes, &all[at..end], counts, steps);
+        at = end;
+    }
+}
+
+/// Counts some ranks where a row says who wins the high. It takes a step for each.
+#[inline(never)]
+fn count_mains<L: Ledger>(row: &Row, all: &[u8], cells: &mut [u32], steps: &mut Steps<L>)
+    requires inside { (ranks : ℕ) → HasMember all.now ranks → ranks < 169 }
+    requires cells { length cells.old ≡ 2048 }
+    requires fits { (place : ℕ) → place < 2048
+        → slice_index cells.old place + length all.now < 2 ^ 32 }
+    ensures cells { MainsGrow row.now all.now cells.old cells.new }
+    ensures same { length cells.new ≡ 2048 }
+    ensures steps { steps.new ≡ steps.old + length all.now }
+{
+    for ranks in all {
+        steps.tick();
+        let place = row.mains[usize::from(*ranks)];
+        cells[usize::from(place)] += 1;
+    }
+}
+
+/// Counts some ranks where the rows of all pots say who wins. It takes a step for each.
+#[inline(never)]
+fn count_rows<L: Ledger>(
+    spot: &BoardSpot,
+    rows: &[Row],
+    all: &[u8],
+    counts: &mut [[u32; 2048]],
+    steps: &mut Steps<L>,
+)
+    // Each pot has a row, and the ranks are places of it.
+    requires pots { length rows.now ≡ spot.now.table.pots }
+    requires inside { (ranks : ℕ) → HasMember all.now ranks → ranks < 169 }
+
+    // Each count has room for all of them.
+    requires counts { 2 * spot.now.table.pots ≤ length counts.old }
+    requires fits { CountsFit (deal_of spot.now.table) counts.old (length all.now) }
+
+    // Each is counted for each pot.
+    ensures counts { RowsGrow (deal_of spot.now.table) rows.now all.now counts.old counts.new }
+    ensures same { length counts.new ≡ length counts.old }
+    ensures steps { steps.new ≡ steps.old + length all.now }
+{
+    for ranks in all {
+        steps.tick();
+        put_runout(spot, rows, usize::from(*ranks), counts);
+    }
+}
+
+/// Counts first cards with each of those of some pairs as the last two that make nobody a flush, whose ranks are given. It takes a step
+/// for each.
+#[inline]
+pub(crate) fn count_plain<L: Ledger>(
+    spot: &BoardSpot,
+    front: &FirstCards,
+    rows: &[Row],
+    codes: &Codes,
+    pairs: &[Pair],
+    all: &[u8],
+    counts: &mut [[u32; 2048]],
+    steps: &mut Steps<L>,
+)
+    // Where the front's table of suits names none, no two cards of these suits make anybody a flush.
+    requires suits { AreFivesWith spot.now.most front.now.taken front.now.suits }
+    requires places { length front.now.suits ≡ 16 }
+
+    // Each pot has a row for the first cards, and with each pair these are a runout.
+    requires rows { AreRowsOf (deal_of spot.now.table) front.now.taken rows.now }
+    requires pots { length rows.now ≡ spot.now.table.pots }
+    requires pairs { (pair : Pair) → HasMember pairs.now pair
+        → HasMember (runouts_after (state_of spot.now.table.known))
+        ((front.now.taken ++ cards_of_pair pair) ∷ []) }
+
+    // The codes are those of the first cards.
+    requires codes { AreCodesFor (deal_of spot.now.table) front.now.taken codes.now }
+
+    // These are the ranks of the pairs for which the table names no suit. Each count has room for them.
+    requires ranks { all.now ≡ plain_ranks front.now.suits pairs.now }
+    requires counts { 2 * spot.now.table.pots ≤ length counts.old }
+    requires fits { CountsFit (deal_of spot.now.table) counts.old (length all.now) }
+
+    // Each of these pairs is counted for each pot.
+    ensures counts { PairsGrow (deal_of spot.now.table) front.now.taken
+        (plain_pairs front.now.suits pairs.now) counts.old counts.new }
+    ensures same { length counts.new ≡ length counts.old }
+    ensures steps { steps.new ≡ steps.old + length all.now }
+{
+    law_values_keep_order();
+    all_are_hands(&spot.table);
+    if codes.enough {
+        count_codes(spot, codes, all, counts, steps);
+        return;
+    }
+    if spot.table.pots == 1 && !spot.table.known.game.has_side(Side::Low) {
+        let cells = &mut counts[0];
+        count_mains(&rows[0], all, cells, steps);
+        return;
+    }
+    count_rows(spot, rows, all, counts, steps);
+}

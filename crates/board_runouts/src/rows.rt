@@ -1,0 +1,268 @@
+//! Rows that are kept from one count to the next.
+
+ghost use Rattle.std.specs.Prelude.{◌≡◌, ℕ, ◌+◌, ◌<◌, ◌≤◌, ◌∷◌, ◌++◌, [], List, length, slice_get, slice_index, slice_index_or, vec_capacity, Some, IfOk, IsTrue};
+ghost use Rattle.card_sets.specs.Cards.{IsRising, rank_of};
+ghost use Rattle.card_sets.specs.Games.{has_board, own_size};
+ghost use Rattle.card_sets.specs.State.{state_of};
+ghost use Rattle.showdown_tally.specs.Deals.{deal_of};
+ghost use Rattle.showdown_tally.specs.Showdown.{Showdown};
+ghost use Rattle.board_runouts.specs.Boards.{AreFirst};
+ghost use Rattle.board_runouts.specs.KeptRows.{AreRows, AreRowsFor, IsAway, IsNamed};
+ghost use Rattle.board_runouts.specs.SideRows.{AreRanksOf};
+
+use crate::fill::fill_rows;
+use crate::row::Row;
+use crate::threes::Threes;
+use card_sets::{CardSet, Memory};
+use showdown_tally::Table;
+use std::alloc::Global;
+
+/// How many rows there is room for.
+const ROWS: usize = 192;
+
+/// How many groups there are: one for each pair of a second and a third rank, of which there are 91, where the table has one pot or
+/// two. First cards of another first rank have the same group.
+const GROUPS: usize = 96;
+
+/// Where a group has no rows yet.
+const NOWHERE: u8 = 255;
+
+/// Rows of the pots of a table. Those of all pots for the same first cards stand beside one another, and are a group. A group's rows
+/// are made where it is asked for first, so that only those that a count uses take memory's pages.
+#[derive(Drop)]
+pub(crate) struct Rows {
+    /// Where the rows of each group stand, if they do. What stands there is looked at before it is used.
+    bases: [u8; GROUPS],
+    /// The rows.
+    pub(crate) rows: Vec<Row>,
+    /// What the hands are worth with each three ranks of the board, where rows are filled by them.
+    threes: Threes,
+    /// There is room for so many.
+    pub(crate) ghost room: { 192 ≤ vec_capacity rows },
+}
+
+/// The group of first cards with a second and a third rank. Those that come soon after one another have groups of their own, and
+/// there are no more groups than there is room for.
+#[inline]
+fn row_group(second: u8, third: u8, pots: u8) -> usize
+    requires second { second < 14 }
+    requires third { third < 14 }
+    ensures { result < 96 }
+{
+    let second = usize::from(second);
+    let pair = second * (25 - second) / 2 + usize::from(third);
+    match pots {
+        0..=2 => pair % GROUPS,
+        3 => pair % 64,
+        4 => pair % 48,
+        _ => pair % 19,
+    }
+}
+
+impl Rows {
+    /// No rows, and room for all.
+    pub(crate) fn none(alloc: Global) -> Result<Rows, Memory>
+        ensures { IfOk result (λ rows. (deal : Showdown) → AreRows deal rows.rows.items) }
+    {
+        let rows = Vec::with_capacity(alloc, ROWS)?;
+        let threes = Threes::none(alloc)?;
+        Ok(Rows {
+            bases: [NOWHERE; GROUPS],
+            rows,
+            threes,
+        })
+    }
+
+    /// Drops all rows.
+    pub(crate) fn clear(&mut self)
+        ensures none { self.new.rows.items ≡ [] }
+        ensures right { (deal : Showdown) → AreRows deal self.new.rows.items }
+    {
+        self.bases = [NOWHERE; GROUPS];
+        self.rows.clear();
+    }
+
+    /// Whether the row in a place is one of a pot for first cards of these ranks.
+    #[inline]
+    fn has_one(&self, place: usize, pot: u8, ranks: &[u8; 3], least: u8) -> bool
+        requires { place < length self.now.rows.items }
+        ensures pot { (row : Row) → IsTrue result → slice_get self.now.rows.items place ≡ Some row
+            → row.pot ≡ pot }
+        ensures ranks { (row : Row) → IsTrue result → slice_get self.now.rows.items place ≡ Some row
+            → row.ranks ≡ ranks.now }
+        ensures least { (row : Row) → IsTrue result → slice_get self.now.rows.items place ≡ Some row
+            → row.least ≡ least }
+    {
+        self.rows[place].is_for(pot, ranks, least)
+    }
+
+    /// Whether there is a row for first cards of these ranks for each pot, from a place on.
+    #[inline]
+    fn has_all(&self, base: usize, pots: u8, ranks: &[u8; 3], least: u8) -> bool
+        requires { base < 256 }
+        ensures place { IsTrue result → base + pots ≤ length self.now.rows.items }
+        ensures pot { (pot : ℕ) (row : Row) → IsTrue result → pot < pots
+            → slice_get self.now.rows.items (base + pot) ≡ Some row → row.pot ≡ pot }
+        ensures ranks { (pot : ℕ) (row : Row) → IsTrue result → pot < pots
+            → slice_get self.now.rows.items (base + pot) ≡ Some row → row.ranks ≡ ranks.now }
+        ensures least { (pot : ℕ) (row : Row) → IsTrue result → pot < pots
+            → slice_get self.now.rows.items (base + pot) ≡ Some row → row.least ≡ least }
+    {
+        if self.rows.len() < base + usize::from(pots) {
+            return false;
+        }
+        for pot in 0..pots {
+            if !self.has_one(base + usize::from(pot), pot, ranks, least) {
+                return false;
+            }
+        }
+        true
+    }
+
+    /// Makes a row of each pot for first cards of the board stand in its place, where it isn't kept, and gives the place of the first.
+    #[inline]
+    pub(crate) fn ready(
+        &mut self,
+        table: &Table,
+        taken: CardSet,
+        ranks: &[u8; 3],
+        least: u8,
+    ) -> usize
+        // The game has a board, which lacks two cards behind the first ones; the hands are full, and the rows are right.
+        requires dealt { IsTrue (has_board table.now.known.game) }
+        requires right { AreRows (deal_of table.now) self.old.rows.items }
+        requires first { AreFirst (state_of table.now.known) taken }
+        requires own { (h : ℕ) → h < length (state_of table.now.known).hands
+            → length (slice_index_or (state_of table.now.known).hands h [])
+            ≡ own_size table.now.known.game }
+
+        // The ranks are those of the first cards, and no card that may follow them has a rank below the least.
+        requires ranks { AreRanksOf ranks.now taken }
+        requires second { (place : ℕ) → slice_index ranks.now place < 14 }
+        requires least { (card : ℕ) (more : List ℕ) → IsRising (taken ++ card ∷ more)
+            → least ≤ rank_of card }
+
+        // From that place on there is a row for each pot, with these first cards and named for them, and the rows are right.
+        ensures place { result + table.now.pots ≤ length self.new.rows.items }
+        ensures rows { AreRowsFor (deal_of table.now) table.now.pots taken self.new.rows.items result }
+        ensures names { (pot : ℕ) (row : Row) → pot < table.now.pots
+            → slice_get self.new.rows.items (result + pot) ≡ Some row
+            → IsNamed row pot ranks.now least }
+        ensures right { AreRows (deal_of table.now) self.new.rows.items }
+    {
+        let group = row_group(ranks[1], ranks[2], table.pots);
+        let base = usize::from(self.bases[group]);
+        if self.has_all(base, table.pots, ranks, least) {
+            return base;
+        }
+        self.put(group, table, taken, *ranks, least)
+    }
+
+    /// Makes room for some rows more: where there is none, all rows are dropped.
+    fn make_room(&mut self, pots: u8)
+        requires { pots ≤ 10 }
+        ensures room { length self.new.rows.items + pots ≤ 192 }
+        ensures kept { (i : ℕ) (row : Row) → slice_get self.new.rows.items i ≡ Some row
+            → slice_get self.old.rows.items i ≡ Some row }
+    {
+        if self.rows.len() + usize::from(pots) <= ROWS {
+            return;
+        }
+        self.clear();
+    }
+
+    /// Adds so many rows with nothing in them.
+    fn add_rows(&mut self, pots: u8)
+        requires { length self.old.rows.items + pots ≤ 192 }
+        ensures count { length self.new.rows.items ≡ length self.old.rows.items + pots }
+        ensures kept { (i : ℕ) (row : Row) → i < length self.old.rows.items
+            → slice_get self.new.rows.items i ≡ Some row
+            → slice_get self.old.rows.items i ≡ Some row }
+    {
+        for _ in 0..pots {
+            self.rows.push_reserved(Row::none());
+        }
+    }
+
+    /// Adds rows for a group that has none, and gives the place of the first.
+    fn add_group(&mut self, group: usize, pots: u8) -> usize
+        requires group { group < 96 }
+        requires few { pots ≤ 10 }
+        ensures place { result + pots ≤ length self.new.rows.items }
+        ensures others { (i : ℕ) (row : Row) → IsAway result pots i
+            → slice_get self.new.rows.items i ≡ Some row
+            → slice_get self.old.rows.items i ≡ Some row }
+    {
+        self.make_room(pots);
+        let base = self.rows.len();
+        self.add_rows(pots);
+        self.bases[group] = base as u8;
+        base
+    }
+
+    /// Where a group's rows are to stand: where they stood, or else in places of their own.
+    fn place_for(&mut self, group: usize, pots: u8) -> usize
+        requires group { group < 96 }
+        requires few { pots ≤ 10 }
+        ensures place { result + pots ≤ length self.new.rows.items }
+        ensures others { (i : ℕ) (row : Row) → IsAway result pots i
+            → slice_get self.new.rows.items i ≡ Some row
+            → slice_get self.old.rows.items i ≡ Some row }
+    {
+        let base = usize::from(self.bases[group]);
+        if base + usize::from(pots) <= self.rows.len() {
+            return base;
+        }
+        self.add_group(group, pots)
+    }
+
+    /// Fills the rows of a group for first cards of the board, whose ranks are given, and gives the place of the first.
+    #[inline(never)]
+    fn put(
+        &mut self,
+        group: usize,
+        table: &Table,
+        taken: CardSet,
+        ranks: [u8; 3],
+        least: u8,
+    ) -> usize
+        requires group { group < 96 }
+
+        // The game has a board, which lacks two cards behind the first ones; the hands are full, and the rows are right.
+        requires dealt { IsTrue (has_board table.now.known.game) }
+        requires right { AreRows (deal_of table.now) self.old.rows.items }
+        requires first { AreFirst (state_of table.now.known) taken }
+        requires own { (h : ℕ) → h < length (state_of table.now.known).hands
+            → length (slice_index_or (state_of table.now.known).hands h [])
+            ≡ own_size table.now.known.game }
+
+        // The ranks are those of the first cards, and no card that may follow them has a rank below the least.
+        requires ranks { AreRanksOf ranks taken }
+        requires least { (card : ℕ) (more : List ℕ) → IsRising (taken ++ card ∷ more)
+            → least ≤ rank_of card }
+
+        // From the place on each pot's row is one for the first cards and named for them, and the rows are right.
+        ensures place { result + table.now.pots ≤ length self.new.rows.items }
+        ensures rows { AreRowsFor (deal_of table.now) table.now.pots taken self.new.rows.items result }
+        ensures names { (pot : ℕ) (row : Row) → pot < table.now.pots
+            → slice_get self.new.rows.items (result + pot) ≡ Some row → IsNamed row pot ranks least }
+        ensures right { AreRows (deal_of table.now) self.new.rows.items }
+    {
+        let base = self.place_for(group, table.pots);
+        self.threes.serve(&table.known);
+        let rows = self.rows.as_mut_slice();
+        fill_rows(rows, base, table, &self.threes, taken, ranks, least);
+        base
+    }
+
+    /// So many rows from a place on.
+    #[inline]
+    pub(crate) fn stretch(&self, base: usize, pots: u8) -> &[Row]
+        requires { base + pots ≤ length self.now.rows.items }
+        ensures rows { (pot : ℕ) (row : Row) → slice_get result.now pot ≡ Some row
+            → (pot < pots) × (slice_get self.now.rows.items (base + pot) ≡ Some row) }
+        ensures count { length result.now ≡ pots }
+    {
+        &self.rows[base..base + usize::from(pots)]
+    }
+}

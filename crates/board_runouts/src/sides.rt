@@ -1,0 +1,147 @@
+//! Who wins both sides of a pot by the ranks of the cards.
+
+ghost use Rattle.std.specs.Prelude.{◌≡◌, ℕ, ◌<◌, ◌≤◌, [], List, length, slice_index, slice_index_or, IsTrue};
+ghost use Rattle.card_sets.specs.Cards.{union};
+ghost use Rattle.card_sets.specs.Games.{has_board, own_size};
+ghost use Rattle.card_sets.specs.State.{state_of};
+ghost use Rattle.showdown_tally.specs.Deals.{deal_of};
+ghost use Rattle.showdown_tally.specs.Settling.{number_of};
+ghost use Rattle.board_runouts.specs.Boards.{AreFirst};
+ghost use Rattle.board_runouts.specs.BoardWith.{AreHandRanks, AreHandRanksAnd, IsBoardWith, low_number};
+ghost use Rattle.board_runouts.specs.HighParts.{plain_number};
+ghost use Rattle.board_runouts.specs.KeptRows.{AreWorthsAfter};
+ghost use Rattle.board_runouts.specs.SideRows.{IsBestOf};
+
+use crate::threes::Threes;
+use crate::worth::worth_with;
+use card_sets::{ByRank, CardSet, Known, Side};
+use runout_walk::{low_mark, pot_best, winners_on};
+use showdown_tally::Table;
+
+/// What each hand is worth on both sides.
+#[derive(Clone, Copy)]
+pub(crate) struct Worths {
+    /// As highs by ranks alone.
+    pub(crate) highs: [u32; 10],
+    /// As lows, turned round so that greater is better, where there are any.
+    pub(crate) lows: [Option<u32>; 10],
+}
+
+impl Worths {
+    /// What no hands are worth.
+    pub(crate) fn none() -> Worths {
+        Worths {
+            highs: [0; 10],
+            lows: [None; 10],
+        }
+    }
+}
+
+/// Who wins a pot by ranks alone.
+#[derive(Clone, Copy)]
+pub(crate) struct Ends {
+    /// The set of the hands that win the high, and 1,024 more where somebody has a low.
+    pub(crate) main: u16,
+    /// The set of those that win the low.
+    pub(crate) low: u16,
+    /// The best high.
+    pub(crate) top: u32,
+}
+
+/// By hand, how many cards there are of each rank among its own cards and a board.
+pub(crate) fn hand_ranks(known: &Known, board: CardSet) -> [ByRank; 10]
+    ensures { AreHandRanks (state_of known.now) board result }
+{
+    let mut ranks = [CardSet::empty().by_rank(); 10];
+    let hands = &known.hands[..known.count as usize];
+    for (hand, own) in hands.iter().enumerate() {
+        ranks[hand] = own.union(board).by_rank();
+    }
+    ranks
+}
+
+/// Works out the same with one card of a rank more.
+pub(crate) fn add_rank(known: &Known, held: &[ByRank; 10], rank: u8, more: &mut [ByRank; 10])
+    requires { rank < 13 }
+    ensures { (board : List ℕ) → AreHandRanks (state_of known.now) board held.now
+        → AreHandRanksAnd (state_of known.now) board rank more.new }
+{
+    let hands = &known.hands[..known.count as usize];
+    for hand in 0..hands.len() {
+        let ranks = held[hand];
+        more[hand] = ranks.with_rank(rank);
+    }
+}
+
+/// Works out what each hand is worth with first cards of the board and one card of each of two ranks more, as a high if there were no
+/// flushes. How many cards of each rank it has with the first ones and one of the lower rank is given.
+pub(crate) fn worths_with(
+    threes: &Threes,
+    known: &Known,
+    ranks: &[ByRank; 10],
+    taken: CardSet,
+    low: u8,
+    high: u8,
+    worths: &mut Worths,
+)
+    // The game has a board, which lacks two cards behind the first ones, and each hand has all its own cards.
+    requires dealt { IsTrue (has_board known.now.game) }
+    requires first { AreFirst (state_of known.now) taken }
+    requires own { (h : ℕ) → h < length (state_of known.now).hands
+        → length (slice_index_or (state_of known.now).hands h []) ≡ own_size known.now.game }
+    requires ranks { AreHandRanksAnd (state_of known.now) (union (state_of known.now).board taken) low ranks.now }
+
+    // Any two ranks, or one twice.
+    requires low { low < 13 }
+    requires high { high < 13 }
+
+    // This holds of each full board of such cards, whichever they are; where there is none it says nothing.
+    ensures highs { (h : ℕ) (full : List ℕ) → h < length (state_of known.now).hands
+        → IsBoardWith (slice_index_or (state_of known.now).hands h [])
+        (union (state_of known.now).board taken) low high full
+        → slice_index worths.new.highs h
+        ≡ plain_number known.now.game (slice_index_or (state_of known.now).hands h []) full }
+    ensures lows { (h : ℕ) (full : List ℕ) → h < length (state_of known.now).hands
+        → IsBoardWith (slice_index_or (state_of known.now).hands h [])
+        (union (state_of known.now).board taken) low high full
+        → number_of worths.new.lows h
+        ≡ low_number known.now.game (slice_index_or (state_of known.now).hands h []) full }
+{
+    known.board.rising();
+    taken.rising();
+    let board = known.board.union(taken);
+    let hands = &known.hands[..known.count as usize];
+    for (hand, own) in hands.iter().enumerate() {
+        own.rising();
+        let worth = worth_with(
+            threes,
+            hand,
+            known.game,
+            *own,
+            board,
+            &ranks[hand],
+            low,
+            high,
+        );
+        worths.highs[hand] = worth.high;
+        worths.lows[hand] = worth.low;
+    }
+}
+
+/// Who wins both sides of a pot by what the hands are worth.
+pub(crate) fn pot_ends(table: &Table, pot: u8, worths: &Worths) -> Ends
+    requires { pot < table.now.pots }
+    ensures best { (runout : List (List ℕ))
+        → AreWorthsAfter (state_of table.now.known) runout worths.now
+        → IsBestOf (deal_of table.now) pot runout result.main result.low result.top }
+    ensures main { result.main < 2048 }
+    ensures low { result.low < 1024 }
+{
+    let high = pot_best(table, pot, &worths.highs);
+    let low = winners_on(table, Side::Low, &worths.lows, pot);
+    Ends {
+        main: high.set + low_mark(low),
+        low,
+        top: high.top,
+    }
+}

@@ -1,0 +1,97 @@
+//! A table whose board alone lacks cards.
+
+ghost use Rattle.std.specs.Prelude.{◌≡◌, ℕ, ◌<◌, ◌≤◌, [], length, slice_index, slice_index_or, true, IsTrue};
+ghost use Rattle.card_sets.specs.Cards.{IsCardSet};
+ghost use Rattle.card_sets.specs.Games.{has_board};
+ghost use Rattle.card_sets.specs.State.{state_of};
+ghost use Rattle.runout_ranges.specs.Shapes.{IsShapeOf};
+ghost use Rattle.runout_ranges.specs.Slots.{unseen};
+ghost use Rattle.showdown_tally.specs.Deals.{deal_of};
+ghost use Rattle.board_runouts.specs.Boards.{IsBoardAlone, are_boards};
+ghost use Rattle.board_runouts.specs.Rivers.{are_rivers};
+ghost use Rattle.board_runouts.specs.Suits.{AreMost};
+
+use crate::deal::no_table;
+use crate::suits::most_of;
+use card_sets::{CardSet, Known};
+use runout_ranges::Shape;
+use runout_walk::ten_places;
+use showdown_tally::Table;
+
+/// A table whose board alone lacks cards, with what is looked up at each pair.
+#[derive(Clone, Copy)]
+pub(crate) struct BoardSpot {
+    /// The table.
+    pub(crate) table: Table,
+    /// For each suit the most cards for a flush that a hand has with the known board.
+    pub(crate) most: [u32; 4],
+    /// There is a board.
+    pub(crate) ghost dealt: { has_board table.known.game ≡ true },
+    /// The board alone lacks cards.
+    pub(crate) ghost alone: { IsBoardAlone (state_of table.known) },
+    /// No hand has more.
+    pub(crate) ghost greatest: { AreMost (state_of table.known) most },
+    /// They are no more than two sets have.
+    pub(crate) ghost few: { (s : ℕ) → slice_index most s ≤ 104 },
+    /// The board is a set.
+    pub(crate) ghost board: { IsCardSet table.known.board },
+    /// The hands are sets.
+    pub(crate) ghost hands: { (h : ℕ) → h < length (state_of table.known).hands
+        → IsCardSet (slice_index_or (state_of table.known).hands h []) },
+    /// There are so many pots.
+    pub(crate) ghost pots: { length (deal_of table).pots ≡ table.pots },
+}
+
+/// Each hand is a set.
+fn hands_are_sets(known: &Known)
+    ensures { (h : ℕ) → h < length (state_of known.now).hands
+        → IsCardSet (slice_index_or (state_of known.now).hands h []) }
+{
+    let hands = &known.hands[..known.count as usize];
+    for own in hands {
+        own.rising();
+    }
+}
+
+impl BoardSpot {
+    /// A table whose board alone lacks cards.
+    fn of_alone(table: &Table) -> BoardSpot
+        requires dealt { IsTrue (has_board table.now.known.game) }
+        requires alone { IsBoardAlone (state_of table.now.known) }
+        ensures { result.table ≡ table.now }
+    {
+        ten_places(table);
+        table.known.board.rising();
+        hands_are_sets(&table.known);
+        let most = most_of(&table.known);
+        BoardSpot {
+            table: *table,
+            most,
+        }
+    }
+
+    /// A table whose runouts are boards.
+    pub(crate) fn of(table: &Table, shape: &Shape) -> BoardSpot
+        requires shape { IsShapeOf (state_of table.now.known) shape.now }
+        requires boards { IsTrue (are_boards table.now shape.now) }
+        ensures { result.table ≡ table.now }
+    {
+        BoardSpot::of_alone(table)
+    }
+
+    /// A table whose board lacks one card.
+    pub(crate) fn of_river(table: &Table, shape: &Shape) -> BoardSpot
+        requires shape { IsShapeOf (state_of table.now.known) shape.now }
+        requires rivers { IsTrue (are_rivers table.now shape.now) }
+        ensures { result.table ≡ table.now }
+    {
+        BoardSpot::of_alone(table)
+    }
+
+    /// The table of no hands.
+    pub(crate) fn none() -> BoardSpot
+        ensures { unseen (state_of result.table.known) ≡ [] }
+    {
+        BoardSpot::of_alone(&no_table())
+    }
+}

@@ -1,0 +1,204 @@
+//! Runouts with which somebody may have a flush.
+
+ghost use Rattle.std.specs.Prelude.{◌≡◌, ℕ, ◌<◌, ◌≤◌, ◌++◌, [], ◌∷◌, length, slice_index, slice_index_or, IsTrue};
+ghost use Rattle.card_sets.specs.Games.{has_board, own_size};
+ghost use Rattle.card_sets.specs.Disjoint.{apart};
+ghost use Rattle.card_sets.specs.State.{state_of};
+ghost use Rattle.runout_ranges.specs.Runouts.{HasMember};
+ghost use Rattle.showdown_tally.specs.Deals.{deal_of};
+ghost use Rattle.showdown_tally.specs.Flushes.{IsOnlySuit};
+ghost use Rattle.showdown_tally.specs.SideCounts.{count_place};
+ghost use Rattle.showdown_tally.specs.Showdown.{eligible_in};
+ghost use Rattle.showdown_tally.specs.Tallies.{runouts_after};
+ghost use Rattle.runout_walk.specs.Bests.{best_set};
+ghost use Rattle.board_runouts.specs.HighParts.{high_number};
+ghost use Rattle.board_runouts.specs.KeptFlushes.{AreFlushes};
+ghost use Rattle.board_runouts.specs.KeptRows.{IsFlushPart, IsPart, IsRowFor};
+ghost use Rattle.board_runouts.specs.Pairs.{cards_of_pair};
+ghost use Rattle.board_runouts.specs.Suits.{AreFivesWith};
+
+use crate::flush::Suited;
+use crate::flushes::Flushes;
+use crate::front::FirstCards;
+use crate::high::high_value;
+use crate::pair::Pair;
+use crate::places::Place;
+use crate::row::Row;
+use crate::spot::BoardSpot;
+use card_sets::{Card, CardSet, Known, Side};
+use runout_walk::{are_hands, low_mark, pot_best};
+use showdown_tally::{Table, flush_suit, law_values_keep_order};
+
+/// What each hand is worth as a high with a full board.
+fn highs_with(known: &Known, board: CardSet) -> [u32; 10]
+    requires dealt { IsTrue (has_board known.now.game) }
+    requires own { (h : ℕ) → h < length (state_of known.now).hands
+        → length (slice_index_or (state_of known.now).hands h []) ≡ own_size known.now.game }
+    requires five { length board ≡ 5 }
+    requires away { (h : ℕ) → h < length (state_of known.now).hands
+        → IsTrue (apart (slice_index_or (state_of known.now).hands h []) board) }
+    ensures { (h : ℕ) → h < length (state_of known.now).hands
+        → slice_index result h
+        ≡ high_number known.now.game (slice_index_or (state_of known.now).hands h []) board }
+{
+    let mut highs = [0; 10];
+    let hands = &known.hands[..known.count as usize];
+    for (hand, own) in hands.iter().enumerate() {
+        highs[hand] = high_value(known.game, *own, board);
+    }
+    highs
+}
+
+/// Who has the best high of a pot with a full board, hand by hand.
+#[inline(never)]
+pub(crate) fn high_set(table: &Table, pot: u8, board: CardSet) -> u16
+    // The game has a board, and each hand has all its own cards.
+    requires dealt { IsTrue (has_board table.now.known.game) }
+    requires own { (h : ℕ) → h < length (state_of table.now.known).hands
+        → length (slice_index_or (state_of table.now.known).hands h [])
+        ≡ own_size table.now.known.game }
+
+    // The board is full, and no hand has a card of it.
+    requires five { length board ≡ 5 }
+    requires away { (h : ℕ) → h < length (state_of table.now.known).hands
+        → IsTrue (apart (slice_index_or (state_of table.now.known).hands h []) board) }
+
+    // The pot is one of the table.
+    requires pot { pot < table.now.pots }
+
+    // Whatever says what each hand is worth as a high, these are the best of the pot's hands by it.
+    ensures set { (value : ℕ → ℕ)
+        → ((h : ℕ) → h < length (state_of table.now.known).hands
+        → high_number table.now.known.game
+        (slice_index_or (state_of table.now.known).hands h []) board ≡ value h)
+        → result ≡ best_set value (eligible_in (deal_of table.now) pot) }
+    ensures small { result < 1024 }
+{
+    let highs = highs_with(&table.known, board);
+    pot_best(table, pot, &highs).set
+}
+
+/// The suit that a full board has more than two cards of, if there is one. One suit is looked at first.
+#[inline]
+fn suit_of_three(board: CardSet, first: u8) -> Option<u8>
+    requires board { length board ≤ 5 }
+    requires first { first < 4 }
+    ensures { IsOnlySuit board result }
+{
+    if board.of_suit(first).count() > 2 {
+        return Some(first);
+    }
+    flush_suit(board)
+}
+
+/// The rank of a card as a bit, if it is of a suit.
+#[inline]
+fn bit_in(card: Card, suit: u8) -> u32 {
+    if card.suit() == suit {
+        1 << card.rank()
+    } else {
+        0
+    }
+}
+
+/// The suit that the board has more than two cards of with a pair as the last two cards, if there is one. One suit is looked at first.
+#[inline]
+fn board_part(spot: &BoardSpot, front: &FirstCards, pair: &Pair, first: u8) -> Option<Suited>
+    requires first { first < 4 }
+    requires member { HasMember (runouts_after (state_of spot.now.table.known))
+        ((front.now.taken ++ cards_of_pair pair.now) ∷ []) }
+    ensures { IsPart (state_of spot.now.table.known)
+        ((front.now.taken ++ cards_of_pair pair.now) ∷ []) result }
+{
+    let table = &spot.table;
+    table.known.board.rising();
+    front.taken.rising();
+    let set = front.taken.with(pair.low).with(pair.high);
+    let board = table.known.board.union(set);
+    let Some(suit) = suit_of_three(board, first) else {
+        return None;
+    };
+    let cards = board.of_suit(suit);
+    let tag = front.tags[usize::from(suit)] | bit_in(pair.low, suit) | bit_in(pair.high, suit);
+    Some(Suited {
+        board,
+        cards,
+        suit,
+        tag,
+    })
+}
+
+/// The suit that somebody may have a flush of with a pair as the last two cards, if there is one.
+#[inline]
+pub(crate) fn suited_part(spot: &BoardSpot, front: &FirstCards, pair: &Pair) -> Option<Suited>
+    requires suits { AreFivesWith spot.now.most front.now.taken front.now.suits }
+    requires places { length front.now.suits ≡ 16 }
+    requires member { HasMember (runouts_after (state_of spot.now.table.known))
+        ((front.now.taken ++ cards_of_pair pair.now) ∷ []) }
+    ensures { IsPart (state_of spot.now.table.known)
+        ((front.now.taken ++ cards_of_pair pair.now) ∷ []) result }
+{
+    let first = front.suits[usize::from(pair.suits)];
+    if first > 3 {
+        return None;
+    }
+    board_part(spot, front, pair, first)
+}
+
+/// Where a runout with a pair as the last two cards, with which somebody may have a flush, is counted for a pot.
+#[inline]
+pub(crate) fn suited_place(
+    spot: &BoardSpot,
+    flushes: &mut Flushes,
+    taken: CardSet,
+    row: &Row,
+    pot: u8,
+    pair: &Pair,
+    part: &Suited,
+) -> Place
+    // The pot is one of the table, and its row is one for the first cards.
+    requires row { IsRowFor (deal_of spot.now.table) pot taken row.now }
+    requires pot { pot < spot.now.table.pots }
+
+    // With the pair they are a runout, after which a hand is worth its ranks or its flush with the part's cards.
+    requires member { HasMember (runouts_after (state_of spot.now.table.known))
+        ((taken ++ cards_of_pair pair.now) ∷ []) }
+    requires part { IsFlushPart (state_of spot.now.table.known)
+        ((taken ++ cards_of_pair pair.now) ∷ []) part.now.board part.now.cards part.now.suit }
+
+    // What is kept of flushes is right where it bears the deal's number.
+    requires flushes { AreFlushes (deal_of spot.now.table) flushes.old }
+
+    // By the definition the runout is counted at these places, and what is kept of flushes stays right.
+    ensures main { result.main
+        ≡ count_place (deal_of spot.now.table) pot Side.High
+        ((taken ++ cards_of_pair pair.now) ∷ []) }
+    ensures low { result.low
+        ≡ count_place (deal_of spot.now.table) pot Side.Low
+        ((taken ++ cards_of_pair pair.now) ∷ []) }
+    ensures few_mains { result.main < 2048 }
+    ensures few_lows { result.low < 1024 }
+    ensures flushes { AreFlushes (deal_of spot.now.table) flushes.new }
+{
+    law_values_keep_order();
+    are_hands(&spot.table, pot);
+    let place = usize::from(pair.ranks);
+    let main = row.mains[place];
+    let low = row.lows[place];
+    let top = row.tops[place];
+    let flush = flushes.best_for(&spot.table, pot, part);
+    if flush.top < top {
+        return Place { main, low };
+    }
+    let mark = low_mark(low);
+    if top < flush.top {
+        return Place {
+            main: flush.set + mark,
+            low,
+        };
+    }
+    Place {
+        main: high_set(&spot.table, pot, part.board) + mark,
+        low,
+    }
+}

@@ -1,0 +1,20 @@
+//! Runouts that end with a draw, all draws of the last hand at once: a leaf of the walk of `runout_walk` for games without a board.
+//!
+//! **Draws** ([`Draws`]: games without a board whose last slot takes one to three cards, or one or two where there are two sides). What
+//! the last hand is worth with each draw stands in a table, filled once a spot. The numbers of a whole range are copied into a row. Each
+//! of them then takes its step, and in each pot adds a one to those below the best of the others, the same, or above it; a set of winners
+//! belongs to each of the three. A game of two sides has a table and a row for each, by the same calls; a hand without a low has the number
+//! 0 there, and each draw goes to the counts of both sides at once. For the lows of three cards there is no room: 380 kB more.
+//!
+//! A game more is no change here if it has one side, and a value for every hand; with two sides it adds its line to the laws of
+//! `LowWinners`.
+#![tactic(auto)]
+
+mod draws;
+mod last;
+mod numbers;
+mod orders;
+mod rivals;
+mod winners;
+
+pub use draws::{Draws, are_draws};

@@ -1,8 +1,0 @@
-use Rattle.std.proofs.Common.{sym, ap, ◌∙◌, Some}
-use Rattle.std.proofs.lemmas.Option.{slice_get-get_or}
-use Rattle.runout_ranges.proofs.CallerLemmas.{member_at}
-use Rattle.runout_walk.proofs.board_leaf.count_one_pot.Goals as goal
-
-pub one_place-place-requires-clause-member : goal.one_place-place-requires-clause-member
-one_place-place-requires-clause-member g c =
-    c.requires.pairs c.pair-item.result (member_at c.args.pairs.now c.loop-pair.pair-index c.pair-item.result (slice_get-get_or c.args.pairs.now c.loop-pair.pair-index c.pair-item.result c.loop-pair-test.true ∙ ap Some (sym c.pair-item.is)))

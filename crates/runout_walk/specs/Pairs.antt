@@ -1,7 +1,0 @@
--- Pairs of cards as lists.
-use Rattle.std.specs.Prelude.{ℕ, List, [], ◌∷◌}
-use Rattle.runout_walk.specs.declared.pair.Pair.{Pair}
-
--- the two cards
-abbrev pub cards_of_pair : Pair → List ℕ
-cards_of_pair p = p.low ∷ p.high ∷ []

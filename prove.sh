@@ -1,0 +1,73 @@
+# shellcheck shell=bash
+# What ./equity and page/build have in common: the crates that one crate stands on are copied, without their must-fail edits, into a
+# folder of their own, for one `rt ci` to pass them there. They read this file. By itself it does nothing.
+
+# A crate and the crates of the repository that it stands on, and of each in crates.txt what follows its name, and the crates below it.
+needed=()
+declare -A kind=() below=()
+
+# read_needed ROOT CRATE
+read_needed() {
+    local line name more lower at
+    declare -A seen=(["$2"]=1)
+    while IFS= read -r line; do
+        line="${line%%#*}"
+        [[ "$line" == *:* ]] || continue
+        read -r name more <<<"${line%%:*}"
+        kind["$name"]="${more:+ $more}"
+        below["$name"]="${line#*:}"
+    done <"$1/crates.txt"
+    needed=("$2")
+    for ((at = 0; at < ${#needed[@]}; at++)); do
+        for lower in ${below[${needed[at]}]-}; do
+            if [ -z "${below[$lower]+there}" ] || [ -n "${seen[$lower]-}" ]; then continue; fi
+            seen[$lower]=1
+            needed+=("$lower")
+        done
+    done
+}
+
+# lay_out ROOT TREE: copies what is needed. A folder .git makes the tree the top of a repository
+lay_out() {
+    local name part
+    mkdir -p "$2/.git" "$2/crates" && cp "$1/HANDLES" "$2" || return 1
+    for name in "${needed[@]}"; do
+        printf '%s%s:%s\n' "$name" "${kind[$name]}" "${below[$name]}" >>"$2/crates.txt"
+        mkdir "$2/crates/$name" || return 1
+        for part in src specs proofs args stdin stdout status data; do
+            [ ! -e "$1/crates/$name/$part" ] || cp -R "$1/crates/$name/$part" "$2/crates/$name" || return 1
+        done
+    done
+}
+
+# How many proofs run side by side: one a processor, and no more than have three gigabytes of memory each. A proof was seen to take two.
+# rt by itself reckons with up to ten for each, and so leaves processors idle.
+lanes() {
+    local most memory
+    most="$(nproc)" || return
+    memory="$(awk '/^MemAvailable:/ { print int($2 / 3145728) }' /proc/meminfo)" || return
+    if [ "${memory:-0}" -lt "$most" ]; then most="$memory"; fi
+    if [ "$most" -ge 1 ]; then printf '%s' "$most"; fi
+}
+
+# pass TREE ROOM: has rt ci pass what lies there
+pass() {
+    cd "$1" && RT_JOBS="${RT_JOBS-$(lanes 2>/dev/null)}" TMPDIR="$2" exec rt ci
+}
+
+# told FILE: copies what the prover says to the file, and says at a terminal how far it is
+told() {
+    local line done=0
+    while IFS= read -r line; do
+        printf '%s\n' "$line"
+        case "$line" in
+        "rt: "*" proved" | "rt: "*" is kept: "*)
+            done=$((done + 1))
+            if [ -t 2 ]; then
+                line="${line#rt: }"
+                printf 'proved %s, %d of %d, after %d:%02d minutes\n' "${line%% *}" "$done" "${#needed[@]}" $((SECONDS / 60)) $((SECONDS % 60)) >&2
+            fi
+            ;;
+        esac
+    done >"$1"
+}
