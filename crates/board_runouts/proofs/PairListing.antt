@@ -1,14 +1,29 @@
 -- Pairs in the order of the listing of choices.
-use Rattle.std.proofs.Common.{◌≡◌, ℕ, zero, suc, ◌+◌, ◌-◌, ◌<◌, ◌≤◌, List, [], ◌∷◌, ◌++◌, length, length-append, map, take, drop, refl, sym, ap, ◌∙◌, arith, append_assoc, set}
+use Rattle.std.proofs.Common.{◌≡◌, ℕ, zero, suc, ◌+◌, ◌-◌, ◌<◌, ◌≤◌, List, [], ◌∷◌, ◌++◌, length, length-append, map, take, drop, refl, sym, ap, ◌∙◌, arith, append_assoc, get_or, set}
 use Rattle.card_sets.specs.Cards.{IsRising, RisingFrom}
 use Rattle.std.specs.List.{slice_range}
-use Rattle.std.proofs.lemmas.List.{length-map, map-append, take_more_set}
+use Rattle.std.proofs.lemmas.List.{length-drop, length-map, map-append, take_all, take_more_set}
 use Rattle.card_sets.specs.Choose.{choose}
 use Rattle.runout_ranges.specs.Ways.{binomial}
 use Rattle.runout_ranges.proofs.CallerLemmas.{length_choose}
 use Rattle.board_runouts.specs.Pairs.{cards_of_pair}
 use Rattle.board_runouts.specs.declared.pair.Pair.{Pair}
 use Rattle.runout_walk.proofs.CallerLemmas.{grows, range-map, range-none, two-first}
+
+-- what is left of a list from a place on
+pub first_left : {X : Type 0} (xs : List X) (i : ℕ) (x : X) → i < length xs → x ≡ get_or xs i x → drop i xs ≡ x ∷ drop (i + 1) xs
+first_left [] i x h e = absurd (omega arith)
+first_left (y ∷ ys) zero x h e = ap (λ z. z ∷ ys) (sym e)
+first_left (y ∷ ys) (suc i) x h e = let b : suc i + 1 ≡ suc (i + 1) = omega arith in rw b (first_left ys i x (omega arith) e)
+
+pub none_left : {X : Type 0} (xs : List X) (i : ℕ) → length xs ≤ i → drop i xs ≡ []
+none_left [] zero h = refl
+none_left [] (suc i) h = refl
+none_left (x ∷ xs) zero h = absurd (omega arith)
+none_left (x ∷ xs) (suc i) h = none_left xs i (omega arith)
+
+pub all_left : {X : Type 0} (xs : List X) (i : ℕ) → take (length xs - i) (drop i xs) ≡ drop i xs
+all_left xs i = take_all (length xs - i) (drop i xs) (let d = length-drop i xs in omega (arith, d))
 
 -- one pair more
 pub put_one : (pairs : List Pair) (used low high : ℕ) (rest left : List ℕ) (pair : Pair) (all : List (List ℕ)) → used < length pairs → cards_of_pair pair ≡ low ∷ high ∷ [] → rest ≡ high ∷ left

@@ -1,6 +1,7 @@
 -- The cards of a suit of two sets, and how many they are.
 use Rattle.std.proofs.Common.{◌≡◌, ℕ, zero, suc, ◌+◌, ◌≤◌, ◌==◌, List, [], ◌∷◌, refl, sym, ap, ◌∙◌, arith, cond, length, length-append, Bool, true, false, inl, inr}
 use Rattle.std.specs.Prelude.{◌&&◌, ◌||◌}
+use Rattle.std.proofs.Math.Bool.{and-or_distrib_right}
 use Rattle.std.proofs.lemmas.Bool.{cases_eq}
 use Rattle.std.proofs.lemmas.List.Sums.{length-filter, count_by-le-length}
 use Rattle.card_sets.specs.Cards.{IsCardSet, has_card, suit_of, union, cards_where, cards_below}
@@ -22,22 +23,12 @@ suit_fewer cards suit = omega (arith, suit_count cards suit, count_by-le-length 
 suit-where : (cards : List ℕ) (suit : ℕ) → IsCardSet cards → of_suit cards suit ≡ cards_where (λ k. has_card cards k && (suit_of k == suit))
 suit-where cards suit set = ap (λ l. of_suit l suit) (sym set) ∙ filter-where (λ c. suit_of c == suit) (has_card cards)
 
-or_and : (a b t : Bool) → ((a || b) && t) ≡ ((a && t) || (b && t))
-or_and true true true = refl
-or_and true true false = refl
-or_and true false true = refl
-or_and true false false = refl
-or_and false true true = refl
-or_and false true false = refl
-or_and false false true = refl
-or_and false false false = refl
-
 -- the cards of a suit of two sets together
 pub suit_union : (a b : List ℕ) (suit : ℕ) → IsCardSet a → IsCardSet b → of_suit (union a b) suit ≡ union (of_suit a suit) (of_suit b suit)
 suit_union a b suit x y =
     filter-where (λ c. suit_of c == suit) (λ k. has_card a k || has_card b k)
     ∙ cards_where_same (λ k. (has_card a k || has_card b k) && (suit_of k == suit)) (λ k. has_card (of_suit a suit) k || has_card (of_suit b suit) k) (λ k l.
-    or_and (has_card a k) (has_card b k) (suit_of k == suit)
+    and-or_distrib_right (has_card a k) (has_card b k) (suit_of k == suit)
     ∙ ap (λ h. h || (has_card b k && (suit_of k == suit))) (sym (ap (λ l. has_card l k) (suit-where a suit x) ∙ has-cards_where (λ k. has_card a k && (suit_of k == suit)) k l))
     ∙ ap (λ h. has_card (of_suit a suit) k || h) (sym (ap (λ l. has_card l k) (suit-where b suit y) ∙ has-cards_where (λ k. has_card b k && (suit_of k == suit)) k l)))
 

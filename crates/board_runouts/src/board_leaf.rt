@@ -29,7 +29,7 @@ use std::sync::ledger::Ledger;
 use step_count::Steps;
 
 /// Counts a runout with a pair as the last two cards, with which somebody may have a flush, for each pot.
-#[inline]
+#[inline(always)]
 fn count_suited(
     spot: &BoardSpot,
     flushes: &mut Flushes,
@@ -110,7 +110,7 @@ fn count_pair(
 
 /// Counts first cards with each of some pairs as the last two, for each pot. It takes a step a pair.
 #[inline(never)]
-pub(crate) fn count_pairs<L: Ledger>(
+fn count_pairs<L: Ledger>(
     spot: &BoardSpot,
     flushes: &mut Flushes,
     front: &FirstCards,
@@ -492,6 +492,51 @@ fn count_coded<L: Ledger>(
     }
 }
 
+/// Counts first cards with each of some pairs as the last two, one by one: for the only pot of a game with one side, or for each. It takes
+/// a step a pair.
+#[inline]
+pub(crate) fn count_each<L: Ledger>(
+    spot: &BoardSpot,
+    flushes: &mut Flushes,
+    front: &FirstCards,
+    rows: &[Row],
+    pairs: &[Pair],
+    counts: &mut [[u32; 2048]],
+    steps: &mut Steps<L>,
+)
+    // Where the front's table of suits names none, no two cards of these suits make anybody a flush.
+    requires suits { AreFivesWith spot.now.most front.now.taken front.now.suits }
+    requires places { length front.now.suits ≡ 16 }
+
+    // Each pot has a row for the first cards, and with each pair these are a runout.
+    requires rows { AreRowsOf (deal_of spot.now.table) front.now.taken rows.now }
+    requires pots { length rows.now ≡ spot.now.table.pots }
+    requires pairs { (pair : Pair) → HasMember pairs.now pair
+        → HasMember (runouts_after (state_of spot.now.table.known))
+        ((front.now.taken ++ cards_of_pair pair) ∷ []) }
+
+    // What is kept of flushes is right where it bears the deal's number.
+    requires flushes { AreFlushes (deal_of spot.now.table) flushes.old }
+
+    // Each count has room for all pairs.
+    requires counts { 2 * spot.now.table.pots ≤ length counts.old }
+    requires fits { CountsFit (deal_of spot.now.table) counts.old (length pairs.now) }
+
+    // Each pair is counted for each pot, and what is kept stays right.
+    ensures counts { PairsGrow
+        (deal_of spot.now.table) front.now.taken pairs.now counts.old counts.new }
+    ensures same { length counts.new ≡ length counts.old }
+    ensures flushes { AreFlushes (deal_of spot.now.table) flushes.new }
+    ensures steps { steps.new ≡ steps.old + length pairs.now }
+{
+    if spot.table.pots == 1 && !spot.table.known.game.has_side(Side::Low) {
+        let cells = &mut counts[0];
+        count_one_pot(spot, flushes, front, &rows[0], pairs, cells, steps);
+        return;
+    }
+    count_pairs(spot, flushes, front, rows, pairs, counts, steps);
+}
+
 /// Counts first cards with each of some pairs as the last two. It takes a step a pair.
 #[inline]
 pub(crate) fn count_front<L: Ledger>(
@@ -539,10 +584,5 @@ pub(crate) fn count_front<L: Ledger>(
         count_coded(spot, flushes, front, rows, codes, pairs, counts, steps);
         return;
     }
-    if spot.table.pots == 1 && !spot.table.known.game.has_side(Side::Low) {
-        let cells = &mut counts[0];
-        count_one_pot(spot, flushes, front, &rows[0], pairs, cells, steps);
-        return;
-    }
-    count_pairs(spot, flushes, front, rows, pairs, counts, steps);
+    count_each(spot, flushes, front, rows, pairs, counts, steps);
 }

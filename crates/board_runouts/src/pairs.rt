@@ -14,7 +14,7 @@ use crate::sieve::{PAIRS_MAX, Sieve};
 use crate::sieves::Sieves;
 use card_sets::{Card, CardSet, Memory};
 use runout_ranges::count_choices;
-use runout_walk::filled;
+use runout_walk::{CardList, filled};
 use std::alloc::Global;
 
 /// All pairs of some cards, in the order of the listing of choices: room for those of a deck, on the heap.
@@ -48,36 +48,31 @@ pub(crate) struct Stretch {
 }
 
 /// Puts the pairs of a card with each of some others behind the first `used` ones, and gives how many there are then.
-fn put_pairs(pairs: &mut [Pair], used: usize, low: Card, others: CardSet) -> usize
-    requires { used + length others ≤ length pairs.old }
-    ensures used { result ≡ used + length others }
+#[inline]
+fn put_pairs(pairs: &mut [Pair], used: usize, low: Card, others: &[Card]) -> usize
+    requires { used + length others.now ≤ length pairs.old }
+    ensures used { result ≡ used + length others.now }
     ensures pairs { map cards_of_pair (take result pairs.new)
-        ≡ map cards_of_pair (take used pairs.old) ++ map (λ high. low ∷ high ∷ []) others }
+        ≡ map cards_of_pair (take used pairs.old) ++ map (λ high. low ∷ high ∷ []) others.now }
     ensures same { length pairs.new ≡ length pairs.old }
 {
-    let mut used = used;
-    let mut rest = others;
-    while let Some(high) = rest.first() {
-        rest = rest.without(high);
-        pairs[used] = Pair::of(low, high);
-        used += 1;
+    for at in 0..others.len() {
+        pairs[used + at] = Pair::of(low, others[at]);
     }
-    used
+    used + others.len()
 }
 
 /// Puts all pairs of some cards at the front, and gives how many they are.
-fn put_all_pairs(pairs: &mut [Pair], cards: CardSet) -> usize
-    requires { length pairs.old ≡ 1326 }
+fn put_all_pairs(pairs: &mut [Pair], cards: &[Card]) -> usize
+    requires room { length pairs.old ≡ 1326 }
+    requires deck { length cards.now ≤ 52 }
     ensures used { result ≤ 1326 }
-    ensures pairs { map cards_of_pair (take result pairs.new) ≡ choose 2 cards }
+    ensures pairs { map cards_of_pair (take result pairs.new) ≡ choose 2 cards.now }
     ensures same { length pairs.new ≡ 1326 }
 {
-    cards.rising();
     let mut used = 0;
-    let mut rest = cards;
-    while let Some(low) = rest.first() {
-        rest = rest.without(low);
-        used = put_pairs(pairs, used, low, rest);
+    for place in 0..cards.len() {
+        used = put_pairs(pairs, used, cards[place], &cards[place + 1..]);
     }
     used
 }
@@ -129,7 +124,8 @@ impl Pairs {
             return;
         }
         self.sieves.clear();
-        self.used = put_all_pairs(self.pairs.as_mut_slice(), cards);
+        let list = CardList::of(cards);
+        self.used = put_all_pairs(self.pairs.as_mut_slice(), list.as_slice());
         self.cards = cards;
     }
 

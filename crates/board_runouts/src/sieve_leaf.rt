@@ -17,7 +17,7 @@ ghost use Rattle.board_runouts.specs.Sieves.{flush_pairs, plain_ranks};
 ghost use Rattle.board_runouts.specs.Suits.{AreFivesWith};
 ghost use Rattle.board_runouts.specs.declared.pair.Pair.{Pair};
 
-use crate::board_leaf::{count_front, count_pairs};
+use crate::board_leaf::{count_each, count_front};
 use crate::codes::Codes;
 use crate::flushes::Flushes;
 use crate::front::FirstCards;
@@ -77,7 +77,7 @@ fn count_parts<L: Ledger>(
     ensures steps { steps.new ≡ steps.old + length pairs.now }
 {
     count_plain(spot, front, rows, codes, pairs, plain, counts, steps);
-    count_pairs(spot, flushes, front, rows, flush, counts, steps);
+    count_each(spot, flushes, front, rows, flush, counts, steps);
 }
 
 /// Counts first cards with each of some pairs of the last cards as the last two, without a sieve. It takes a step a pair.

@@ -1,6 +1,6 @@
 -- How often each of three sets wins, by how some numbers stand to another.
 use Rattle.std.proofs.Common.{◌≡◌, ℕ, zero, suc, ◌+◌, ◌^◌, ◌<◌, ◌≤◌, ◌==◌, ◌&&◌, not, Bool, true, false, cond, List, [], ◌∷◌, length, set, take, get_or, refl, sym, ap, ◌∙◌, arith, inl, inr, Some, subst}
-use Rattle.std.specs.Prelude.{nat_lt, slice_get, slice_index, slice_index_or}
+use Rattle.std.specs.Prelude.{nat_le, nat_lt, slice_get, slice_index, slice_index_or}
 use Rattle.std.specs.List.{count_by}
 use Rattle.std.specs.Option.{option_map}
 use Rattle.std.proofs.lemmas.Bool.{cases_eq, cases_lt, eqb-true}
@@ -9,9 +9,8 @@ use Rattle.std.proofs.lemmas.List.Sums.{count_by_more_yes, count_by_more_no, cou
 use mathlib.Core.Bool.{true≢false}
 use mir.Val.{bool_byte}
 use Rattle.card_sets.specs.declared.games.Side.{Side}
-use Rattle.card_sets.specs.declared.games.Side.TheVariants.{High, Low}
 use Rattle.runout_walk.specs.OneMore.{set_place}
-use Rattle.draw_runouts.specs.LastHand.{AreStepped, AreSums, HaveRoom, count_both, is_above, is_below, is_equal, pick, times_at, top_at, top_of, winner_by, won_at, won_by}
+use Rattle.draw_runouts.specs.LastHand.{AreStepped, AreSums, HaveRoom, count_both, is_above, is_below, is_equal, is_least, is_most, pick, times_at, top_at, top_of, winner_by, won_at, won_by}
 use Rattle.draw_runouts.specs.Worth.{or_zero}
 use Rattle.draw_runouts.specs.declared.winners.Winners.{Winners}
 use Rattle.runout_walk.proofs.CallerLemmas.{count_same, get-here, get-other}
@@ -204,26 +203,57 @@ sums_room test pots values i sums ten inside few was = record {
 pub sums_fewer : (test : ℕ → ℕ → Bool) (n pots : ℕ) (values sums : List ℕ) → pots ≤ n → AreSums test n values sums → AreSums test pots values sums
 sums_fewer test n pots values sums few was = record { counts = λ pot l. was.counts pot (omega arith); ten = was.ten }
 
--- how often each set wins a pot, by the sums of the pots
-pub sums_total : (rivals : List Winners) (pot pots : ℕ) (values below equal above : List ℕ) → pot < pots → AreSums (is_below rivals) pots values below → AreSums (is_equal rivals) pots values equal → AreSums (is_above rivals) pots values above
-    → slice_index below pot + slice_index equal pot + slice_index above pot ≡ length values
-sums_total rivals pot pots values below equal above l b e a =
-    let top : ℕ = top_at rivals pot in
-    let p : slice_index below pot ≡ count_by (λ v. nat_lt v top) values = b.counts pot l in
-    let q : slice_index equal pot ≡ count_by (λ v. v == top) values = e.counts pot l in
-    let r : slice_index above pot ≡ count_by (λ v. nat_lt top v) values = a.counts pot l in
-    omega (arith, p, q, r, above_is top values, orders_are_all top values)
+-- a number is at most another or above it
+one_of_two : (v t : ℕ) → cond (nat_le v t) 1 0 + cond (nat_lt t v) 1 0 ≡ 1
+one_of_two v t = elim (cases_lt t v) [
+  | inl l ↦
+      let x : nat_lt t v ≡ true = grind arith in
+      let y : nat_le v t ≡ false = grind arith in
+      rw (x, y) refl
+  | inr ge ↦
+      let x : nat_lt t v ≡ false = grind arith in
+      let y : nat_le v t ≡ true = grind arith in
+      rw (x, y) refl
+]
 
-pub sums_won : (rivals : List Winners) (pot pots set : ℕ) (r : Winners) (win : ℕ → ℕ) (values below equal above : List ℕ) → pot < pots → slice_get rivals pot ≡ Some r → ((value : ℕ) → won_at rivals pot value ≡ win value)
-    → AreSums (is_below rivals) pots values below → AreSums (is_equal rivals) pots values equal → AreSums (is_above rivals) pots values above
-    → times_at r.below (slice_index below pot) set + times_at r.equal (slice_index equal pot) set + times_at r.above (slice_index above pot) set ≡ count_by (λ value. win value == set) values
-sums_won rivals pot pots set r win values below equal above l found wins b e a =
+most_or_above : (top : ℕ) (all : List ℕ) → count_by (λ v. nat_le v top) all + count_by (λ v. nat_lt top v) all ≡ length all
+most_or_above top [] = refl
+most_or_above top (x ∷ xs) = omega (arith, most_or_above top xs, one_of_two x top, sum_by-cons (λ v. cond (nat_le v top) 1 0) x xs, sum_by-cons (λ v. cond (nat_lt top v) 1 0) x xs)
+
+least_or_below : (top : ℕ) (all : List ℕ) → count_by (λ v. nat_le top v) all + count_by (λ v. nat_lt v top) all ≡ length all
+least_or_below top [] = refl
+least_or_below top (x ∷ xs) = omega (arith, least_or_below top xs, one_of_two top x, sum_by-cons (λ v. cond (nat_le top v) 1 0) x xs, sum_by-cons (λ v. cond (nat_lt v top) 1 0) x xs)
+
+-- each number is below the greatest of the others, the same or above
+pub orders_total : (rivals : List Winners) (pot : ℕ) (values : List ℕ) → count_by (λ v. is_below rivals v pot) values + count_by (λ v. is_equal rivals v pot) values + count_by (λ v. is_above rivals v pot) values ≡ length values
+orders_total rivals pot values = let top : ℕ = top_at rivals pot in omega (arith, above_is top values, orders_are_all top values)
+
+-- the two sums make the three
+pub record ThreeOf (rivals : List Winners) (pot most least : ℕ) (values : List ℕ) : Type 0 where
+  pub below : count_by (λ v. is_below rivals v pot) values + least ≡ length values
+  pub above : count_by (λ v. is_above rivals v pot) values + most ≡ length values
+  pub equal : count_by (λ v. is_below rivals v pot) values + count_by (λ v. is_equal rivals v pot) values + count_by (λ v. is_above rivals v pot) values ≡ length values
+
+pub three_of : (rivals : List Winners) (pot most least : ℕ) (values : List ℕ) → most ≡ count_by (λ v. is_most rivals v pot) values → least ≡ count_by (λ v. is_least rivals v pot) values → ThreeOf rivals pot most least values
+three_of rivals pot most least values m l =
+    let top : ℕ = top_at rivals pot in
+    record {
+      below = omega (arith, l, least_or_below top values);
+      above = omega (arith, m, most_or_above top values);
+      equal = orders_total rivals pot values;
+    }
+
+-- how often each set wins a pot, by how often each order comes
+pub orders_won : (rivals : List Winners) (pot set : ℕ) (r : Winners) (win : ℕ → ℕ) (values : List ℕ) (below equal above : ℕ) → slice_get rivals pot ≡ Some r → ((value : ℕ) → won_at rivals pot value ≡ win value)
+    → below ≡ count_by (λ v. is_below rivals v pot) values → equal ≡ count_by (λ v. is_equal rivals v pot) values → above ≡ count_by (λ v. is_above rivals v pot) values
+    → times_at r.below below set + times_at r.equal equal set + times_at r.above above set ≡ count_by (λ value. win value == set) values
+orders_won rivals pot set r win values below equal above found wins b e a =
     let top : top_at rivals pot ≡ r.top = top_here rivals pot r found in
-    let p : slice_index below pot ≡ count_by (λ v. nat_lt v r.top) values = b.counts pot l ∙ ap (λ t. count_by (λ v. nat_lt v t) values) top in
-    let q : slice_index equal pot ≡ count_by (λ v. v == r.top) values = e.counts pot l ∙ ap (λ t. count_by (λ v. v == t) values) top in
-    let s : slice_index above pot ≡ count_by (rest_of r.top) values = a.counts pot l ∙ ap (λ t. count_by (λ v. nat_lt t v) values) top ∙ above_is r.top values in
-    ap (λ n. times_at r.below n set + times_at r.equal (slice_index equal pot) set + times_at r.above (slice_index above pot) set) p
-    ∙ ap (λ n. times_at r.below (count_by (λ v. nat_lt v r.top) values) set + times_at r.equal n set + times_at r.above (slice_index above pot) set) q
+    let p : below ≡ count_by (λ v. nat_lt v r.top) values = b ∙ ap (λ t. count_by (λ v. nat_lt v t) values) top in
+    let q : equal ≡ count_by (λ v. v == r.top) values = e ∙ ap (λ t. count_by (λ v. v == t) values) top in
+    let s : above ≡ count_by (rest_of r.top) values = a ∙ ap (λ t. count_by (λ v. nat_lt t v) values) top ∙ above_is r.top values in
+    ap (λ n. times_at r.below n set + times_at r.equal equal set + times_at r.above above set) p
+    ∙ ap (λ n. times_at r.below (count_by (λ v. nat_lt v r.top) values) set + times_at r.equal n set + times_at r.above above set) q
     ∙ ap (λ n. times_at r.below (count_by (λ v. nat_lt v r.top) values) set + times_at r.equal (count_by (λ v. v == r.top) values) set + times_at r.above n set) s
     ∙ sym (won_by_order r.top r.below r.equal r.above set values)
     ∙ count_same (λ value. won_by r value == set) (λ value. win value == set) values (λ value m. ap (λ k. k == set) (sym (won_here rivals pot value r found) ∙ wins value))
@@ -260,15 +290,6 @@ pub both_most : (p : ℕ → ℕ → Bool) (values lows : List ℕ) → count_bo
 both_most p [] lows = omega arith
 both_most p (value ∷ values) [] = omega arith
 both_most p (value ∷ values) (low ∷ lows) = omega (arith, both_most p values lows, if_one (p value low))
-
--- a high and a low of up to ten hands make a place of a row
-pub place_small : (side : Side) (high low : ℕ) → high < 1024 → low < 1024 → set_place side high low < 2048
-place_small High high low h l = omega (arith, h, mark_small (low == 0))
-  where
-    mark_small : (b : Bool) → cond b 0 1024 ≤ 1024
-    mark_small true = omega arith
-    mark_small false = omega arith
-place_small Low high low h l = omega arith
 
 -- how often each place comes on a side, by who wins both
 pub sides_won : (side : Side) (highs lows : List Winners) (pot place : ℕ) (high_win low_win : ℕ → ℕ) (values low_values : List ℕ) → ((value : ℕ) → won_at highs pot value ≡ high_win value) → ((value : ℕ) → won_at lows pot value ≡ low_win value)

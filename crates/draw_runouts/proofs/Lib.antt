@@ -4,4 +4,5 @@ pub mod DrawSlots
 pub mod DrawWinners
 pub mod LowWinners
 pub mod DrawOrders
+pub mod DrawPairs
 pub mod DrawLeaf

@@ -22,7 +22,7 @@ use Rattle.showdown_tally.specs.Numbers.{side_number, turned}
 use Rattle.showdown_tally.specs.Showdown.{has_two_sides, Showdown, best, is_beaten_by, winners, own_after, board_after, value_after, eligible_in}
 use Rattle.showdown_tally.specs.Sides.{side_outcome}
 use Rattle.runout_walk.specs.Bests.{best_value, best_set, some_set}
-use Rattle.draw_runouts.specs.LastHand.{others_of, value_with, winner_by, won_set}
+use Rattle.draw_runouts.specs.LastHand.{others_of, value_with, winner_by}
 use Rattle.draw_runouts.specs.Worth.{or_zero, worth_after}
 use Rattle.runout_walk.proofs.CallerLemmas.{at_most, filter-same, not_less_max, ordered_outcome}
 use Rattle.draw_runouts.proofs.DrawWinners.{best_others, best_split, no_cards, ones_are, ones_of, pick_same, winner_is, worth_ordered}
@@ -241,13 +241,13 @@ small_best v mask n few =
     let set : best_set v (hands_below mask n) < 2 ^ n = mask_below (λ h. v h == best_value v (hands_below mask n)) mask n in
     omega (arith, set, power)
 
-if_small : (b : Bool) (s n : ℕ) → s < n → cond b 0 s < n
-if_small true s n l = omega arith
-if_small false s n l = l
-
-small_won : (qualify : Bool) (v : ℕ → ℕ) (mask n : ℕ) → n ≤ 10 → won_set qualify v (hands_below mask n) < 1024
-small_won true v mask n few = if_small (best_value v (hands_below mask n) == 0) (best_set v (hands_below mask n)) 1024 (small_best v mask n few)
-small_won false v mask n few = small_best v mask n few
-
-pub small_set : (qualify : Bool) (v : ℕ → ℕ) (hands : List ℕ) (mask n set : ℕ) → hands ≡ hands_below mask n → n ≤ 10 → set ≡ won_set qualify v hands → set < 1024
-small_set qualify v hands mask n set are few is = let same : won_set qualify v hands ≡ won_set qualify v (hands_below mask n) = ap (won_set qualify v) are in omega (arith, is, same, small_won qualify v mask n few)
+-- and the best of the others with one hand more, if that plays
+pub small_with : (values : List ℕ) (mask l n t s : ℕ) → l < n → n ≤ 10 → t ≡ best_value (slice_index values) (others_of l (hands_below mask n)) → s ≡ best_set (slice_index values) (others_of l (hands_below mask n)) → s + cond (has_player mask l) (2 ^ l) 0 < 1024
+small_with values mask l n t s inside few top set =
+    let both : ℕ = s + cond (has_player mask l) (2 ^ l) 0 in
+    let wins : winner_by t s both (cond (has_player mask l) (2 ^ l) s) t ≡ best_set (value_with values l t) (hands_below mask n) = winner_is values mask l n t s both (cond (has_player mask l) (2 ^ l) s) t inside top set refl refl in
+    let same : winner_by t s both (cond (has_player mask l) (2 ^ l) s) t ≡ both =
+    (let f : nat_lt t t ≡ false = grind arith in
+    let q : (t == t) ≡ true = grind arith in
+    rw (f, q) refl) in
+    omega (arith, wins, same, small_best (value_with values l t) mask n few)

@@ -6,13 +6,14 @@ ghost use Rattle.card_sets.specs.Games.{has_side};
 ghost use Rattle.card_sets.specs.PlayerSets.{has_player, hands_below};
 ghost use Rattle.card_sets.specs.declared.games.Side.{Side};
 ghost use Rattle.showdown_tally.specs.Deals.{deal_of};
-ghost use Rattle.showdown_tally.specs.Showdown.{eligible_in};
+ghost use Rattle.showdown_tally.specs.Showdown.{eligible_in, has_two_sides};
 ghost use Rattle.showdown_tally.specs.SideCounts.{count_at};
 ghost use Rattle.runout_walk.specs.Bests.{best_set, best_value, some_set};
 ghost use Rattle.runout_walk.specs.OneMore.{set_place};
 ghost use Rattle.draw_runouts.specs.LastHand.{count_both, value_with, won_at, won_by, won_set};
 
-use crate::orders::{Orders, compare_pots, count_draws, put_orders};
+use crate::orders::{compare_pots, orders_at, put_orders};
+use crate::pairs::{compare_pairs, pair_orders_at, put_highs};
 use crate::winners::Winners;
 use card_sets::PlayerSet;
 use runout_walk::{Best, best_of, ten_places};
@@ -23,10 +24,10 @@ use step_count::Steps;
 /// The three sets that win a pot, where the best of the others is known and the last hand is eligible, or isn't.
 #[inline]
 fn sets_of(best: Best, last: u8, plays: bool) -> Winners
-    // The last hand is one of ten, and so are the best of the others.
+    // The last hand is one of ten, and so are the best of the others, with it if it plays.
     requires last { last < 10 }
     requires room { 2 ^ last ≤ 512 }
-    requires small { best.set < 1024 }
+    requires small { best.set + (if plays then 2 ^ last else 0) < 1024 }
 
     // Who is best of the others wins below that number, shares at it, and loses above it to the last hand, if that plays.
     ensures top { result.top ≡ best.top }
@@ -55,10 +56,10 @@ fn sets_of(best: Best, last: u8, plays: bool) -> Winners
 /// The same where a hand has to qualify, and 0 is the number of one that doesn't: nobody where all have it.
 #[inline]
 fn low_sets_of(best: Best, last: u8, plays: bool) -> Winners
-    // The last hand is one of ten, and so are the best of the others.
+    // The last hand is one of ten, and so are the best of the others, with it if it plays.
     requires last { last < 10 }
     requires room { 2 ^ last ≤ 512 }
-    requires small { best.set < 1024 }
+    requires small { best.set + (if plays then 2 ^ last else 0) < 1024 }
 
     // As of a high, but that nobody wins with the number 0.
     ensures top { result.top ≡ best.top }
@@ -88,13 +89,10 @@ fn rivals_of(table: &Table, pot: u8, last: u8, values: &[u32; 10], qualify: bool
     requires last { last < table.now.known.count }
 
     // Whatever the number of the last hand is, the set that it picks of the three is that of those who win with it.
-    ensures winner { (value : ℕ)
+    ensures { (value : ℕ)
         → won_by result value
         ≡ won_set qualify (value_with values.now last value)
         (eligible_in (deal_of table.now) pot) }
-
-    // That is a set of up to ten hands.
-    ensures small { (value : ℕ) → won_by result value < 1024 }
 {
     ten_places(table);
     let hands = PlayerSet::of(table.eligible[pot as usize]);
@@ -111,12 +109,11 @@ fn pot_rivals(table: &Table, last: u8, values: &[u32; 10], qualify: bool) -> [Wi
     // The hand is of the table.
     requires { last < table.now.known.count }
 
-    // In each pot the number of the last hand picks the set of those who win with it, which is one of up to ten hands.
+    // In each pot the number of the last hand picks the set of those who win with it.
     ensures winners { (pot value : ℕ) → pot < table.now.pots
         → won_at result pot value
         ≡ won_set qualify (value_with values.now last value)
         (eligible_in (deal_of table.now) pot) }
-    ensures small { (pot value : ℕ) → pot < table.now.pots → won_at result pot value < 1024 }
     ensures ten { length result ≡ 10 }
 {
     ten_places(table);
@@ -161,15 +158,18 @@ pub(crate) fn count_pots<L: Ledger>(
     ensures steps { steps.new ≡ steps.old + length values.now }
 {
     let rivals = pot_rivals(table, last, numbers, false);
-    let all = compare_pots(&rivals, table.pots, values, steps);
+    let sums = compare_pots(&rivals, table.pots, values, steps);
     for pot in 0..table.pots {
         let at = usize::from(pot);
-        let orders = Orders {
-            below: all.below[at],
-            equal: all.equal[at],
-            above: all.above[at],
-        };
-        put_orders(&mut counts[2 * at + row], &rivals[at], orders);
+        let orders = orders_at(&rivals, at, &sums, values);
+        let sets = &rivals[at];
+        put_orders(
+            &mut counts[2 * at + row],
+            sets.below,
+            sets.equal,
+            sets.above,
+            orders,
+        );
     }
 }
 
@@ -185,8 +185,12 @@ pub(crate) fn count_sides<L: Ledger>(
     counts: &mut [[u32; 2048]],
     steps: &mut Steps<L>,
 )
-    // The last hand is of the table, and each of its numbers as a high has one as a low.
+    // The game is played for both sides, and the last hand is of the table.
+    requires two { has_two_sides table.now.known.game ≡ true }
     requires last { last < table.now.known.count }
+
+    // Its numbers are few, and each as a high has one as a low.
+    requires few { length values.now < 2 ^ 32 }
     requires each { length low_values.now ≡ length values.now }
 
     // Each pot has its two rows, and each of their counts has room for all of the numbers.
@@ -207,16 +211,21 @@ pub(crate) fn count_sides<L: Ledger>(
     ensures same { length counts.new ≡ length counts.old }
     ensures steps { steps.new ≡ steps.old + length values.now }
 {
-    let game = table.known.game;
     let high_sets = pot_rivals(table, last, highs, false);
     let low_sets = pot_rivals(table, last, lows, true);
-    if table.pots == 1 {
-        count_draws(
-            game, &high_sets, &low_sets, 1, values, low_values, counts, steps,
+    let sums = compare_pairs(&high_sets, &low_sets, table.pots, values, low_values, steps);
+    for pot in 0..table.pots {
+        let at = usize::from(pot);
+        let orders = pair_orders_at(&high_sets, &low_sets, at, &sums, values, low_values);
+        let highs_at = &high_sets[at];
+        let lows_at = &low_sets[at];
+        put_highs(&mut counts[2 * at], highs_at, lows_at, &orders);
+        put_orders(
+            &mut counts[2 * at + 1],
+            lows_at.below,
+            lows_at.equal,
+            lows_at.above,
+            orders.all,
         );
-        return;
     }
-    count_draws(
-        game, &high_sets, &low_sets, table.pots, values, low_values, counts, steps,
-    );
 }

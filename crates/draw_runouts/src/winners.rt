@@ -14,12 +14,12 @@ pub(crate) struct Winners {
     pub(crate) equal: u16,
     /// Where it is above.
     pub(crate) above: u16,
-    /// The first set is a place of a row,
-    pub(crate) ghost few_below: { below < 2048 },
+    /// The first set is one of up to ten hands,
+    pub(crate) ghost few_below: { below < 1024 },
     /// and so is the second,
-    pub(crate) ghost few_equal: { equal < 2048 },
+    pub(crate) ghost few_equal: { equal < 1024 },
     /// and the third.
-    pub(crate) ghost few_above: { above < 2048 },
+    pub(crate) ghost few_above: { above < 1024 },
 }
 
 impl Winners {

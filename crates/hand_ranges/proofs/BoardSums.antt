@@ -12,8 +12,7 @@ use Rattle.card_sets.specs.Cards.{has_card, deck, minus, union, with_card, witho
 use Rattle.card_sets.specs.Choose.{choose}
 use Rattle.card_sets.specs.Disjoint.{apart}
 use Rattle.card_sets.specs.SuitBits.{filter-where}
-use Rattle.card_sets.proofs.CallerLemmas.{Apart-sym, Apart-apart, apart-Apart, from_apart, has_all, in_minus, in_union, in_where, length-with_card, not_true, of_deck, union-front, union-nil, union_left, union_right}
-use Rattle.runout_ranges.proofs.CallerLemmas.{first_taken}
+use Rattle.card_sets.proofs.CallerLemmas.{Apart-sym, Apart-apart, apart-Apart, first_taken, from_apart, has_all, in_minus, in_union, in_where, length-with_card, not_true, of_deck, union-front, union-nil, union_left, union_right}
 use Rattle.runout_ranges.specs.Runouts.{runouts, left_by}
 use Rattle.runout_ranges.specs.Ways.{binomial}
 use Rattle.runout_ranges.specs.Slots.{unseen, slot_of, counts_of}

@@ -12,7 +12,7 @@ use Rattle.card_sets.specs.Games.{game_word}
 use Rattle.card_sets.specs.Rising.{rising-IsCardSet}
 use Rattle.card_sets.specs.declared.games.Game.TheVariants.{Holdem}
 use Rattle.card_sets.proofs.CallerLemmas.{and_first, and_second}
-use Rattle.spot_text.proofs.CallerLemmas.{none_repeated}
+use Rattle.spot_text.proofs.CallerLemmas.{length-set_whole, cards_named, none_repeated}
 use Rattle.spot_text.specs.Games.{board_fits}
 use Rattle.spot_text.specs.Parts.{hand_words, board_words, dead_words, all_cards, cards_of, set_of}
 use Rattle.spot_text.specs.Spot.{repeated_after}
@@ -26,7 +26,7 @@ use Rattle.hand_ranges.specs.Hands.{all_pairs, weight_in, weighed, entries_of, a
 use Rattle.hand_ranges.specs.Sound.{IsHand, AreHands, place_of, are_rising, IsRangeBeside, AreRanges, IsSound}
 use Rattle.hand_ranges.specs.RangeSpot.{Ranges, is_one_word, is_form, range_words, table_cards, are_few, is_dealt_out, ranges_of_words, unless_dealt_out, ranges_of_sizes, unless_repeated, ranges_behind, ranges_of_line_words, ranges_of}
 use Rattle.hand_ranges.proofs.PairOrder.{InOrder, pairs_in_order, pairs_few}
-use Rattle.hand_ranges.proofs.SetsOfCards.{length-set_whole, cards_named, differ_append, sets_apart}
+use Rattle.hand_ranges.proofs.SetsOfCards.{differ_append, sets_apart}
 
 -- a set of two cards is these two
 set_two : (low high : ℕ) → low < high → high < 52 → set_of (low ∷ high ∷ []) ≡ low ∷ high ∷ []

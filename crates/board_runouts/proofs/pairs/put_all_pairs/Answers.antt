@@ -1,36 +1,37 @@
-use Rattle.std.proofs.Common.{◌≡◌, ◌≤◌, ◌∷◌, ◌++◌, [], map, refl, sym, ap, ◌∙◌, arith, length, take, append-nil}
-use Rattle.card_sets.specs.Bits.{first_rest}
+use Rattle.std.proofs.Common.{◌≡◌, ◌≤◌, ◌+◌, ◌-◌, ◌∷◌, ◌++◌, [], ℕ, List, map, refl, sym, ap, ◌∙◌, arith, length, take, drop, append-nil}
 use Rattle.card_sets.specs.Choose.{choose}
 use Rattle.board_runouts.specs.Pairs.{cards_of_pair}
-use Rattle.board_runouts.proofs.PairListing.{put_all, few_of_set}
-use Rattle.runout_walk.proofs.CallerLemmas.{two-first-length, none_there}
+use Rattle.board_runouts.proofs.PairListing.{all_left, few_pairs, first_left, none_left, put_all}
+use Rattle.runout_walk.proofs.CallerLemmas.{two-first-length}
 use Rattle.board_runouts.proofs.pairs.put_all_pairs.Goals as goal
 
-pub loop-low-init : goal.loop-low-init
-loop-low-init c = record { same = c.requires; few = (let f : length (choose 2 c.args.cards) ≤ 1326 = few_of_set c.args.cards c.rising.ensures.rising in omega arith); pairs = refl }
+pub loop-place-init : goal.loop-place-init
+loop-place-init c = record { same = c.requires.room; few = (let f : length (choose 2 c.args.cards.now) ≤ 1326 = few_pairs c.args.cards.now c.requires.deck in omega arith); pairs = refl }
 
 pub put_pairs-used-requires : goal.put_pairs-used-requires
 put_pairs-used-requires c =
-    let first : c.loop-low.rest ≡ c.in-Some.low ∷ c.without-rest.result = first_rest c.loop-low.rest c.in-Some.low c.first.ensures.set (sym c.first.ensures.value ∙ c.in-Some.is) ∙ ap (λ l. c.in-Some.low ∷ l) (sym c.without-rest.ensures) in
-    let few = c.loop-low.invariant.few in
-    let same = c.loop-low.invariant.same in
-    omega (arith, two-first-length c.in-Some.low c.loop-low.rest c.without-rest.result first)
+    let cards : List ℕ = c.args.cards.now in
+    let place : ℕ = c.loop-place.place in
+    let first : drop place cards ≡ c.index-cards-place.result ∷ drop (place + 1) cards = first_left cards place c.index-cards-place.result c.loop-place-test.true c.index-cards-place.is in
+    let few = c.loop-place.invariant.few in
+    let same = c.loop-place.invariant.same in
+    omega (arith, two-first-length c.index-cards-place.result (drop place cards) (drop (place + 1) cards) first, ap length (all_left cards (place + 1)))
 
-pub loop-low-smaller : goal.loop-low-smaller
-loop-low-smaller c =
-    let first : c.loop-low.rest ≡ c.in-Some.low ∷ c.without-rest.result = first_rest c.loop-low.rest c.in-Some.low c.first.ensures.set (sym c.first.ensures.value ∙ c.in-Some.is) ∙ ap (λ l. c.in-Some.low ∷ l) (sym c.without-rest.ensures) in
-    omega (arith, ap length first)
-
-pub loop-low-preserved : goal.loop-low-preserved
-loop-low-preserved c =
-    let first : c.loop-low.rest ≡ c.in-Some.low ∷ c.without-rest.result = first_rest c.loop-low.rest c.in-Some.low c.first.ensures.set (sym c.first.ensures.value ∙ c.in-Some.is) ∙ ap (λ l. c.in-Some.low ∷ l) (sym c.without-rest.ensures) in
+pub loop-place-preserved : goal.loop-place-preserved
+loop-place-preserved c =
+    let cards : List ℕ = c.args.cards.now in
+    let place : ℕ = c.loop-place.place in
+    let left : List ℕ = take (length cards - (place + 1)) (drop (place + 1) cards) in
+    let first : drop place cards ≡ c.index-cards-place.result ∷ drop (place + 1) cards = first_left cards place c.index-cards-place.result c.loop-place-test.true c.index-cards-place.is in
+    let put = c.put_pairs-used.ensures.pairs ∙ ap (λ l. map cards_of_pair (take c.loop-place.used c.loop-place.pairs) ++ map (λ high. c.index-cards-place.result ∷ high ∷ []) l) (all_left cards (place + 1)) in
     record {
-      same = c.put_pairs-used.ensures.same ∙ c.loop-low.invariant.same;
-      few = (let few = c.loop-low.invariant.few in let used = c.put_pairs-used.ensures.used in omega (arith, two-first-length c.in-Some.low c.loop-low.rest c.without-rest.result first));
-      pairs = put_all (map cards_of_pair (take c.loop-low.used c.loop-low.pairs)) (map cards_of_pair (take c.put_pairs-used.result c.put_pairs-used.new.pairs)) (choose 2 c.args.cards) c.in-Some.low c.loop-low.rest c.without-rest.result first c.put_pairs-used.ensures.pairs c.loop-low.invariant.pairs;
+      same = c.put_pairs-used.ensures.same ∙ c.loop-place.invariant.same;
+      few = (let few = c.loop-place.invariant.few in let used = c.put_pairs-used.ensures.used in omega (arith, two-first-length c.index-cards-place.result (drop place cards) (drop (place + 1) cards) first, ap length (all_left cards (place + 1))));
+      pairs = put_all (map cards_of_pair (take c.loop-place.used c.loop-place.pairs)) (map cards_of_pair (take c.put_pairs-used.result c.put_pairs-used.new.pairs)) (choose 2 cards) c.index-cards-place.result (drop place cards) (drop (place + 1) cards) first put c.loop-place.invariant.pairs;
     }
 
 pub returns-clause-pairs : goal.returns-clause-pairs
 returns-clause-pairs c =
-    let none : c.loop-low.rest ≡ [] = none_there c.loop-low.rest (sym c.first.ensures.value ∙ c.in_default.is) in
-    sym (append-nil (map cards_of_pair (take c.loop-low.used c.loop-low.pairs))) ∙ ap (λ l. map cards_of_pair (take c.loop-low.used c.loop-low.pairs) ++ choose 2 l) (sym none) ∙ c.loop-low.invariant.pairs
+    let cards : List ℕ = c.args.cards.now in
+    let none : drop c.loop-place.place cards ≡ [] = none_left cards c.loop-place.place c.loop-place-test.false in
+    sym (append-nil (map cards_of_pair (take c.loop-place.used c.loop-place.pairs))) ∙ ap (λ l. map cards_of_pair (take c.loop-place.used c.loop-place.pairs) ++ choose 2 l) (sym none) ∙ c.loop-place.invariant.pairs

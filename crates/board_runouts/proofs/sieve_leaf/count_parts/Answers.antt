@@ -13,21 +13,21 @@ count_plain-requires-clause-fits g c =
     let few : length c.args.plain.now ≤ length c.args.pairs.now = omega (arith, ap length c.requires.plain, parts_size c.args.front.now.suits c.args.pairs.now) in
     room_less (deal_of c.args.spot.now.table) c.args.counts.now (length c.args.pairs.now) (length c.args.plain.now) few c.requires.fits
 
-pub count_pairs-requires-clause-pairs : goal.count_pairs-requires-clause-pairs
-count_pairs-requires-clause-pairs g c = λ pair m.
+pub count_each-requires-clause-pairs : goal.count_each-requires-clause-pairs
+count_each-requires-clause-pairs g c = λ pair m.
     let M : List Pair → Type 0 = λ pairs. HasMember pairs pair in
     c.requires.pairs pair (flush_member c.args.front.now.suits c.args.pairs.now pair (subst M c.requires.flush m))
 
-pub count_pairs-requires-clause-fits : goal.count_pairs-requires-clause-fits
-count_pairs-requires-clause-fits g c =
+pub count_each-requires-clause-fits : goal.count_each-requires-clause-fits
+count_each-requires-clause-fits g c =
     let sizes : length (plain_pairs c.args.front.now.suits c.args.pairs.now) + length c.args.flush.now ≤ length c.args.pairs.now = omega (arith, ap length c.requires.flush, plain_size c.args.front.now.suits c.args.pairs.now, parts_size c.args.front.now.suits c.args.pairs.now) in
     room_after (deal_of c.args.spot.now.table) c.args.front.now.taken (plain_pairs c.args.front.now.suits c.args.pairs.now) c.args.counts.now c.count_plain.new.counts (length c.args.pairs.now) (length c.args.flush.now) c.requires.fits sizes c.count_plain.ensures.counts
 
 pub returns-clause-counts : goal.returns-clause-counts
 returns-clause-counts g c =
-    let G : List Pair → Type 0 = λ pairs. PairsGrow (deal_of c.args.spot.now.table) c.args.front.now.taken pairs c.count_plain.new.counts c.count_pairs.new.counts in
-    parts_grow (deal_of c.args.spot.now.table) c.args.front.now.taken c.args.front.now.suits c.args.pairs.now c.args.counts.now c.count_plain.new.counts c.count_pairs.new.counts c.count_plain.ensures.counts (subst G c.requires.flush c.count_pairs.ensures.counts)
+    let G : List Pair → Type 0 = λ pairs. PairsGrow (deal_of c.args.spot.now.table) c.args.front.now.taken pairs c.count_plain.new.counts c.count_each.new.counts in
+    parts_grow (deal_of c.args.spot.now.table) c.args.front.now.taken c.args.front.now.suits c.args.pairs.now c.args.counts.now c.count_plain.new.counts c.count_each.new.counts c.count_plain.ensures.counts (subst G c.requires.flush c.count_each.ensures.counts)
 
 pub returns-clause-steps : goal.returns-clause-steps
 returns-clause-steps g c =
-    omega (arith, c.count_plain.ensures.steps, c.count_pairs.ensures.steps, ap length c.requires.plain, ap length c.requires.flush, parts_size c.args.front.now.suits c.args.pairs.now)
+    omega (arith, c.count_plain.ensures.steps, c.count_each.ensures.steps, ap length c.requires.plain, ap length c.requires.flush, parts_size c.args.front.now.suits c.args.pairs.now)

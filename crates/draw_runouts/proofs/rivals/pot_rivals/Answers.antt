@@ -16,13 +16,9 @@ loop-pot-preserved c =
     let i : ℕ = c.from.result in
     let inside : i < length all = (let t = c.loop-pot-test.true in let n = was.ten in let a = c.from.ensures in let f = table.few_pots in omega arith) in
     record {
-      winners = λ p value l. more_won (λ p value set. set ≡ won_set c.args.qualify (value_with c.args.values.now c.args.last value) (eligible_in (deal_of table) p)) all pot i c.rivals_of.result c.from.ensures inside was.winners c.rivals_of.ensures.winner p value (omega arith);
-      small = λ p value l. more_won (λ p value set. set < 1024) all pot i c.rivals_of.result c.from.ensures inside was.small c.rivals_of.ensures.small p value (omega arith);
+      winners = λ p value l. more_won (λ p value set. set ≡ won_set c.args.qualify (value_with c.args.values.now c.args.last value) (eligible_in (deal_of table) p)) all pot i c.rivals_of.result c.from.ensures inside was.winners c.rivals_of.ensures p value (omega arith);
       ten = length-set all i c.rivals_of.result ∙ was.ten;
     }
 
 pub returns-clause-winners : goal.returns-clause-winners
 returns-clause-winners c = λ pot value l. c.loop-pot.invariant.winners pot value (let t = c.loop-pot-test.false in omega arith)
-
-pub returns-clause-small : goal.returns-clause-small
-returns-clause-small c = λ pot value l. c.loop-pot.invariant.small pot value (let t = c.loop-pot-test.false in omega arith)

@@ -7,6 +7,5 @@ use Rattle.draw_runouts.proofs.rivals.pot_rivals.Given as goal
 abbrev pub invariant-loop-pot : goal.invariant-loop-pot
 invariant-loop-pot l = record {
   winners : (pot value : ℕ) → pot < l.pot → won_at l.all pot value ≡ won_set l.qualify (value_with l.values l.last value) (eligible_in (deal_of l.table) pot);
-  small : (pot value : ℕ) → pot < l.pot → won_at l.all pot value < 1024;
   ten : length l.all ≡ 10;
 }

@@ -10,7 +10,7 @@ use Rattle.showdown_tally.specs.declared.table.Table.{Table}
 use Rattle.runout_walk.specs.Bests.{best_set, best_value, some_set}
 use Rattle.draw_runouts.specs.LastHand.{others_of, value_with, winner_by, won_by, won_set}
 use Rattle.draw_runouts.proofs.DrawWinners.{hands_without, winner_is}
-use Rattle.draw_runouts.proofs.LowWinners.{low_winner_is, small_set}
+use Rattle.draw_runouts.proofs.LowWinners.{low_winner_is, small_with}
 use Rattle.draw_runouts.proofs.rivals.rivals_of.Goals as goal
 
 -- the hands of a pot
@@ -29,8 +29,40 @@ low_sets_of-requires-clause-room c = one_of_ten c.args.last c.args.table.now.kno
 pub sets_of-requires-clause-room : goal.sets_of-requires-clause-room
 sets_of-requires-clause-room c = one_of_ten c.args.last c.args.table.now.known.count c.requires.last c.args.table.now.known.few
 
-pub returns-then-qualify-clause-winner : goal.returns-then-qualify-clause-winner
-returns-then-qualify-clause-winner c = λ value.
+pub low_sets_of-requires-clause-small : goal.low_sets_of-requires-clause-small
+low_sets_of-requires-clause-small c =
+    let table = c.args.table.now in
+    let values : List ℕ = c.args.values.now in
+    let last : ℕ = c.args.last in
+    let mask : ℕ = slice_index_or table.eligible c.args.pot 0 in
+    let count : ℕ = table.known.count in
+    let few = table.known.few in
+    let mask_is : c.of-hands.result ≡ mask = c.of-hands.ensures in
+    let others : hands_below c.without.result count ≡ others_of last (hands_below mask count) = ap (λ k. hands_below k count) (c.without.ensures ∙ ap (λ k. without_player k last) mask_is) ∙ hands_without mask last count (omega (arith, few)) in
+    let plays : c.has-plays.result ≡ has_player mask last = c.has-plays.ensures ∙ ap (λ k. has_player k last) mask_is in
+    let top : c.best_of-best.result.top ≡ best_value (slice_index values) (others_of last (hands_below mask count)) = c.best_of-best.ensures.top ∙ ap (best_value (slice_index values)) others in
+    let set : c.best_of-best.result.set ≡ best_set (slice_index values) (others_of last (hands_below mask count)) = c.best_of-best.ensures.set ∙ ap (best_set (slice_index values)) others in
+    let same : c.best_of-best.result.set + cond c.has-plays.result (2 ^ last) 0 ≡ c.best_of-best.result.set + cond (has_player mask last) (2 ^ last) 0 = ap (λ b. c.best_of-best.result.set + cond b (2 ^ last) 0) plays in
+    omega (arith, same, small_with values mask last count c.best_of-best.result.top c.best_of-best.result.set c.requires.last few top set)
+
+pub sets_of-requires-clause-small : goal.sets_of-requires-clause-small
+sets_of-requires-clause-small c =
+    let table = c.args.table.now in
+    let values : List ℕ = c.args.values.now in
+    let last : ℕ = c.args.last in
+    let mask : ℕ = slice_index_or table.eligible c.args.pot 0 in
+    let count : ℕ = table.known.count in
+    let few = table.known.few in
+    let mask_is : c.of-hands.result ≡ mask = c.of-hands.ensures in
+    let others : hands_below c.without.result count ≡ others_of last (hands_below mask count) = ap (λ k. hands_below k count) (c.without.ensures ∙ ap (λ k. without_player k last) mask_is) ∙ hands_without mask last count (omega (arith, few)) in
+    let plays : c.has-plays.result ≡ has_player mask last = c.has-plays.ensures ∙ ap (λ k. has_player k last) mask_is in
+    let top : c.best_of-best.result.top ≡ best_value (slice_index values) (others_of last (hands_below mask count)) = c.best_of-best.ensures.top ∙ ap (best_value (slice_index values)) others in
+    let set : c.best_of-best.result.set ≡ best_set (slice_index values) (others_of last (hands_below mask count)) = c.best_of-best.ensures.set ∙ ap (best_set (slice_index values)) others in
+    let same : c.best_of-best.result.set + cond c.has-plays.result (2 ^ last) 0 ≡ c.best_of-best.result.set + cond (has_player mask last) (2 ^ last) 0 = ap (λ b. c.best_of-best.result.set + cond b (2 ^ last) 0) plays in
+    omega (arith, same, small_with values mask last count c.best_of-best.result.top c.best_of-best.result.set c.requires.last few top set)
+
+pub returns-then-qualify : goal.returns-then-qualify
+returns-then-qualify c = λ value.
     let table = c.args.table.now in
     let values : List ℕ = c.args.values.now in
     let last : ℕ = c.args.last in
@@ -54,14 +86,8 @@ returns-then-qualify-clause-winner c = λ value.
     (c.low_sets_of.ensures.above ∙ ap (λ b. cond b (2 ^ last) (cond (t == 0) 0 s)) plays)
     ∙ ap (some_set (value_with values last value)) (sym hands))
 
-pub returns-then-qualify-clause-small : goal.returns-then-qualify-clause-small
-returns-then-qualify-clause-small c = λ value.
-    let table = c.args.table.now in
-    small_set c.args.qualify (value_with c.args.values.now c.args.last value) (eligible_in (deal_of table) c.args.pot) (slice_index_or table.eligible c.args.pot 0) table.known.count (won_by c.low_sets_of.result value)
-    (pot_hands table c.args.pot c.ten_places.ensures.pots c.requires.inside) table.known.few (returns-then-qualify-clause-winner c value)
-
-pub returns-clause-winner : goal.returns-clause-winner
-returns-clause-winner c = λ value.
+pub returns : goal.returns
+returns c = λ value.
     let table = c.args.table.now in
     let values : List ℕ = c.args.values.now in
     let last : ℕ = c.args.last in
@@ -81,9 +107,3 @@ returns-clause-winner c = λ value.
     (c.sets_of.ensures.equal ∙ ap (λ n. n + cond c.has-plays.result (2 ^ last) 0) (sym below) ∙ ap (λ b. c.sets_of.result.below + cond b (2 ^ last) 0) plays)
     (c.sets_of.ensures.above ∙ ap (λ n. cond c.has-plays.result (2 ^ last) n) (sym below) ∙ ap (λ b. cond b (2 ^ last) c.sets_of.result.below) plays)
     ∙ ap (best_set (value_with values last value)) (sym hands))
-
-pub returns-clause-small : goal.returns-clause-small
-returns-clause-small c = λ value.
-    let table = c.args.table.now in
-    small_set c.args.qualify (value_with c.args.values.now c.args.last value) (eligible_in (deal_of table) c.args.pot) (slice_index_or table.eligible c.args.pot 0) table.known.count (won_by c.sets_of.result value)
-    (pot_hands table c.args.pot c.ten_places.ensures.pots c.requires.inside) table.known.few (returns-clause-winner c value)

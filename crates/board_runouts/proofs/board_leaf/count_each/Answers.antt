@@ -4,7 +4,7 @@ use Rattle.card_sets.specs.Games.{has_side}
 use Rattle.card_sets.specs.declared.games.Side.TheVariants.{High, Low}
 use Rattle.showdown_tally.specs.Deals.{deal_of}
 use Rattle.board_runouts.proofs.PairCounts.{board_high, only_pot}
-use Rattle.board_runouts.proofs.board_leaf.count_front.Goals as goal
+use Rattle.board_runouts.proofs.board_leaf.count_each.Goals as goal
 
 pub count_one_pot-requires-clause-row : goal.count_one_pot-requires-clause-row
 count_one_pot-requires-clause-row g c =
