@@ -121,6 +121,7 @@ const written = Object.keys(made).map((it) => path.join(work, it));
         const said = await chrome.run('document.getElementById("body").textContent');
         expect(said.includes('sam is to get 325.') && said.includes('tess is to give back 325.'), 'the letter says who is to get what');
         expect(said.includes('hand 7202 rejected line 44 Split'), 'the report has the lines of the file');
+        expect(said.includes('    44  (a blank line, the last of the hand)') && !said.includes('    45  '), 'the line that departs is shown, also where it is blank');
         await shoot('hand.png');
         await chrome.run('document.getElementById("hand").close()');
 

@@ -120,9 +120,12 @@
     const open = async (hand) => {
         const decoder = new TextDecoder(), input = texts.alone(hand.bytes, hand.place, hand.place);
         const audit = decoder.decode(await files.run('streets', 'text', input)), settle = decoder.decode(await files.run('settle', 'text', input));
-        const lines = decoder.decode(hand.bytes.subarray(hand.place.start, hand.place.end)).replace(/\s+$/, '').split('\n');
+        const lines = decoder.decode(hand.bytes.subarray(hand.place.start, hand.place.end)).split('\n');
+        const departs = hand.accepted ? 0 : hand.departs;
+        // blank lines at the end are left out, but for one that departs
+        while (lines.length > 1 && !lines[lines.length - 1].trim() && hand.line + lines.length - 1 !== departs) lines.pop();
         const text = node('pre');
-        lines.forEach((line, at) => text.append(node('span', `${String(hand.line + at).padStart(6)}  ${line}\n`, !hand.accepted && hand.line + at === hand.departs ? 'bad' : '')));
+        lines.forEach((line, at) => text.append(node('span', `${String(hand.line + at).padStart(6)}  ${line.trim() || hand.line + at !== departs ? line : '(a blank line, the last of the hand)'}\n`, hand.line + at === departs ? 'bad' : '')));
         $('title').textContent = `Hand ${hand.number}, ${hand.file}`;
         $('body').replaceChildren(node('p', letter.verdict(hand), hand.accepted ? '' : 'bad'), ...letter.settlement(hand), node('h4', 'The text'), text,
             node('h4', 'equity streets'), node('pre', audit), node('h4', 'equity settle'), node('pre', settle));
