@@ -1,15 +1,13 @@
 -- What is kept of the lines so far.
-use Rattle.std.specs.Prelude.{◌≡◌, ℕ, ◌+◌, ◌≤◌, ◌<◌, ◌^◌, true, false, List, [], ◌∷◌, length, drop, slice_range, Result, Ok, Err, Option, Some, None, All, IfOk}
+use Rattle.std.specs.Prelude.{◌≡◌, ℕ, ◌+◌, ◌≤◌, ◌<◌, ◌^◌, true, false, List, [], ◌∷◌, length, drop, Result, Ok, Err, Option, Some, None, All, IfOk}
 use Rattle.std.specs.List.{list_any}
-use Rattle.line_text.specs.declared.lines.Line.{Line}
 use Rattle.line_text.specs.Lines.{lines}
-use Rattle.line_text.specs.Places.{IsWithin}
 use Rattle.hand_events.specs.declared.events.Header.{Header}
 use Rattle.hand_events.specs.declared.events.Event.{Event}
 use Rattle.hand_events.specs.declared.events.Event.TheVariants.{Seat}
 use Rattle.hand_events.specs.declared.events.TextFault.{TextFault}
 use Rattle.hand_events.specs.declared.events.Part.{Part}
-use Rattle.hand_events.specs.declared.events.Part.TheVariants.{Summary as SummaryPart}
+use Rattle.hand_events.specs.declared.events.Part.TheVariants.{Preamble, Summary as SummaryPart}
 use Rattle.history_text.specs.Lines.{line_event}
 use Rattle.history_text.specs.Within.{IsSeated, stands_in}
 use Rattle.pot_layers.specs.Pots.{pots}
@@ -21,7 +19,6 @@ use Rattle.betting_replay.specs.TableAfter.{StandsFor}
 use Rattle.hand_verdict.specs.declared.cause.Cause.{Cause}
 use Rattle.hand_verdict.specs.declared.cause.Cause.TheVariants.{Text}
 use Rattle.hand_audit.specs.declared.hand.AuditState.{AuditState}
-use Rattle.hand_audit.specs.declared.hand.LineReading.{LineReading}
 use Rattle.hand_audit.specs.declared.follow.Followed.{Followed}
 use Rattle.hand_audit.specs.declared.follow.Followed.TheVariants.{Departs, Ends}
 use Rattle.hand_audit.specs.Lines.{SoFar, part_of, part_after, named_by, with_event, nothing}
@@ -38,13 +35,17 @@ abbrev pub HasName : Event → List ℕ → Type 0
 HasName (Seat seat units first end) line = (first ≤ end) × (end ≤ length line)
 HasName _ line = Unit {0}
 
+-- what holds of what a line of this part of a hand with this header was found to say
+pub record IsSaid (header : Header) (part : Part) (said : Result Event TextFault) : Type 0 where
+  pub fits : IfOk said (λ e. Fits e)
+  pub stands : IfOk said (λ e. stands_in part e ≡ true)
+  pub cards : IfOk said (λ e. MarkerFits header.game e)
+
 -- a line was read by these names in this part of a hand with this header: what it says, and what holds of it
 pub record IsRead (names : List (ℕ × List ℕ)) (header : Header) (part : Part) (line : List ℕ) (said : Result Event TextFault) : Type 0 where
   pub value : said ≡ line_event names header part line
-  pub fits : IfOk said (λ e. Fits e)
   pub name : IfOk said (λ e. HasName e line)
-  pub stands : IfOk said (λ e. stands_in part e ≡ true)
-  pub cards : IfOk said (λ e. MarkerFits header.game e)
+  pub is : IsSaid header part said
 
 -- the names and the part behind a line that was read
 abbrev pub names_by : Result Event TextFault → List ℕ → List (ℕ × List ℕ) → List (ℕ × List ℕ)
@@ -55,41 +56,33 @@ abbrev pub part_by : Result Event TextFault → Part → Part
 part_by (Ok e) part = part_after e part
 part_by (Err fault) part = part
 
--- a line has these places in the bytes, where it begins at this one: what stands between them is its text, and the other lines follow
-pub record StandsAt (bytes : List ℕ) (at : ℕ) (line : Line) : Type 0 where
-  pub within : IsWithin at (length bytes) line
-  pub texts : lines (drop at bytes) ≡ slice_range bytes line.first line.end ∷ lines (drop line.next bytes)
+abbrev pub parts_after : Part → List (Result Event TextFault) → Part
+parts_after part [] = part
+parts_after part (said ∷ reads) = parts_after (part_by said part) reads
 
--- the line that begins at this place was read, and stands where the read says
-pub record IsReadAt (header : Header) (bytes : List ℕ) (names : List (ℕ × List ℕ)) (part : Part) (at : ℕ) (read : LineReading) : Type 0 where
-  pub stands : StandsAt bytes at read.place
-  pub said : IsRead names header part (slice_range bytes read.place.first read.place.end) read.said
+-- the first of some lines were found to say this, each after those before it
+abbrev pub AreReads : Header → List (ℕ × List ℕ) → Part → List (Result Event TextFault) → List (List ℕ) → Type 0
+AreReads header names part [] lines = Unit {0}
+AreReads header names part (said ∷ reads) [] = ⊥
+AreReads header names part (said ∷ reads) (line ∷ lines) = IsRead names header part line said × AreReads header (names_by said line names) (part_by said part) reads lines
 
--- the first of the lines from a place on were read, each after those before it
-abbrev pub AreReads : Header → List ℕ → List (ℕ × List ℕ) → Part → List LineReading → ℕ → Type 0
-AreReads header bytes names part [] at = Unit {0}
-AreReads header bytes names part (read ∷ reads) at =
-    IsReadAt header bytes names part at read
-    × AreReads header bytes (names_by read.said (slice_range bytes read.place.first read.place.end) names) (part_by read.said part) reads read.place.next
+-- the names after them
+abbrev pub names_after : List (ℕ × List ℕ) → List (Result Event TextFault) → List (List ℕ) → List (ℕ × List ℕ)
+names_after names [] lines = names
+names_after names (said ∷ reads) [] = names
+names_after names (said ∷ reads) (line ∷ lines) = names_after (names_by said line names) reads lines
 
--- the first of some reads and those after it; none of none
-abbrev pub IsCut : List LineReading → Option LineReading → List LineReading → Type 0
-IsCut reads None others = (reads ≡ []) × (others ≡ [])
-IsCut reads (Some read) others = reads ≡ read ∷ others
-
--- the first of some reads, if there is one, stands at this place, and is of this line
-abbrev pub FirstStands : List ℕ → ℕ → List LineReading → Type 0
-FirstStands bytes at [] = Unit {0}
-FirstStands bytes at (read ∷ reads) = StandsAt bytes at read.place
-
-abbrev pub IsFirst : List LineReading → Line → Type 0
-IsFirst [] line = Unit {0}
-IsFirst (read ∷ reads) line = line ≡ read.place
+-- the first of the lines from a place on were found to say this, these are the names after them, and the others begin at another place
+pub record IsFound (header : Header) (bytes : List ℕ) (start : ℕ) (reads : List (Result Event TextFault)) (names : List (ℕ × List ℕ)) (next : ℕ) : Type 0 where
+  pub are : AreReads header [] Preamble reads (lines (drop start bytes))
+  pub named : names ≡ names_after [] reads (lines (drop start bytes))
+  pub left : lines (drop next bytes) ≡ drop (length reads) (lines (drop start bytes))
+  pub within : next ≤ length bytes
+  pub few : length reads ≤ next
 
 -- what is kept stands for the lines so far of a hand with this header and these players
 pub record Keeps (hand : AuditState) (header : Header) (players : ℕ) (so_far : SoFar) : Type 0 where
   pub stands : StandsFor hand.replay header players so_far.events
-  pub names : hand.names ≡ so_far.names
   pub part : hand.part ≡ part_of so_far.events
   pub collections : hand.collections.items ≡ collections so_far.events
   pub streets : hand.streets.items ≡ later_streets header players so_far.events
@@ -124,10 +117,11 @@ EndsAs header players h (Ok settled) = IsEnded header players h settled
 EndsAs header players h (Err cause) = (end_cause header players h ≡ Some cause) × (is_split cause ≡ false)
 
 -- what comes of following the lines, whatever the number of the line before them: the first that departs, told by how many they are up to
--- it, and not for a payment; or what is kept at the end, and what became of the chips
+-- it, and not for a payment; or what is kept at the end, the names, and what became of the chips
 abbrev pub Follows : Header → ℕ → List (List ℕ) → Followed → Type 0
 Follows header players lines (Departs count cause) =
     (count ≤ length lines) × ((number : ℕ) → departs_from header players number nothing lines ≡ Some (number + count, cause)) × (is_split cause ≡ false)
-Follows header players lines (Ends count hand settled) =
+Follows header players lines (Ends count hand names settled) =
     (count ≤ length lines) × ((number : ℕ) → departs_from header players number nothing lines ≡ at_line (number + count) (split_cause settled.beyond))
     × Keeps hand header players (read_all header nothing lines) × IsEnded header players (read_all header nothing lines).events settled
+    × (names ≡ (read_all header nothing lines).names)

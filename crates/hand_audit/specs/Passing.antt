@@ -11,10 +11,8 @@ use Rattle.hand_events.specs.declared.events.Event.{Event}
 use Rattle.hand_events.specs.declared.events.Part.TheVariants.{Preamble}
 use Rattle.hand_events.specs.declared.events.TextFault.{TextFault}
 use Rattle.history_text.specs.Within.{IsSeated}
-use Rattle.line_text.specs.declared.lines.Line.{Line}
 use Rattle.hand_audit.specs.declared.first_pass.PlayerScan.{PlayerScan}
-use Rattle.hand_audit.specs.declared.hand.LineReading.{LineReading}
-use Rattle.hand_audit.specs.Keeping.{IsRead, AreReads, names_by, part_by}
+use Rattle.hand_audit.specs.Keeping.{IsFound, IsRead, names_by, part_by, parts_after}
 use Rattle.hand_audit.specs.Lines.{SoFar, part_of, players_in, with_line, with_seat, seat_at, is_again}
 
 -- a number digit by digit, with no zero before it: 0 has no digit
@@ -39,30 +37,29 @@ Took new header so_far seats line true = (is_again seats (seat_at (part_of so_fa
 Took new header so_far seats line false =
     (is_again seats (seat_at (part_of so_far.events) line) ≡ false) × Passes new (with_line header so_far line) (with_seat seats (seat_at (part_of so_far.events) line))
 
--- how many reads are kept at the most
+-- from so many on no more reads are kept
 abbrev pub READS_MAX : ℕ
 READS_MAX = 256
 
 -- what is kept of the reads, with one more
-abbrev pub with_read : List LineReading → LineReading → List LineReading
-with_read reads read = if nat_lt (length reads) READS_MAX then reads ++ read ∷ [] else reads
+abbrev pub with_read : List (Result Event TextFault) → Result Event TextFault → List (Result Event TextFault)
+with_read reads said = if nat_lt (length reads) READS_MAX then reads ++ said ∷ [] else reads
 
--- a line was read at its place, and the pass goes on after it
-pub record Noted (old new : PlayerScan) (header : Header) (place : Line) (line : List ℕ) : Type 0 where
+-- a line was read, and the pass goes on after it
+pub record Noted (old new : PlayerScan) (header : Header) (line : List ℕ) : Type 0 where
   pub said : Result Event TextFault
   pub is : IsRead old.names header old.part line said
   pub names : new.names ≡ names_by said line old.names
   pub part : new.part ≡ part_by said old.part
-  pub reads : new.reads.items ≡ with_read old.reads.items (record { place = place; said = said })
+  pub reads : new.reads.items ≡ with_read old.reads.items said
 
 -- a line that doesn't end the pass was read
-abbrev pub Notes : PlayerScan → PlayerScan → Header → Line → List ℕ → Bool → Type 0
-Notes old new header place line true = new.reads ≡ old.reads
-Notes old new header place line false = Noted old new header place line
+abbrev pub Notes : PlayerScan → PlayerScan → Header → List ℕ → Bool → Type 0
+Notes old new header line true = (new.reads ≡ old.reads) × (new.names ≡ old.names) × (new.part ≡ old.part)
+Notes old new header line false = Noted old new header line
 
--- the reads that are kept are those of the first lines from a place on; as long as there is room for more, those of the lines from where
--- the pass stands may follow them
+-- as long as there is room for more, the reads that are kept are those of the lines from a place on up to where the pass stands, and their
+-- names and their part are those that it has
 pub record HasReads (pass : PlayerScan) (header : Header) (bytes : List ℕ) (start at : ℕ) : Type 0 where
-  pub reads : AreReads header bytes [] Preamble pass.reads.items start
-  pub more : length pass.reads.items < READS_MAX → (others : List LineReading) → AreReads header bytes pass.names pass.part others at
-      → AreReads header bytes [] Preamble (pass.reads.items ++ others) start
+  pub found : length pass.reads.items < READS_MAX → IsFound header bytes start pass.reads.items pass.names at
+  pub part : length pass.reads.items < READS_MAX → pass.part ≡ parts_after Preamble pass.reads.items

@@ -17,7 +17,7 @@ ghost use Rattle.hand_audit.specs.SeatChips.{AreWithin, all_chips_on, chips_of};
 ghost use Rattle.hand_audit.specs.declared.audit.Beside.TheVariants as beside;
 
 use crate::all_in::all_in_by;
-use crate::first_pass::players_of;
+use crate::first_pass::{PlayersFound, players_of};
 use crate::follow::{Followed, follow};
 use crate::hand::AuditState;
 use crate::parts::hand_parts;
@@ -29,7 +29,7 @@ use hand_verdict::{
     AuditedChips, AuditedShares, AuditedStreets, Cause, HandAudit, PartShares, Payment, SeatChips,
     Settlement, SplitHand, StreetState,
 };
-use history_text::{Header, read_header};
+use history_text::{Header, Names, read_header};
 use line_text::next_line;
 use std::alloc::{AllocError, Global};
 
@@ -74,29 +74,43 @@ fn settlement_of(header: &Header, state: &AuditState, settled: HandSettled) -> S
 }
 
 /// What became of the chips of a hand that is rejected for its payments alone, and who plays it.
-fn split_hand(header: &Header, players: u16, state: AuditState, settled: HandSettled) -> SplitHand
-    ensures { (so_far : SoFar) → Keeps state header.now players so_far
+fn split_hand(
+    header: &Header,
+    players: u16,
+    state: &AuditState,
+    names: Names,
+    settled: HandSettled,
+) -> SplitHand
+    ensures { (so_far : SoFar) → Keeps state.now header.now players so_far
+        → names ≡ so_far.names
         → IsOfHand (showing_of header.now players so_far.events) settled
         → result ≡ split_by header.now players so_far }
 {
     SplitHand {
-        settlement: settlement_of(header, &state, settled),
-        names: state.names,
+        settlement: settlement_of(header, state, settled),
+        names,
         players,
     }
 }
 
 /// The verdict on a hand in which no line departs.
-fn accepted(header: &Header, players: u16, state: AuditState, settled: HandSettled) -> HandAudit
-    ensures { (so_far : SoFar) → Keeps state header.now players so_far
+fn accepted(
+    header: &Header,
+    players: u16,
+    state: &AuditState,
+    names: Names,
+    settled: HandSettled,
+) -> HandAudit
+    ensures { (so_far : SoFar) → Keeps state.now header.now players so_far
+        → names ≡ so_far.names
         → IsOfHand (showing_of header.now players so_far.events) settled
         → result ≡ accepted_by header.now players so_far }
 {
     let all_in = all_in_by(header.game, &state.replay, settled.pots.items());
     HandAudit::Accepted {
-        settlement: settlement_of(header, &state, settled),
+        settlement: settlement_of(header, state, settled),
         all_in,
-        names: state.names,
+        names,
         players,
     }
 }
@@ -202,7 +216,8 @@ fn audited(
     };
     let found = players_of(alloc, &header, bytes, head.next)?;
     let players = found.players;
-    match follow(alloc, &header, players, &found.reads, bytes, head.next)? {
+    let PlayersFound { read, names, .. } = found;
+    match follow(alloc, &header, players, &read, names, bytes, head.next)? {
         Followed::Departs(count, cause) => Ok(AuditedHand {
             audit: HandAudit::Rejected {
                 line: first_line + count as u32,
@@ -214,7 +229,7 @@ fn audited(
             split: None,
             parts: Vec::new(alloc),
         }),
-        Followed::Ends(count, state, settled) => {
+        Followed::Ends(count, state, names, settled) => {
             let parts = parts_if(alloc, asked, header.game, &state, &settled)?;
             if let Some(pay) = settled.beyond {
                 return Ok(AuditedHand {
@@ -225,14 +240,14 @@ fn audited(
                     },
                     streets: Vec::new(alloc),
                     chips: no_chips(),
-                    split: Some(split_hand(&header, players, state, settled)),
+                    split: Some(split_hand(&header, players, &state, names, settled)),
                     parts,
                 });
             }
             let streets = streets_if(alloc, asked, &header, &state, &settled)?;
             let chips = chips_if(asked, &state);
             Ok(AuditedHand {
-                audit: accepted(&header, players, state, settled),
+                audit: accepted(&header, players, &state, names, settled),
                 streets,
                 chips,
                 split: None,

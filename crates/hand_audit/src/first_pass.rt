@@ -10,17 +10,17 @@ ghost use Rattle.history_text.specs.Within.{IsSeated};
 ghost use Rattle.betting_replay.specs.Limits.{Fits};
 ghost use Rattle.betting_replay.specs.Seats.{by_seat};
 ghost use Rattle.hand_audit.specs.Lines.{SoFar, nothing, seat_number, seat_at, is_again, with_seat, player_of, players_in, players_of};
-ghost use Rattle.hand_audit.specs.Keeping.{AreReads};
+ghost use Rattle.hand_audit.specs.Keeping.{IsFound};
 ghost use Rattle.hand_audit.specs.Passing.{HasNumbers, HasReads, Notes, Passes, Took, digits_text, with_read};
 
-use crate::hand::{LineReading, part_after, read, seat_name};
+use crate::hand::{LineSaid, part_after, read, seat_name};
 use card_sets::{Memory, PlayerSet};
 use history_text::{Event, Header, Names, Part, seat_digits};
-use line_text::{Line, next_line};
+use line_text::next_line;
 use std::alloc::{AllocError, Global};
 use std::collections::BTreeSet;
 
-/// How many reads are kept at the most, so that a hand of very many lines wants no more memory for them.
+/// So many reads aren't kept, so that a hand of very many lines wants no more memory for them.
 const READS_MAX: usize = 256;
 
 /// How many reads there is room for at first: those of most hands.
@@ -37,17 +37,29 @@ pub(crate) struct PlayerScan<'a> {
     pub(crate) players: PlayerSet,
     /// The numbers of the seat lines that stood, digit by digit: they may be of any length.
     pub(crate) seats: BTreeSet<&'a [u8]>,
-    /// The first lines, and what they were found to say, at most `READS_MAX`.
-    pub(crate) reads: Vec<LineReading>,
+    /// What the first lines were found to say, at most `READS_MAX` of them.
+    pub(crate) reads: Vec<LineSaid>,
 }
 
-/// What the first pass finds: who plays, and where the first lines stand and what they say.
+/// What was read of the first lines.
+#[derive(Drop)]
+pub(crate) struct LinesRead {
+    /// What they say.
+    pub(crate) said: Vec<LineSaid>,
+    /// Where the next line begins.
+    pub(crate) next: usize,
+}
+
+/// What the first pass finds: who plays, what the first lines say, and whom they name. Of a hand of `READS_MAX` lines
+/// or more these are no lines, and it is read anew.
 #[derive(Drop)]
 pub(crate) struct PlayersFound {
     /// Bit s for seat s.
     pub(crate) players: u16,
     /// The first lines.
-    pub(crate) reads: Vec<LineReading>,
+    pub(crate) read: LinesRead,
+    /// The seats and names of their seat lines.
+    pub(crate) names: Names,
 }
 
 /// Digits without the zeros before their number; none where they say 0.
@@ -134,12 +146,13 @@ fn with_player_of(players: PlayerSet, e: &Event) -> PlayerSet
     }
 }
 
-/// A line that was read is kept, where there is room for it.
-fn keep_read(reads: &mut Vec<LineReading>, read: LineReading) -> Result<(), AllocError>
-    ensures { OnOk result (reads.new.items ≡ with_read reads.old.items read) }
+/// What a line says is kept, where there is room for it.
+#[inline]
+fn keep_read(reads: &mut Vec<LineSaid>, said: LineSaid) -> Result<(), AllocError>
+    ensures { OnOk result (reads.new.items ≡ with_read reads.old.items said) }
 {
     if reads.len() < READS_MAX {
-        reads.push(read)?;
+        reads.push(said)?;
     }
     Ok(())
 }
@@ -149,7 +162,7 @@ impl<'a> PlayerScan<'a> {
     fn new(alloc: Global) -> Result<PlayerScan<'a>, AllocError>
         ensures passes { IfOk result (λ pass. Passes pass nothing []) }
         ensures reads { IfOk result (λ pass. (header : Header) (bytes : List ℕ) (start : ℕ)
-            → HasReads pass header bytes start start) }
+            → start ≤ length bytes → HasReads pass header bytes start start) }
     {
         Ok(PlayerScan {
             names: Names::new(alloc),
@@ -160,15 +173,15 @@ impl<'a> PlayerScan<'a> {
         })
     }
 
-    /// Goes on by a line at this place, and says whether it is a second seat line of its number. A line that
-    /// can't be read adds nothing.
-    fn take(&mut self, header: &Header, place: Line, line: &'a [u8]) -> Result<bool, Memory>
+    /// Goes on by a line, and says whether it is a second seat line of its number. A line that can't be read adds
+    /// nothing.
+    fn take(&mut self, header: &Header, line: &'a [u8]) -> Result<bool, Memory>
         requires { All IsSeated self.old.names }
         ensures took { IfOk result (λ ends. (so_far : SoFar) (seats : List ℕ)
             → Passes self.old so_far seats
             → Took self.new header.now so_far seats line.now ends) }
         ensures notes { IfOk result (λ ends.
-            Notes self.old self.new header.now place line.now ends) }
+            Notes self.old self.new header.now line.now ends) }
     {
         let seat = seat_at(self.part, line);
         if is_again(&self.seats, seat) {
@@ -181,23 +194,41 @@ impl<'a> PlayerScan<'a> {
                 seat_name(&mut self.names, e, line)?;
                 self.players = with_player_of(self.players, e);
                 self.part = part_after(e, self.part);
-                keep_read(&mut self.reads, LineReading { place, said })?;
+                keep_read(&mut self.reads, said)?;
                 Ok(false)
             }
             Err(_fault) => {
-                keep_read(&mut self.reads, LineReading { place, said })?;
+                keep_read(&mut self.reads, said)?;
                 Ok(false)
             }
         }
     }
 
-    /// What was found.
-    fn ends(self) -> PlayersFound
-        ensures { result ≡ record { players = self.entry.players; reads = self.entry.reads } }
+    /// What was found of the lines from a place on, where the next begins at another.
+    fn ends(self, alloc: Global, start: usize, at: usize) -> PlayersFound
+        ensures players { result.players ≡ self.entry.players }
+        ensures found { (header : Header) (bytes : List ℕ) → start ≤ length bytes
+            → HasReads self.entry header bytes start at
+            → IsFound header bytes start result.read.said.items result.names result.read.next }
     {
+        let players = self.players.bits();
+        if self.reads.len() < READS_MAX {
+            return PlayersFound {
+                players,
+                read: LinesRead {
+                    said: self.reads,
+                    next: at,
+                },
+                names: self.names,
+            };
+        }
         PlayersFound {
-            players: self.players.bits(),
-            reads: self.reads,
+            players,
+            read: LinesRead {
+                said: Vec::new(alloc),
+                next: start,
+            },
+            names: Names::new(alloc),
         }
     }
 }
@@ -212,16 +243,16 @@ pub(crate) fn players_of(
     requires { start ≤ length bytes.now }
     ensures players { IfOk result (λ passed. passed.players
         ≡ players_of header.now (lines (drop start bytes.now))) }
-    ensures reads { IfOk result (λ passed.
-        AreReads header.now bytes.now [] Preamble passed.reads.items start) }
+    ensures found { IfOk result (λ passed.
+        IsFound header.now bytes.now start passed.read.said.items passed.names passed.read.next) }
 {
     let mut pass = PlayerScan::new(alloc)?;
     let mut at = start;
     'lines: while let Some(line) = next_line(bytes, at) {
-        if pass.take(header, line, &bytes[line.first..line.end])? {
-            return Ok(pass.ends());
+        if pass.take(header, &bytes[line.first..line.end])? {
+            return Ok(pass.ends(alloc, start, at));
         }
         at = line.next;
     }
-    Ok(pass.ends())
+    Ok(pass.ends(alloc, start, at))
 }

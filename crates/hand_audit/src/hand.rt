@@ -1,6 +1,6 @@
 //! What is kept of the lines of a hand so far.
 
-ghost use Rattle.std.specs.Prelude.{◌≡◌, ℕ, ◌+◌, ◌≤◌, ◌<◌, ◌^◌, ◌∷◌, ◌++◌, [], true, IfOk, IfSome, OnOk, All, IsTrue};
+ghost use Rattle.std.specs.Prelude.{◌≡◌, ℕ, ◌+◌, ◌≤◌, ◌<◌, ◌^◌, ◌∷◌, ◌++◌, [], true, IfOk, OnOk, All, IsTrue, List};
 ghost use Rattle.pot_layers.specs.Pots.{pots, put_in_all};
 ghost use Rattle.hand_audit.specs.Winning.{AreDecided};
 ghost use Rattle.hand_events.specs.declared.events.Event.{Event};
@@ -12,7 +12,7 @@ ghost use Rattle.hand_audit.specs.Collections.{collected_by, taken};
 ghost use Rattle.hand_audit.specs.SettlementAnswers.{IsOfHand};
 ghost use Rattle.hand_audit.specs.Showings.{paid_in, rake_by, showing_at};
 ghost use Rattle.hand_audit.specs.Departs.{is_total, total_cause, event_cause};
-ghost use Rattle.hand_audit.specs.Keeping.{Keeps, Goes, HasName, IsRead, IsSound, EndsAs};
+ghost use Rattle.hand_audit.specs.Keeping.{Keeps, Goes, HasName, IsRead, IsSaid, IsSound, EndsAs, names_by};
 ghost use Rattle.history_text.specs.Within.{IsSeated};
 
 use crate::collections::Collection;
@@ -26,7 +26,6 @@ use betting_replay::{
 use card_sets::{Game, Memory};
 use hand_verdict::Cause;
 use history_text::{Event, Header, Names, Part, Street, TextFault, read_line};
-use line_text::Line;
 use pot_layers::law_a_folded_player_is_eligible_nowhere;
 use std::alloc::{AllocError, Global};
 
@@ -35,8 +34,6 @@ use std::alloc::{AllocError, Global};
 pub(crate) struct AuditState {
     /// The replay of their events.
     pub(crate) replay: Replay,
-    /// The seats and names of the seat lines.
-    pub(crate) names: Names,
     /// The part of the next line.
     pub(crate) part: Part,
     /// What was collected, in the order of the lines.
@@ -102,6 +99,17 @@ pub(crate) fn seat_name(names: &mut Names, e: &Event, line: &[u8]) -> Result<(),
     }
 }
 
+/// A seat line that can be read seats its name.
+pub(crate) fn name_seat(names: &mut Names, said: &LineSaid, line: &[u8]) -> Result<(), Memory>
+    requires { IfOk said.now (λ e. HasName e line.now) }
+    ensures { OnOk result (names.new ≡ names_by said.now line.now names.old) }
+{
+    match said {
+        Ok(e) => seat_name(names, e, line),
+        Err(_fault) => Ok(()),
+    }
+}
+
 /// A collection is kept.
 #[inline]
 fn collect(all: &mut Vec<Collection>, e: &Event) -> Result<(), AllocError>
@@ -130,17 +138,9 @@ fn note(streets: &mut Vec<Street>, begun: Option<Street>) -> Result<(), AllocErr
 /// What a line was found to say, or its fault.
 pub(crate) type LineSaid = Result<Event, TextFault>;
 
-/// A line that was read.
-#[derive(Drop)]
-pub(crate) struct LineReading {
-    /// Where it stands in the bytes of the hand.
-    pub(crate) place: Line,
-    /// What it was found to say, or its fault.
-    pub(crate) said: LineSaid,
-}
-
 /// What a line says. Its seat is one of the table's, its amounts are within the greatest, and its name
-/// within the line.
+/// within the line. What reads a kind of line writes its event where the answer stands.
+#[inline(never)]
 pub(crate) fn read(names: &Names, header: &Header, part: Part, line: &[u8]) -> LineSaid
     requires { All IsSeated names.now }
     ensures { IsRead names.now header.now part line.now result }
@@ -164,7 +164,6 @@ impl AuditState {
     {
         AuditState {
             replay: Replay::new(header, players),
-            names: Names::new(alloc),
             part: Part::Preamble,
             collections: Vec::new(alloc),
             streets: Vec::new(alloc),
@@ -215,20 +214,18 @@ impl AuditState {
     }
 
     /// Goes on by a line that says this, or says why it departs.
-    fn take_read(
+    pub(crate) fn take_read(
         &mut self,
         header: &Header,
-        line: &[u8],
         said: &LineSaid,
     ) -> Result<Option<Cause>, Memory>
-        requires names { All IsSeated self.old.names }
         requires sound { IsSound self.old }
-        requires said { IsRead self.old.names header.now self.old.part line.now said.now }
+        requires said { IsSaid header.now self.old.part said.now }
         ensures sound { OnOk result (IsSound self.new) }
-        ensures goes { IfOk result (λ cause. (players : ℕ) (so_far : SoFar)
+        ensures goes { IfOk result (λ cause. (players : ℕ) (so_far : SoFar) (line : List ℕ)
             → Keeps self.old header.now players so_far
-            → Goes self.new header.now players so_far line.now
-            (read_at header.now so_far line.now) cause) }
+            → said.now ≡ read_at header.now so_far line
+            → Goes self.new header.now players so_far line (read_at header.now so_far line) cause) }
     {
         let e = match said {
             Ok(e) => e,
@@ -246,39 +243,12 @@ impl AuditState {
         if let Some(cause) = amiss {
             return Ok(Some(cause));
         }
-        seat_name(&mut self.names, e, line)?;
         collect(&mut self.collections, e)?;
         note(&mut self.streets, begun)?;
         self.part = part_after(e, self.part);
         self.rake = rake_by(e, self.rake);
         self.total = is_total(e) || self.total;
         Ok(None)
-    }
-
-    /// Goes on by a line, or says why it departs. What it was found to say is given where it was read before.
-    pub(crate) fn take_line(
-        &mut self,
-        header: &Header,
-        line: &[u8],
-        read_before: Option<&LineReading>,
-    ) -> Result<Option<Cause>, Memory>
-        requires names { All IsSeated self.old.names }
-        requires sound { IsSound self.old }
-        requires said { IfSome read_before (λ before.
-            IsRead self.old.names header.now self.old.part line.now before.now.said) }
-        ensures sound { OnOk result (IsSound self.new) }
-        ensures goes { IfOk result (λ cause. (players : ℕ) (so_far : SoFar)
-            → Keeps self.old header.now players so_far
-            → Goes self.new header.now players so_far line.now
-            (read_at header.now so_far line.now) cause) }
-    {
-        match read_before {
-            Some(before) => self.take_read(header, line, &before.said),
-            None => {
-                let said = read(&self.names, header, self.part, line);
-                self.take_read(header, line, &said)
-            }
-        }
     }
 
     /// What became of the chips, behind a total line.
@@ -293,8 +263,7 @@ impl AuditState {
     {
         let all = pots_of(alloc, &self.replay)?;
         let standings = Standings::of(&self.replay, game);
-        let most = taken_from(&self.collections, Source::Any) as u64;
-        settle(alloc, &standings, all.items(), &self.collections, most)
+        settle(alloc, &standings, all.items(), &self.collections)
     }
 
     /// What comes of the end of a hand of this game: what became of its chips, with the payment for which its last

@@ -6,8 +6,9 @@
 //! put in, and `audit_with_shares` the verdict and what each winner of a side of each part of a pot gets, also of a hand that is rejected
 //! for its payments alone. The types of these answers are those of `hand_verdict`.
 //!
-//! 1. *First pass* (`first_pass`). Each line is read once, and who plays is noted. What the first 256 lines say is kept.
-//! 2. *Second pass* (`follow`, `hand`). What each line says is stepped by a `Replay`. A line departs where it can't be read, where the
+//! 1. *First pass* (`first_pass`). Each line is read once, and who plays and what he is called is noted. What the lines say is kept,
+//!    where they are fewer than 256.
+//! 2. *Second pass* (`follow`, `hand`). What each line says is stepped by a `Replay`; of 256 lines or more each is read once more. A line departs where it can't be read, where the
 //!    replay refuses it, or where a stated total isn't what the replay has counted. Later streets are noted on the way.
 //! 3. *Settlement* (`settling`, `shares`, `payments`). Behind the last line the pots are made. Where it is known who won a pot, by cards
 //!    or since one player is left, it is split by the rules, and that is held against what was collected. A payment that is too far off

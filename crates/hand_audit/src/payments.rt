@@ -1,6 +1,6 @@
 //! What each seat got of a pot, and what it is due.
 
-ghost use Rattle.std.specs.Prelude.{◌≡◌, ℕ, ◌+◌, ◌-◌, ◌<◌, ◌≤◌, ◌==◌, ◌||◌, ◌^◌, if◌then◌else◌, nat_lt, IfOk, Some, None};
+ghost use Rattle.std.specs.Prelude.{◌≡◌, ℕ, ◌+◌, ◌-◌, ◌<◌, ◌≤◌, ◌==◌, ◌||◌, ◌^◌, if◌then◌else◌, nat_lt, slice_index_or, IfOk, Some, None};
 ghost use Rattle.pot_layers.specs.declared.paid.Share.{Share};
 ghost use Rattle.pot_layers.specs.Split.{given_in_all};
 ghost use Rattle.hand_audit.specs.Settle.{due_of_seat, sides_of_seat, payment, is_payment, distance, payments_from, beyond_among};
@@ -8,22 +8,60 @@ ghost use Rattle.hand_audit.specs.Collections.{taken_from, got_from};
 ghost use Rattle.hand_audit.specs.PotNames.{counts_from};
 
 use crate::collections::Collection;
-use crate::pot_names::{Source, got_from, units_if};
+use crate::pot_names::{Source, counts_from, units_if};
 use hand_verdict::Payment;
 use pot_layers::Share;
 use std::alloc::{AllocError, Global};
 
-/// What some shares give a seat.
-fn units_of_seat(shares: &[Share], seat: u8) -> u128
-    ensures value { result ≡ due_of_seat seat shares.now }
-    ensures room { result < 2 ^ 127 }
+/// A sum for each seat, by its number.
+type SeatUnits = [u128; 11];
+
+/// Adds units to the sum of a seat.
+fn add_to_seat(sums: &mut SeatUnits, seat: u8, units: u64)
+    requires room { (p : ℕ) → slice_index_or sums.old p 0 < 2 ^ 127 }
+    ensures added { (p : ℕ) → p < 11 → slice_index_or sums.new p 0
+        ≡ slice_index_or sums.old p 0 + (if seat == p then units else 0) }
+    ensures others { (p : ℕ) → slice_index_or sums.new p 0
+        ≤ slice_index_or sums.old p 0 + units }
+{
+    if seat < 11 {
+        sums[seat as usize] += u128::from(units);
+    }
+}
+
+/// What each seat collected from a source.
+fn got_by_seat(all: &[Collection], source: Source) -> SeatUnits
+    ensures { (p : ℕ) → p < 11 → slice_index_or result p 0
+        ≡ got_from (counts_from source) p all.now }
+{
+    let _count = all.len();
+    let mut sums = [0; 11];
+    for one in all {
+        let counts = counts_from(source, one.pot);
+        add_to_seat(&mut sums, one.seat, units_if(counts, one.units));
+    }
+    sums
+}
+
+/// What some shares give each seat.
+fn due_by_seat(shares: &[Share]) -> SeatUnits
+    ensures { (p : ℕ) → p < 11 → slice_index_or result p 0 ≡ due_of_seat p shares.now }
 {
     let _count = shares.len();
-    let mut units = 0u128;
+    let mut sums = [0; 11];
     for share in shares {
-        units += u128::from(units_if(share.seat == seat, share.units));
+        add_to_seat(&mut sums, share.seat, share.units);
     }
-    units
+    sums
+}
+
+/// The sum of a seat.
+fn units_at(sums: &SeatUnits, seat: u8) -> u64
+    requires seat { seat < 11 }
+    requires room { slice_index_or sums.now seat 0 < 2 ^ 64 }
+    ensures { result ≡ slice_index_or sums.now seat 0 }
+{
+    sums[seat as usize] as u64
 }
 
 /// How many sides of parts a seat wins.
@@ -39,24 +77,11 @@ fn sides_of_seat(shares: &[Share], seat: u8) -> u128
     sides
 }
 
-/// What the rules give a seat, by shares of no more than this.
-fn due_of_seat(shares: &[Share], seat: u8, most: u64) -> u64
-    requires { given_in_all shares.now ≤ most }
-    ensures { result ≡ due_of_seat seat shares.now }
+/// The payment of a seat that got so much and is given so much.
+fn payment(checked: bool, got: u64, given: u64, seat: u8) -> Payment
+    ensures { result ≡ record { seat = seat; got = got; due = if checked then given else got } }
 {
-    units_of_seat(shares, seat) as u64
-}
-
-/// The payment of a seat.
-fn payment(checked: bool, got: u64, shares: &[Share], seat: u8, most: u64) -> Payment
-    requires { given_in_all shares.now ≤ most }
-    ensures { result ≡ payment checked got shares.now seat }
-{
-    let due = if checked {
-        due_of_seat(shares, seat, most)
-    } else {
-        got
-    };
+    let due = if checked { given } else { got };
     Payment { seat, got, due }
 }
 
@@ -81,14 +106,6 @@ fn is_beyond(pay: Payment, tolerance: u128) -> bool
     tolerance < u128::from(distance(pay.got, pay.due))
 }
 
-/// What a seat collected from a pot from which no more was collected than this.
-fn got_of(all: &[Collection], source: Source, seat: u8, most: u64) -> u64
-    requires { taken_from (counts_from source) all.now ≤ most }
-    ensures { result ≡ got_from (counts_from source) seat all.now }
-{
-    got_from(all, source, seat) as u64
-}
-
 /// The payments of a pot, by rising seat.
 pub(crate) fn payments(
     alloc: Global,
@@ -96,18 +113,18 @@ pub(crate) fn payments(
     all: &[Collection],
     shares: &[Share],
     source: Source,
-    most: u64,
 ) -> Result<Vec<Payment>, AllocError>
-    requires taken { taken_from (counts_from source) all.now ≤ most }
-    requires given { given_in_all shares.now ≤ most }
+    requires taken { taken_from (counts_from source) all.now < 2 ^ 64 }
+    requires given { given_in_all shares.now < 2 ^ 64 }
     ensures { IfOk result (λ pays. pays.items
         ≡ payments_from
         (λ p. payment checked (got_from (counts_from source) p all.now) shares.now p) 1 10) }
 {
+    let got = got_by_seat(all, source);
+    let given = due_by_seat(shares);
     let mut pays = Vec::new(alloc);
     for seat in 1..11 {
-        let got = got_of(all, source, seat, most);
-        let pay = payment(checked, got, shares, seat, most);
+        let pay = payment(checked, units_at(&got, seat), units_at(&given, seat), seat);
         if !is_payment(pay) {
             continue;
         }

@@ -2,7 +2,7 @@
 
 ghost use Rattle.std.specs.Prelude.{◌≡◌, ℕ, ◌+◌, ◌<◌, ◌^◌, ◌==◌, ◌&&◌, if◌then◌else◌, length, is_some};
 ghost use Rattle.std.specs.List.{list_all, list_any};
-ghost use Rattle.hand_audit.specs.Collections.{taken_from, got_from, any_from};
+ghost use Rattle.hand_audit.specs.Collections.{taken_from, any_from};
 ghost use Rattle.hand_audit.specs.PotNames.{pot_named, names_pot, counts_from, each_taken, fits};
 
 use crate::collections::Collection;
@@ -48,7 +48,7 @@ pub(crate) enum Source {
 }
 
 /// Whether a collection from the pot of a name counts.
-fn counts_from(source: Source, pot: PotName) -> bool
+pub(crate) fn counts_from(source: Source, pot: PotName) -> bool
     ensures { result ≡ counts_from source pot }
 {
     match source {
@@ -73,20 +73,6 @@ pub(crate) fn taken_from(all: &[Collection], source: Source) -> u128
     let mut units = 0u128;
     for one in all {
         let counts = counts_from(source, one.pot);
-        units += u128::from(units_if(counts, one.units));
-    }
-    units
-}
-
-/// What a seat collected from a source.
-pub(crate) fn got_from(all: &[Collection], source: Source, seat: u8) -> u128
-    ensures value { result ≡ got_from (counts_from source) seat all.now }
-    ensures room { result < 2 ^ 127 }
-{
-    let _count = all.len();
-    let mut units = 0u128;
-    for one in all {
-        let counts = counts_from(source, one.pot) && one.seat == seat;
         units += u128::from(units_if(counts, one.units));
     }
     units

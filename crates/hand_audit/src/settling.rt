@@ -56,7 +56,7 @@ fn settle_pot(
     let checked = standings.is_checked(eligible);
     let net = taken_from(all, source) as u64;
     let shares = shares_if(alloc, checked, standings, eligible, net)?;
-    let paid = payments(alloc, checked, all, shares.items(), source, pot.units)?;
+    let paid = payments(alloc, checked, all, shares.items(), source)?;
     let beyond = first_beyond(&paid, shares.items());
     Ok(PotSettled {
         line: PotLine {
@@ -131,16 +131,15 @@ pub(crate) fn settle(
     standings: &Standings,
     layers: &[Pot],
     all: &[Collection],
-    most: u64,
 ) -> Result<HandSettled, Memory>
     requires ready { IsReady standings.now }
-    requires taken { taken_from (counts_from Source.Any) all.now ≤ most }
+    requires taken { taken_from (counts_from Source.Any) all.now < 2 ^ 64 }
     ensures { IfOk result (λ one. (s : Showing) → Tells standings.now s → AreDecided s layers.now
         → s.collections ≡ all.now → pots s.paid ≡ layers.now → IsOfHand s one) }
 {
     if !fits(layers, all) {
         let lines = unfit_lines(alloc, layers)?;
-        let paid = payments(alloc, false, all, &[], Source::Any, most)?;
+        let paid = payments(alloc, false, all, &[], Source::Any)?;
         return Ok(HandSettled {
             fits: false,
             pots: PotLines::of(lines),

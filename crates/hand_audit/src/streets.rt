@@ -13,7 +13,7 @@ ghost use Rattle.hand_audit.specs.Streets.{table_in, state_on, states_of, states
 ghost use Rattle.hand_audit.specs.Verdict.{audit_of};
 
 use crate::all_in::all_in_on;
-use crate::first_pass::players_of;
+use crate::first_pass::{PlayersFound, players_of};
 use crate::follow::{Followed, follow};
 use crate::hand::AuditState;
 use crate::settling::HandSettled;
@@ -131,16 +131,11 @@ pub fn later_streets(
         unreachable!();
     };
     let found = players_of(alloc, &header, bytes, head.next)?;
-    match follow(
-        alloc,
-        &header,
-        found.players,
-        &found.reads,
-        bytes,
-        head.next,
-    )? {
+    let players = found.players;
+    let PlayersFound { read, names, .. } = found;
+    match follow(alloc, &header, players, &read, names, bytes, head.next)? {
         Followed::Departs(_, _) => unreachable!(),
-        Followed::Ends(_, state, settled) => {
+        Followed::Ends(_, state, _, settled) => {
             let states = states_of(alloc, &header, &state, &settled)?;
             Ok(states)
         }

@@ -36,7 +36,7 @@ returns-clause-verdict c =
     let players = c.in_ok-found.found.players in
     let ends = subst (Follows g players rest) c.in-Ends.is c.in_ok-count.ensures in
     audit_ends c.args.first_line (lines c.args.bytes.now) text rest g players c.accepted.result c.in-Some.ensures.texts (sym c.read_header.ensures ∙ c.in-Ok.is) c.in_ok-found.ensures.players
-    (ends.1 c.args.first_line ∙ ap (λ o. at_line (c.args.first_line + c.in-Ends.count) (split_cause o)) c.in_default-beyond.is) (c.accepted.ensures (read_all g nothing rest) ends.2 ends.3.is)
+    (ends.1 c.args.first_line ∙ ap (λ o. at_line (c.args.first_line + c.in-Ends.count) (split_cause o)) c.in_default-beyond.is) (c.accepted.ensures (read_all g nothing rest) ends.2 ends.4 ends.3.is)
 
 pub returns-clause-streets : goal.returns-clause-streets
 returns-clause-streets c asked =
@@ -48,7 +48,7 @@ returns-clause-streets c asked =
     let so_far = read_all g nothing rest in
     c.in_ok-streets-in-Ends.ensures players so_far ends.2 ends.3.is asked
     ∙ states_are (lines c.args.bytes.now) text rest g players c.in-Some.ensures.texts (sym c.read_header.ensures ∙ c.in-Ok.is) c.in_ok-found.ensures.players
-    ∙ sym (ap (λ audit. streets_of audit (lines c.args.bytes.now)) (c.accepted.ensures so_far ends.2 ends.3.is))
+    ∙ sym (ap (λ audit. streets_of audit (lines c.args.bytes.now)) (c.accepted.ensures so_far ends.2 ends.4 ends.3.is))
 
 pub chips_if-chips-requires : goal.chips_if-chips-requires
 chips_if-chips-requires c =
@@ -69,7 +69,7 @@ returns-clause-chips c asked =
     c.chips_if-chips.ensures asked
     ∙ chips_kept c.in-Ends.state g players so_far ends.2
     ∙ chips_are_in (lines c.args.bytes.now) text rest g c.in-Some.ensures.texts (sym c.read_header.ensures ∙ c.in-Ok.is)
-    ∙ sym (ap (λ audit. chips_of audit (lines c.args.bytes.now)) (c.accepted.ensures so_far ends.2 ends.3.is))
+    ∙ sym (ap (λ audit. chips_of audit (lines c.args.bytes.now)) (c.accepted.ensures so_far ends.2 ends.4 ends.3.is))
 
 pub returns-in-Departs-clause-split : goal.returns-in-Departs-clause-split
 returns-in-Departs-clause-split c =
@@ -102,7 +102,7 @@ returns-in-Some-beyond-clause-split c =
     let ends = subst (Follows g players rest) c.in-Ends.is c.in_ok-count.ensures in
     let so_far = read_all g nothing rest in
     let pay = c.in-Some-beyond.pay in
-    ap (λ hand. Some hand) (c.split_hand.ensures so_far ends.2 ends.3.is)
+    ap (λ hand. Some hand) (c.split_hand.ensures so_far ends.2 ends.4 ends.3.is)
     ∙ split_is_in (lines c.args.bytes.now) text rest g players c.in-Some.ensures.texts (sym c.read_header.ensures ∙ c.in-Ok.is) c.in_ok-found.ensures.players
     ∙ split_is_for (lines c.args.bytes.now) c.split_cause.result pay.seat pay.due pay.got c.split_cause.ensures
 
@@ -125,7 +125,7 @@ returns-clause-split c =
     let g = c.in-Ok.header in
     let players = c.in_ok-found.found.players in
     let ends = subst (Follows g players rest) c.in-Ends.is c.in_ok-count.ensures in
-    sym (ap (λ audit. split_of audit (lines c.args.bytes.now)) (c.accepted.ensures (read_all g nothing rest) ends.2 ends.3.is))
+    sym (ap (λ audit. split_of audit (lines c.args.bytes.now)) (c.accepted.ensures (read_all g nothing rest) ends.2 ends.4 ends.3.is))
 
 pub returns-clause-parts : goal.returns-clause-parts
 returns-clause-parts c asked =
@@ -137,4 +137,4 @@ returns-clause-parts c asked =
     let so_far = read_all g nothing rest in
     c.in_ok-parts-in-Ends.ensures g players so_far ends.2 ends.3 refl asked
     ∙ parts_are_in (lines c.args.bytes.now) text rest g players c.in-Some.ensures.texts (sym c.read_header.ensures ∙ c.in-Ok.is) c.in_ok-found.ensures.players
-    ∙ sym (ap (λ audit. parts_given audit (lines c.args.bytes.now)) (c.accepted.ensures so_far ends.2 ends.3.is))
+    ∙ sym (ap (λ audit. parts_given audit (lines c.args.bytes.now)) (c.accepted.ensures so_far ends.2 ends.4 ends.3.is))

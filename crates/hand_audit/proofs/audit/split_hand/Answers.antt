@@ -8,4 +8,4 @@ same_hand : (a b : Settlement) (m n : List (ℕ × List ℕ)) (players : ℕ) �
 same_hand a b m n players e f = rw (e, f) refl
 
 pub returns : goal.returns
-returns c so_far k made = same_hand _ _ _ _ c.args.players (c.settlement_of.ensures c.args.players so_far k made) k.names
+returns c so_far k named made = same_hand _ _ _ _ c.args.players (c.settlement_of.ensures c.args.players so_far k made) named

@@ -1,68 +1,89 @@
-use Rattle.std.proofs.Common.{◌≡◌, ◌∷◌, subst, refl, arith, length, ap}
-use Rattle.std.specs.Prelude.{Option, slice_range, drop}
+use Rattle.std.proofs.Common.{◌≡◌, ◌∷◌, List, refl, sym, subst, arith, length, ap}
+use Rattle.std.specs.Prelude.{Option, Result, slice_range, drop}
 use Rattle.line_text.specs.Lines.{lines}
+use Rattle.hand_events.specs.declared.events.Event.{Event}
+use Rattle.hand_events.specs.declared.events.TextFault.{TextFault}
 use Rattle.hand_verdict.specs.declared.cause.Cause.{Cause}
-use Rattle.hand_audit.specs.Keeping.{Goes, EndsAs, IsRead}
+use Rattle.hand_audit.specs.Keeping.{Goes}
 use Rattle.hand_audit.specs.Lines.{read_at}
-use Rattle.hand_audit.proofs.lemmas.lines.ReadOnce.{first_read, first_stands, others_left, some_of}
-use Rattle.hand_audit.proofs.lemmas.lines.FollowWalk.{going_none, going_more, going_departs, going_ends, going_stops}
+use Rattle.hand_audit.proofs.lemmas.lines.FollowWalk.{AmongReads, going_departs, reads_none, next_read, next_is_said, reads_on, others_none, none_counted, other_is_said, others_on}
 use Rattle.hand_audit.proofs.follow.follow.Goals as goal
 
-pub lines-init : goal.lines-init
-lines-init c =
-    let k = c.new-state.ensures.keeps in
-    record {
-      within = c.requires.within;
-      few = omega arith;
-      counted = omega arith;
-      sound = c.new-state.ensures.sound;
-      going = going_none c.new-state.result c.args.header.now c.args.players (lines (drop c.args.start c.args.bytes.now)) k;
-      ahead = rw (k.names, k.part) c.requires.reads;
-    }
-
-pub line_from-requires-clause-known : goal.line_from-requires-clause-known
-line_from-requires-clause-known c = first_stands c.args.header.now c.args.bytes.now c.lines.state.names c.lines.state.part c.lines.left.now c.lines.at c.lines.invariant.ahead
-
-pub take_line-requires-clause-said : goal.take_line-requires-clause-said
-take_line-requires-clause-said c =
-    let text = slice_range c.args.bytes.now c.in-Some.line.first c.in-Some.line.end in
-    some_of c.cut.result.0 (IsRead c.lines.state.names c.args.header.now c.lines.state.part text)
-    (first_read c.args.header.now c.args.bytes.now c.lines.state.names c.lines.state.part _ _ _ c.lines.at c.in-Some.line c.cut.ensures c.in-Some.ensures.first c.lines.invariant.ahead)
+pub reads-init : goal.reads-init
+reads-init c = record {
+  sound = c.new-state.ensures.sound;
+  among = subst (λ (xs : List (Result Event TextFault)). AmongReads c.new-state.result c.args.header.now c.args.players (lines (drop c.args.start c.args.bytes.now)) c.args.bytes.now xs c.args.names c.args.first.now.next 0) (sym c.as_slice-left.ensures.value)
+      (reads_none c.new-state.result c.args.header.now c.args.players c.args.bytes.now c.args.start c.args.first.now.said.items c.args.names c.args.first.now.next c.new-state.ensures.keeps c.requires);
+}
 
 pub overflow_add-count : goal.overflow_add-count
-overflow_add-count c = let f = c.lines.invariant.few in let n = c.in-Some.ensures.stands.within in omega (arith, f, n.forward, n.inside)
+overflow_add-count c =
+    let r = next_read c.reads.state c.args.header.now c.args.players (lines (drop c.args.start c.args.bytes.now)) c.args.bytes.now c.in-Some.said.now c.in-Some.others.now c.args.names c.args.first.now.next c.reads.count
+    (subst (λ (xs : List (Result Event TextFault)). AmongReads c.reads.state c.args.header.now c.args.players (lines (drop c.args.start c.args.bytes.now)) c.args.bytes.now xs c.args.names c.args.first.now.next c.reads.count) c.in-Some.ensures.cases.0 c.reads.invariant.among) in
+    let f = r.few in let w = c.requires.within in omega (arith, f, w)
+
+pub take_read-requires-clause-said : goal.take_read-requires-clause-said
+take_read-requires-clause-said c =
+    (next_read c.reads.state c.args.header.now c.args.players (lines (drop c.args.start c.args.bytes.now)) c.args.bytes.now c.in-Some.said.now c.in-Some.others.now c.args.names c.args.first.now.next c.reads.count
+    (subst (λ (xs : List (Result Event TextFault)). AmongReads c.reads.state c.args.header.now c.args.players (lines (drop c.args.start c.args.bytes.now)) c.args.bytes.now xs c.args.names c.args.first.now.next c.reads.count) c.in-Some.ensures.cases.0 c.reads.invariant.among)).ahead.0.is
 
 pub returns-in-Some-2 : goal.returns-in-Some-2
 returns-in-Some-2 c =
-    let r = c.lines.invariant.going in
-    let text = slice_range c.args.bytes.now c.in-Some.line.first c.in-Some.line.end in
-    going_departs c.lines.state c.take_line.new.self c.args.header.now c.args.players _ text (lines (drop c.in-Some.line.next c.args.bytes.now)) _ c.lines.count c.in-Some-2.cause r c.in-Some.ensures.stands.texts c.lines.invariant.counted
-    (subst (λ (o : Option Cause). Goes c.take_line.new.self c.args.header.now c.args.players r.so_far text (read_at c.args.header.now r.so_far text) o) c.in-Some-2.is (c.in_ok-cause.ensures.goes c.args.players r.so_far r.keeps))
+    let r = next_read c.reads.state c.args.header.now c.args.players (lines (drop c.args.start c.args.bytes.now)) c.args.bytes.now c.in-Some.said.now c.in-Some.others.now c.args.names c.args.first.now.next c.reads.count
+    (subst (λ (xs : List (Result Event TextFault)). AmongReads c.reads.state c.args.header.now c.args.players (lines (drop c.args.start c.args.bytes.now)) c.args.bytes.now xs c.args.names c.args.first.now.next c.reads.count) c.in-Some.ensures.cases.0 c.reads.invariant.among) in
+    going_departs c.reads.state c.take_read.new.self c.args.header.now c.args.players (lines (drop c.args.start c.args.bytes.now)) r.line r.left (r.line ∷ r.left) c.reads.count c.in-Some-2.cause r.going refl r.counted
+    (subst (λ (o : Option Cause). Goes c.take_read.new.self c.args.header.now c.args.players r.going.so_far r.line (read_at c.args.header.now r.going.so_far r.line) o) c.in-Some-2.is
+    (c.in_ok-cause.ensures.goes c.args.players r.going.so_far r.line r.going.keeps (next_is_said c.reads.state c.args.header.now c.args.players (lines (drop c.args.start c.args.bytes.now)) c.args.bytes.now c.in-Some.said.now c.in-Some.others.now c.args.names c.args.first.now.next c.reads.count r)))
+
+pub reads-preserved : goal.reads-preserved
+reads-preserved c =
+    let r = next_read c.reads.state c.args.header.now c.args.players (lines (drop c.args.start c.args.bytes.now)) c.args.bytes.now c.in-Some.said.now c.in-Some.others.now c.args.names c.args.first.now.next c.reads.count
+    (subst (λ (xs : List (Result Event TextFault)). AmongReads c.reads.state c.args.header.now c.args.players (lines (drop c.args.start c.args.bytes.now)) c.args.bytes.now xs c.args.names c.args.first.now.next c.reads.count) c.in-Some.ensures.cases.0 c.reads.invariant.among) in
+    record {
+      sound = c.in_ok-cause.ensures.sound;
+      among = reads_on c.reads.state c.take_read.new.self c.args.header.now c.args.players (lines (drop c.args.start c.args.bytes.now)) c.args.bytes.now c.in-Some.said.now c.in-Some.others.now c.args.names c.args.first.now.next c.reads.count r
+          (subst (λ (o : Option Cause). Goes c.take_read.new.self c.args.header.now c.args.players r.going.so_far r.line (read_at c.args.header.now r.going.so_far r.line) o) c.in_default-2.is
+          (c.in_ok-cause.ensures.goes c.args.players r.going.so_far r.line r.going.keeps (next_is_said c.reads.state c.args.header.now c.args.players (lines (drop c.args.start c.args.bytes.now)) c.args.bytes.now c.in-Some.said.now c.in-Some.others.now c.args.names c.args.first.now.next c.reads.count r)));
+    }
+
+pub lines-init : goal.lines-init
+lines-init c =
+    let n = none_counted c.reads.state c.args.header.now c.args.players (lines (drop c.args.start c.args.bytes.now)) c.args.bytes.now c.reads.left.now c.args.names c.args.first.now.next c.reads.count c.reads.invariant.among c.in_default.ensures.cases in
+    record {
+      within = c.requires.within;
+      few = n.0;
+      counted = n.1;
+      sound = c.reads.invariant.sound;
+      among = others_none c.reads.state c.args.header.now c.args.players (lines (drop c.args.start c.args.bytes.now)) c.args.bytes.now c.reads.left.now c.args.names c.args.first.now.next c.reads.count c.reads.invariant.among c.in_default.ensures.cases;
+    }
+
+pub returns-in-Some-3 : goal.returns-in-Some-3
+returns-in-Some-3 c =
+    let all = lines (drop c.args.start c.args.bytes.now) in
+    let line = c.in-Some-next_line.line in
+    let text = slice_range c.args.bytes.now line.first line.end in
+    let left = lines (drop c.lines.at c.args.bytes.now) in
+    let r = c.lines.invariant.among in
+    going_departs c.lines.state c.take_read-in-Some-next_line.new.self c.args.header.now c.args.players all text (lines (drop line.next c.args.bytes.now)) left c.lines.count c.in-Some-3.cause r.going c.in-Some-next_line.ensures.texts
+    c.lines.invariant.counted
+    (subst (λ (o : Option Cause). Goes c.take_read-in-Some-next_line.new.self c.args.header.now c.args.players r.going.so_far text (read_at c.args.header.now r.going.so_far text) o) c.in-Some-3.is
+    (c.in_ok-cause-2.ensures.goes c.args.players r.going.so_far text r.going.keeps (other_is_said c.lines.state c.args.header.now c.args.players all left c.lines.names c.lines.count text c.read-said.result r c.read-said.ensures)))
 
 pub lines-preserved : goal.lines-preserved
 lines-preserved c =
-    let r = c.lines.invariant.going in
-    let text = slice_range c.args.bytes.now c.in-Some.line.first c.in-Some.line.end in
-    let count : length (lines (drop c.lines.at c.args.bytes.now)) ≡ length (text ∷ lines (drop c.in-Some.line.next c.args.bytes.now)) = ap length c.in-Some.ensures.stands.texts in
+    let all = lines (drop c.args.start c.args.bytes.now) in
+    let line = c.in-Some-next_line.line in
+    let text = slice_range c.args.bytes.now line.first line.end in
+    let left = lines (drop c.lines.at c.args.bytes.now) in
+    let r = c.lines.invariant.among in
+    let count : length left ≡ length (text ∷ lines (drop line.next c.args.bytes.now)) = ap length c.in-Some-next_line.ensures.texts in
     record {
-      within = c.in-Some.ensures.stands.within.inside;
-      sound = c.in_ok-cause.ensures.sound;
-      few = (let f = c.lines.invariant.few in let n = c.in-Some.ensures.stands.within in omega (arith, f, n.forward));
+      within = c.in-Some-next_line.ensures.within.inside;
+      few = (let f = c.lines.invariant.few in let n = c.in-Some-next_line.ensures.within in omega (arith, f, n.forward));
       counted = (let n = c.lines.invariant.counted in omega (arith, count, n));
-      going = going_more c.lines.state c.take_line.new.self c.args.header.now c.args.players _ text (lines (drop c.in-Some.line.next c.args.bytes.now)) _ c.lines.count r c.in-Some.ensures.stands.texts
-          (subst (λ (o : Option Cause). Goes c.take_line.new.self c.args.header.now c.args.players r.so_far text (read_at c.args.header.now r.so_far text) o) c.in_default-2.is (c.in_ok-cause.ensures.goes c.args.players r.so_far r.keeps));
-      ahead = others_left c.lines.state c.take_line.new.self c.args.header.now c.args.players r.so_far c.args.bytes.now _ _ _ c.lines.at c.in-Some.line c.cut.ensures c.in-Some.ensures.first c.lines.invariant.ahead r.keeps
-          (subst (λ (o : Option Cause). Goes c.take_line.new.self c.args.header.now c.args.players r.so_far text (read_at c.args.header.now r.so_far text) o) c.in_default-2.is (c.in_ok-cause.ensures.goes c.args.players r.so_far r.keeps));
+      sound = c.in_ok-cause-2.ensures.sound;
+      among = others_on c.lines.state c.take_read-in-Some-next_line.new.self c.args.header.now c.args.players all text (lines (drop line.next c.args.bytes.now)) left c.lines.names _ c.lines.count c.read-said.result r
+          c.in-Some-next_line.ensures.texts c.read-said.ensures c.in_ok-name_seat.ensures
+          (subst (λ (o : Option Cause). Goes c.take_read-in-Some-next_line.new.self c.args.header.now c.args.players r.going.so_far text (read_at c.args.header.now r.going.so_far text) o) c.in_default-3.is
+          (c.in_ok-cause-2.ensures.goes c.args.players r.going.so_far text r.going.keeps (other_is_said c.lines.state c.args.header.now c.args.players all left c.lines.names c.lines.count text c.read-said.result r c.read-said.ensures)));
     }
-
-pub returns-in-Ok : goal.returns-in-Ok
-returns-in-Ok c =
-    let r = c.lines.invariant.going in
-    going_ends c.lines.state c.args.header.now c.args.players _ _ c.lines.count c.in-Ok.settled r (c.in_default.ensures.none refl) c.lines.invariant.counted
-    (subst (EndsAs c.args.header.now c.args.players r.so_far.events) c.in-Ok.is (c.in_ok-settled.ensures c.args.header.now c.args.players r.so_far r.keeps refl))
-
-pub returns-in-Err : goal.returns-in-Err
-returns-in-Err c =
-    let r = c.lines.invariant.going in
-    going_stops c.lines.state c.args.header.now c.args.players _ _ c.lines.count c.in-Err.cause r (c.in_default.ensures.none refl) c.lines.invariant.counted
-    (subst (EndsAs c.args.header.now c.args.players r.so_far.events) c.in-Err.is (c.in_ok-settled.ensures c.args.header.now c.args.players r.so_far r.keeps refl))

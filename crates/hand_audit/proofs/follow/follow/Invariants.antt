@@ -1,8 +1,17 @@
 use Rattle.std.specs.Prelude.{◌≡◌, ◌+◌, ◌-◌, ◌≤◌, drop, length}
 use Rattle.line_text.specs.Lines.{lines}
-use Rattle.hand_audit.specs.Keeping.{AreReads, IsSound}
-use Rattle.hand_audit.proofs.lemmas.lines.FollowWalk.{Going}
+use Rattle.hand_audit.specs.Keeping.{IsSound}
+use Rattle.hand_audit.proofs.lemmas.lines.FollowWalk.{AmongReads, AmongOthers}
 use Rattle.hand_audit.proofs.follow.follow.Given as goal
+
+abbrev pub invariant-reads : goal.invariant-reads
+invariant-reads l = record {
+  sound : IsSound l.state;
+  among : AmongReads l.state l.header l.players (lines (drop l.fn.start l.bytes)) l.bytes l.left l.fn.names l.first.next l.count;
+}
+
+abbrev pub decreases-reads : goal.decreases-reads
+decreases-reads l = length l.left
 
 abbrev pub invariant-lines : goal.invariant-lines
 invariant-lines l = record {
@@ -10,8 +19,7 @@ invariant-lines l = record {
   few : l.count ≤ l.at;
   counted : l.count + length (lines (drop l.at l.bytes)) ≡ length (lines (drop l.fn.start l.bytes));
   sound : IsSound l.state;
-  going : Going l.state l.header l.players (lines (drop l.fn.start l.bytes)) (lines (drop l.at l.bytes)) l.count;
-  ahead : AreReads l.header l.bytes l.state.names l.state.part l.left l.at;
+  among : AmongOthers l.state l.header l.players (lines (drop l.fn.start l.bytes)) (lines (drop l.at l.bytes)) l.names l.count;
 }
 
 abbrev pub decreases-lines : goal.decreases-lines

@@ -12,7 +12,7 @@ use Rattle.card_sets.specs.declared.games.Game.{Game}
 use Rattle.card_sets.specs.declared.games.Family.{Family}
 use Rattle.card_sets.specs.declared.games.Family.TheVariants as family
 use Rattle.card_sets.specs.declared.streets.Street.{Street}
-use Rattle.card_sets.specs.declared.streets.Street.TheVariants.{First, Flop, Turn, Fourth, Fifth, Sixth, River, Draw, FirstDraw, SecondDraw}
+use Rattle.card_sets.specs.declared.streets.Street.TheVariants.{First, Flop, Turn, Fourth, Fifth, Sixth, River, FirstDraw, SecondDraw}
 use Rattle.card_sets.proofs.CallerLemmas.{fewer_where}
 use Rattle.hand_events.specs.declared.events.Header.{Header}
 use Rattle.hand_events.specs.declared.events.Event.{Event}

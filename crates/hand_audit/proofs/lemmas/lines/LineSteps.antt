@@ -7,7 +7,6 @@ use Rattle.hand_events.specs.declared.events.Header.{Header}
 use Rattle.hand_events.specs.declared.events.Event.{Event}
 use Rattle.hand_events.specs.declared.events.Event.TheVariants.{Remark, Seat, Total}
 use Rattle.hand_events.specs.declared.events.TextFault.{TextFault}
-use Rattle.history_text.specs.Lines.{line_event}
 use Rattle.hand_events.specs.declared.faults.BetFault.{BetFault}
 use Rattle.betting_replay.specs.Events.{SeatFits}
 use Rattle.betting_replay.specs.CardLaws.{MarkerFits, MarkersFit}
@@ -41,12 +40,7 @@ use Rattle.hand_audit.specs.Keeping.{Keeps, Goes, EndsAs}
 use Rattle.history_text.specs.Within.{IsSeated}
 use Rattle.hand_audit.proofs.lemmas.tables.SettlementPots.{paid_shown}
 
--- the line is read by what is kept as it is by the lines so far
-pub read_is : (hand : AuditState) (g : Header) (players : ℕ) (so_far : SoFar) (line : List ℕ) → Keeps hand g players so_far → line_event hand.names g hand.part line ≡ read_at g so_far line
-unfolding read_at
-read_is hand g players so_far line k = rw (k.names, k.part) refl
-
--- so are the counts
+-- the counts are those of the lines so far
 counts_is : (hand : AuditState) (g : Header) (players : ℕ) (so_far : SoFar) (e : Event) → Keeps hand g players so_far
     → total_cause (put_in_all (paid_in hand.replay)) (taken hand.collections.items) e ≡ total_cause (put_in_by g players so_far.events) (collected so_far.events) e
 unfolding put_in_by collected
@@ -66,21 +60,21 @@ event_total g players h e u o is total = let l : legal g players h e ≡ None = 
 
 -- a line that can't be read
 pub goes_text : (new hand : AuditState) (g : Header) (players : ℕ) (so_far : SoFar) (line : List ℕ) (f : TextFault) → Keeps hand g players so_far
-    → line_event hand.names g hand.part line ≡ Err f → Goes new g players so_far line (read_at g so_far line) (Some (Text f))
-goes_text new hand g players so_far line f k is = subst (λ (r : Result Event TextFault). Goes new g players so_far line r (Some (Text f))) (sym is ∙ read_is hand g players so_far line k) refl
+    → read_at g so_far line ≡ Err f → Goes new g players so_far line (read_at g so_far line) (Some (Text f))
+goes_text new hand g players so_far line f k is = subst (λ (r : Result Event TextFault). Goes new g players so_far line r (Some (Text f))) (sym is) refl
 
 -- a line whose event may not stand
 pub goes_bet : (new hand : AuditState) (g : Header) (players : ℕ) (so_far : SoFar) (line : List ℕ) (e : Event) (f : BetFault) → Keeps hand g players so_far
-    → line_event hand.names g hand.part line ≡ Ok e → verdict (legal g players so_far.events e) ≡ Err f → Goes new g players so_far line (read_at g so_far line) (Some (Bet f))
+    → read_at g so_far line ≡ Ok e → verdict (legal g players so_far.events e) ≡ Err f → Goes new g players so_far line (read_at g so_far line) (Some (Bet f))
 goes_bet new hand g players so_far line e f k is bet =
-    subst (λ (r : Result Event TextFault). Goes new g players so_far line r (Some (Bet f))) (sym is ∙ read_is hand g players so_far line k) (event_bet g players so_far.events e f bet)
+    subst (λ (r : Result Event TextFault). Goes new g players so_far line r (Some (Bet f))) (sym is) (event_bet g players so_far.events e f bet)
 
 -- a total line that is wrong
 pub goes_total : (new hand : AuditState) (g : Header) (players : ℕ) (so_far : SoFar) (line : List ℕ) (e : Event) (u : Unit {0}) (c : Cause) → Keeps hand g players so_far
-    → line_event hand.names g hand.part line ≡ Ok e → verdict (legal g players so_far.events e) ≡ Ok u
+    → read_at g so_far line ≡ Ok e → verdict (legal g players so_far.events e) ≡ Ok u
     → total_cause (put_in_all (paid_in hand.replay)) (taken hand.collections.items) e ≡ Some c → Goes new g players so_far line (read_at g so_far line) (Some c)
 goes_total new hand g players so_far line e u c k is bet total =
-    subst (λ (r : Result Event TextFault). Goes new g players so_far line r (Some c)) (sym is ∙ read_is hand g players so_far line k)
+    subst (λ (r : Result Event TextFault). Goes new g players so_far line r (Some c)) (sym is)
     (event_total g players so_far.events e u (Some c) bet (sym (counts_is hand g players so_far e k) ∙ total))
 
 pub seats_more : (e : Event) (line : List ℕ) (names : List (ℕ × List ℕ)) → SeatFits e → All IsSeated names → All IsSeated (named_by e line names)
@@ -89,18 +83,17 @@ seats_more _ line names fits all = all
 
 -- a line that may stand
 pub goes_on : (new hand : AuditState) (g : Header) (players : ℕ) (so_far : SoFar) (line : List ℕ) (e : Event) (u : Unit {0}) → Keeps hand g players so_far
-    → line_event hand.names g hand.part line ≡ Ok e → verdict (legal g players so_far.events e) ≡ Ok u
+    → read_at g so_far line ≡ Ok e → verdict (legal g players so_far.events e) ≡ Ok u
     → total_cause (put_in_all (paid_in hand.replay)) (taken hand.collections.items) e ≡ None
-    → Fits e → MarkerFits g.game e → StandsFor new.replay g players (e ∷ so_far.events) → new.names ≡ named_by e line hand.names → new.part ≡ part_after e hand.part
+    → Fits e → MarkerFits g.game e → StandsFor new.replay g players (e ∷ so_far.events) → new.part ≡ part_after e hand.part
     → new.collections.items ≡ hand.collections.items ++ collected_by e → new.streets.items ≡ hand.streets.items ++ listed (later_begun hand.replay e) → new.rake ≡ rake_by e hand.rake
     → new.total ≡ (is_total e || hand.total)
     → Goes new g players so_far line (read_at g so_far line) None
-goes_on new hand g players so_far line e u k is bet total fits marker stands names part all noted rake' total' =
-    subst (λ (r : Result Event TextFault). Goes new g players so_far line r None) (sym is ∙ read_is hand g players so_far line k) (
+goes_on new hand g players so_far line e u k is bet total fits marker stands part all noted rake' total' =
+    subst (λ (r : Result Event TextFault). Goes new g players so_far line r None) (sym is) (
       event_total g players so_far.events e u None bet (sym (counts_is hand g players so_far e k) ∙ total),
       record {
         stands = stands;
-        names = names ∙ ap (named_by e line) k.names;
         part = part ∙ ap (part_after e) k.part;
         collections = all ∙ ap (λ xs. xs ++ collected_by e) k.collections;
         streets = noted ∙ ap (λ (t : ReplayState). hand.streets.items ++ listed (later_begun t e)) k.stands.is
@@ -124,10 +117,10 @@ none_listed t = by (is_some t.point) (any_shown t.course.showdowns)
 
 -- a remark may stand anywhere, and what is kept stands for it too
 pub goes_remark : (hand : AuditState) (g : Header) (players : ℕ) (so_far : SoFar) (line : List ℕ) → Keeps hand g players so_far
-    → line_event hand.names g hand.part line ≡ Ok Remark → Fits Remark → MarkerFits g.game Remark → Goes hand g players so_far line (read_at g so_far line) None
+    → read_at g so_far line ≡ Ok Remark → Fits Remark → MarkerFits g.game Remark → Goes hand g players so_far line (read_at g so_far line) None
 goes_remark hand g players so_far line k is fits marker =
     goes_on hand hand g players so_far line Remark tt k is (ap verdict (remark_stands (table_of g players so_far.events))) refl fits marker
-    (remark_kept hand.replay g players so_far.events k.stands) refl refl (sym (append-nil hand.collections.items))
+    (remark_kept hand.replay g players so_far.events k.stands) refl (sym (append-nil hand.collections.items))
     (sym (ap (λ xs. hand.streets.items ++ xs) (none_listed hand.replay) ∙ append-nil hand.streets.items)) refl refl
 
 -- a line that departs for what it says doesn't depart for a payment

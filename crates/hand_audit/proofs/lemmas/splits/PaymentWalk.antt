@@ -9,7 +9,7 @@ use Rattle.hand_verdict.specs.declared.settlement.Payment.{Payment}
 use Rattle.hand_audit.specs.Collections.{taken_from, got_from}
 use Rattle.pot_layers.specs.declared.paid.Share.{Share}
 use Rattle.pot_layers.specs.Split.{given_in_all}
-use Rattle.hand_audit.specs.Settle.{due_of_seat, payments_from, beyond_among, beyond_from, is_payment, distance}
+use Rattle.hand_audit.specs.Settle.{due_of_seat, payment, payments_from, beyond_among, beyond_from, is_payment, distance}
 
 -- a seat has no more than was taken from the pot
 pub got_within : (test : PotName → Bool) (seat : ℕ) (all : List Collection) → got_from test seat all ≤ taken_from test all
@@ -33,6 +33,11 @@ due_within seat (share ∷ all) =
     by : (a : Bool) → (if a then share.units else 0) ≤ share.units
     by true = omega arith
     by false = omega arith
+
+-- the payment of a seat that got so much and is given so much by the shares
+pub payment_is : (checked : Bool) (seat got taken given : ℕ) (shares : List Share) (pay : Payment) → pay ≡ record { seat = seat; got = taken; due = if checked then given else taken } → taken ≡ got → given ≡ due_of_seat seat shares
+    → pay ≡ payment checked got shares seat
+payment_is checked seat got taken given shares pay is took due = is ∙ rw (took, due) refl
 
 pays_none : (f : ℕ → Payment) (p : ℕ) → is_payment (f p) ≡ false → p < 11 → payments_from f p (11 - p) ≡ payments_from f (p + 1) (11 - (p + 1))
 pays_none f p none h = let more : 11 - p ≡ suc (11 - (p + 1)) = omega arith in rw (more, none) refl

@@ -10,6 +10,6 @@ pub returns : goal.returns
 returns c =
     let items = c.args.self.now.collections.items in
     let s = showing_at c.args.game c.args.self.now.replay items in
-    let coll = collections_shown c.args.game c.args.self.now.replay items ∙ sym c.deref-2.ensures.value in
+    let coll = collections_shown c.args.game c.args.self.now.replay items ∙ sym c.deref.ensures.value in
     let all = pots_shown c.args.game c.args.self.now.replay items ∙ sym c.in_ok-all.ensures ∙ sym c.items.ensures in
     IfOk-weaker c.settle.result _ _ (λ settled made d. made s (c.of-standings.ensures.tells items) (subst (λ (xs : List Pot). AreDecided s xs) (sym c.in_ok-all.ensures ∙ sym c.items.ensures) d) coll all) c.settle.ensures
