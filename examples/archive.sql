@@ -14,7 +14,7 @@ CREATE TABLE programs (sha256 TEXT, version TEXT);
 CREATE TABLE files (file INTEGER PRIMARY KEY, path TEXT UNIQUE, stamp TEXT, audited INTEGER);
 
 -- number: as the header has it. A rejected hand has no game, unit, rake or twice; collected: what all players got of an accepted one.
--- What stands behind them is what the text says beside the rules: the header's clock, and a second one where it tells two; the table,
+-- What stands after them is what the text says beside the rules: the header's clock, and a second one where it tells two; the table,
 -- the tournament with its buy-in, the stakes as numbers, the betting limit, the word or sign of the currency; the seat whose cards it
 -- shows from the start; the boards; whether somebody cashed out. again: 1 where another hand of this number is first_told
 CREATE TABLE hands (

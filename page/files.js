@@ -39,7 +39,7 @@ const files = (() => {
         return report;
     };
 
-    // Adds the hands of a file, in order, piece by piece. Behind each piece goesOn(part, count) is told which part was done, from 0 to 1, and
+    // Adds the hands of a file, in order, piece by piece. After each piece goesOn(part, count) is told which part was done, from 0 to 1, and
     // how many hands were found, and answers whether to go on.
     const read = async (file, all, goesOn) => {
         if (!goesOn(0, 0)) return false;

@@ -39,7 +39,7 @@ const texts = (() => {
         return text;
     };
 
-    // a game with a limit, where both first stand in a header, and the stakes behind them
+    // a game with a limit, where both first stand in a header, and the stakes after them
     const stakes = (header) => {
         let found = null;
         for (const game of GAMES) for (const limit of LIMITS) {

@@ -10,10 +10,10 @@ pub use Rattle.betting_replay.proofs.lemmas.steps.NextTable.{seat_below}
 pub use Rattle.betting_replay.proofs.lemmas.steps.RemarkSteps.{remark_kept, remark_stands}
 -- Accepted events keep each seat's chips.
 pub use Rattle.betting_replay.proofs.lemmas.chips.ChipsStay.{chips_stay}
--- A game with a board has no draw, and so no discard begins a street; behind a showdown or the summary no street comes.
+-- A game with a board has no draw, and so no discard begins a street; after a showdown or the summary no street comes.
 pub use Rattle.betting_replay.proofs.lemmas.streets.GameFamilies.{no_draw, none_after_end, none_begun}
--- A marker that was accepted may stand. That of a street is the next on its board, and where none comes next none stands.
-pub use Rattle.betting_replay.proofs.lemmas.places.DeadCards.{marker_of}
+-- Streets that `is_street` finds the same are one. A marker that was accepted may stand. That of a street is the next on its board, and where none comes next none stands.
+pub use Rattle.betting_replay.proofs.lemmas.places.DeadCards.{street_is, marker_of}
 pub use Rattle.betting_replay.proofs.lemmas.boards.TwoBoards.{never_none, stands_on}
 -- A hand that is run twice has a board. A street comes next on a second board only in such a hand. A point that was found stays.
 pub use Rattle.betting_replay.proofs.lemmas.boards.TwoBoards.{point_kept, second_needs, twice_board}

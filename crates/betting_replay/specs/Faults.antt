@@ -110,7 +110,7 @@ next_first may (Some from) board.Only next = None
 next_first may (Some from) board.First next = next
 next_first may (Some from) board.Second next = None
 
--- on the second board the same streets come behind the last of the first
+-- on the second board the same streets come after the last of the first
 abbrev pub next_second : Option StreetName → BoardNumber → Bool → Option StreetName → Option StreetName
 next_second None marker last next = None
 next_second (Some from) board.Only last next = None
@@ -129,7 +129,7 @@ all_begun t = t.course.last_begun && (is_none t.course.split_from || is_last_of 
 abbrev pub may_end : ReplayState → Bool
 may_end t = all_begun t || nat_lt (contender_count t) 2
 
--- a showdown's marker comes once: the only one or that of the first board, and behind either that of the second; those of two boards
+-- a showdown's marker comes once: the only one or that of the first board, and after either that of the second; those of two boards
 -- only where the hand is run twice
 abbrev pub shows_next : ReplayState → BoardNumber → Bool
 shows_next t board.Only = not (any_shown t.course.showdowns)
@@ -160,7 +160,7 @@ uncalled_amiss t _ = None
 unfoldable pub card_twice : ReplayState → Event → Option BetFault
 card_twice t e = fault_with CardTwice (first_twice (is_free t.named (own_at t (seat_of e)) (is_board e)) (barred t.header.game t.thrown) (cards_named e))
 
--- 14: a post behind the marker of the first street; a bring-in elsewhere than on the first street before its first act
+-- 14: a post after the marker of the first street; a bring-in elsewhere than on the first street before its first act
 unfoldable pub post_late : ReplayState → Event → Option BetFault
 post_late t (Post seat kind units all_in) =
     fault_if (if is_bring_in kind then not (is_first t.course.street && is_none t.course.last_actor) else t.course.opened) PostLate

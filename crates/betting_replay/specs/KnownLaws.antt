@@ -28,7 +28,7 @@ KnowsAllDealt = (header : Header) (h : List Event) (p : ℕ) (street : StreetNam
     → family_of header.game ≡ family.Stud → cards_at header h p street ≡ Some cards
     → length cards ≡ dealt_by_street street
 
--- what a player of a game with one draw kept is a part of his final cards where one of three holds: he showed no whole hand behind his last
+-- what a player of a game with one draw kept is a part of his final cards where one of three holds: he showed no whole hand after his last
 -- discard; of the cards that belong to him five at the most weren't thrown away; or what he kept isn't told by five dealt cards and
 -- the discards, since he stands pat or discards five
 pub record StillHolds (header : Header) (h : List Event) (p : ℕ) (kept final : List ℕ) : Type 0 where

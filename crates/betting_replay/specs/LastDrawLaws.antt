@@ -18,7 +18,7 @@ pub record TellsLastDraw (header : Header) (all since before : List Event) (p : 
   pub pat_since : (last_draw_of header all p).pat ≡ marked stands_pat since p
   pub five_since : (last_draw_of header all p).five ≡ marked discards_five since p
 
--- where the last street begins with an event, behind others and before others; the latest event stands first
+-- where the last street begins with an event, after others and before others; the latest event stands first
 abbrev pub PartsLastDraw : Type 0
 PartsLastDraw = (header : Header) (later : List Event) (e : Event) (before : List Event) (p : ℕ)
     → last_begun header before ≡ false → last_begun header (e ∷ before) ≡ true

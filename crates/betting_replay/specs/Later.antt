@@ -1,4 +1,4 @@
--- The streets that begin behind the all-in point, as the hand is played out.
+-- The streets that begin after the all-in point, as the hand is played out.
 use Rattle.std.specs.Prelude.{ℕ, ◌&&◌, not, Bool, false, if◌then◌else◌, List, [], ◌∷◌, ◌++◌, Option, Some, None, is_some}
 use Rattle.card_sets.specs.declared.games.Game.{Game}
 use Rattle.card_sets.specs.declared.streets.Street.{Street as StreetName}
@@ -24,7 +24,7 @@ if_later (Some street) = if is_later street then Some street else None
 abbrev pub later_by : Game → Option StreetName → Event → Option StreetName
 later_by game street e = if is_of_second e then None else if_later (begins game street e)
 
--- the street after the first that an event begins behind the all-in point, and before any showdown's marker
+-- the street after the first that an event begins after the all-in point, and before any showdown's marker
 abbrev pub later_begun : ReplayState → Event → Option StreetName
 later_begun t e = if is_some t.point && not (any_shown t.course.showdowns) then later_by t.header.game t.course.street e else None
 

@@ -20,13 +20,13 @@ abbrev pub ever_thrown : List Event → List ℕ
 ever_thrown [] = []
 ever_thrown (e ∷ h) = union (ever_thrown h) (thrown_by e)
 
--- the events behind the last that threw a card away, where it may come again, and else all
+-- the events after the last that threw a card away, where it may come again, and else all
 abbrev pub since : Header → List Event → ℕ → List Event
 since header [] card = []
 since header (e ∷ h) card = if has_card (lost_by header.game e) card then [] else e ∷ since header h card
 
 pub record PlacesCards : Type 0 where
-  -- a card's place is that of the first event that names it behind the last that threw it away
+  -- a card's place is that of the first event that names it after the last that threw it away
   pub behind : (header : Header) (h : List Event) (card : ℕ)
       → place header.game h card ≡ first_place (since header h card) card
   -- where no card may come again these are all events, and after accepted ones every card that was thrown away stays so

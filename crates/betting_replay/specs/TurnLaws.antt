@@ -28,7 +28,7 @@ pub record IsNearest (test : ℕ → Bool) (from seat to : ℕ) : Type 0 where
   pub owing : test seat ≡ true
   pub nobody : (other : ℕ) → IsBetween from other seat → test other ≡ false
 
--- the last actor of the street and the nearest who owes an act behind him, before another
+-- the last actor of the street and the nearest who owes an act after him, before another
 pub record PassesOver (header : Header) (players : ℕ) (h : List Event) (seat to : ℕ) : Type 0 where
   pub from : ℕ
   pub acted : last_actor header h ≡ Some from

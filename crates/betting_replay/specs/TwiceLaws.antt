@@ -22,7 +22,7 @@ pub record ShareBoards (header : Header) (h : List Event) (from : StreetName) (o
       → has_card (owned header.game h 0) card ≡ true
   pub second : (card : ℕ) → has_card (board_before h from) card ≡ true → has_card others card ≡ true
 
--- after accepted events whose markers have their cards a hand that is run twice has a board, has two from a street behind the first on, and was
+-- after accepted events whose markers have their cards a hand that is run twice has a board, has two from a street after the first on, and was
 -- at its all-in point before: the board's cards of that point are among those before. Its boards share exactly these
 pub record IsRunTwice (header : Header) (players : ℕ) (h : List Event) (from : StreetName) : Type 0 where
   pub board : has_board header.game ≡ true

@@ -79,7 +79,7 @@ impl Replay {
         }
     }
 
-    /// The street of the all-in point: the first moment behind the first street's marker with two
+    /// The street of the all-in point: the first moment after the first street's marker with two
     /// players or more in the hand, at most one of them with chips left, nobody who owes an act, and
     /// the last street to come. None exactly where no moment so far was one.
     pub fn all_in_point(&self) -> Option<Street>

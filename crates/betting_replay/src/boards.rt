@@ -111,7 +111,7 @@ pub(crate) fn second_after(e: &Event, board: Board) -> Board
 
 impl Replay {
     /// The cards of the board that came on the streets up to this one, of the first where there are two.
-    /// A showdown and the summary stand behind all streets.
+    /// A showdown and the summary stand after all streets.
     pub fn board_at(&self, street: Street) -> CardSet
         ensures { result ≡ board_at self.now street }
     {

@@ -85,7 +85,7 @@ impl Replay {
 
     /// A seat's final cards. With a board they are the last whole hand that it showed, or that the
     /// summary gives, or else its dealt cards, where they are a whole hand. In a stud game they are
-    /// all seven. In a draw game they are the last whole hand behind its last discard, or else what it
+    /// all seven. In a draw game they are the last whole hand after its last discard, or else what it
     /// was dealt and drew less what it threw away, where these are five and each discard was shown.
     /// None exactly where they are unknown.
     #[tactic(auto, unfolding(crate::specs::Table::final_at))]

@@ -1,7 +1,7 @@
 //! The replay of a hand: which event may follow which, and what the events make of each seat.
 //!
 //! A `Replay` begins with a header and a set of players, and goes on by one event a step.
-//! `Replay::step` answers `Ok` where the event may stand behind those before it, and else the first
+//! `Replay::step` answers `Ok` where the event may stand after those before it, and else the first
 //! rule that it breaks: there are sixteen, in the order of `BetFault`. After a refusal the replay is as
 //! it was. Nothing takes memory, and a step takes no longer in a long hand than in a short one.
 //!

@@ -132,7 +132,7 @@ fn next_first(
     }
 }
 
-/// The street that comes next on the second board: behind the last street of the first board the one from
+/// The street that comes next on the second board: after the last street of the first board the one from
 /// which on there are two.
 fn next_second(
     twice: Option<Street>,
@@ -193,7 +193,7 @@ fn later_by(game: Game, street: Option<Street>, e: &Event) -> Option<Street>
 }
 
 impl Replay {
-    /// The street after the first that an event would begin behind the all-in point, with no showdown's
+    /// The street after the first that an event would begin after the all-in point, with no showdown's
     /// marker before it. None where the event is a marker of a second board.
     pub fn later_begun(&self, e: &Event) -> Option<Street>
         ensures { result ≡ later_begun self.now e.now }
@@ -320,7 +320,7 @@ impl Replay {
     }
 
     /// Whether a showdown's marker comes in its order: once, and of two boards only in a hand that is run
-    /// twice, that of the second behind one of the others.
+    /// twice, that of the second after one of the others.
     fn shows_next(&self, board: BoardNumber) -> bool
         ensures { result ≡ shows_next self.now board }
     {

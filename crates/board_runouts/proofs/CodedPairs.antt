@@ -196,7 +196,7 @@ pub fields_put : (deal : Showdown) (taken : List ℕ) (codes : Codes) (pairs : L
 fields_put deal taken codes pairs sum old mid new few seven all put pot place side p has l =
     omega (arith, put pot place side p has l, all.1.grown pot place side p has l, fields_are deal taken codes pairs sum old mid pot place side few seven p has all)
 
--- one piece behind another
+-- one piece after another
 take_none : {X : Type 0} (n : ℕ) → take {A = X} n [] ≡ []
 take_none zero = refl
 take_none (suc n) = refl

@@ -37,7 +37,7 @@ zeros zero place = refl
 zeros (suc n) zero = refl
 zeros (suc n) (suc place) = zeros n place
 
--- a card behind others is above the last of them
+-- a card after others is above the last of them
 last_below : (low : ℕ) (cards : List ℕ) (card last : ℕ) (more : List ℕ) → RisingFrom low (cards ++ card ∷ more) → slice_get cards (length cards - 1) ≡ Some last → last < card
 last_below low [] card last more r e = cc
 last_below low (c ∷ []) card last more r e = let same : c ≡ last = cc in let up = r.2.0 in omega arith

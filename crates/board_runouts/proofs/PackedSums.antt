@@ -119,7 +119,7 @@ all_spread ends n add number (x ∷ xs) all =
     λ c. ap (λ k. cond (slice_index ends c == n) k 0) (count_cons (λ y. add y == field c) x xs) ∙ cond-more (slice_index ends c == n) (cond (add x == field c) 1 0) (fields add xs c) in
     omega (arith, here, ih, more 0, more 1, more 2, more 3, more 4, more 5, more 6, count_cons (λ y. number y == n) x xs)
 
--- taking fields off one behind another gives them all
+-- taking fields off one after another gives them all
 field_off : (ends : List ℕ) (end n more number : ℕ) → n < 512 → fields_at (end ∷ ends) (n + 512 * more) number ≡ cond (end == number) n 0 + fields_at ends more number
 unfolding fields_at
 field_off ends end n more number l =

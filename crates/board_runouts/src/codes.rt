@@ -55,7 +55,7 @@ fn same_outcome(a: &[u16; ENDS], b: &[u16; ENDS]) -> bool
 /// Who wins all pots with first cards of some ranks, for each pair of ranks of the last two cards: a code for each outcome.
 #[derive(Clone, Copy)]
 pub(crate) struct Codes {
-    /// The ranks of the first cards, up to three, and 13 behind them.
+    /// The ranks of the first cards, up to three, and 13 after them.
     pub(crate) ranks: [u8; 3],
     /// The least rank of the two last cards.
     pub(crate) least: u8,
@@ -104,7 +104,7 @@ impl Codes {
         let _adds: &[u64] = &self.adds;
     }
 
-    /// Whether they are those of first cards of these ranks, the last of which is the least of the cards behind them.
+    /// Whether they are those of first cards of these ranks, the last of which is the least of the cards after them.
     #[inline]
     pub(crate) fn are_for(&self, ranks: &[u8; 3], least: u8) -> bool
         ensures ranks { IsTrue result → self.now.ranks ≡ ranks.now }

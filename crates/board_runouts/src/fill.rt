@@ -68,7 +68,7 @@ pub(crate) fn fill_rows(
     // From the base on there is a row for each pot.
     requires room { base + table.now.pots ≤ length rows.old }
 
-    // The game has a board, which lacks two cards behind the first ones, and each hand has all its own cards.
+    // The game has a board, which lacks two cards after the first ones, and each hand has all its own cards.
     requires dealt { IsTrue (has_board table.now.known.game) }
     requires first { AreFirst (state_of table.now.known) taken }
     requires own { (h : ℕ) → h < length (state_of table.now.known).hands

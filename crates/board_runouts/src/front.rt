@@ -51,7 +51,7 @@ fn wanted_bits(cards: CardSet, wanted: bool) -> [u32; 4] {
 
 impl FirstCards {
     /// First cards of a board, with the table of suits for so many cards of each, where pairs that may be a flush are to be counted
-    /// behind them or aren't.
+    /// after them or aren't.
     #[inline]
     pub(crate) fn with(
         spot: &BoardSpot,

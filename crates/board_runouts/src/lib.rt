@@ -1,7 +1,7 @@
 //! Runouts that deal the board alone, many at once: leaves of the walk of `runout_walk` for hold'em, Omaha and Omaha Hi/Lo.
 //!
 //! **Boards** ([`Boards`]: the board alone lacks cards, two or more). The walk deals all but the last two cards; then there are up to
-//! 1,176 pairs behind them.
+//! 1,176 pairs after them.
 //!
 //! 1. *A row by ranks.* Suits aside, who wins depends on the ranks of the pair alone: for the first cards' ranks a row of each pot
 //!    has, at 13 times the lower rank and the higher, who wins the high and the low. A row is filled where its ranks are met first,

@@ -24,7 +24,7 @@ pub(crate) struct Pairs {
     pub(crate) cards: CardSet,
     /// How many pairs there are.
     pub(crate) used: usize,
-    /// The pairs, and others behind them.
+    /// The pairs, and others after them.
     pub(crate) pairs: Vec<Pair>,
     /// Their sieves.
     pub(crate) sieves: Sieves,
@@ -47,7 +47,7 @@ pub(crate) struct Stretch {
     pub(crate) end: usize,
 }
 
-/// Puts the pairs of a card with each of some others behind the first `used` ones, and gives how many there are then.
+/// Puts the pairs of a card with each of some others after the first `used` ones, and gives how many there are then.
 #[inline]
 fn put_pairs(pairs: &mut [Pair], used: usize, low: Card, others: &[Card]) -> usize
     requires { used + length others.now ≤ length pairs.old }

@@ -15,7 +15,7 @@ pub(crate) const PLACES: usize = 169;
 pub(crate) struct Row {
     /// The pot, from 0.
     pub(crate) pot: u8,
-    /// The ranks of the first cards, up to three, and 13 behind them.
+    /// The ranks of the first cards, up to three, and 13 after them.
     pub(crate) ranks: [u8; 3],
     /// The least rank of the two last cards.
     pub(crate) least: u8,
@@ -95,7 +95,7 @@ impl Row {
         self.tops[place] = ends.top;
     }
 
-    /// Whether it is one of a pot for first cards of these ranks, the last of which is the least of the cards behind them.
+    /// Whether it is one of a pot for first cards of these ranks, the last of which is the least of the cards after them.
     #[inline]
     pub(crate) fn is_for(&self, pot: u8, ranks: &[u8; 3], least: u8) -> bool
         ensures pot { IsTrue result → self.now.pot ≡ pot }
@@ -118,7 +118,7 @@ fn rank_or_none(card: Option<Card>) -> u8
     }
 }
 
-/// The ranks of up to three cards, rising, and 13 behind them.
+/// The ranks of up to three cards, rising, and 13 after them.
 #[inline]
 pub(crate) fn ranks_of(cards: CardSet) -> [u8; 3]
     requires { length cards ≤ 3 }
@@ -132,7 +132,7 @@ pub(crate) fn ranks_of(cards: CardSet) -> [u8; 3]
     [first, second, third]
 }
 
-/// The rank of the last of some cards, 0 of none. No card behind them has a lower one.
+/// The rank of the last of some cards, 0 of none. No card after them has a lower one.
 #[inline]
 pub(crate) fn last_rank(cards: CardSet) -> u8
     ensures { (card : ℕ) (more : List ℕ) → IsRising (cards ++ card ∷ more) → result ≤ rank_of card }

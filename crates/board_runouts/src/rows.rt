@@ -128,7 +128,7 @@ impl Rows {
         ranks: &[u8; 3],
         least: u8,
     ) -> usize
-        // The game has a board, which lacks two cards behind the first ones; the hands are full, and the rows are right.
+        // The game has a board, which lacks two cards after the first ones; the hands are full, and the rows are right.
         requires dealt { IsTrue (has_board table.now.known.game) }
         requires right { AreRows (deal_of table.now) self.old.rows.items }
         requires first { AreFirst (state_of table.now.known) taken }
@@ -228,7 +228,7 @@ impl Rows {
     ) -> usize
         requires group { group < 96 }
 
-        // The game has a board, which lacks two cards behind the first ones; the hands are full, and the rows are right.
+        // The game has a board, which lacks two cards after the first ones; the hands are full, and the rows are right.
         requires dealt { IsTrue (has_board table.now.known.game) }
         requires right { AreRows (deal_of table.now) self.old.rows.items }
         requires first { AreFirst (state_of table.now.known) taken }

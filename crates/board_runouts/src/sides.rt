@@ -84,7 +84,7 @@ pub(crate) fn worths_with(
     high: u8,
     worths: &mut Worths,
 )
-    // The game has a board, which lacks two cards behind the first ones, and each hand has all its own cards.
+    // The game has a board, which lacks two cards after the first ones, and each hand has all its own cards.
     requires dealt { IsTrue (has_board known.now.game) }
     requires first { AreFirst (state_of known.now) taken }
     requires own { (h : ℕ) → h < length (state_of known.now).hands

@@ -172,7 +172,7 @@ fn are_few(counts: [u32; 4]) -> bool
     counts[0] <= 2 && counts[1] <= 2 && counts[2] <= 2 && counts[3] <= 2
 }
 
-/// The suit of which somebody may have a flush behind first cards of the board, at 4 times the suit of one of the last two cards and
+/// The suit of which somebody may have a flush after first cards of the board, at 4 times the suit of one of the last two cards and
 /// that of the other, or else 4: one of which a number for the suit and its first and last cards are more than four together. None
 /// where there is no such suit for any two.
 #[inline]

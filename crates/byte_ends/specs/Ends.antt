@@ -11,7 +11,7 @@ Rises old new = (old < new) ⊎ (old ≡ 2 ^ 64 - 1) × (new ≡ old)
 abbrev pub one_more : ℕ → ℕ
 one_more count = min (count + 1) (2 ^ 64 - 1)
 
--- n bytes of what was left stand in front of the piece, and are left no more; what isn't told stays untold
+-- n bytes of what was left stand at the front of the piece, and are left no more; what isn't told stays untold
 abbrev pub Reads : Option (List ℕ) → Option (List ℕ) → List ℕ → List ℕ → ℕ → Type 0
 Reads None new before after n = new ≡ None
 Reads (Some left) new before after n =
@@ -52,7 +52,7 @@ GivesFirst (Some left) new None = new ≡ Some left
 GivesFirst (Some left) new (Some bytes) =
     (rest : List ℕ) × (new ≡ Some rest) × (left ≡ bytes ++ rest) × (bytes ≡ [] → left ≡ [])
 
--- what one write does to the bytes taken so far, where they are told: some are put behind them, or it fails and they stay
+-- what one write does to the bytes taken so far, where they are told: some are put after them, or it fails and they stay
 abbrev pub TakesMore : Option (List ℕ) → Option (List ℕ) → Option (List ℕ) → Type 0
 TakesMore None new write = new ≡ None
 TakesMore (Some taken) new None = new ≡ Some taken

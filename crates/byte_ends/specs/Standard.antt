@@ -21,7 +21,7 @@ ReadsStd old new None = IsFailed old new
 ReadsStd old new (Some bytes) =
     Consumes old.known new.known bytes × (bytes ≡ [] → IsAtEnd new.known) × (new.faults ≡ old.faults)
 
--- one write to a writer: the bytes that it takes, one or more, come behind those that are known
+-- one write to a writer: the bytes that it takes, one or more, come after those that are known
 abbrev pub WritesStd : StdState → StdState → Option (List ℕ) → Type 0
 WritesStd old new None = IsFailed old new
 WritesStd old new (Some bytes) =

@@ -90,7 +90,7 @@ pub trait Sink {
         // It is one write.
         ensures one { 0 < length piece.now → writes self.old self.new (moved_by result piece.now) };
 
-    // One write puts bytes behind those that were taken, where they are told, or is counted as a fault.
+    // One write puts bytes after those that were taken, where they are told, or is counted as a fault.
     ghost tells: { (old new : Self) (write : Option (List ℕ)) → writes old new write
         → TakesMore (taken old) (taken new) write × CountsFault (faults old) (faults new) write };
 }

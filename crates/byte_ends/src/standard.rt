@@ -113,7 +113,7 @@ impl<W: Write> Sink for StdSink<W> {
         // The count goes up by one, and stays at its type's end.
         ensures counted { OnErr result (self.new.faults ≡ one_more self.old.faults) }
 
-        // Where std's writer tells its bytes these come behind them.
+        // Where std's writer tells its bytes these come after them.
         ensures known { WriteAppends self.old.known self.new.known result piece.now }
     {
         match self.writer.write(piece) {

@@ -67,7 +67,7 @@ fn letters_name_cards(rt: HostRuntime) {
     assert!(rt; all_nameless(NAMELESS));
 }
 
-/// Whether the cards of a set are these, each behind the one before.
+/// Whether the cards of a set are these, each after the one before.
 fn rises(set: CardSet, texts: &[[u8; 2]]) -> bool {
     let mut next = set.first();
     for text in texts {

@@ -43,7 +43,7 @@ pub(crate) fn five_or_more(text: &str) -> Option<CardSet>
     }
 }
 
-/// The cards of at most ten texts, and no cards behind them.
+/// The cards of at most ten texts, and no cards after them.
 fn hands_of(texts: &[&[u8]]) -> Option<[CardSet; 10]> {
     let mut hands = [CardSet::empty(); 10];
     for (place, text) in texts.iter().enumerate() {
@@ -103,7 +103,7 @@ fn fits(game: Game, hands: &[CardSet; 10], board: CardSet) -> bool
     board.count() <= game.board_size() && are_small(&hands[..], game.own_size())
 }
 
-/// Whether the hands behind so many have no cards.
+/// Whether the hands after so many have no cards.
 fn are_unused(hands: &[CardSet; 10], count: u8) -> bool
     requires { count ≤ 10 }
     ensures { result ≡ all_empty (drop count hands.now) }

@@ -8,7 +8,7 @@ const GREATEST: u128 = 100_000_000_000_000_000_000_000_000_000_000;
 /// The greatest numerator, twice as great.
 const TWICE: u128 = 200_000_000_000_000_000_000_000_000_000_000;
 
-/// Whether a number is written as this text at the front of a room of underscores, and these bytes stand behind it.
+/// Whether a number is written as this text at the front of a room of underscores, and these bytes stand after it.
 fn is_written(number: Fixed, text: &[u8], behind: &[u8]) -> bool {
     if number.places > 4 {
         return false;

@@ -81,7 +81,7 @@ fn table_of(known: Option<Known>) -> Option<Table> {
     None
 }
 
-/// The shape of the next street. None where too few cards are left, and behind the last street.
+/// The shape of the next street. None where too few cards are left, and after the last street.
 fn step_of(known: &Known) -> Option<Shape>
     ensures { IfSome result (λ step. IsNextOf (state_of known.now) step) }
 {
@@ -95,7 +95,7 @@ fn divisions_of(known: &Known) -> Option<u64> {
     Some(divisions(known))
 }
 
-/// What is known behind the first choice of the next street's cards.
+/// What is known after the first choice of the next street's cards.
 fn behind_first(known: &Known, step: &Shape) -> Known
     requires { IsNextOf (state_of known.now) step.now }
 {
@@ -104,7 +104,7 @@ fn behind_first(known: &Known, step: &Shape) -> Known
     after_street(known, step, &first)
 }
 
-/// What is known behind the next street.
+/// What is known after the next street.
 fn behind(known: &Known) -> Option<Known> {
     match step_of(known) {
         Some(step) => Some(behind_first(known, &step)),
@@ -113,7 +113,7 @@ fn behind(known: &Known) -> Option<Known> {
 }
 
 /// What the next street of a state is: its slots, how many cards may come, in how many ways a runout divides, and
-/// how many cards the board and the first two hands have behind it.
+/// how many cards the board and the first two hands have after it.
 type Next = (&'static [Slot], u32, u64, [u32; 3]);
 
 /// How many cards the board and the first two hands have.
@@ -147,7 +147,7 @@ fn is_next(spot: &Spot, street: &Next) -> bool {
     }
 }
 
-/// How many cards the board has, and how many on each street behind; 0 behind the last.
+/// How many cards the board has, and how many on each street after; 0 after the last.
 fn board_sizes(known: Known) -> [u32; 5] {
     let mut sizes = [0; 5];
     let mut at = known;

@@ -43,12 +43,12 @@ is_draw_street _ = false
 abbrev pub streets_of : Game → List Street
 streets_of game = streets_by (family_of game)
 
--- the street behind one in a list of streets
+-- the street after one in a list of streets
 abbrev pub street_after : Street → List Street → Option Street
 street_after street [] = None
 street_after street (first ∷ others) = if is_street street first then slice_get others 0 else street_after street others
 
--- the street that comes next in a game: the first where none has begun, and none behind the last
+-- the street that comes next in a game: the first where none has begun, and none after the last
 abbrev pub next_street : Game → Option Street → Option Street
 next_street game None = slice_get (streets_of game) 0
 next_street game (Some street) = street_after street (streets_of game)

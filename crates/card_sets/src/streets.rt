@@ -87,7 +87,7 @@ fn first_of(streets: &[Street]) -> Option<Street>
     }
 }
 
-/// The street behind one in a list of streets.
+/// The street after one in a list of streets.
 fn street_after(street: Street, streets: &[Street]) -> Option<Street>
     ensures { result ≡ street_after street streets.now }
 {
@@ -171,8 +171,8 @@ impl Game {
         }
     }
 
-    /// The street that comes next, the first of all where none has begun. None behind the last, and
-    /// behind what isn't a street of the game.
+    /// The street that comes next, the first of all where none has begun. None after the last, and
+    /// after what isn't a street of the game.
     pub fn next_street(self, street: Option<Street>) -> Option<Street>
         ensures { result ≡ next_street self street }
     {

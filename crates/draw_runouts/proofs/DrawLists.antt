@@ -85,7 +85,7 @@ few_twos cards (suc zero) h l m = let size : binomial 52 1 ≡ 52 = refl in few_
 few_twos cards (suc (suc zero)) h l m = let size : binomial 52 2 ≡ 1326 = refl in few_of cards 2 1326 h (omega arith)
 few_twos cards (suc (suc (suc n))) h l m = absurd (omega arith)
 
--- ends that are moved to the end of the list where they are behind it
+-- ends that are moved to the end of the list where they are after it
 clipped : {X : Type 0} (xs : List X) (lo hi : ℕ) → slice_range xs (min lo (length xs)) (min hi (length xs)) ≡ slice_range xs lo (min hi (length xs))
 clipped xs lo hi = elim (cases_lt lo (length xs)) [
   | inl l ↦ (let m : min lo (length xs) ≡ lo = omega arith in ap (λ n. slice_range xs n (min hi (length xs))) m)
@@ -151,7 +151,7 @@ no_pairs [] h = refl
 no_pairs (x ∷ []) h = refl
 no_pairs (x ∷ y ∷ xs) h = absurd (omega arith)
 
--- behind the first numbers some draws of a range have theirs, one behind the other
+-- after the first numbers some draws of a range have theirs, one after the other
 pub record IsFilling (f : List ℕ → ℕ) (first : List ℕ) (whole todo : List (List ℕ)) (used : ℕ) (values : List ℕ) : Type 0 where
   pub done : List (List ℕ)
   pub split : whole ≡ done ++ todo

@@ -7,7 +7,7 @@ pub base_first : plane_base 0 ≡ 0
 unfolding plane_base
 base_first = refl
 
--- the next table begins behind the rows that this one uses
+-- the next table begins after the rows that this one uses
 pub base_next : (n : ℕ) → plane_base (n + 1) ≡ plane_base n + (50 - n)
 unfolding plane_base
 base_next n = let up : n + 1 ≡ suc n = omega arith in ap plane_base up

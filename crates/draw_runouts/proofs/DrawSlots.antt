@@ -11,7 +11,7 @@ use Rattle.runout_ranges.specs.Slots.{slot_of, hand_slots, counts_of, dealt, slo
 use Rattle.runout_ranges.specs.declared.shapes.Receiver.{Receiver}
 use Rattle.runout_ranges.specs.declared.shapes.Receiver.TheVariants.{Board, Hand}
 use Rattle.runout_ranges.specs.declared.shapes.Slot.{Slot}
-use Rattle.showdown_tally.proofs.CallerLemmas.{Deals}
+use Rattle.showdown_tally.proofs.CallerLemmas.{Deals, no_earlier}
 use Rattle.draw_runouts.specs.Draws.{hand_at, last_hand}
 use Rattle.runout_walk.specs.Listing.{last_count}
 
@@ -54,18 +54,6 @@ dealt_none : (some : List Slot) (r : Receiver) → dealt some [] r ≡ []
 dealt_none [] r = refl
 dealt_none (slot ∷ some) r = refl
 
--- slots of later hands are none of an earlier one
-no_earlier : (size number : ℕ) (hands : List (List ℕ)) (sets : List (List ℕ)) (i : ℕ) → i < number → dealt (hand_slots size number hands) sets (Hand i) ≡ []
-no_earlier size number [] sets i l = refl
-no_earlier size number (hand ∷ hands) sets i l =
-    let other : (number == i) ≡ false = grind arith in
-    one other (λ others. no_earlier size (number + 1) hands others i (omega arith)) (size - length hand) sets
-  where
-    one : (number == i) ≡ false → ((others : List (List ℕ)) → dealt (hand_slots size (number + 1) hands) others (Hand i) ≡ []) → (n : ℕ) (others : List (List ℕ)) → dealt (slot_of (Hand number) n ++ hand_slots size (number + 1) hands) others (Hand i) ≡ []
-    one f rest zero others = rest others
-    one f rest (suc n) [] = refl
-    one f rest (suc n) (set ∷ others) = rw f (rest others)
-
 -- a hand is dealt the next set where it lacks cards
 pub dealt_here : (size h : ℕ) (own : List ℕ) (rest sets : List (List ℕ)) → dealt (hand_slots size h (own ∷ rest)) sets (Hand h) ≡ cond (nat_lt (length own) size) (slice_index_or sets 0 []) []
 dealt_here size h own rest sets = one (size - length own) refl sets
@@ -85,7 +73,7 @@ dealt_here size h own rest sets = one (size - length own) refl sets
         let same : (h == h) ≡ true = grind arith in
         rw (t, same) refl
 
--- and later hands the sets behind it
+-- and later hands the sets after it
 pub dealt_later : (size h k : ℕ) (own : List ℕ) (rest sets : List (List ℕ)) → h < k → dealt (hand_slots size h (own ∷ rest)) sets (Hand k) ≡ dealt (hand_slots size (h + 1) rest) (drop (cond (nat_lt (length own) size) 1 0) sets) (Hand k)
 dealt_later size h k own rest sets l = one (size - length own) refl sets
   where

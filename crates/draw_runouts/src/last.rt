@@ -1,4 +1,4 @@
-//! The numbers of the last hand's draws, one behind the other.
+//! The numbers of the last hand's draws, one after the other.
 
 ghost use Rattle.std.specs.Prelude.{◌≡◌, ℕ, ◌+◌, ◌-◌, ◌<◌, ◌≤◌, ◌++◌, List, length, map, take, slice_index};
 ghost use Rattle.std.specs.List.{slice_range};
@@ -21,11 +21,11 @@ pub(crate) const TWOS: usize = 1326;
 pub(crate) struct Range {
     /// The first place.
     pub(crate) lo: usize,
-    /// The place behind the last.
+    /// The place after the last.
     pub(crate) hi: usize,
 }
 
-/// Puts the number that a row has for one of some cards behind the first `used` and those of the cards before it.
+/// Puts the number that a row has for one of some cards after the first `used` and those of the cards before it.
 #[inline(always)]
 fn put_one(row: &[u32], cards: &[Card], at: usize, values: &mut [u32], used: usize)
     requires places { length row.now ≡ 52 }
@@ -58,7 +58,7 @@ fn put_four(row: &[u32], cards: &[Card], at: usize, values: &mut [u32], used: us
     put_one(row, cards, at + 3, values, used);
 }
 
-/// Puts the numbers that a row has for some cards behind the first `used`, four at a turn of the loop.
+/// Puts the numbers that a row has for some cards after the first `used`, four at a turn of the loop.
 #[inline]
 fn put_row(row: &[u32], cards: &[Card], values: &mut [u32], used: usize)
     requires places { length row.now ≡ 52 }
@@ -77,7 +77,7 @@ fn put_row(row: &[u32], cards: &[Card], values: &mut [u32], used: usize)
     }
 }
 
-/// Puts the numbers of the draws of two of some rising cards behind the first `used`, from one place of the listing of these draws to
+/// Puts the numbers of the draws of two of some rising cards after the first `used`, from one place of the listing of these draws to
 /// another, where the rows of their table begin at one.
 fn put_pairs(
     rows: &[[u32; DECK]],
@@ -95,7 +95,7 @@ fn put_pairs(
     requires inside { range.hi ≤ length (choose 2 cards.now) }
     requires room { used + (range.hi - range.lo) ≤ length values.old }
 
-    // The first `used` stay, and behind them stand the numbers of the draws between the places, in order.
+    // The first `used` stay, and after them stand the numbers of the draws between the places, in order.
     ensures numbers { take (used + (range.hi - range.lo)) values.new
         ≡ take used values.old
         ++ map (number_at rows.now base) (slice_range (choose 2 cards.now) range.lo range.hi) }

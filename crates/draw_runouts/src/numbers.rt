@@ -10,7 +10,7 @@ use runout_walk::{DECK, filled};
 use showdown_tally::side_value;
 use std::alloc::Global;
 
-/// How many rows the tables of three cards have: those of two cards above each lowest card, one behind the other.
+/// How many rows the tables of three cards have: those of two cards above each lowest card, one after the other.
 pub(crate) const PLANES: usize = 1327;
 
 /// What a hand is worth on a side with each draw of so many cards, as numbers that are greater for better.

@@ -1,7 +1,8 @@
 -- The sums of all blocks are those of the listing.
-use Rattle.std.proofs.Common.{◌≡◌, ℕ, zero, suc, ◌+◌, ◌*◌, ◌≤◌, ◌<◌, List, length, length-append, sum, refl, sym, ap, ◌∙◌, arith, cond}
-use Rattle.std.specs.List.{sum_by}
-use Rattle.std.proofs.lemmas.List.Sums.{sum_by-append}
+use Rattle.std.proofs.Common.{◌≡◌, ℕ, zero, suc, ◌+◌, ◌*◌, ◌≤◌, ◌<◌, List, [], ◌∷◌, ◌++◌, length, length-append, sum, refl, sym, ap, ◌∙◌, arith, cond}
+use Rattle.std.specs.List.{sum_by, flat_map, range_with_len}
+use Rattle.std.proofs.lemmas.List.{append-nil, append_assoc}
+use Rattle.std.proofs.lemmas.List.Sums.{sum_by-append, sum_by-cons}
 use Rattle.card_sets.specs.Cards.{IsRising}
 use Rattle.card_sets.specs.State.{State}
 use Rattle.runout_ranges.specs.Shapes.{IsShapeOf, slots_of}
@@ -22,6 +23,30 @@ enough_blocks runouts = omega arith
 -- so many blocks as there are hold all
 pub enough_below : (runouts block blocks : ℕ) → blocks ≡ blocks_of runouts → blocks ≤ block → runouts ≤ block * BLOCK
 enough_below runouts block blocks e l = omega (arith, enough_blocks runouts)
+
+pub sum_flat : {X Y : Type 0} (h : Y → ℕ) (g : X → List Y) (xs : List X) → sum_by h (flat_map g xs) ≡ sum_by (λ x. sum_by h (g x)) xs
+sum_flat h g [] = refl
+sum_flat h g (x ∷ xs) = let ih = sum_flat h g xs in omega (arith, sum_by-append h (g x) (flat_map g xs), sum_by-cons (λ y. sum_by h (g y)) x xs)
+
+-- so many blocks from one on, after those before it
+blocks_from : {X : Type 0} (all : List X) (k n : ℕ) → blocks_below all k ++ flat_map (block_of all) (range_with_len k n) ≡ blocks_below all (k + n)
+blocks_from all k zero = let e : k ≡ k + 0 = omega arith in append-nil (blocks_below all k) ∙ ap (blocks_below all) e
+blocks_from all k (suc n) =
+    let up : suc k ≡ k + 1 = omega arith in
+    let on : k + 1 + n ≡ k + suc n = omega arith in
+    let rest = flat_map (block_of all) (range_with_len (k + 1) n) in
+    sym (append_assoc (blocks_below all k) (block_of all k) rest) ∙ ap (λ m. blocks_below all m ++ rest) up ∙ blocks_from all (k + 1) n ∙ ap (blocks_below all) on
+
+-- all blocks are the listing
+pub all_blocks : (all : List (List (List ℕ))) → flat_map (block_of all) (range_with_len 0 (blocks_of (length all))) ≡ all
+all_blocks all =
+    let none : 0 + blocks_of (length all) ≡ blocks_of (length all) = omega arith in
+    blocks_from all 0 (blocks_of (length all)) ∙ ap (blocks_below all) none ∙ blocks-all all (blocks_of (length all)) (enough_blocks (length all))
+
+-- each counts for one
+pub ones : {X : Type 0} (xs : List X) → sum_by (λ _. 1) xs ≡ length xs
+ones [] = refl
+ones {X} (x ∷ xs) = let ih = ones xs in omega (arith, sum_by-cons (λ (_ : X). 1) x xs)
 
 -- a sum over the blocks put together
 sum-blocks : {X : Type 0} (f : X → ℕ) (all : List X) (n : ℕ) → sum_by f (blocks_below all n) ≡ sum_below (λ b. sum_by f (block_of all b)) n

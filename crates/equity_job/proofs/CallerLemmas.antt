@@ -7,4 +7,4 @@ pub use Rattle.equity_job.proofs.OnlyRunout.{of_state}
 -- The sums of two parts of a listing fit, and so do those of one block more.
 pub use Rattle.equity_job.proofs.BlockSums.{cells_fit, units_fit}
 -- The sums of all blocks are those of the listing.
-pub use Rattle.equity_job.proofs.BlockTotals.{enough_blocks}
+pub use Rattle.equity_job.proofs.BlockTotals.{enough_blocks, sum_flat, all_blocks, ones}

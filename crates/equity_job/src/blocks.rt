@@ -234,7 +234,7 @@ pub(crate) fn is_full(job: &Job) -> bool
 struct Span {
     /// The index of its first runout.
     first: u64,
-    /// The index behind its last one.
+    /// The index after its last one.
     end: u64,
 }
 

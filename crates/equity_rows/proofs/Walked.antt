@@ -39,7 +39,7 @@ Counts-none deal sums none cells units = record { runouts = none; cells = cells;
 pub walk_begins : (deal : Showdown) (all : List (List (List ℕ))) (at : List (List ℕ)) (sums : Sums) (now : ℕ) → Begins all at → Counts deal [] sums → IsWalk deal all at sums now now
 walk_begins deal all at sums now begins counts = record { done = []; todo = begins.0; split = begins.1; counts = counts; steps = omega arith }
 
--- the runouts in the tally, the one where the loop stands, and those behind it are all
+-- the runouts in the tally, the one where the loop stands, and those after it are all
 walk_length : (deal : Showdown) (all : List (List (List ℕ))) (at : List (List ℕ)) (sums : Sums) (before now : ℕ) (walk : IsWalk deal all at sums before now)
     → length all ≡ sums.runouts + (1 + length walk.todo)
 walk_length deal all at sums before now walk =

@@ -54,7 +54,7 @@ all-in unknown\n";
 pub(crate) const REJECTED: &str = "hand 88 rejected line 23 CardTwice As\n";
 
 const CASES: &[Case] = &[
-    // A cash hand and a hand with side pots, and behind a hand that is cut off.
+    // A cash hand and a hand with side pots, and after a hand that is cut off.
     (
         &["audit"],
         AMPLE,

@@ -69,7 +69,7 @@ pot 0 high win 0 0.00 tie 0 0.00 lose 1 100.00 y
 pot 0 ev 0.000 y
 ";
 
-/// The report of a hand that is cut off behind its twelfth line.
+/// The report of a hand that is cut off after its twelfth line.
 pub(crate) const TWELVE_REPORT: &str = "hand 88 rejected line 12 Unfinished\n";
 
 const OF_HANDS: &[Broken] = &[
@@ -195,7 +195,7 @@ fn closed_by(row: &Broken, lines: usize) -> usize {
     }
 }
 
-/// The status where the read of this number fails, of so many bytes each, and the blocks that are written. The read behind
+/// The status where the read of this number fails, of so many bytes each, and the blocks that are written. The read after
 /// the last byte finds the end, and a later one isn't made.
 fn told_behind(
     row: &Broken,

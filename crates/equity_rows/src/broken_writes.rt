@@ -1,5 +1,5 @@
 //! Writes that fail at any place, in each mode and form: what was taken is a front of the report, and nothing is read or
-//! written behind it.
+//! written after it.
 
 use crate::broken_ends::{HANDS, RANGES, SPOTS, TWELVE_REPORT};
 use crate::checks::SIDE_POTS_REPORT;
@@ -256,7 +256,7 @@ fn each_leaves_unread(rt: &impl Abort, alloc: Global, row: &Unread) -> Result<()
     Ok(())
 }
 
-/// A block is written as soon as its hand or line is closed: where its write fails, all that stands behind the piece that closed it
+/// A block is written as soon as its hand or line is closed: where its write fails, all that stands after the piece that closed it
 /// is left.
 #[test]
 fn a_failed_write_leaves_bytes_unread(rt: HostRuntime) -> Result<(), Fail> {

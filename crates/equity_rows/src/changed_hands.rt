@@ -11,7 +11,7 @@ use std::sync::Wait;
 use std::test::Fail;
 use std::thread::Threads;
 
-/// What `check` reports where a line is dropped, is there twice, and stands behind the next one.
+/// What `check` reports where a line is dropped, is there twice, and stands after the next one.
 type Verdicts = (&'static str, &'static str, &'static str);
 
 /// The pot is unseen where nobody shows one of the hands.

@@ -208,7 +208,7 @@ const UNFIT: &[Part] = &[
     Part::Lines(Hand::SidePots, 26, LAST),
 ];
 
-/// The odd chip goes to the first winner behind the button.
+/// The odd chip goes to the first winner after the button.
 const FIRST_HAS_IT: &[Part] = &[
     Part::Lines(Hand::OddChips, 1, 22),
     Part::Whole("p1 collected 34 from pot\np2 collected 33 from pot\np3 collected 33 from pot\n"),
@@ -248,7 +248,7 @@ const TWO_MORE_REPORT: &str = "hand 15 rejected line 31 Split seat 1 due 34 got 
 /// Of a hand that is cut off.
 const CUT_REPORT: &str = "hand 88 rejected line 12 Unfinished\n";
 
-/// Lines that belong to no hand, and behind them a hand of which one is refused.
+/// Lines that belong to no hand, and after them a hand of which one is refused.
 const BEHIND: &[Part] = &[
     Part::Whole("Seat 1: a (4000 in chips)\n\nHand #7\n"),
     Part::Lines(Hand::SidePots, 1, 9),
@@ -269,7 +269,7 @@ hand 12345678901234567890 rejected line 3 BadHeader\n";
 
 const HEADER: &str = "PokerStars Hand #1: Hold'em No Limit (1/2)\n";
 
-/// A hand of more than a megabyte, and one behind it.
+/// A hand of more than a megabyte, and one after it.
 const LONG: &[Part] = &[
     Part::Lines(Hand::SidePots, 1, 8),
     Part::Times("a said, \"hm\"\n", 100_000),
@@ -290,7 +290,7 @@ const WHOLE: &[Case] = &[
         0,
         &[SIX_SEATS_REPORT],
     ),
-    // Each pot has its line, and its payments behind it.
+    // Each pot has its line, and its payments after it.
     (
         &["check"],
         AMPLE,

@@ -47,7 +47,7 @@ fn told_in<'a>(whole: &Cut, line: usize, departs: bool, written: &'a [u8]) -> Ve
     }
 }
 
-/// A mode reports of the hand, cut off behind this byte, that the line departs, or that the hand is unfinished there.
+/// A mode reports of the hand, cut off after this byte, that the line departs, or that the hand is unfinished there.
 /// Before the line of its stated pot it can't be accepted.
 fn is_cut_behind<R: Threads + Wait + Sync + Abort>(
     rt: &R,
@@ -155,7 +155,7 @@ fn is_spot_so<R: Threads + Wait + Sync + Abort>(
     goes_so(rt, alloc, mode, cut, 1, &ran)
 }
 
-/// So it is behind each byte.
+/// So it is after each byte.
 fn is_spot_at_each_byte<R: Threads + Wait + Sync + Abort>(
     rt: &R,
     alloc: Global,

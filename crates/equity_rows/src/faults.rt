@@ -39,7 +39,7 @@ fn a_failed_write_leaves_a_front(rt: HostRuntime) -> Result<(), Fail> {
     each_ends(&rt, rt.alloc(), CASES)
 }
 
-/// The spot, and a line behind it that isn't closed.
+/// The spot, and a line after it that isn't closed.
 const OPEN: &str = "holdem As Ah - Ks Kh -- 2c 7d 9h 4s\nholdem As Ah";
 
 const OPEN_REPORT: &str = "spot 2 rejected line 2 PlayerCount\n";

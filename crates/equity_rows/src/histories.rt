@@ -107,7 +107,7 @@ Seat 1: a (button) showed [As Ad] and won (3500) with a pair of Aces\n\
 Seat 2: b (small blind) showed [Kc Kd] and lost with a pair of Kings\n\
 Seat 3: c (big blind) showed [9h Th] and lost with high card Queen\n";
 
-/// A pot of 100 chips for three winners, with the button behind them; their collections are to stand in line 23.
+/// A pot of 100 chips for three winners, with the button after them; their collections are to stand in line 23.
 const ODD_CHIPS: &str = "\
 PokerStars Hand #15: Tournament #7, $1+$0.10 USD Hold'em No Limit - Level I (5/10)\n\
 Table '7 2' 9-max Seat #4 is the button\n\
@@ -242,7 +242,7 @@ pot 0 gross 200 rake 0 checked\n\
 paid 100 x\n\
 paid 100 y\n";
 
-/// The hand with side pots, cut off behind the flop, and the whole of it.
+/// The hand with side pots, cut off after the flop, and the whole of it.
 pub(crate) const CUT_AND_WHOLE: &[Part] = &[
     Part::Lines(Hand::SidePots, 1, 12),
     Part::All(Hand::SidePots),

@@ -1,4 +1,4 @@
-//! More of everything than the other tests have, so that no run ends for want of memory that there is: ranges, names, digits,
+//! More of everything than the other tests have, so that no run ends out of memory that there is: ranges, names, digits,
 //! lines, and the bytes of a hand.
 
 use crate::checks::SIDE_POTS_REPORT;
@@ -38,7 +38,7 @@ const LONG_HAND: &[Part] = &[
     Part::Lines(Hand::SidePots, 13, LAST),
 ];
 
-/// A hand that begins with line 1,000,001 and is cut off behind its twelfth, and the hand itself.
+/// A hand that begins with line 1,000,001 and is cut off after its twelfth, and the hand itself.
 const FAR_HANDS: &[Part] = &[
     Part::Times("\n", 1_000_000),
     Part::Lines(Hand::SidePots, 1, 12),

@@ -101,7 +101,7 @@ fn an_input_of_the_limit_is_read_whole(rt: HostRuntime) -> Result<(), Fail> {
 }
 
 /// What closes a hand or a line as the last byte of the limit is reported, and with a byte more before it it isn't. One
-/// byte stands behind it.
+/// byte stands after it.
 fn is_closed_there(
     rt: &impl Abort,
     alloc: Global,

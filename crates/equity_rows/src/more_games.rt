@@ -215,7 +215,7 @@ y collected 103 from pot
 Total pot 205 | Rake 0
 ";
 
-/// The odd unit goes by seat: behind the button comes z, who folded, and then x. By the cards it would be y's.
+/// The odd unit goes by seat: after the button comes z, who folded, and then x. By the cards it would be y's.
 const ODD5_REPORT: &str = "hand 95 accepted draw5 rake 0
 pot 0 gross 205 rake 0 checked
 paid 102 due 103 x

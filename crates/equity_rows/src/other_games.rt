@@ -225,7 +225,7 @@ a: posts small blind $1
 ";
 
 /// Other numbers in its fifth line. Seat numbers of any length are told apart: a second line of one number ends the search
-/// for players, and so a is none, whose post stands behind it.
+/// for players, and so a is none, whose post stands after it.
 const SEAT_CHANGES: &[Change] = &[
     (
         5,

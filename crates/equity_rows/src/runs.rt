@@ -192,7 +192,7 @@ pub(crate) fn ends<R: Threads + Wait + Sync + Abort>(
     Ok(())
 }
 
-/// Texts behind each other.
+/// Texts after each other.
 pub(crate) fn joined(alloc: Global, texts: &[&str]) -> Result<String, AllocError> {
     let mut whole = String::new(alloc);
     for text in texts {

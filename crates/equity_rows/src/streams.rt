@@ -36,7 +36,7 @@ fn pieces_change_nothing(rt: HostRuntime) -> Result<(), Fail> {
     Ok(())
 }
 
-/// Where a read of so many bytes fails behind a place, the first hand is reported.
+/// Where a read of so many bytes fails after a place, the first hand is reported.
 fn is_cut_behind<R: Threads + Wait + Sync + Abort>(
     rt: &R,
     alloc: Global,

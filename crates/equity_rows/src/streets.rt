@@ -1,4 +1,4 @@
-//! Hands street by street: behind the report of an audit, how each pot stands on each later street. Figures are
+//! Hands street by street: after the report of an audit, how each pot stands on each later street. Figures are
 //! worked out by hand, but for those before the flop, which are those of a listing.
 
 use crate::audits::{NO_ALL_IN, REJECTED, SIDE_POTS_REPORT, UNKNOWN_ALL_IN};

@@ -5,7 +5,7 @@ use crate::faults::{REPORT, SPOT, USAGE};
 use crate::runs::{Told, each_told};
 use std::test::Fail;
 
-/// Options stand before the mode or behind it, with their values behind an equals sign or as words of
+/// Options stand before the mode or after it, with their values after an equals sign or as words of
 /// their own, up to their bounds.
 const IN_FORM: &[&[&str]] = &[
     &["--workers", "16", "spots"],

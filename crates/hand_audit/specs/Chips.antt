@@ -24,7 +24,7 @@ sum_from f p (suc n) = f p + sum_from f (p + 1) n
 abbrev pub over_seats : (ℕ → ℕ) → ℕ
 over_seats f = sum_from f 1 10
 
--- what a seat has behind a hand: its opening stack, the units of its seat line, less what it put in, and what it collected
+-- what a seat has after a hand: its opening stack, the units of its seat line, less what it put in, and what it collected
 abbrev pub closing : Header → List Event → ℕ → ℕ
 closing g h p = opening h p - (paid g h p + dead g h p) + collected_at h p
 

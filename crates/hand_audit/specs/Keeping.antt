@@ -47,7 +47,7 @@ pub record IsRead (names : List (ℕ × List ℕ)) (header : Header) (part : Par
   pub name : IfOk said (λ e. HasName e line)
   pub is : IsSaid header part said
 
--- the names and the part behind a line that was read
+-- the names and the part after a line that was read
 abbrev pub names_by : Result Event TextFault → List ℕ → List (ℕ × List ℕ) → List (ℕ × List ℕ)
 names_by (Ok e) line names = named_by e line names
 names_by (Err fault) line names = names
@@ -56,6 +56,7 @@ abbrev pub part_by : Result Event TextFault → Part → Part
 part_by (Ok e) part = part_after e part
 part_by (Err fault) part = part
 
+-- the part after some lines that were read
 abbrev pub parts_after : Part → List (Result Event TextFault) → Part
 parts_after part [] = part
 parts_after part (said ∷ reads) = parts_after (part_by said part) reads
@@ -92,7 +93,7 @@ pub record Keeps (hand : AuditState) (header : Header) (players : ℕ) (so_far :
   pub accepted : IsAccepted header players so_far.events
   pub markers : MarkersFit header.game so_far.events
 
--- what holds of it whatever the hand: behind a total line the summary's lines alone are left, and
+-- what holds of it whatever the hand: after a total line the summary's lines alone are left, and
 -- what was collected is no more than the stated pot
 pub record IsSound (hand : AuditState) : Type 0 where
   pub part : hand.total ≡ true → hand.part ≡ SummaryPart

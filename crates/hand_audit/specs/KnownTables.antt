@@ -7,7 +7,7 @@ use Rattle.card_sets.specs.Games.{all_fit}
 use Rattle.card_sets.specs.declared.games.Game.{Game}
 use Rattle.showdown_tally.specs.declared.table.Table.{Table}
 
--- ten places: those of a list, and the same in each place behind them
+-- ten places: those of a list, and the same in each place after them
 unfoldable pub ten : {A : Type 0} → A → List A → List A
 ten none xs = xs ++ replicate (10 - length xs) none
 
@@ -25,7 +25,7 @@ pub record Bare : Type 0 where
   pub pots : ℕ
   pub eligible : List ℕ
 
--- what holds of every table: there are at most ten hands and ten pots, no card is in two places, behind the hands there are no
+-- what holds of every table: there are at most ten hands and ten pots, no card is in two places, after the hands there are no
 -- cards, no set is larger than its place in the game allows, and no hand is eligible that there isn't
 pub record Holds (b : Bare) : Type 0 where
   pub few : b.count ≤ 10

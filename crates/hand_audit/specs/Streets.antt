@@ -1,4 +1,4 @@
--- The later streets of a hand that is played out: those behind its all-in point.
+-- The later streets of a hand that is played out: those after its all-in point.
 use Rattle.std.specs.Prelude.{ℕ, Bool, true, false, List, [], ◌∷◌, map, Option, Some, None, Result, Ok, Err}
 use Rattle.card_sets.specs.declared.games.Game.{Game}
 use Rattle.card_sets.specs.declared.streets.Street.{Street}

@@ -20,7 +20,7 @@ abbrev pub read_all : Header → SoFar → List (List ℕ) → SoFar
 read_all header so_far [] = so_far
 read_all header so_far (line ∷ lines) = read_all header (with_line header so_far line) lines
 
--- the events of the lines behind the header line, the latest first
+-- the events of the lines after the header line, the latest first
 abbrev pub events_of : Header → List (List ℕ) → List Event
 events_of header lines = (read_all header nothing lines).events
 

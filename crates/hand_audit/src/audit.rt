@@ -270,7 +270,7 @@ pub fn audit_hand(alloc: Global, bytes: &[u8], first_line: u32) -> Result<HandAu
 }
 
 /// The same verdict, and the later streets of an accepted hand, by one reading: those that begin in the
-/// text behind the all-in point and before any showdown's marker, in order, each with what is known on
+/// text after the all-in point and before any showdown's marker, in order, each with what is known on
 /// it. A rejected hand has none. Where the all-in is known they are what `later_streets` answers.
 pub fn audit_with_streets(
     alloc: Global,

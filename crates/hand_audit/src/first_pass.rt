@@ -20,7 +20,7 @@ use line_text::next_line;
 use std::alloc::{AllocError, Global};
 use std::collections::BTreeSet;
 
-/// So many reads aren't kept, so that a hand of very many lines wants no more memory for them.
+/// Of a hand that has so many lines what they say isn't kept, so that it wants no more memory.
 const READS_MAX: usize = 256;
 
 /// How many reads there is room for at first: those of most hands.
@@ -56,7 +56,7 @@ pub(crate) struct LinesRead {
 pub(crate) struct PlayersFound {
     /// Bit s for seat s.
     pub(crate) players: u16,
-    /// The first lines.
+    /// What was read of the first lines.
     pub(crate) read: LinesRead,
     /// The seats and names of their seat lines.
     pub(crate) names: Names,

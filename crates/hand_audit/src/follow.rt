@@ -5,7 +5,7 @@ ghost use Rattle.line_text.specs.Lines.{lines};
 ghost use Rattle.hand_audit.specs.Keeping.{Follows, IsFound};
 
 use crate::first_pass::LinesRead;
-use crate::hand::{AuditState, name_seat, read};
+use crate::hand::{AuditState, read, seat_name_said};
 use crate::settling::HandSettled;
 use card_sets::Memory;
 use hand_verdict::Cause;
@@ -57,7 +57,7 @@ pub(crate) fn follow(
         if let Some(cause) = state.take_read(header, &said)? {
             return Ok(Followed::Departs(count, cause));
         }
-        name_seat(&mut names, &said, text)?;
+        seat_name_said(&mut names, &said, text)?;
         at = line.next;
     }
     match state.end(alloc, header.game)? {

@@ -46,7 +46,7 @@ pub(crate) struct AuditState {
     pub(crate) total: bool,
 }
 
-/// The part of the line behind an event.
+/// The part of the line after an event.
 pub(crate) fn part_after(e: &Event, part: Part) -> Part
     ensures { result ≡ part_after e.now part }
 {
@@ -73,7 +73,7 @@ fn is_total(e: &Event) -> bool
     matches!(e, Event::Total { .. })
 }
 
-/// The stated rake behind an event.
+/// The stated rake after an event.
 fn rake_by(e: &Event, before: u64) -> u64
     ensures { result ≡ rake_by e.now before }
 {
@@ -99,8 +99,8 @@ pub(crate) fn seat_name(names: &mut Names, e: &Event, line: &[u8]) -> Result<(),
     }
 }
 
-/// A seat line that can be read seats its name.
-pub(crate) fn name_seat(names: &mut Names, said: &LineSaid, line: &[u8]) -> Result<(), Memory>
+/// The same of what a line was found to say, if it could be read.
+pub(crate) fn seat_name_said(names: &mut Names, said: &LineSaid, line: &[u8]) -> Result<(), Memory>
     requires { IfOk said.now (λ e. HasName e line.now) }
     ensures { OnOk result (names.new ≡ names_by said.now line.now names.old) }
 {
@@ -139,8 +139,7 @@ fn note(streets: &mut Vec<Street>, begun: Option<Street>) -> Result<(), AllocErr
 pub(crate) type LineSaid = Result<Event, TextFault>;
 
 /// What a line says. Its seat is one of the table's, its amounts are within the greatest, and its name
-/// within the line. What reads a kind of line writes its event where the answer stands.
-#[inline(never)]
+/// within the line.
 pub(crate) fn read(names: &Names, header: &Header, part: Part, line: &[u8]) -> LineSaid
     requires { All IsSeated names.now }
     ensures { IsRead names.now header.now part line.now result }
@@ -251,7 +250,7 @@ impl AuditState {
         Ok(None)
     }
 
-    /// What became of the chips, behind a total line.
+    /// What became of the chips, after a total line.
     fn settle(&self, alloc: Global, game: Game) -> Result<HandSettled, Memory>
         requires sound { IsSound self.now }
         requires total { self.now.total ≡ true }

@@ -177,7 +177,7 @@ pub fn law_checked_pots_are_won()
     law_a_folded_player_is_eligible_nowhere();
 }
 
-/// A law on rejections. Of a hand that is rejected at a line: every line before it, behind the header
+/// A law on rejections. Of a hand that is rejected at a line: every line before it, after the header
 /// line, can be read, and its event may stand after those of the lines before.
 pub fn law_lines_before_stand()
     ensures { (number : ℕ) (line : List ℕ) (lines : List (List ℕ)) (header : Header)
@@ -224,7 +224,7 @@ pub fn law_unknown_all_ins_have_unknown_cards()
 }
 
 /// A law on later streets. Of a hand that is accepted and has an all-in point, what is known on each street
-/// behind it: there is no table only where the cards on it of a contender at the point aren't known; and in
+/// after it: there is no table only where the cards on it of a contender at the point aren't known; and in
 /// a table each hand is what its seat has on the street, and its cards belong to the seat, the board is that
 /// of the streets up to it, and no card that comes to the board later is in a hand or dead, and none of the
 /// second board of a hand that was run twice.
@@ -245,7 +245,7 @@ pub fn law_later_streets_know_cards()
 }
 
 /// A law on the order of later streets. Of a hand that is accepted and has an all-in point: each street
-/// behind it is the one that comes next in the game behind the one before, and the first is the one behind
+/// after it is the one that comes next in the game after the one before, and the first is the one after
 /// that of the point.
 pub fn law_later_streets_come_in_order()
     ensures { (number : ℕ) (line : List ℕ) (lines : List (List ℕ)) (header : Header)
@@ -259,7 +259,7 @@ pub fn law_later_streets_come_in_order()
 {}
 
 /// A law on what later streets know. Of a hand that is accepted and has an all-in whose cards are known, the
-/// table of each street behind it, where there is one, knows no less than the all-in's: it has the same game,
+/// table of each street after it, where there is one, knows no less than the all-in's: it has the same game,
 /// as many hands and dead cards, and nowhere fewer cards.
 pub fn law_later_streets_know_no_less()
     ensures { (number : ℕ) (lines : List (List ℕ))

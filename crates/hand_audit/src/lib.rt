@@ -1,7 +1,7 @@
 //! The verdict on a hand: whether each line keeps to the rules, what became of the chips, and the all-in.
 //!
 //! `audit_hand` takes the lines of one hand, its header line first. It answers `Rejected` with the first line that departs and the cause,
-//! or `Accepted` with a `Settlement` and an `AllIn`. `later_streets` tells what is known on each street behind a known all-in, and
+//! or `Accepted` with a `Settlement` and an `AllIn`. `later_streets` tells what is known on each street after a known all-in, and
 //! `audit_with_streets` answers both by one reading of the lines. `audit_with_chips` answers the verdict and what each player had and
 //! put in, and `audit_with_shares` the verdict and what each winner of a side of each part of a pot gets, also of a hand that is rejected
 //! for its payments alone. The types of these answers are those of `hand_verdict`.
@@ -10,7 +10,7 @@
 //!    where they are fewer than 256.
 //! 2. *Second pass* (`follow`, `hand`). What each line says is stepped by a `Replay`; of 256 lines or more each is read once more. A line departs where it can't be read, where the
 //!    replay refuses it, or where a stated total isn't what the replay has counted. Later streets are noted on the way.
-//! 3. *Settlement* (`settling`, `shares`, `payments`). Behind the last line the pots are made. Where it is known who won a pot, by cards
+//! 3. *Settlement* (`settling`, `shares`, `payments`). After the last line the pots are made. Where it is known who won a pot, by cards
 //!    or since one player is left, it is split by the rules, and that is held against what was collected. A payment that is too far off
 //!    has the last line depart.
 //! 4. *All-in* (`all_in`, `known_tables`). The cards known at the point as a `Table`, with the pots of the whole hand; `Unknown` where those

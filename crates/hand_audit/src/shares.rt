@@ -90,7 +90,7 @@ fn shares_of_part(
     shares_by(alloc, standings, on, units, first, second)
 }
 
-/// Some shares, and others behind them.
+/// Some shares, and others after them.
 fn joined(alloc: Global, some: &Shares, others: &Shares) -> Result<Shares, AllocError>
     ensures { IfOk result (λ all. all ≡ some.now ++ others.now) }
 {

@@ -111,7 +111,7 @@ pub(crate) fn states_of(
 }
 
 /// The later streets of a hand that `audit_hand` on these arguments accepts with a known all-in: those
-/// that begin in the text behind the all-in point and before any showdown's marker, in order, each with
+/// that begin in the text after the all-in point and before any showdown's marker, in order, each with
 /// what is known on it. Contenders, pots and dead cards are those of the all-in; of two boards the first
 /// one counts.
 pub fn later_streets(

@@ -47,7 +47,7 @@ impl FiveList {
         self.count += 1;
     }
 
-    /// The five at a place. None exactly behind the last.
+    /// The five at a place. None exactly after the last.
     pub(crate) fn get(&self, place: u8) -> Option<CardSet>
         ensures value { result ≡ slice_get self.now place }
         ensures few { length self.now ≤ 60 }

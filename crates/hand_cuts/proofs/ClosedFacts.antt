@@ -74,7 +74,7 @@ ended_front xs some =
     ap (λ ys. lines (closed ys)) cut ∙ ap lines (closed-newline (front_line xs) (behind_line xs)) ∙ lines-newline (front_line xs) (closed (behind_line xs))
     ∙ ap (λ ls. ls ++ lines (closed (behind_line xs))) (front_text xs)
 
--- within a line only what stands behind it counts
+-- within a line only what stands after it counts
 behind_step : (rest : List ℕ) (v : Bool) → holds_header false rest ≡ holds_header true (behind_line rest) → holds_header v rest ≡ holds_header true (cond v rest (behind_line rest))
 behind_step rest true later = refl
 behind_step rest false later = later
@@ -87,7 +87,7 @@ holds_front : (xs : List ℕ) → holds_header true xs ≡ (begins_header xs || 
 holds_front [] = refl
 holds_front (b ∷ rest) = ap (λ v. begins_header (b ∷ rest) || v) (behind_step rest (is_newline b) (holds_in_line rest))
 
--- the front line is before the last closed header line where one stands behind it
+-- the front line is before the last closed header line where one stands after it
 front_step : (b : ℕ) (rest : List ℕ) (v : Bool) → closed_hands rest ≡ cond (holds_header true (behind_line rest)) (front_line rest ++ 10 ∷ closed_hands (behind_line rest)) []
     → is_newline b ≡ v → cond (holds_header v rest) (b ∷ closed_hands rest) [] ≡ cond (holds_header true (cond v rest (behind_line rest))) (cond v [] (b ∷ front_line rest) ++ 10 ∷ closed_hands (cond v rest (behind_line rest))) []
 front_step b rest true later e = ap (λ x. cond (holds_header true rest) (x ∷ closed_hands rest) []) (eqb-true b 10 e)

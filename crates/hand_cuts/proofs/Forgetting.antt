@@ -59,7 +59,7 @@ same_hands whole bytes more at line from line' d =
     ap (λ ls. closed_units Hands whole (hands_from line ls)) (lines_by_scan whole bytes more at from d.onward d.whole)
     ∙ ap (closed_units Hands whole) (hands-passed line line' l (lines_in whole (drop from bytes ++ more)) d.passed d.number)
 
--- the places behind what is dropped
+-- the places after what is dropped
 slice-shift : (bytes : List ℕ) (from a b : ℕ) → from ≤ a → a ≤ b → slice_range (drop from bytes) (a - from) (b - from) ≡ slice_range bytes a b
 slice-shift bytes from a b l m =
     let width : b - from - (a - from) ≡ b - a = omega arith in

@@ -17,7 +17,7 @@ use Rattle.hand_cuts.proofs.LineParts.{lines-split, slice-rest, slice-all, lines
 use Rattle.hand_cuts.proofs.HandLists.{hand_with, passed-one, hands-passed, hands-between, hands-begin}
 use Rattle.hand_cuts.proofs.HandScans.{Begins, lines_by_head, lines_by_scan, no_hands}
 
--- the lines behind the last newline: one, where there is a byte
+-- the lines after the last newline: one, where there is a byte
 pub record LastLine (bytes : List ℕ) (looked : ℕ) (texts : List (List ℕ)) : Type 0 where
   pub lines_are : lines (drop looked bytes) ≡ texts
   pub size : length texts ≡ cond (nat_lt looked (length bytes)) 1 0
@@ -46,7 +46,7 @@ some_step bytes looked false e header =
     let none : drop looked bytes ≡ [] = drop_all looked bytes (ltb-false looked (length bytes) e) in
     absurd (true≢false (sym header ∙ ap (λ xs. is_header (text_of xs)) none ∙ no_header))
 
--- where a header line stands behind the last newline, a byte does
+-- where a header line stands after the last newline, a byte does
 pub some_left : (bytes : List ℕ) (looked : ℕ) → is_header (text_of (drop looked bytes)) ≡ true → nat_lt looked (length bytes) ≡ true
 some_left bytes looked header = some_step bytes looked (nat_lt looked (length bytes)) refl header
 
@@ -65,7 +65,7 @@ other_step text false other = refl
 nothing_left : (bytes : List ℕ) (n : ℕ) → hands_from n (lines (drop (length bytes) bytes ++ [])) ≡ []
 nothing_left bytes n = ap (λ xs. hands_from n (lines xs)) (append-nil (drop (length bytes) bytes) ∙ drop_all (length bytes) bytes (omega arith))
 
--- for whole bytes, with nothing behind them
+-- for whole bytes, with nothing after them
 whole_alone : (n n' : ℕ) (u : UnitLines) (xs ys : List ℕ) (whole : Bool) (more : List ℕ) → (whole ≡ true) × (more ≡ []) → hands_from n (lines (xs ++ [])) ≡ u ∷ hands_from n' (lines (ys ++ []))
     → closed_units Hands whole (hands_from n (lines_in whole (xs ++ more))) ≡ u ∷ closed_units Hands whole (hands_from n' (lines_in whole (ys ++ more)))
 whole_alone n n' u xs ys whole more e h = rw (e.0, e.1) h

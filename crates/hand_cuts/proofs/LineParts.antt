@@ -32,7 +32,7 @@ newline_step : (x : ℕ) (xs ys : List ℕ) (v : Bool) → cut_lines (xs ++ 10 �
 newline_step x xs ys true later = ap (λ ls. [] ∷ ls) later
 newline_step x xs ys false later = ap (put_in_first x) later ∙ put_in_first-append x (cut_lines (xs ++ 10 ∷ [])) (cut_lines ys) (some_line xs)
 
--- behind a newline the lines begin anew
+-- after a newline the lines begin anew
 cut_lines-newline : (xs ys : List ℕ) → cut_lines (xs ++ 10 ∷ ys) ≡ cut_lines (xs ++ 10 ∷ []) ++ cut_lines ys
 cut_lines-newline [] ys = refl
 cut_lines-newline (x ∷ xs) ys = newline_step x xs ys (is_newline x) (cut_lines-newline xs ys)
@@ -122,7 +122,7 @@ front_closed_step : (b : ℕ) (rest : List ℕ) (v : Bool) → is_newline b ≡ 
 front_closed_step b rest true e later some = ap (λ x. x ∷ rest) (eqb-true b 10 e)
 front_closed_step b rest false e later some = ap (λ r. b ∷ r) (later some)
 
--- the front line, its newline, and what stands behind it
+-- the front line, its newline, and what stands after it
 pub front_closed : (xs : List ℕ) → has_newline xs ≡ true → xs ≡ front_line xs ++ 10 ∷ behind_line xs
 front_closed [] some = absurd (true≢false (sym some))
 front_closed (b ∷ rest) some = front_closed_step b rest (is_newline b) refl (front_closed rest) some
@@ -141,7 +141,7 @@ pub found_none : (xs : List ℕ) → ((j : ℕ) → j < length xs → is_newline
 found_none [] none = refl
 found_none (x ∷ xs) none = test_step (is_newline x) (has_newline xs) (none 0 (omega arith)) (found_none xs (λ j l. none (suc j) (omega arith)))
 
--- a search behind bytes without a newline
+-- a search after bytes without a newline
 pub ends_some : (bytes : List ℕ) (looked searched k : ℕ) → looked ≤ searched → searched ≤ length bytes → has_newline (slice_range bytes looked searched) ≡ false
     → IsFirstByte (is_byte 10) (drop searched bytes) (Some k) → EndsLine bytes looked (Some (searched + k + 1))
 ends_some bytes looked searched k onward within none found =

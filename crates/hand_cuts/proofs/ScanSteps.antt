@@ -12,7 +12,7 @@ use Rattle.hand_cuts.specs.declared.scan.Scan.{Scan}
 use Rattle.hand_cuts.proofs.LineParts.{front-slice, lines-split, ends-append, no_slice, slice-join, slice-all}
 use Rattle.hand_cuts.proofs.HandLists.{passed-more}
 
--- a line more behind a part
+-- a line more after a part
 record Grows (bytes : List ℕ) (at looked next : ℕ) (text : List ℕ) : Type 0 where
   pub whole : EndsInNewline (slice_range bytes at next)
   pub lines_are : lines (slice_range bytes at next) ≡ lines (slice_range bytes at looked) ++ text ∷ []

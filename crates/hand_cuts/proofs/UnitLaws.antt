@@ -16,7 +16,7 @@ each-append n (x ∷ xs) ys =
     each-append (n + 1) xs ys ∙ ap (λ k. each_from (n + 1) xs ++ each_from k ys) (let e : n + 1 + length xs ≡ n + length (x ∷ xs) = omega arith in e) in
     ap (λ us. (let u : UnitLines = record { first = n; lines = x ∷ [] } in u) ∷ us) later
 
--- where a hand begins among some lines, one begins among these and others behind them, and the lines before it are the same
+-- where a hand begins among some lines, one begins among these and others after them, and the lines before it are the same
 record Found (n : ℕ) (xs ys : List (List ℕ)) : Type 0 where
   pub hand : UnitLines
   pub hands : List UnitLines

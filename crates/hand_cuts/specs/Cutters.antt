@@ -28,12 +28,12 @@ seen held unit = record { first = unit.first_line; lines = lines (slice_range he
 abbrev pub MayFollow : Bool → Bool → List ℕ → Type 0
 MayFollow closed whole more = closed ≡ true → (whole ≡ true) × (more ≡ [])
 
--- a unit is handed out by its places, and the cutter stands behind it
+-- a unit is handed out by its places, and the cutter stands after it
 pub record Gives (old new : CutterState) (unit : UnitPlace) : Type 0 where
   pub behind : old.at ≤ unit.first
   pub some : unit.first < unit.end
   pub within : unit.end ≤ length old.held
-  -- it begins where a line begins, and ends behind a newline or with the bytes
+  -- it begins where a line begins, and ends after a newline or with the bytes
   pub begins : EndsInNewline (slice_range old.held old.at unit.first)
   pub ends : EndsInNewline (slice_range old.held unit.first unit.end) ⊎ (unit.end ≡ length old.held)
   -- it is the first unit of the rest, and the others are those of the new rest
@@ -41,7 +41,7 @@ pub record Gives (old new : CutterState) (unit : UnitPlace) : Type 0 where
   -- it stays the first, whatever follows
   pub stays : (whole : Bool) (more : List ℕ) → MayFollow old.closed whole more
       → units_in old.kind whole old.line (rest old ++ more) ≡ seen old.held unit ∷ units_in new.kind whole new.line (rest new ++ more)
-  -- the line behind it is counted from its first line, and from the line at which the old rest began
+  -- the line after it is counted from its first line, and from the line at which the old rest began
   pub counted : new.line ≡ unit.first_line + length (lines (slice_range old.held unit.first unit.end))
   pub after : new ≡ record old { at = unit.end; line = old.line + length (lines (slice_range old.held old.at unit.end)) }
 

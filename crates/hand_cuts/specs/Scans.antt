@@ -11,7 +11,7 @@ use Rattle.hand_cuts.specs.declared.units.CutKind.{CutKind}
 use Rattle.hand_cuts.specs.declared.units.CutKind.TheVariants.{Hands, Lines}
 use Rattle.hand_cuts.specs.declared.units.Unit.{Unit as UnitPlace}
 
--- the place behind the newline of the line that begins at a place, or none where no newline follows
+-- the place after the newline of the line that begins at a place, or none where no newline follows
 abbrev pub EndsLine : List ℕ → ℕ → Option ℕ → Type 0
 EndsLine bytes looked None = has_newline (drop looked bytes) ≡ false
 EndsLine bytes looked (Some next) =
@@ -37,7 +37,7 @@ begun head s = record s { at = head.at; line = head.line; head = Some head }
 abbrev pub gone_on : Scan → Scan
 gone_on s = record s { at = s.looked; line = s.number; head = None }
 
--- the number of the line behind the last one, which has no newline; there may be none
+-- the number of the line after the last one, which has no newline; there may be none
 abbrev pub number_at_end : ℕ → Scan → ℕ
 number_at_end end s = if nat_lt s.looked end then s.number + 1 else s.number
 
@@ -58,7 +58,7 @@ start_of s (Some h) = (h.at, h.line)
 abbrev pub start_of_rest : Scan → ℕ × ℕ
 start_of_rest s = start_of s s.head
 
--- a header line among those that were looked at, with no header line before it and none behind it
+-- a header line among those that were looked at, with no header line before it and none after it
 pub record IsHead (bytes : List ℕ) (at line looked : ℕ) (h : Head) : Type 0 where
   pub after : at ≤ h.at
   pub before : h.at < looked
@@ -98,7 +98,7 @@ pub record SearchesAll (bytes : List ℕ) (old new : Scan) : Type 0 where
   pub head : new.head ≡ old.head
   pub all : new.searched ≡ length bytes
 
--- the next header line with its newline is found: between is the scan in front of it
+-- the next header line with its newline is found: between is the scan before it
 pub record Finds (bytes : List ℕ) (old new : Scan) (head : Head) : Type 0 where
   pub between : Scan
   pub scan : IsScan bytes between

@@ -9,7 +9,7 @@ use Rattle.hand_cuts.specs.declared.units.CutKind.TheVariants.{Lines}
 abbrev pub view_of : Inside → CutterState
 view_of c = record { kind = c.kind; held = c.bytes.items; at = c.scan.at; line = c.scan.line; given = c.given; closed = c.closed }
 
--- the scan is one of the bytes that are held, no line has a number above that of the byte behind all that were given, and where
+-- the scan is one of the bytes that are held, no line has a number above that of the byte after all that were given, and where
 -- lines are cut each line is handed out as it is looked at
 pub record IsSound (c : Inside) : Type 0 where
   pub few : c.given ≤ INPUT_MAX

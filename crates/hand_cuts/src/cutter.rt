@@ -49,7 +49,7 @@ impl Cutter {
         }
     }
 
-    /// Takes the next piece of the stream. Want of memory changes nothing.
+    /// Takes the next piece of the stream. Out of memory it changes nothing.
     pub fn give(&mut self, piece: &[u8]) -> Result<(), Memory>
         requires open { self.old.closed ≡ false }
         requires few { self.old.given + length piece.now ≤ INPUT_MAX }

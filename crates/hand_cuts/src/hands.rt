@@ -75,7 +75,7 @@ fn is_head(line: &[u8]) -> bool
     is_header(text_of(line))
 }
 
-/// Goes on behind the next header line that has its newline; none where no such line follows, and then
+/// Goes on after the next header line that has its newline; none where no such line follows, and then
 /// all is searched.
 fn next_head(bytes: &[u8], scan: &mut Scan) -> Option<Head>
     requires scan { IsScan bytes.now scan.old }
@@ -98,7 +98,7 @@ fn next_head(bytes: &[u8], scan: &mut Scan) -> Option<Head>
     None
 }
 
-/// Hands out the hand that the end of a closed stream closes. What stands behind the last newline is its
+/// Hands out the hand that the end of a closed stream closes. What stands after the last newline is its
 /// last line, or a hand of its own.
 fn last_hand(bytes: &[u8], closed: bool, scan: &mut Scan) -> Option<Unit>
     // The scan is one of these bytes, the numbers of their lines fit, and no newline is left.

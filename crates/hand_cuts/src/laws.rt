@@ -4,7 +4,7 @@ ghost use Rattle.hand_cuts.specs.ClosedBytes.{ClosedHandsByBytes};
 ghost use Rattle.hand_cuts.specs.Laws.{ClosedUnitsStay};
 
 /// A law: the units that are closed in some bytes are the first units of these bytes and any others
-/// behind them, whether more may follow or not.
+/// after them, whether more may follow or not.
 pub fn law_closed_units_stay()
     ensures { ClosedUnitsStay }
 {}

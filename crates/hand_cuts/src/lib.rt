@@ -16,7 +16,7 @@
 //!    their first byte.
 //! 3. The header line of the open hand is kept, by its place and its number, until the next one closes
 //!    the hand.
-//! 4. What was handed out is dropped by one move of the bytes behind it, and the places of the scan
+//! 4. What was handed out is dropped by one move of the bytes after it, and the places of the scan
 //!    go down by as much.
 //!
 //! A line that is open isn't searched again from its start with each piece: each byte is searched for

@@ -41,7 +41,7 @@ fn first_newline(bytes: &[u8]) -> Option<usize>
     memchr(b'\n', bytes)
 }
 
-/// The place behind the newline of the line that begins at `looked`; none where no newline follows.
+/// The place after the newline of the line that begins at `looked`; none where no newline follows.
 /// Up to `searched` there is none.
 pub(crate) fn end_of_line(bytes: &[u8], looked: usize, searched: usize) -> Option<usize>
     requires ordered { looked ≤ searched }

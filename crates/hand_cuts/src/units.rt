@@ -15,7 +15,7 @@ pub enum CutKind {
 pub struct Unit {
     /// Where it begins.
     pub first: usize,
-    /// Where it ends, behind its last byte.
+    /// Where it ends, after its last byte.
     pub end: usize,
     /// The number of its first line in the stream, from 1.
     pub first_line: u32,

@@ -34,7 +34,7 @@ pub enum Part {
     Preamble,
     /// From there up to and with the summary marker.
     Play,
-    /// Behind the summary marker.
+    /// After the summary marker.
     Summary,
 }
 
@@ -120,7 +120,7 @@ pub enum Event {
         units: u64,
         /// Where the name begins in the line.
         name_first: usize,
-        /// Where the name ends, behind its last byte.
+        /// Where the name ends, after its last byte.
         name_end: usize,
     },
     /// The button.
@@ -231,7 +231,7 @@ pub enum Event {
 /// Why a line is refused.
 #[derive(Clone, Copy, Debug, PartialEq, Eq, Drop)]
 pub enum TextFault {
-    /// A header whose game and limit aren't found, or whose name stands behind a word that makes it
+    /// A header whose game and limit aren't found, or whose name stands after a word that makes it
     /// another game's.
     UnknownGame,
     /// A header or a seat line that isn't in its form.
@@ -242,7 +242,7 @@ pub enum TextFault {
     BadMarker,
     /// A bracket that isn't closed, or holds something else than cards, or another number of them.
     BadCards,
-    /// No amount where one has to stand, or other text behind it, or 0 where that can't be.
+    /// No amount where one has to stand, or other text after it, or 0 where that can't be.
     BadAmount,
     /// An amount above the greatest.
     AmountTooLarge,

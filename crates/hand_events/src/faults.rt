@@ -38,7 +38,7 @@ pub enum BetFault {
     /// This card belongs elsewhere, stands twice in a bracket, was thrown away, or comes to a board again.
     /// It is the first such of the event.
     CardTwice(Card),
-    /// A post behind the first street's marker, or a bring-in anywhere but before the first act there.
+    /// A post after the first street's marker, or a bring-in anywhere but before the first act there.
     PostLate,
     /// A second line of a seat.
     SeatTwice,

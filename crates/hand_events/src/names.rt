@@ -45,7 +45,7 @@ impl Names {
         }
     }
 
-    /// One name more. Want of memory changes nothing.
+    /// One name more. Out of memory it changes nothing.
     pub fn add(&mut self, seat: u8, name: &[u8]) -> Result<(), Memory>
         ensures added { OnOk result (self.new ≡ self.old ++ (seat, name.now) ∷ []) }
         ensures refused { OnErr result (self.new ≡ self.old) }

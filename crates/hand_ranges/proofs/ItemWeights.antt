@@ -58,7 +58,7 @@ light_more done e (p ∷ ps) h =
     and_from _ _ (ap (λ n. nat_le n 100) (weight_more done e p.low p.high) ∙ and_first (has_room e (weighed done p)) (list_all (has_room e) (map (weighed done) ps)) h)
     (light_more done e ps (and_second (has_room e (weighed done p)) (list_all (has_room e) (map (weighed done) ps)) h))
 
--- a hand that has no room for an item is too heavy with the items behind it too
+-- a hand that has no room for an item is too heavy with the items after it too
 heavy_more : (done : List Entry) (e : Entry) (later : List Entry) (low high : ℕ) → nat_le (weight_in done low high + amount e low high) 100 ≡ false →
     nat_le (weight_in (done ++ e ∷ later) low high) 100 ≡ false
 heavy_more done e later low high h =

@@ -67,7 +67,7 @@ dealt_out spot short = rw short refl
 pub dealt : (spot : Ranges) → is_dealt_out (length spot.board) (length spot.dead) (length spot.ranges) ≡ false → unless_dealt_out spot ≡ Ok spot
 dealt spot enough = rw enough refl
 
--- a line that has passed the tests before those of the table, and its words from the first mark behind the ranges on
+-- a line that has passed the tests before those of the table, and its words from the first mark after the ranges on
 pub record Passed (line word : List ℕ) (others table : List (List ℕ)) : Type 0 where
   pub first : words line ≡ word ∷ others
   pub game : bytes_eq word (game_word Holdem) ≡ true

@@ -14,7 +14,7 @@ pub one_all : (hands : List (List (List ℕ))) → 1 ≤ length hands → one_fr
 one_all [] h = absurd (omega arith)
 one_all (hand ∷ hands) h = ap (λ n. (n == 1) && list_all is_one_word hands) (let e : 0 + length hand ≡ length hand = omega arith in e)
 
--- behind a mark the word must be there
+-- after a mark the word must be there
 pub one_end : (full : Bool) (w : List ℕ) (ws : List (List ℕ)) → (is_slash w || is_dashes w) ≡ true → one_from full (hand_words (w ∷ ws)) ≡ full
 one_end true w ws h = ap (one_from true) (hands_end w ws h)
 one_end false w ws h = ap (one_from false) (hands_end w ws h)
@@ -49,7 +49,7 @@ either_no : (a b : Bool) → (a || b) ≡ false → (a ≡ false) × (b ≡ fals
 either_no true b h = cc
 either_no false b h = (refl, h)
 
--- the board and the dead cards are those behind any word of a hand
+-- the board and the dead cards are those after any word of a hand
 pub table_later : (w : List ℕ) (ws : List (List ℕ)) → (is_slash w || is_dashes w) ≡ false → (board_words (w ∷ ws) ≡ board_words ws) × (dead_words (w ∷ ws) ≡ dead_words ws)
 table_later w ws h =
     let no = either_no (is_slash w) (is_dashes w) h in

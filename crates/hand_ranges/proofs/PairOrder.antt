@@ -35,7 +35,7 @@ above_rising cards x = rising_raise (x + 1) (cards_above cards x) (IsRising-card
   | inr past ↦ absurd (true≢false (sym held ∙ has_past 0 (cards_above cards x) k (IsRising-cards_where (λ j. nat_lt x j && has_card cards j)) past))
 ])
 
--- the hands of a lower card, and behind them those of higher ones
+-- the hands of a lower card, and after them those of higher ones
 pairs_then : (low from next : ℕ) (ys : List ℕ) (rest : List Pair) → RisingFrom next ys → low < next → next ≤ 52 → from ≤ 52 * low + next → InOrder (52 * (low + 1)) rest →
     InOrder from (map (λ high. pair low high) ys ++ rest)
 pairs_then low from next [] rest r l m f o = order_lower (52 * (low + 1)) from rest (omega (arith, m, f)) o

@@ -69,7 +69,7 @@ hands_stand board dead entries from (p ∷ ps) o light =
         ((here, rest.0), (omega (arith, place, o.2), rises_lower (52 * p.low + p.high + 1) (place_of hand + 1) _ (omega (arith, place)) rest.1))
     one false e rest = (rest.0, rises_lower (52 * p.low + p.high + 1) from _ (omega (arith, o.2)) rest.1)
 
--- they stand each before those behind it
+-- they stand each before those after it
 all_later : (from n : ℕ) (hands : List Weighted) → n < from → RisesFrom from hands → list_all (λ later. nat_lt n (place_of later.hand)) hands ≡ true
 all_later from n [] l r = refl
 all_later from n (w ∷ hands) l r =

@@ -78,7 +78,7 @@ pub places_apart : (board dead : List ℕ) (hands : List Weighted) → apart boa
 places_apart board dead hands off h d =
     and_true _ _ (and_true _ _ off (board_apart board dead hands h)) (and_true _ _ (dead_apart board dead hands h) d)
 
--- ---- empty sets behind the hands
+-- ---- empty sets after the hands
 
 pub none_apart : (s : List ℕ) → apart s [] ≡ true
 none_apart [] = refl
@@ -112,7 +112,7 @@ small_padded (hand ∷ hands) n h =
     let here : nat_le (length hand) 2 ≡ true = grind arith in
     and_true _ _ here (small_padded hands n h.1)
 
--- what the type of known cards keeps, of the hands of a choice with empty sets behind them
+-- what the type of known cards keeps, of the hands of a choice with empty sets after them
 pub known_apart : (board dead : List ℕ) (taken : List Weighted) (count : ℕ) (hands : List (List ℕ)) → apart board dead ≡ true → AreHands board dead taken → is_disjoint taken ≡ true
     → take count hands ≡ hands_in taken → drop count hands ≡ replicate (10 - count) [] → all_apart (board ∷ dead ∷ hands) ≡ true
 known_apart board dead taken count hands off h d front back =
@@ -151,7 +151,7 @@ light_three count weight few h =
     let power : 256 ^ count ≤ 256 ^ 3 = pow-le-pow_right (let some : 0 < 256 = omega arith in some) (let k : count ≤ 3 = omega arith in k) in
     omega (arith, h, power)
 
--- ---- the hands with empty sets behind them, written
+-- ---- the hands with empty sets after them, written
 
 pub padded_front : (taken : List Weighted) (cards : List (List ℕ)) (i : ℕ) (w : Weighted) → i < length taken → i < length cards → w ≡ get_or taken i w → take i cards ≡ hands_in (take i taken)
     → take (i + 1) (set cards i w.hand) ≡ hands_in (take (i + 1) taken)

@@ -59,7 +59,7 @@ cards_item a b c d =
     if first == second then None else Some (Cards first second)) (card_of_letters c d))
     (card_of_letters a b)
 
--- the item of a text without a weight; a plus behind it is a 43
+-- the item of a text without a weight; a plus after it is a 43
 abbrev pub item_of : List ℕ → Option Item
 item_of (a ∷ b ∷ []) = plain_item a b false
 item_of (a ∷ b ∷ c ∷ []) = if c == 43 then plain_item a b true else suited_item a b c false
@@ -82,7 +82,7 @@ abbrev pub entry_with : Option ℕ → Option Item → Option Entry
 entry_with weight item =
     option_and_then (λ w. option_and_then (λ i. Some (record { item = i; weight = w })) item) weight
 
--- what a text says: an item, with the weight behind the first colon, or else 1
+-- what a text says: an item, with the weight after the first colon, or else 1
 abbrev pub entry_at : Option ℕ → List ℕ → Option Entry
 entry_at None text = entry_with (Some 1) (item_of text)
 entry_at (Some place) text =

@@ -74,7 +74,7 @@ abbrev pub unless_repeated : Option ℕ → List (List ℕ) → Result Ranges Ra
 unless_repeated None others = ranges_of_sizes others
 unless_repeated (Some card) others = Err (TwiceCard card)
 
--- what the words behind the game's say
+-- what the words after the game's say
 abbrev pub ranges_behind : List (List ℕ) → Result Ranges RangeFault
 ranges_behind others =
     if is_form others then
@@ -92,7 +92,7 @@ ranges_of_line_words (word ∷ others) =
 abbrev pub ranges_of : List ℕ → Result Ranges RangeFault
 ranges_of line = ranges_of_line_words (words line)
 
--- a fault is the line's, but for want of memory, which says nothing of it
+-- a fault is the line's, unless memory ran out, which says nothing of it
 abbrev pub IsFaultOf : List ℕ → RangeFault → Type 0
 IsFaultOf line Memory = Unit {0}
 IsFaultOf line fault = ranges_of line ≡ Err fault

@@ -25,7 +25,7 @@ AreHands board dead (w ∷ hands) = IsHand board dead w × AreHands board dead h
 abbrev pub place_of : List ℕ → ℕ
 place_of hand = 52 * slice_index hand 0 + slice_index hand 1
 
--- each hand stands before those behind it, so none stands twice
+-- each hand stands before those after it, so none stands twice
 abbrev pub are_rising : List Weighted → Bool
 are_rising [] = true
 are_rising (w ∷ hands) =

@@ -39,7 +39,7 @@ fn value_beside(full: CardSet, hand: CardSet) -> u32
 /// The hands of a range that have no card of a full board. Clauses see their list.
 #[derive(Drop)]
 pub(crate) struct ShownRange {
-    /// The hands, and behind them places that aren't looked at.
+    /// The hands, and after them places that aren't looked at.
     hands: [Shown; 1326],
     /// How many hands there are.
     count: u16,

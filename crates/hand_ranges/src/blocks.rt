@@ -15,26 +15,28 @@ use card_sets::{Game, Memory};
 use report_sheet::{Form, Sheet};
 use std::alloc::AllocError;
 
-/// Appends the block of a spot whose line is well written.
-#[tactic(auto, unfolding(crate::specs::Blocks::known_block))]
-fn known_spot(
-    sheet: &mut Sheet,
+/// Appends the block of a spot with ranges: the line of its rejection, that it has too many runouts, or how
+/// the runouts of all choices end for each player. Places and lines count from 1. The spot is an answer of
+/// `read_ranges`, and the tally is that of `count_ranges` for it; where the spot is a fault the tally isn't
+/// looked at. Out of memory it leaves `out` as it was.
+pub fn write_ranges(
+    out: &mut Vec<u8>,
     place: u64,
     line: u32,
-    spot: &RangeSpot,
+    spot: &Result<RangeSpot, RangeFault>,
     tally: &Result<RangeTally, RangeJobFault>,
-) -> Result<(), AllocError>
-    requires between { IsBetweenLines sheet.old }
-    requires sound { IsSound (ranges_in spot.now) }
-    requires counted { IsCountOf (ranges_in spot.now) tally.now }
-    ensures { OnOk result (sheet.new
-        ≡ with_lines sheet.old (known_block sheet.old.form place line (ranges_in spot.now))) }
+    form: Form,
+) -> Result<(), Memory>
+    requires sound { IfOk spot.now (λ s. IsSound (ranges_in s)) }
+    requires counted { IfOk spot.now (λ s. IsCountOf (ranges_in s) tally.now) }
+    ensures block { OnOk result (out.new.items
+        ≡ out.old.items ++ ranges_block form place line (seen_ranges spot.now)) }
+    ensures memory { OnErr result (out.new.items ≡ out.old.items) }
 {
-    match tally {
-        Ok(tally) => counted_spot(sheet, place, spot.ranges.len() as u8, tally),
-        Err(RangeJobFault::AboveLimit) => sheet.refused_spot(place, Game::Holdem),
-        Err(RangeJobFault::NoChoice) => no_choice_line(sheet, place, u64::from(line)),
-    }
+    let mut sheet = Sheet::new(*out.allocator(), form);
+    spot_lines(&mut sheet, place, line, spot, tally)?;
+    out.extend_from_slice(sheet.bytes())?;
+    Ok(())
 }
 
 /// Appends the line of a spot that is rejected, or the block of one that is well written.
@@ -58,26 +60,24 @@ fn spot_lines(
     }
 }
 
-/// Appends the block of a spot with ranges: the line of its rejection, that it has too many runouts, or how
-/// the runouts of all choices end for each player. Places and lines count from 1. The spot is an answer of
-/// `read_ranges`, and the tally is that of `count_ranges` for it; where the spot is a fault the tally isn't
-/// looked at. Want of memory leaves `out` as it was.
-pub fn write_ranges(
-    out: &mut Vec<u8>,
+/// Appends the block of a spot whose line is well written.
+#[tactic(auto, unfolding(crate::specs::Blocks::known_block))]
+fn known_spot(
+    sheet: &mut Sheet,
     place: u64,
     line: u32,
-    spot: &Result<RangeSpot, RangeFault>,
+    spot: &RangeSpot,
     tally: &Result<RangeTally, RangeJobFault>,
-    form: Form,
-) -> Result<(), Memory>
-    requires sound { IfOk spot.now (λ s. IsSound (ranges_in s)) }
-    requires counted { IfOk spot.now (λ s. IsCountOf (ranges_in s) tally.now) }
-    ensures block { OnOk result (out.new.items
-        ≡ out.old.items ++ ranges_block form place line (seen_ranges spot.now)) }
-    ensures memory { OnErr result (out.new.items ≡ out.old.items) }
+) -> Result<(), AllocError>
+    requires between { IsBetweenLines sheet.old }
+    requires sound { IsSound (ranges_in spot.now) }
+    requires counted { IsCountOf (ranges_in spot.now) tally.now }
+    ensures { OnOk result (sheet.new
+        ≡ with_lines sheet.old (known_block sheet.old.form place line (ranges_in spot.now))) }
 {
-    let mut sheet = Sheet::new(*out.allocator(), form);
-    spot_lines(&mut sheet, place, line, spot, tally)?;
-    out.extend_from_slice(sheet.bytes())?;
-    Ok(())
+    match tally {
+        Ok(tally) => counted_spot(sheet, place, spot.ranges.len() as u8, tally),
+        Err(RangeJobFault::AboveLimit) => sheet.refused_spot(place, Game::Holdem),
+        Err(RangeJobFault::NoChoice) => no_choice_line(sheet, place, u64::from(line)),
+    }
 }

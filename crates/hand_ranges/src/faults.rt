@@ -23,7 +23,7 @@ pub enum RangeFault {
     PlayerCount,
     /// Fewer cards are left than the board lacks.
     DeckShort,
-    /// Want of memory. No clause ties it to the line.
+    /// Out of memory. No clause ties it to the line.
     Memory,
 }
 

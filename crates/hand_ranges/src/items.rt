@@ -168,7 +168,7 @@ fn colon_at(text: &[u8]) -> Option<usize>
     text.iter().position(|byte| *byte == b':')
 }
 
-/// What a text says: an item, with the weight behind a colon, or else 1.
+/// What a text says: an item, with the weight after a colon, or else 1.
 pub(crate) fn entry_of(text: &[u8]) -> Option<Entry>
     ensures value { result ≡ entry_of text.now }
     ensures bound { IfSome result (λ entry. entry.weight ≤ 100) }

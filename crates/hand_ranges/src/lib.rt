@@ -1,6 +1,6 @@
 //! Ranges of hands: what a line says in which each player may have one of many hands.
 //!
-//! A line is `holdem` and two to four ranges with a `-` between. Behind them may stand `--` and the
+//! A line is `holdem` and two to four ranges with a `-` between. After them may stand `--` and the
 //! board, and then `/` and the dead cards, as in `holdem TT+,AKs:2 - AsAh -- 2c 7d 9h / 3h`. A range
 //! is one word, of items with a comma between:
 //!
@@ -11,7 +11,7 @@
 //! | `A9s+`, `A9o+`, `A9+` | the same with each second rank from that on, below the first |
 //! | `AsKh` | one hand |
 //!
-//! Behind an item may stand a colon and its weight, 1 to 100, and else it is 1. The weight of a hand
+//! After an item may stand a colon and its weight, 1 to 100, and else it is 1. The weight of a hand
 //! is what its items add up to.
 //!
 //! 1. *Reading* (`read_ranges`). A table has the weight of each hand, and each item of a word adds its weight to

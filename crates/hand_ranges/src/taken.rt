@@ -18,7 +18,7 @@ use showdown_tally::Table;
 /// count together.
 #[derive(Clone, Copy)]
 pub(crate) struct Taken {
-    /// The hands, and behind them places that aren't looked at.
+    /// The hands, and after them places that aren't looked at.
     hands: [Weighted; 4],
     /// How many hands there are.
     pub(crate) count: u8,
@@ -123,7 +123,7 @@ impl Taken {
         more
     }
 
-    /// The hands, and empty sets behind them.
+    /// The hands, and empty sets after them.
     fn padded(&self) -> [CardSet; 10]
         ensures front { take self.now.count result ≡ hands_in (take self.now.count self.now.hands) }
         ensures back { drop self.now.count result ≡ replicate (10 - self.now.count) [] }

@@ -18,7 +18,7 @@ fn comma_at(bytes: &[u8]) -> Option<usize>
     bytes.iter().position(|byte| *byte == b',')
 }
 
-/// The first text of some bytes, and what stands behind its comma, if it has one.
+/// The first text of some bytes, and what stands after its comma, if it has one.
 fn cut(bytes: &[u8]) -> (&[u8], Option<&[u8]>)
     ensures { texts_of bytes.now
         ≡ result.0.now ∷ option_map_or (λ rest. texts_of rest.now) result.1 [] }

@@ -13,7 +13,7 @@ use card_sets::CardSet;
 use spot_text::{Words, ends_hands, is_dash};
 use std::alloc::{AllocError, Global};
 
-/// The words from the first mark behind the ranges on, if each range is one word.
+/// The words from the first mark after the ranges on, if each range is one word.
 pub(crate) fn behind_ranges(words: Words) -> Option<Words>
     ensures some { is_some result ≡ list_all is_one_word (hand_words (words_left words.entry)) }
     ensures hands { IfSome result (λ table. hand_words (words_left table) ≡ [] ∷ []) }

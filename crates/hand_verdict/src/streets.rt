@@ -4,7 +4,7 @@ use crate::verdicts::HandAudit;
 use hand_events::Street;
 use showdown_tally::Table;
 
-/// What is known on a street behind the all-in point of a hand.
+/// What is known on a street after the all-in point of a hand.
 #[derive(Clone, Copy)]
 pub struct StreetState {
     /// The street.
@@ -19,6 +19,6 @@ pub struct StreetState {
 pub struct AuditedStreets {
     /// The verdict.
     pub audit: HandAudit,
-    /// What is known on the streets behind the all-in point, in their order; none of a rejected hand.
+    /// What is known on the streets after the all-in point, in their order; none of a rejected hand.
     pub streets: Vec<StreetState>,
 }

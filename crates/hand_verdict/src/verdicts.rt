@@ -16,7 +16,7 @@ pub enum AllIn {
     Known {
         /// The street on which it lies.
         street: Street,
-        /// The seats of the table's hands, hand by hand and rising, and 0 behind them.
+        /// The seats of the table's hands, hand by hand and rising, and 0 after them.
         seats: [u8; 10],
         /// The known cards, and the pots of the whole hand.
         table: Table,

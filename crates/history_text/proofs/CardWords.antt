@@ -8,7 +8,7 @@ use Rattle.history_text.specs.Brackets.{card_words, at_most_ten, first_card}
 abbrev pub behind_cards : List ℕ → Option (List ℕ) → Option (List ℕ)
 behind_cards cards words = option_map (λ others. cards ++ others) words
 
--- the words behind a card
+-- the words after a card
 abbrev pub words_behind : ℕ → List ℕ → Option (List ℕ)
 words_behind card [] = Some (card ∷ [])
 words_behind card (gap ∷ rest) = cond (eqb gap 32) (option_map (λ cards. card ∷ cards) (card_words rest)) None
@@ -51,11 +51,11 @@ words_more cards text rest card gap first space =
     words_step text ∙ ap words_by first ∙ ap (λ v. cond v (option_map (λ others. card ∷ others) (card_words rest)) None) space in
     sym (ap (behind_cards cards) e ∙ one_more cards card (card_words rest))
 
--- behind a card that ends the words there is none
+-- after a card that ends the words there is none
 pub words_end : (cards text : List ℕ) (card : ℕ) → first_card text ≡ Some (card, []) → Some (cards ++ card ∷ []) ≡ behind_cards cards (card_words text)
 words_end cards text card first = sym (ap (behind_cards cards) (words_step text ∙ ap words_by first))
 
--- another byte than a space behind a card
+-- another byte than a space after a card
 pub words_gap : (text rest : List ℕ) (card gap : ℕ) → first_card text ≡ Some (card, gap ∷ rest) → eqb gap 32 ≡ false → card_words text ≡ None
 words_gap text rest card gap first other =
     words_step text ∙ ap words_by first ∙ ap (λ v. cond v (option_map (λ others. card ∷ others) (card_words rest)) None) other
@@ -81,7 +81,7 @@ words_some (Some read) words h = some_left read.0 read.1 words h
 too_long : (count : ℕ) → 11 ≤ count → nat_le count 10 ≡ false
 too_long count h = grind arith
 
--- so behind ten cards they are too many
+-- so after ten cards they are too many
 many : (cards text : List ℕ) (words : Option (List ℕ)) → length cards ≡ 10 → words_by (first_card text) ≡ words
     → option_and_then (λ all. at_most_ten all) (behind_cards cards words) ≡ None
 many cards text None ten e = refl
@@ -106,7 +106,7 @@ first_short [] h = refl
 first_short (rank ∷ []) h = refl
 first_short (rank ∷ suit ∷ rest) h = absurd (omega arith)
 
--- what the code has read of the first card, and behind it
+-- what the code has read of the first card, and after it
 pub first_found : (text behind : List ℕ) (card : ℕ) (read : Option ℕ) → 2 ≤ length text
     → read ≡ card_of_letters (get_or text 0 0) (get_or text 1 0) → read ≡ Some card → behind ≡ drop 2 text
     → first_card text ≡ Some (card, behind)

@@ -33,7 +33,7 @@ use Rattle.history_text.specs.Headers.{title, is_header, hand_number, behind_sta
 abbrev Saying : Type 0
 Saying = List ℕ × Result Event TextFault
 
--- behind a seat line its name is one of the hand's
+-- after a seat line its name is one of the hand's
 names_behind : List (ℕ × List ℕ) → List ℕ → Result Event TextFault → List (ℕ × List ℕ)
 names_behind names line (Ok (event.Seat seat units first end)) = names ++ (seat, take (end - first) (drop first line)) ∷ []
 names_behind names line _ = names

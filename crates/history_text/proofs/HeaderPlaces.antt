@@ -18,7 +18,7 @@ use Rattle.card_sets.specs.Games.{all_games}
 use Rattle.history_text.specs.Headers.{Named, Found, found_first, first_game, first_stakes, game_at, one_on, stakes_at, staked, with_stakes, header_behind}
 use Rattle.history_text.specs.Games.{places_on, capped_stakes, kept_header}
 
--- a text from a place on is its byte there and what stands behind
+-- a text from a place on is its byte there and what stands after
 from_place : (text : List ℕ) (place : ℕ) → place < length text → drop place text ≡ get_or text place 0 ∷ drop (place + 1) text
 from_place text place h = rw (add-one, drop-cons text place 0) refl
 

@@ -1,4 +1,4 @@
--- The first opening of a list that is two lists one behind the other.
+-- The first opening of a list that is two lists one after the other.
 use Rattle.std.proofs.Common.{◌≡◌, ℕ, List, [], ◌∷◌, ◌++◌, Option, Some, None, refl}
 use Rattle.std.specs.Prelude.{option_map}
 use Rattle.history_text.specs.Texts.{behind}

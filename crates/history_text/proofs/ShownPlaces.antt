@@ -1,4 +1,4 @@
--- Where no bracket opens, no words that give cards stand; and where words that give cards end with the last bracket that opens, none stand behind them.
+-- Where no bracket opens, no words that give cards stand; and where words that give cards end with the last bracket that opens, none stand after them.
 use Rattle.std.proofs.Common.{◌≡◌, ℕ, ◌+◌, ◌<◌, ◌≤◌, ◌==◌, ◌||◌, ◌&&◌, Bool, true, false, cond, List, [], ◌∷◌, codes, nat_eq, length, take, drop, get_or, refl, sym, ap, ◌∙◌, arith, eq-eqb, length-drop}
 use Rattle.std.specs.Prelude.{Option, Some, None, nat_le, nat_lt, if◌then◌else◌}
 use Rattle.std.specs.List.{starts_with}
@@ -51,7 +51,7 @@ none_shown text none =
     ap (λ place. later (cut_at (codes " showed [") text place) (cut_last (codes " mucked [") text)) (no_place (codes " showed [") text refl none)
     ∙ ap (λ place. later None (cut_at (codes " mucked [") text place)) (no_place (codes " mucked [") text refl none)
 
--- what stands behind a front: the text begins with it
+-- what stands after a front: the text begins with it
 pub behind_is : (front text rest : List ℕ) → Some rest ≡ behind front text → (starts_with nat_eq text front ≡ true) × (rest ≡ drop (length front) text)
 unfolding behind
 behind_is front text rest is = by (starts_with nat_eq text front) refl is
@@ -70,7 +70,7 @@ mucked = codes " mucked ["
 abbrev pub IsLastBracket : List ℕ → ℕ → Type 0
 IsLastBracket text k = IsLastByte (is_byte 91) text (Some k)
 
--- words of nine bytes that end with a bracket don't stand behind the place from which on the last one is the ninth
+-- words of nine bytes that end with a bracket don't stand after the place from which on the last one is the ninth
 not_later : (text mark : List ℕ) (p k q : ℕ) → length mark ≡ 9 → get_or mark 8 0 ≡ 91 → IsLastBracket text k → p + 8 ≡ k → OccursAt text mark q → q ≤ p
 not_later text mark p k q long ends last here at = by (nat_le q p) refl
   where

@@ -5,7 +5,7 @@ use Rattle.history_text.specs.declared.verbs.Verb.TheVariants.{PostsSmall, Posts
 use Rattle.history_text.specs.Texts.{behind}
 use Rattle.history_text.specs.Acts.{first_opening, verb_of, verb_words}
 
--- the first of some verbs that a text with this byte in front begins with is the first of all
+-- the first of some verbs that a text with this first byte begins with is the first of all
 abbrev pub AreWith : ℕ → List Verb → Type 0
 AreWith byte some = (rest : List ℕ) → first_opening verb_words some (byte ∷ rest) ≡ verb_of (byte ∷ rest)
 

@@ -291,7 +291,7 @@ among_has names (Some seat) h = by (is_seated seat names)
     by true = h
     by false = tt
 
--- a text behind a front is no longer, nor is a part of one
+-- a text after a front is no longer, nor is a part of one
 behind_short : (front text : List ℕ) → Has (λ (rest : List ℕ). length rest ≤ length text) (behind front text)
 unfolding behind
 behind_short front text = by (starts_with nat_eq text front)

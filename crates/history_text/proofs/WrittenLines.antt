@@ -22,7 +22,7 @@ use Rattle.history_text.specs.Acts.{verb_of, post, call, bet, raise, perhaps_car
 use Rattle.history_text.specs.Written.{IsOneOf, IsNamed, IsLongest, IsPaid, all_in_text, IsPostOf, SaysPost, SaysAct}
 use Rattle.history_text.proofs.LongestNames.{all_are_longest}
 
--- what stands behind a front
+-- what stands after a front
 pub behind_front : (front rest : List ℕ) → behind front (front ++ rest) ≡ Some rest
 unfolding behind
 behind_front front rest =
@@ -41,7 +41,7 @@ front_of front text rest h = by_test (starts_with nat_eq text front) refl
         (starts_is Decides-eqb text front (starts_with nat_eq text front) refl).0 e ∙ ap (λ t. front ++ t) same
     by_test false e = let is : ◌≡◌ {A = Option (List ℕ)} None (Some rest) = rw e at h in absurd (cc)
 
--- a name with a mark behind it fits
+-- a name with a mark after it fits
 name_fits : (mark name rest : List ℕ) (seat : ℕ) →
     fit mark (name ++ (mark ++ rest)) (seat, name) ≡ Some (let f : Fit = record { seat = seat; length = length name; rest = rest } in f)
 name_fits mark name rest seat =
@@ -49,7 +49,7 @@ name_fits mark name rest seat =
     (behind_front name (mark ++ rest))
     ∙ ap (λ o. option_map (λ (r : List ℕ). let f : Fit = record { seat = seat; length = length name; rest = r } in f) o) (behind_front mark rest)
 
--- and what fits is a name with the mark behind it
+-- and what fits is a name with the mark after it
 record IsFitBy (mark text : List ℕ) (who : ℕ × List ℕ) (f : Fit) : Type 0 where
   seat : f.seat ≡ who.0
   length : f.length ≡ length who.1
@@ -96,7 +96,7 @@ fits_one mark text (who ∷ names) f (inl e) = record { who = who; one = inl ref
 fits_one mark text (who ∷ names) f (inr h) =
     let later = fits_one mark text names f h in record { who = later.who; one = inr later.one; by = later.by }
 
--- fronts of one length are the same, and so is what stands behind them
+-- fronts of one length are the same, and so is what stands after them
 pub same_front : (xs ys us vs : List ℕ) → length xs ≡ length ys → xs ++ us ≡ ys ++ vs → (xs ≡ ys) × (us ≡ vs)
 same_front xs ys us vs long same =
     let fronts : xs ≡ ys = sym (take_at xs us (length xs) refl) ∙ ap (take (length xs)) same ∙ take_at ys vs (length xs) (sym long) in
@@ -153,7 +153,7 @@ none_counts names mark line nobody = by_found (front_name mark line names) (all_
         let one = fits_one mark line names f fits in
         absurd (nobody (one.who).0 (one.who).1 f.rest one.one one.by.whole)
 
--- an amount that is paid is read, and what stands behind it is left
+-- an amount that is paid is read, and what stands after it is left
 pub paid_is_read : (header : Header) (units : ℕ) (amount rest : List ℕ) → IsPaid header units amount → digit_count rest ≡ 0 → has_point rest ≡ false →
     some_money header.hundredths (amount ++ rest) ≡ Ok (units, rest)
 unfolding money some_money

@@ -18,7 +18,7 @@ use Rattle.history_text.specs.Reading.{money, money_of, follows, seat_front}
 use Rattle.history_text.specs.Seats.{seat_opening, free_name, seat_event, seat_line, preamble_event}
 use Rattle.history_text.specs.Written.{IsOneOf, MayBeSeated, SeatsAreRead}
 
--- a mark that is last in a text is last behind a front too
+-- a mark that is last in a text is last after a front too
 last_later : (mark front text : List ℕ) (place : ℕ) → last_place mark text ≡ Some place → last_place mark (front ++ text) ≡ Some (length front + place)
 unfolding last_place
 last_later mark [] text place h = h ∙ ap (λ (p : ℕ). Some p) (omega arith)
@@ -158,7 +158,7 @@ stack_read header units amount rest writes fits =
     drop_at amount (codes " in chips" ++ rest) (0 + length amount) (omega arith) in
     ap (money_of (amount ++ (codes " in chips" ++ rest))) read.1 ∙ rw back refl
 
--- what stands behind the number of the seat
+-- what stands after the number of the seat
 abbrev place_text : List ℕ → List ℕ → List ℕ → List ℕ
 place_text name amount rest = name ++ (codes " (" ++ (amount ++ (codes " in chips" ++ rest)))
 

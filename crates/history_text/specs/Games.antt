@@ -16,7 +16,7 @@ seen_named game = record { game = game.game; limit = game.limit; rest = game.res
 abbrev pub seen_found : ℕ × NamedGame → Found
 seen_found found = record { place = found.0; named = seen_named found.1 }
 
--- what is found behind so many bytes
+-- what is found after so many bytes
 abbrev pub places_on : ℕ → Option Found → Option Found
 places_on places found = option_map (λ f. record { place = places + f.place; named = f.named }) found
 

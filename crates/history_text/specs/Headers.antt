@@ -15,14 +15,14 @@ use Rattle.history_text.specs.Texts.{behind, cut_first, cut_last}
 use Rattle.history_text.specs.Reading.{◌>>=◌, ◌otherwise◌, or_fault}
 use Rattle.history_text.specs.Acts.{first_opening}
 
--- what stands between `PokerStars ` and the first `#`, and what stands behind that
+-- what stands between `PokerStars ` and the first `#`, and what stands after that
 unfoldable pub title : List ℕ → Option (List ℕ × List ℕ)
 title line = option_and_then (λ text. cut_first (codes "#") text) (behind (codes "PokerStars ") line)
 
 abbrev pub is_letter_or_space : ℕ → Bool
 is_letter_or_space byte = is_ascii_alphabetic byte || (byte == 32)
 
--- letters and spaces that end with `Hand ` or `Game `, and behind the `#` a digit
+-- letters and spaces that end with `Hand ` or `Game `, and after the `#` a digit
 abbrev pub is_title : List ℕ × List ℕ → Bool
 is_title cut =
     list_all is_letter_or_space cut.0
@@ -44,7 +44,7 @@ number_places line (Some cut) = (length line - length cut.1, length line - lengt
 unfoldable pub hand_number : List ℕ → ℕ × ℕ
 hand_number line = number_places line (title line)
 
--- the three starts, and a number of at most 19 digits with a colon and a space: what stands behind them
+-- the three starts, and a number of at most 19 digits with a colon and a space: what stands after them
 abbrev pub is_start : List ℕ → Bool
 is_start words =
     bytes_eq words (codes "Hand ") || (bytes_eq words (codes "Game ") || bytes_eq words (codes "Zoom Hand "))
@@ -55,7 +55,7 @@ behind_start line =
     if is_start cut.0 && nat_le (digit_count cut.1) 19 then behind (codes ": ") (drop (digit_count cut.1) cut.1) else None)
     (title line)
 
--- what stands behind a game's name and a space
+-- what stands after a game's name and a space
 abbrev pub behind_name : Game → List ℕ → Option (List ℕ)
 behind_name game text = option_and_then (λ rest. behind (codes " ") rest) (behind (header_name game) text)
 
@@ -68,7 +68,7 @@ limit_words Fixed = codes "Limit"
 abbrev pub limits : List Limit
 limits = NoLimit ∷ PotLimit ∷ Fixed ∷ []
 
--- a game's name, a space and a limit, and what stands behind them
+-- a game's name, a space and a limit, and what stands after them
 pub record Named : Type 0 where
   pub game : Game
   pub limit : Limit
@@ -105,7 +105,7 @@ last_word text = option_map (λ cut. cut.1) (cut_last (codes " ") text) otherwis
 unfoldable pub word_before : List ℕ → List ℕ
 word_before before = if ends_with nat_eq before (codes " ") then last_word (take (length before - 1) before) else []
 
--- the words that make another game of the name behind them
+-- the words that make another game of the name after them
 abbrev pub other_words : List (List ℕ)
 other_words =
     codes "6+" ∷ codes "Card" ∷ codes "Split" ∷ codes "Tempest" ∷ codes "Unfolded" ∷ codes "Showtime" ∷ codes "Fusion" ∷ []
@@ -117,7 +117,7 @@ is_other_word word = list_any (λ other. bytes_eq word other) other_words
 unfoldable pub game_of : List ℕ → Game → Option Game
 game_of before game = if is_other_word (word_before before) then None else Some game
 
--- two amounts with a slash between, behind `(` or `, `
+-- two amounts with a slash between, after `(` or `, `
 abbrev pub second_stake : Written → List ℕ → Option (Written × Written)
 second_stake first text = option_map (λ second. (first, second)) (written text)
 
@@ -152,7 +152,7 @@ with_stakes game limit stakes =
     let hundredths = stakes.0.marked || stakes.1.marked in
     staked game limit hundredths (units_of hundredths stakes.0) (units_of hundredths stakes.1)
 
--- the stakes at the first place behind the limit where two amounts stand
+-- the stakes at the first place after the limit where two amounts stand
 unfoldable pub header_behind : Game → Limit → List ℕ → Result Header TextFault
 header_behind game limit text = do
   stakes ← or_fault BadHeader (first_stakes text)

@@ -2,7 +2,7 @@
 use Rattle.std.specs.Prelude.{ℕ, nat_lt, if◌then◌else◌, List, [], ◌∷◌, length, Option, Some, None, option_map, option_and_then}
 use Rattle.history_text.specs.Texts.{behind}
 
--- a seated name that begins a text: its seat, its length, and what stands behind it and its mark
+-- a seated name that begins a text: its seat, its length, and what stands after it and its mark
 pub record Fit : Type 0 where
   pub seat : ℕ
   pub length : ℕ
@@ -23,6 +23,6 @@ abbrev pub longest : Option Fit → List ℕ → List ℕ → List (ℕ × List 
 longest best mark text [] = best
 longest best mark text (who ∷ names) = longest (longer best (fit mark text who)) mark text names
 
--- the longest of the names that begin a text with the mark behind them
+-- the longest of the names that begin a text with the mark after them
 unfoldable pub front_name : List ℕ → List ℕ → List (ℕ × List ℕ) → Option Fit
 front_name mark text names = longest None mark text names

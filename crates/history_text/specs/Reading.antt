@@ -1,4 +1,4 @@
--- Readers: what a text begins with, and what stands behind it, or the first fault from the left.
+-- Readers: what a text begins with, and what stands after it, or the first fault from the left.
 use Rattle.std.specs.Prelude.{ℕ, ◌==◌, ◌&&◌, nat_le, if◌then◌else◌, Bool, true, false, List, length, take, drop, codes, Option, Some, None, option_map, Result, Ok, Err}
 use Rattle.std.specs.Str.{bytes_eq}
 use Rattle.line_text.specs.declared.amounts.Amount.{Amount}
@@ -45,11 +45,11 @@ some_money hundredths text = do
   amount ← money hundredths text
   if amount.0 == 0 then Err BadAmount else Ok amount
 
--- the words behind an amount must come
+-- the words after an amount must come
 unfoldable pub follows : List ℕ → List ℕ → Result (List ℕ) TextFault
 follows words text = or_fault BadAmount (behind words text)
 
--- behind a bet's last amount the line ends, or says that the player is all-in
+-- after a bet's last amount the line ends, or says that the player is all-in
 unfoldable pub all_in_end : List ℕ → Result Bool TextFault
 all_in_end text =
     if is_end text then Ok false else (if bytes_eq text (codes " and is all-in") then Ok true else Err BadAmount)
@@ -58,12 +58,12 @@ all_in_end text =
 abbrev pub seat_of : ℕ → Option ℕ
 seat_of number = if nat_le 1 number && nat_le number 10 then Some number else None
 
--- the digits at the front of a text, if there are some, and what stands behind them
+-- the digits at the front of a text, if there are some, and what stands after them
 abbrev pub digits_front : List ℕ → Option (List ℕ × List ℕ)
 digits_front text =
     let count = digit_count text in
     if count == 0 then None else Some (take count text, drop count text)
 
--- the seat that they say, if they say one, and what stands behind them
+-- the seat that they say, if they say one, and what stands after them
 unfoldable pub seat_front : List ℕ → Option (Option ℕ × List ℕ)
 seat_front text = option_map (λ front. (seat_of (number_of front.0), front.1)) (digits_front text)

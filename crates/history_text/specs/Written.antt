@@ -28,13 +28,13 @@ pub record IsNamed (names : List (ℕ × List ℕ)) (seat : ℕ) (name : List �
   pub seated : IsOneOf (seat, name) names
   pub alone : (other : ℕ) → IsOneOf (other, name) names → other ≡ seat
 
--- no longer name of the hand begins the line with the mark behind it
+-- no longer name of the hand begins the line with the mark after it
 abbrev pub IsLongest : List (ℕ × List ℕ) → List ℕ → List ℕ → List ℕ → Type 0
 IsLongest names mark name rest =
     (seat : ℕ) (other more : List ℕ) → IsOneOf (seat, other) names → name ++ (mark ++ rest) ≡ other ++ (mark ++ more) →
     length other ≤ length name
 
--- no name of the hand begins the line with a colon and a space behind it
+-- no name of the hand begins the line with a colon and a space after it
 abbrev pub IsNobodysLine : List (ℕ × List ℕ) → List ℕ → Type 0
 IsNobodysLine names line =
     (seat : ℕ) (name more : List ℕ) → IsOneOf (seat, name) names → line ≡ name ++ (codes ": " ++ more) → ⊥
@@ -51,7 +51,7 @@ pub record IsPaid (header : Header) (units : ℕ) (text : List ℕ) : Type 0 whe
   pub fits : units ≤ greatest
   pub writes : Writes header.hundredths units text
 
--- the words behind a last amount that takes all chips
+-- the words after a last amount that takes all chips
 abbrev pub all_in_text : Bool → List ℕ
 all_in_text true = codes " and is all-in"
 all_in_text false = []
@@ -144,7 +144,7 @@ CollectionsAreRead =
     behind (codes "Uncalled bet (") (collection_text name amount pot) ≡ None → StandsInPlay part (collection_text name amount pot) →
     line_event names header part (collection_text name amount pot) ≡ Ok (event.Collect seat units pot)
 
--- a seat with its player's name and chips; what stands behind the chips has no ` in chips`
+-- a seat with its player's name and chips; what stands after the chips has no ` in chips`
 abbrev pub seat_text : ℕ → List ℕ → List ℕ → List ℕ → List ℕ
 seat_text seat name amount rest =
     codes "Seat " ++ (decimal seat ++ (codes ": " ++ (name ++ (codes " (" ++ (amount ++ (codes " in chips" ++ rest))))))

@@ -12,7 +12,7 @@ use crate::{Header, Limit, TextFault};
 use card_sets::Game;
 use line_text::{GREATEST, WrittenAmount, digit_count, written};
 
-/// What stands between the site's name and the first `#`, and what stands behind that.
+/// What stands between the site's name and the first `#`, and what stands after that.
 #[tactic(auto, unfolding(crate::specs::Headers::title))]
 fn title(line: &[u8]) -> Option<(&[u8], &[u8])>
     ensures value { option_map (λ cut. (cut.0.now, cut.1.now)) result ≡ title line.now }
@@ -30,7 +30,7 @@ fn are_letters_or_spaces(bytes: &[u8]) -> bool
         .all(|byte| byte.is_ascii_alphabetic() || *byte == b' ')
 }
 
-/// Whether the words before the number and the digits behind them are those of a header.
+/// Whether the words before the number and the digits after them are those of a header.
 fn is_title(words: &[u8], number: &[u8]) -> bool
     ensures { result ≡ is_title (words.now, number.now) }
 {
@@ -78,7 +78,7 @@ fn is_start(words: &[u8]) -> bool
     words == HAND || words == GAME || words == ZOOM_HAND
 }
 
-/// What stands behind the start, the number and the colon.
+/// What stands after the start, the number and the colon.
 #[tactic(auto, unfolding(crate::specs::Headers::behind_start))]
 fn behind_start(line: &[u8]) -> Option<&[u8]>
     ensures { option_map (λ text. text.now) result ≡ behind_start line.now }
@@ -107,7 +107,7 @@ impl Opening for Limit {
     }
 }
 
-/// A game's name and its limit, and what stands behind them.
+/// A game's name and its limit, and what stands after them.
 #[derive(Clone, Copy)]
 struct NamedGame<'a> {
     game: Game,
@@ -115,7 +115,7 @@ struct NamedGame<'a> {
     rest: &'a [u8],
 }
 
-/// What stands behind a game's name and a space.
+/// What stands after a game's name and a space.
 fn behind_name(game: Game, text: &[u8]) -> Option<&[u8]>
     ensures { option_map (λ rest. rest.now) result ≡ behind_name game text.now }
 {
@@ -181,7 +181,7 @@ fn first_game(text: &[u8]) -> Option<(usize, NamedGame<'_>)>
     None
 }
 
-/// What stands behind the last space, or all.
+/// What stands after the last space, or all.
 fn last_word(text: &[u8]) -> &[u8]
     ensures { result.now ≡ last_word text.now }
 {
@@ -217,7 +217,7 @@ const SHOWTIME: &[u8] = b"Showtime";
 
 const FUSION: &[u8] = b"Fusion";
 
-/// Whether the word makes another game of the name behind it.
+/// Whether the word makes another game of the name after it.
 fn is_other_word(word: &[u8]) -> bool
     ensures { result ≡ is_other_word word.now }
 {
@@ -242,7 +242,7 @@ fn game_of(before: &[u8], game: Game) -> Option<Game>
     }
 }
 
-/// What stands behind the opening of the stakes.
+/// What stands after the opening of the stakes.
 fn opened(text: &[u8]) -> Option<&[u8]>
     ensures { option_map (λ rest. rest.now) result ≡ opened text.now }
 {
@@ -320,7 +320,7 @@ fn with_stakes(
     })
 }
 
-/// The header of a game, by the stakes behind its limit.
+/// The header of a game, by the stakes after its limit.
 #[tactic(auto, unfolding(crate::specs::Headers::header_behind))]
 fn header_behind(game: Game, limit: Limit, text: &[u8]) -> Result<Header, TextFault>
     ensures value { result ≡ header_behind game limit text.now }

@@ -6,11 +6,11 @@ ghost use Rattle.history_text.specs.Written.{ActsAreRead, CollectionsAreRead, Po
 /// hand, if its player's name is no other seat's and:
 ///
 /// - where a line begins with the name, no longer name of the hand begins it with the same words
-///   behind;
+///   after;
 /// - before the first street the line is neither a seat line nor that of the button;
 /// - a return or a collection begins with no name and a colon, and a collection neither as a deal nor
 ///   as a return;
-/// - behind the chips of a seat line ` in chips` doesn't come again.
+/// - after the chips of a seat line ` in chips` doesn't come again.
 ///
 /// Amounts are written as [`line_text::law_written_amounts_are_read`] says.
 pub fn law_written_lines_are_read()

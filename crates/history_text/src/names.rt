@@ -9,7 +9,7 @@ ghost use Rattle.history_text.specs.Names.{fit, front_name, longer};
 use crate::texts::behind;
 use hand_events::{Names, Seated};
 
-/// A name that begins a text: its seat, its length, and what stands behind it and its mark.
+/// A name that begins a text: its seat, its length, and what stands after it and its mark.
 #[derive(Clone, Copy)]
 pub(crate) struct NameFit<'a> {
     pub(crate) seat: u8,
@@ -17,7 +17,7 @@ pub(crate) struct NameFit<'a> {
     pub(crate) rest: &'a [u8],
 }
 
-/// How a name begins a text, with a mark behind it.
+/// How a name begins a text, with a mark after it.
 fn fit<'a>(who: &Seated, text: &'a [u8], mark: &[u8]) -> Option<NameFit<'a>>
     ensures { option_map seen result ≡ fit mark.now text.now (pair who.now) }
 {
@@ -56,7 +56,7 @@ fn longer_with<'a>(
     }
 }
 
-/// The longest of the names that begin the text with the mark behind them.
+/// The longest of the names that begin the text with the mark after them.
 #[tactic(auto, unfolding(crate::specs::Names::front_name))]
 fn longest<'a>(seats: &[Seated], text: &'a [u8], mark: &[u8]) -> Option<NameFit<'a>>
     ensures { option_map seen result ≡ front_name mark.now text.now (map pair seats.now) }
@@ -68,7 +68,7 @@ fn longest<'a>(seats: &[Seated], text: &'a [u8], mark: &[u8]) -> Option<NameFit<
     best
 }
 
-/// The longest of the names of a hand that begin a text with a mark behind them.
+/// The longest of the names of a hand that begin a text with a mark after them.
 pub(crate) fn front<'a>(names: &Names, text: &'a [u8], mark: &[u8]) -> Option<NameFit<'a>>
     ensures { option_map seen result ≡ front_name mark.now text.now names.now }
 {

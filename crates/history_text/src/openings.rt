@@ -17,7 +17,7 @@ pub(crate) trait Opening: Copy {
         ensures { result.now ≡ words_in game self };
 }
 
-/// The first of some openings that the text begins with, and what stands behind its words.
+/// The first of some openings that the text begins with, and what stands after its words.
 pub(crate) fn first_opening<'a, X: Opening>(
     game: Game,
     openings: &[X],

@@ -1,4 +1,4 @@
-//! Readers: what a text begins with and what stands behind it, or the first fault from the left.
+//! Readers: what a text begins with and what stands after it, or the first fault from the left.
 
 ghost use Rattle.std.specs.Prelude.{◌≡◌, ◌<◌, ◌≤◌, option_map, IfOk, IfSome, length};
 ghost use Rattle.line_text.specs.Amounts.{digit_count};
@@ -9,7 +9,7 @@ use crate::TextFault;
 use crate::texts::behind;
 use line_text::{AmountFault, digit_count, number_of, read_amount};
 
-/// An amount and what stands behind it.
+/// An amount and what stands after it.
 #[tactic(auto, unfolding(crate::specs::Reading::money))]
 pub(crate) fn money(text: &[u8], hundredths: bool) -> Result<(u64, &[u8]), TextFault>
     ensures value { Gives (λ read. (read.0, read.1.now)) result (money hundredths text.now) }
@@ -22,7 +22,7 @@ pub(crate) fn money(text: &[u8], hundredths: bool) -> Result<(u64, &[u8]), TextF
     }
 }
 
-/// An amount that isn't 0, and what stands behind it.
+/// An amount that isn't 0, and what stands after it.
 #[tactic(auto, unfolding(crate::specs::Reading::some_money))]
 pub(crate) fn some_money(text: &[u8], hundredths: bool) -> Result<(u64, &[u8]), TextFault>
     ensures { Gives (λ read. (read.0, read.1.now)) result (some_money hundredths text.now) }
@@ -34,7 +34,7 @@ pub(crate) fn some_money(text: &[u8], hundredths: bool) -> Result<(u64, &[u8]), 
     Ok((units, rest))
 }
 
-/// What stands behind the words that must follow an amount.
+/// What stands after the words that must follow an amount.
 #[tactic(auto, unfolding(crate::specs::Reading::follows))]
 pub(crate) fn follows<'a>(text: &'a [u8], words: &[u8]) -> Result<&'a [u8], TextFault>
     ensures { Gives (λ rest. rest.now) result (follows words.now text.now) }
@@ -45,7 +45,7 @@ pub(crate) fn follows<'a>(text: &'a [u8], words: &[u8]) -> Result<&'a [u8], Text
 /// The words of a bet that takes the whole stack.
 const ALL_IN: &[u8] = b" and is all-in";
 
-/// Whether the line says that the player is all-in, behind the last amount of a bet.
+/// Whether the line says that the player is all-in, after the last amount of a bet.
 #[tactic(auto, unfolding(crate::specs::Reading::all_in_end))]
 pub(crate) fn all_in_end(text: &[u8]) -> Result<bool, TextFault>
     ensures { result ≡ all_in_end text.now }
@@ -70,7 +70,7 @@ fn seat_of(number: u64) -> Option<u8>
     }
 }
 
-/// The digits at the front, if there are some, and what stands behind them.
+/// The digits at the front, if there are some, and what stands after them.
 #[tactic(auto, using(line_text::proofs::CallerLemmas::front_digits))]
 pub(crate) fn digits_front(text: &[u8]) -> Option<(&[u8], &[u8])>
     ensures value { option_map (λ cut. (cut.0.now, cut.1.now)) result ≡ digits_front text.now }
@@ -84,7 +84,7 @@ pub(crate) fn digits_front(text: &[u8]) -> Option<(&[u8], &[u8])>
     Some(text.split_at(count))
 }
 
-/// The seat that the digits at the front say, if they say one, and what stands behind them.
+/// The seat that the digits at the front say, if they say one, and what stands after them.
 #[tactic(auto, unfolding(crate::specs::Reading::seat_front))]
 pub(crate) fn seat_front(text: &[u8]) -> Option<(Option<u8>, &[u8])>
     ensures value { option_map (λ read. (read.0, read.1.now)) result ≡ seat_front text.now }

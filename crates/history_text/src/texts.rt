@@ -19,7 +19,7 @@ fn begin_apart(text: &[u8], front: &[u8]) -> bool
     }
 }
 
-/// What stands behind two bytes that the text begins with.
+/// What stands after two bytes that the text begins with.
 #[inline]
 #[tactic(auto, unfolding(crate::specs::Texts::behind))]
 fn behind_two(text: &[u8], first: u8, second: u8) -> Option<&[u8]>
@@ -39,7 +39,7 @@ fn behind_two(text: &[u8], first: u8, second: u8) -> Option<&[u8]>
     }
 }
 
-/// What stands behind a front that the text begins with.
+/// What stands after a front that the text begins with.
 #[inline]
 #[tactic(auto, unfolding(crate::specs::Texts::behind))]
 pub(crate) fn behind<'a>(text: &'a [u8], front: &[u8]) -> Option<&'a [u8]>
@@ -106,7 +106,7 @@ fn last_place(text: &[u8], mark: &[u8]) -> Option<usize>
     None
 }
 
-/// What stands before the first place at which a mark stands, and what stands behind the mark.
+/// What stands before the first place at which a mark stands, and what stands after the mark.
 #[tactic(auto, unfolding(crate::specs::Texts::cut_first))]
 pub(crate) fn cut_first<'a>(text: &'a [u8], mark: &[u8]) -> Option<(&'a [u8], &'a [u8])>
     requires { 0 < length mark.now }
@@ -119,7 +119,7 @@ pub(crate) fn cut_first<'a>(text: &'a [u8], mark: &[u8]) -> Option<(&'a [u8], &'
     Some((&text[..place], &text[place + mark.len()..]))
 }
 
-/// What stands before the first place of a byte, and what stands behind it.
+/// What stands before the first place of a byte, and what stands after it.
 #[tactic(auto, unfolding(crate::specs::Texts::cut_first))]
 pub(crate) fn cut_at_byte(text: &[u8], byte: u8) -> Option<(&[u8], &[u8])>
     ensures value { option_map (λ cut. (cut.0.now, cut.1.now)) result
@@ -131,7 +131,7 @@ pub(crate) fn cut_at_byte(text: &[u8], byte: u8) -> Option<(&[u8], &[u8])>
     Some((&text[..place], &text[place + 1..]))
 }
 
-/// What stands before the last place at which a mark stands, and what stands behind the mark.
+/// What stands before the last place at which a mark stands, and what stands after the mark.
 #[tactic(auto, unfolding(crate::specs::Texts::cut_last))]
 pub(crate) fn cut_last<'a>(text: &'a [u8], mark: &[u8]) -> Option<(&'a [u8], &'a [u8])>
     requires { 0 < length mark.now }

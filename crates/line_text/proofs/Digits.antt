@@ -9,7 +9,7 @@ use Rattle.std.proofs.lemmas.List.Sums.{prefix_len-le-length}
 use Rattle.line_text.specs.Amounts.{digit_count, written}
 
 -- the first place that passes, or the length
-place_or_end : (p : ℕ → Bool) (xs : List ℕ) → unwrap_or (position p xs) (length xs) ≡ position_or_len p xs
+pub place_or_end : (p : ℕ → Bool) (xs : List ℕ) → unwrap_or (position p xs) (length xs) ≡ position_or_len p xs
 place_or_end p xs = elim (cases_lt (position_or_len p xs) (length xs)) [
   | inl inside ↦ let passes : nat_lt (position_or_len p xs) (length xs) ≡ true = grind arith in rw passes refl
   | inr past ↦
@@ -47,7 +47,7 @@ front_digits (x ∷ xs) = front_more x xs (front_digits xs) (is_ascii_digit x) r
 pub digit_kept : (number greatest digit : ℕ) → min (min (min number greatest * 10) greatest + digit) greatest ≡ min (number * 10 + digit) greatest
 digit_kept number greatest digit = omega arith
 
--- nothing is written behind the end
+-- nothing is written after the end
 pub nothing_written : (bytes : List ℕ) (at : ℕ) → length bytes < at → written (drop at bytes) ≡ None
 unfolding written
 nothing_written bytes at h = rw (drop_all at bytes (omega arith)) refl

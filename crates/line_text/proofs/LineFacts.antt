@@ -12,7 +12,7 @@ front_line-take (x ∷ xs) =
     cond_both (is_newline x) [] (x ∷ front_line xs) (λ f. take (length f) (x ∷ xs) ≡ f) (λ _. refl)
     (λ _. ap (λ f. x ∷ f) (front_line-take xs))
 
--- what stands behind it follows its newline
+-- what stands after it follows its newline
 pub behind_line-drop : (xs : List ℕ) → drop (length (front_line xs) + newline_length xs) xs ≡ behind_line xs
 behind_line-drop [] = refl
 behind_line-drop (x ∷ xs) =

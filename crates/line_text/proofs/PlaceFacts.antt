@@ -8,7 +8,7 @@ use Rattle.line_text.specs.Places.{mark_length, newline_length, line_at, IsWithi
 use Rattle.line_text.proofs.LineFacts.{front_line-take, behind_line-drop, newline_end, lines-front}
 use Rattle.line_text.proofs.TextFacts.{text_of-take, text_of-le, without_mark-drop}
 
--- the places by their parts, where the next line begins behind the newline or at the end
+-- the places by their parts, where the next line begins after the newline or at the end
 pub line_at-parts : (bytes : List ℕ) (start marked kept next : ℕ)
     → start ≤ length bytes
     → marked ≡ mark_length (front_line (drop start bytes))

@@ -1,4 +1,4 @@
--- Where the text of a line stands in it: behind the mark, and before the blanks at the end.
+-- Where the text of a line stands in it: after the mark, and before the blanks at the end.
 use Rattle.std.proofs.Common.{◌≡◌, ℕ, ◌+◌, ◌-◌, ◌<◌, ◌≤◌, Bool, true, false, ◌&&◌, cond, List, [], ◌∷◌, ◌++◌, length, take, drop, refl, ap, sym, ◌∙◌, arith, length-drop, length-take, nat_eq, get_or}
 use Rattle.std.proofs.lemmas.Bool.{cond_both}
 use Rattle.std.proofs.lemmas.List.{take-append-le, drop-append-le, take_all, take_more}
@@ -87,7 +87,7 @@ without_mark-drop line =
       | false ↦ refl
     ]
 
--- the text of a line in front of other bytes stands behind the mark
+-- the text of a line before other bytes stands after the mark
 pub text_of-take : (line more : List ℕ)
     → take (length (text_of line)) (drop (mark_length line) (line ++ more)) ≡ text_of line
 text_of-take line more =
@@ -105,7 +105,7 @@ text_of-le line =
     let n : mark_length line ≤ length line = mark_length-le line in
     omega (arith, without_blanks-le (without_mark line), ap length (without_mark-drop line), length-drop (mark_length line) line)
 
--- what is cut out of a line behind its mark and before its blanks is its text
+-- what is cut out of a line after its mark and before its blanks is its text
 pub text_of-cut : (line text : List ℕ) (marked kept : ℕ)
     → marked ≡ mark_length line
     → text ≡ take (length line - marked) (drop marked line)

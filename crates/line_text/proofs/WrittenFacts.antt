@@ -45,7 +45,7 @@ one_digit_more n ds large h =
 pub decimal_numeral : (n : ℕ) → n < 2 ^ 64 → IsNumeral n (decimal n)
 decimal_numeral n small = decimal_by_steps (λ m ds. IsNumeral m ds) one_digit one_digit_more n small
 
--- digits in front of a text
+-- digits before a text
 pub digits_in_front : (ds behind : List ℕ) → list_all is_ascii_digit ds ≡ true → digit_count behind ≡ 0 → digit_count (ds ++ behind) ≡ length ds
 digits_in_front [] behind h none = none
 digits_in_front (d ∷ ds) behind h none =
@@ -65,7 +65,7 @@ sign_of_digits : (ds behind : List ℕ) → 0 < length ds → list_all is_ascii_
 sign_of_digits [] behind some h = absurd (omega arith)
 sign_of_digits (d ∷ ds) behind some h = sign_of_digit d (ds ++ behind) ((and_parts (is_ascii_digit d) (list_all is_ascii_digit ds) h).0)
 
--- behind a sign, or none, the digits begin
+-- after a sign, or none, the digits begin
 sign_read : (sign : Sign) (text : List ℕ) → sign_length text ≡ 0 → written (sign_text sign ++ text) ≡ written_digits (length (sign_text sign)) text
 unfolding written
 sign_read NoSign text none = rw none refl
@@ -73,7 +73,7 @@ sign_read Dollar text none = refl
 sign_read Euro text none = refl
 sign_read Pound text none = refl
 
--- what digits say without a point behind them
+-- what digits say without a point after them
 plain_digits : (sign n : ℕ) (ds behind : List ℕ) → IsNumeral n ds → digit_count behind ≡ 0 → has_point behind ≡ false →
     written_digits sign (ds ++ behind)
     ≡ Some (let w : Written = record { marked = nat_lt 0 sign; pointed = false; whole = n; cents = 0; length = sign + length ds } in w)
@@ -85,7 +85,7 @@ plain_digits sign n ds behind is none no_point =
     let value = is.value in
     rw (count, front, back, some, no_point, value) refl
 
--- what digits say with a point and two digits behind them
+-- what digits say with a point and two digits after them
 two_digits_value : (cents : ℕ) → cents < 100 → number_of (two_digits cents) ≡ cents
 two_digits_value cents small = omega arith
 

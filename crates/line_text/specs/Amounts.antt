@@ -25,7 +25,7 @@ abbrev pub has_point : List ℕ → Bool
 has_point text = starts_with nat_eq text (codes ".")
 
 -- an amount as it is written: whether it has a sign or a point, what stands before the point and
--- behind it, and how many bytes it takes
+-- after it, and how many bytes it takes
 pub record Written : Type 0 where
   pub marked : Bool
   pub pointed : Bool

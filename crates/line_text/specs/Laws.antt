@@ -22,7 +22,7 @@ pub record IsPlain (text : List ℕ) : Type 0 where
 abbrev pub TextsHoldNoNewline : Type 0
 TextsHoldNoNewline = (bytes : List ℕ) → All HasNoNewline (lines bytes)
 
--- a text that can stand on a line, with a newline behind it, is read back as it is
+-- a text that can stand on a line, with a newline after it, is read back as it is
 abbrev pub PlainTextsReadBack : Type 0
 PlainTextsReadBack =
     (text rest : List ℕ) → IsPlain text → lines (text ++ 10 ∷ rest) ≡ text ∷ lines rest

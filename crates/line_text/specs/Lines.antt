@@ -11,7 +11,7 @@ abbrev pub front_line : List ℕ → List ℕ
 front_line [] = []
 front_line (byte ∷ rest) = if is_newline byte then [] else byte ∷ front_line rest
 
--- what stands behind the front line and its newline
+-- what stands after the front line and its newline
 abbrev pub behind_line : List ℕ → List ℕ
 behind_line [] = []
 behind_line (byte ∷ rest) = if is_newline byte then rest else behind_line rest
@@ -47,7 +47,7 @@ abbrev pub put_in_first : ℕ → List (List ℕ) → List (List ℕ)
 put_in_first byte [] = (byte ∷ []) ∷ []
 put_in_first byte (line ∷ later) = (byte ∷ line) ∷ later
 
--- the bytes cut at their newlines; nothing behind the last newline is no line
+-- the bytes cut at their newlines; nothing after the last newline is no line
 abbrev pub cut_lines : List ℕ → List (List ℕ)
 cut_lines [] = []
 cut_lines (byte ∷ rest) =
@@ -66,7 +66,7 @@ abbrev pub closed : List ℕ → List ℕ
 closed [] = []
 closed (byte ∷ rest) = if has_newline (byte ∷ rest) then byte ∷ closed rest else []
 
--- the bytes behind the last newline; all where there is none
+-- the bytes after the last newline; all where there is none
 abbrev pub unclosed : List ℕ → List ℕ
 unclosed [] = []
 unclosed (byte ∷ rest) = if has_newline (byte ∷ rest) then unclosed rest else byte ∷ rest

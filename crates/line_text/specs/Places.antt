@@ -12,8 +12,8 @@ mark_length line = if starts_with nat_eq line mark then 3 else 0
 abbrev pub newline_length : List ℕ → ℕ
 newline_length bytes = if has_newline bytes then 1 else 0
 
--- the places of the line that begins at this place: its text begins behind a mark and is as long
--- as the text, and the next line begins behind a newline
+-- the places of the line that begins at this place: its text begins after a mark and is as long
+-- as the text, and the next line begins after a newline
 abbrev pub line_at : List ℕ → ℕ → Line
 line_at bytes start =
     let rest = drop start bytes in

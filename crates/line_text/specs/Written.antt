@@ -19,7 +19,7 @@ sign_text Pound = 194 ∷ 163 ∷ []
 abbrev pub whole_text : Sign → ℕ → List ℕ
 whole_text sign number = sign_text sign ++ decimal number
 
--- the two digits behind the point
+-- the two digits after the point
 abbrev pub two_digits : ℕ → List ℕ
 two_digits cents = (48 + cents / 10) ∷ (48 + cents % 10) ∷ []
 
@@ -34,7 +34,7 @@ Writes true units text =
     ((sign : Sign) × (text ≡ pointed_text sign units))
     ⊎ ((sign : Sign) × (number : ℕ) × (units ≡ number * 100) × (text ≡ whole_text sign number))
 
--- wherever the text stands, it is read as so many units, and the reading ends behind it; marked where it has a sign or a point
+-- wherever the text stands, it is read as so many units, and the reading ends after it; marked where it has a sign or a point
 abbrev pub IsReadAt : List ℕ → List ℕ → List ℕ → Bool → Bool → ℕ → Type 0
 IsReadAt before text behind hundredths marked units =
     amount_at (before ++ (text ++ behind)) (length before) hundredths

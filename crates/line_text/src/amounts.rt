@@ -21,7 +21,7 @@ const POUND: [u8; 2] = [0xc2, 0xa3];
 pub struct Amount {
     /// How much it is.
     pub units: u64,
-    /// The place behind it.
+    /// The place after it.
     pub next: usize,
     /// Whether it has a sign or a point.
     pub marked: bool,
@@ -46,7 +46,7 @@ pub struct WrittenAmount {
     pub pointed: bool,
     /// What stands before the point.
     pub whole: u64,
-    /// What stands behind it.
+    /// What stands after it.
     pub cents: u64,
     /// How many bytes it takes.
     pub length: usize,
@@ -173,7 +173,7 @@ pub fn read_amount(bytes: &[u8], at: usize, hundredths: bool) -> Result<Amount, 
     })
 }
 
-/// A law: an amount up to the greatest that is written behind the sign of a currency or none is read
+/// A law: an amount up to the greatest that is written after the sign of a currency or none is read
 /// as itself, wherever it stands: chips in plain digits, hundredths with a point and two digits, and
 /// money without hundredths in plain digits. A digit mustn't follow, nor a point where there is none
 /// in the amount.

@@ -7,7 +7,7 @@
 //!
 //! A line costs one search for its newline, and a look at each blank at its end; one whose end is known
 //! is read by `text_of`, without a search. An amount costs the
-//! digits that it begins with and those behind its point. No clause counts either.
+//! digits that it begins with and those after its point. No clause counts either.
 #![tactic(auto)]
 
 mod amounts;

@@ -1,6 +1,6 @@
 //! The lines of a text in bytes: where each begins and ends, and what it says.
 //!
-//! A line ends before a newline or at the end of the bytes, and nothing behind the last newline is
+//! A line ends before a newline or at the end of the bytes, and nothing after the last newline is
 //! no line. Its text leaves out a byte order mark at its start, and then the spaces and carriage
 //! returns at its end.
 
@@ -20,7 +20,7 @@ const MARK: [u8; 3] = [0xef, 0xbb, 0xbf];
 pub struct Line {
     /// Where its text begins.
     pub first: usize,
-    /// Where its text ends, behind the last byte.
+    /// Where its text ends, after the last byte.
     pub end: usize,
     /// Where the next line begins, or where the bytes end.
     pub next: usize,
@@ -108,7 +108,7 @@ pub fn law_lines_read_back()
 {}
 
 /// A law: the lines of the bytes up to the last newline are the first lines of all the bytes, and
-/// what stands behind that newline is at most one line more.
+/// what stands after that newline is at most one line more.
 pub fn law_closed_lines()
     ensures { AllCloseLines }
 {}

@@ -14,7 +14,7 @@ first_hand number x (suc left) some =
     let same : suc left - 1 ≡ left = omega arith in
     rw same refl
 
--- one hand more behind what was put there so far
+-- one hand more after what was put there so far
 pub next_hand : (was text : List ℕ) (hands index x state : ℕ) → index < hands → text ≡ was ++ hand_text (index + 1) (deal_of x) → state ≡ state_after 11 x →
     text ++ hands_text (index + 1 + 1) state (hands - (index + 1)) ≡ was ++ hands_text (index + 1) x (hands - index)
 next_hand was text hands index x state inside is moved =

@@ -2,7 +2,7 @@
 use Rattle.std.proofs.Common.{◌≡◌, List, ℕ, ◌++◌, ap, ◌∙◌, append_assoc}
 use Rattle.std.specs.Prelude.{Result, Ok, Err, OnOk, is_ok, if◌then◌else◌}
 
--- one piece more behind what was put there so far
+-- one piece more after what was put there so far
 pub one_more : (was front piece so_far next : List ℕ) → so_far ≡ was ++ front → next ≡ so_far ++ piece → next ≡ was ++ (front ++ piece)
 one_more was front piece so_far next e f = f ∙ ap (λ text. text ++ piece) e ∙ append_assoc was front piece
 

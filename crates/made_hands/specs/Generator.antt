@@ -1,7 +1,7 @@
 -- A linear congruential generator of 64 bits, with the multiplier and the increment of Knuth's MMIX.
 use Rattle.std.specs.Prelude.{ℕ, zero, suc, ◌+◌, ◌*◌, ◌/◌, ◌%◌, ◌^◌}
 
--- the state behind a state
+-- the state after a state
 unfoldable pub next_state : ℕ → ℕ
 next_state x = (x * 6364136223846793005 + 1442695040888963407) % 2 ^ 64
 
@@ -9,7 +9,7 @@ next_state x = (x * 6364136223846793005 + 1442695040888963407) % 2 ^ 64
 unfoldable pub drawn : ℕ → ℕ → ℕ
 drawn m x = next_state x / 2 ^ 33 % m
 
--- the state behind so many draws
+-- the state after so many draws
 abbrev pub state_after : ℕ → ℕ → ℕ
 state_after zero x = x
 state_after (suc n) x = state_after n (next_state x)

@@ -9,7 +9,7 @@ use card_sets::{Card, CardSet};
 /// A linear congruential generator of 64 bits.
 #[derive(Clone, Copy)]
 pub(crate) struct Generator {
-    /// The seed, or the state behind the last draw.
+    /// The seed, or the state after the last draw.
     pub(crate) state: u64,
 }
 

@@ -9,7 +9,7 @@ use crate::lines::write_hand;
 use card_sets::Memory;
 use std::alloc::Global;
 
-/// The histories of so many made hands, numbered from 1, from a seed. Refuses for want of memory alone.
+/// The histories of so many made hands, numbered from 1, from a seed. Refuses only when out of memory.
 pub fn made_input(alloc: Global, seed: u64, hands: u32) -> Result<Vec<u8>, Memory>
     ensures made { IfOk result (λ text. text.items ≡ made_text seed hands) }
 {

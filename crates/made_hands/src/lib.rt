@@ -5,7 +5,7 @@
 //!
 //! A hand is eleven draws of a linear congruential generator of 64 bits: nine cards, each from the set of
 //! those that are left, so that they are different cards, and two stacks. The winner is found by the best
-//! five of seven cards of `rank_high`, and the history is put together piece after piece. The state behind
+//! five of seven cards of `rank_high`, and the history is put together piece after piece. The state after
 //! a hand is what the next one begins with, so hand after hand costs the same.
 #![tactic(auto)]
 

@@ -18,7 +18,7 @@ pub(crate) fn write_number(out: &mut Vec<u8>, number: u64) -> Result<(), AllocEr
     out.extend_from_slice(buffer.format(number).as_bytes())
 }
 
-/// Cards, each behind a blank.
+/// Cards, each after a blank.
 fn write_later_cards(out: &mut Vec<u8>, cards: &[Card]) -> Result<(), AllocError>
     ensures { OnOk result (out.new.items ≡ out.old.items
         ++ flat_map (λ card. codes " " ++ text_of_card card) cards.now) }

@@ -93,7 +93,7 @@ fn counted(job: &Job) -> Tally
     tally
 }
 
-/// The same block posted twice, of all runouts; none for want of memory, or where the job hasn't one block.
+/// The same block posted twice, of all runouts; none when out of memory, or where the job hasn't one block.
 fn posted(alloc: Global, job: &Job) -> Option<PostedTwice> {
     posted_twice(alloc, job, &counted(job)).ok()?
 }

@@ -88,12 +88,12 @@ fn two_queues(alloc: Global) -> Result<State, Memory>
     })
 }
 
-/// The same; none for want of memory.
+/// The same; none when out of memory.
 fn queues_of_two(alloc: Global) -> Option<State> {
     two_queues(alloc).ok()
 }
 
-/// The state behind some events, and how many were refused; none for want of memory.
+/// The state after some events, and how many were refused; none when out of memory.
 fn behind(alloc: Global, start: &State, events: &[CoreEvent]) -> Option<(State, u64)> {
     run_core(alloc, start, events).ok()
 }
@@ -167,7 +167,7 @@ fn is_popped(state: &State) -> bool {
     is_state(state, [&[], &[1]], &[Some(0), None], &[])
 }
 
-/// Whether worker 1 holds his block, with another behind it.
+/// Whether worker 1 holds his block, with another after it.
 fn is_pushed(state: &State) -> bool {
     is_state(state, [&[0], &[7]], &[None, Some(1)], &[])
 }

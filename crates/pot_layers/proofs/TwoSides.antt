@@ -18,7 +18,7 @@ sum_same f g (s ∷ order) same =
     later true seat among = refl
     later false seat among = among
 
--- a seat behind another in an order gets what it gets without that one
+-- a seat after another in an order gets what it gets without that one
 behind : (each extra s : ℕ) (order : List ℕ) (seat : ℕ) → is_among s order ≡ false → is_among seat order ≡ true → given each extra (s ∷ order) seat ≡ given each (extra - 1) order seat
 behind each extra s order seat out among = by (s == seat) refl
   where

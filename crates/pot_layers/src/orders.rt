@@ -32,7 +32,7 @@ impl OddOrder {
         }
     }
 
-    /// One seat more, behind the others.
+    /// One seat more, after the others.
     pub fn push(&mut self, seat: u8)
         requires { length self.old < 10 }
         ensures { self.new ≡ self.old ++ seat ∷ [] }

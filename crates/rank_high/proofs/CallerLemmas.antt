@@ -2,7 +2,7 @@
 
 -- Ranks by how often they are counted.
 pub use Rattle.rank_high.proofs.CountedRanks.{ranks_counted-same, groups_counted-same, total, total-same, count_of_rank-cons, total-cards, group_sizes}
-pub use Rattle.rank_high.proofs.CountedRanks.{length-groups_counted, length-groups, AreBelow, AreBelow-groups_counted}
+pub use Rattle.rank_high.proofs.CountedRanks.{length-groups_counted, length-groups, AreBelow, AreBelow-groups_counted, one_more}
 -- The number of a high hand's list keeps the order of the lists.
 pub use Rattle.rank_high.proofs.ValueOrder.{AreDigits, digits_from-lt, first_less, digits_order, IsHighList, value_of-order, AreDigits-map, length-map_two}
 pub use Rattle.rank_high.proofs.ValueOrder.{category_of-le, high-IsHighList}

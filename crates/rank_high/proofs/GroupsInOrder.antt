@@ -59,7 +59,7 @@ are_counted f size (suc n) = All-append (IsCounted f size (suc n)) (cond (f n ==
       | inr ne ↦ (let u : (f n == size) ≡ false = grind arith in rw u (All-none (IsCounted f size (suc n))))
     ]
 
--- each is before all behind it
+-- each is before all after it
 abbrev Pairs : (ℕ → ℕ → Type 0) → List ℕ → Type 0
 Pairs R [] = Unit {0}
 Pairs R (x ∷ xs) = All (R x) xs × Pairs R xs
@@ -87,7 +87,7 @@ pairs_below f size (suc n) = elim (cases_eq (f n) size) [
   | inr ne ↦ (let u : (f n == size) ≡ false = grind arith in rw u (pairs_below f size n))
 ]
 
--- the ranks of a size behind those of larger groups
+-- the ranks of a size after those of larger groups
 size_behind : (f : ℕ → ℕ) (size : ℕ) (larger : List ℕ) → Pairs (Before f) larger → All (λ rank. (rank < 13) × (size < f rank)) larger
     → Pairs (Before f) (larger ++ ranks_below f size 13) × All (λ rank. (rank < 13) × (size < f rank + 1)) (larger ++ ranks_below f size 13)
 size_behind f size larger p q = (

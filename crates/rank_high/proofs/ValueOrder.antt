@@ -45,7 +45,7 @@ shift_cmp n a b = elim (cases_order a b) [
   ]
 ]
 
--- one more digit in front
+-- one more digit before the others
 cons_order : (k x y : ℕ) (xs ys : List ℕ) → AreDigits xs → AreDigits ys → nat_cmp (digits_from k xs) (digits_from k ys) ≡ slice_cmp nat_cmp xs ys
     → nat_cmp (x * 16 ^ k + digits_from k xs) (y * 16 ^ k + digits_from k ys) ≡ slice_cmp nat_cmp (x ∷ xs) (y ∷ ys)
 cons_order k x y xs ys p q rest = elim (cases_order x y) [

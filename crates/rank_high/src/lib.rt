@@ -4,7 +4,7 @@
 //! first and then higher ranks. Suits never break a tie.
 //!
 //! **A value is one number** of six digits in base 16: the category, 8 for a straight flush to 0 for no
-//! pair, and the ranks of the groups, 2 for a deuce to 14 for an ace. Behind the last group the digits
+//! pair, and the ranks of the groups, 2 for a deuce to 14 for an ace. After the last group the digits
 //! are 0; in five to ace the ace is 1 and last. Kings over tens with a four are 0x2da400. The greater
 //! number is the better hand, so that a comparison of hands is one of numbers.
 //!

@@ -32,7 +32,7 @@ pub(crate) const FIVE_TO_ACE: u32 = 0x45_4321;
 /// By how much a straight is above the next lower one: one in each of its five ranks.
 pub(crate) const NEXT_STRAIGHT: u32 = 0x1_1111;
 
-/// One in the digit of the first rank, which stands behind the category.
+/// One in the digit of the first rank, which stands after the category.
 pub(crate) const FIRST_RANK: u32 = 0x1_0000;
 
 /// One in the digit of the second rank.

@@ -9,6 +9,6 @@ not_blank [] some = absurd (omega arith)
 not_blank (field ∷ []) some = absurd (omega arith)
 not_blank (field ∷ next ∷ later) some = refl
 
--- the newline behind the fields of a record
+-- the newline after the fields of a record
 pub record_ends : (old : List ℕ) (fields : List (List ℕ)) → 1 < length fields → (old ++ row_body default_writer fields) ++ 10 ∷ [] ≡ old ++ row_text default_writer fields
 record_ends old fields some = rw (not_blank fields some) (append_assoc old (row_body default_writer fields) (10 ∷ []))

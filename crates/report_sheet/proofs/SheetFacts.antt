@@ -1,4 +1,4 @@
--- A part of the report that is being written: words behind words, and whole lines.
+-- A part of the report that is being written: words after words, and whole lines.
 use Rattle.std.proofs.Common.{◌≡◌, ℕ, Bool, true, false, List, [], ◌∷◌, ◌++◌, refl, sym, ap, ◌∙◌, append_assoc, append-nil}
 use Rattle.std.specs.Prelude.{codes}
 use Rattle.std.specs.List.{flat_map}
@@ -9,7 +9,7 @@ use Rattle.report_sheet.specs.Sheets.{Written, IsBetweenLines, nothing_in, with_
 use Rattle.report_sheet.specs.declared.form.Form.{Form}
 use Rattle.report_sheet.specs.declared.form.Form.TheVariants.{Text, Csv}
 
--- words behind words
+-- words after words
 pub words_more : (w : Written) (first later : List (List ℕ)) → with_words (with_words w first) later ≡ with_words w (first ++ later)
 unfolding with_words
 words_more w [] later = refl
@@ -29,7 +29,7 @@ as_text bytes begun fields = record { form = Text; bytes = bytes; begun = begun;
 abbrev as_record : List ℕ → Bool → List (List ℕ) → Written
 as_record bytes begun fields = record { form = Csv; bytes = bytes; begun = begun; fields = fields }
 
--- words behind a first one have a blank before each
+-- words after a first one have a blank before each
 later_words : (bytes : List ℕ) (fields words : List (List ℕ)) → with_words (as_text bytes true fields) words ≡ as_text (bytes ++ flat_map (λ next. 32 ∷ next) words) true fields
 unfolding with_words
 later_words bytes fields [] = ap (λ text. as_text text true fields) (sym (append-nil bytes))
@@ -86,7 +86,7 @@ named_line w words name between = named_by w.form w.bytes w.begun w.fields words
 pub line_ends : (w w' : Written) (words : List (List ℕ)) → w' ≡ with_words w words → IsBetweenLines w → with_end w' ≡ with_line w (plain words)
 line_ends w w' words written between = ap with_end written ∙ plain_line w words between
 
--- more lines behind lines
+-- more lines after lines
 pub lines_more : (w : Written) (first later : List ℕ) → with_lines (with_lines w first) later ≡ with_lines w (first ++ later)
 lines_more w first later = ap (λ bytes. record w { bytes = bytes }) (append_assoc w.bytes first later)
 
@@ -112,6 +112,6 @@ each_more w w' w'' text done n before more =
     then_lines w w' w'' (flat_map text done) (text n) before more
     ∙ ap (λ lines. with_lines w lines) (sym (flat_map-append text done (n ∷ []) ∙ ap (λ lines. flat_map text done ++ lines) (append-nil (text n))))
 
--- a first line behind other bytes
+-- a first line after other bytes
 pub first_line : (w : Written) (form : Form) (line : Line) (old bytes now : List ℕ) → w ≡ with_line (nothing_in form) line → bytes ≡ w.bytes → now ≡ old ++ bytes → now ≡ old ++ line_in form line
 first_line w form line old bytes now is read written = written ∙ ap (λ more. old ++ more) (read ∙ ap (λ (v : Written). v.bytes) is)

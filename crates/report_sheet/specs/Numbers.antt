@@ -2,7 +2,7 @@
 use Rattle.std.specs.Prelude.{ℕ, ◌-◌, ◌*◌, nat_lt, Bool, if◌then◌else◌, List, [], ◌∷◌, ◌++◌, codes, decimal}
 use Rattle.share_fractions.specs.Round.{round, fixed_text}
 
--- so many units of money: chips as a whole number, hundredths with a point and two digits behind it
+-- so many units of money: chips as a whole number, hundredths with a point and two digits after it
 unfoldable pub money : Bool → ℕ → List ℕ
 money hundredths units = fixed_text units (if hundredths then 2 else 0)
 

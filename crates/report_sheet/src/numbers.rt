@@ -46,7 +46,7 @@ impl Sheet {
         self.word(&text[..end])
     }
 
-    /// An amount in units: chips as a whole number, hundredths with a point and two digits behind it.
+    /// An amount in units: chips as a whole number, hundredths with a point and two digits after it.
     #[tactic(auto, unfolding(crate::specs::Numbers::money))]
     pub fn money(&mut self, hundredths: bool, units: u128) -> Result<(), AllocError>
         ensures { OnOk result (self.new ≡ with_words self.old (money hundredths units ∷ [])) }

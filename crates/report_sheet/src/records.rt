@@ -1,4 +1,4 @@
-//! The text of a record, by the usual rules of CSV, behind the bytes of a sheet.
+//! The text of a record, by the usual rules of CSV, after the bytes of a sheet.
 
 ghost use Rattle.std.specs.Prelude.{◌≡◌, ◌<◌, [], ◌∷◌, ◌++◌, length, OnOk};
 ghost use Rattle.csv.specs.Quoting.{needs_byte};

@@ -72,7 +72,7 @@ impl Fields {
         self.row.clear();
     }
 
-    /// One field more. For want of memory there is no field left.
+    /// One field more. Out of memory there is no field left.
     fn push(&mut self, field: &[u8]) -> Result<(), AllocError>
         ensures { OnOk result (self.new ≡ self.old ++ field.now ∷ []) }
     {

@@ -68,7 +68,7 @@ impl Sheet {
         requires ties { tie ≤ 10 ^ 28 }
         requires losses { lose ≤ 10 ^ 28 }
 
-        // The words of the side stand behind those before.
+        // The words of the side stand after those before.
         ensures { OnOk result (self.new
             ≡ with_words self.old
             (side_columns all side (record { win = win; tie = tie; lose = lose }))) }
@@ -113,7 +113,7 @@ impl Sheet {
         requires ties { tie ≤ 10 ^ 28 }
         requires losses { lose ≤ 10 ^ 28 }
 
-        // The line of the side stands behind the lines before.
+        // The line of the side stands after the lines before.
         ensures { OnOk result (self.new
             ≡ with_line self.old
             (side_line all hand side (record { win = win; tie = tie; lose = lose }))) }

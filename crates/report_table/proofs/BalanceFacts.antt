@@ -33,7 +33,7 @@ nothing_by : (audit : HandAudit) (chips : List SeatChips) (player : Player) → 
 nothing_by (Rejected line cause hundredths) chips player absent = refl
 nothing_by (Accepted s all_in names players) chips player absent = absent_share balance_is_sums s.hundredths (seat_balance s all_in chips) (playing names players) player absent
 
--- sums over one hand before others, and behind them
+-- sums over one hand before others, and after them
 balance_before : (hand : AuditedChips) (hands : List AuditedChips) (player : Player) → balance_over (hand ∷ hands) player ≡ both (balance_in hand player) (balance_over hands player)
 balance_before hand hands player =
     let in_hands = sum_by-cons (λ h. (balance_in h player).hands) hand hands in

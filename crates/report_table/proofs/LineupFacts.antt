@@ -26,7 +26,7 @@ taken [] i x at = cc
 taken (y ∷ ys) zero x at = let same : y ≡ x = cc in ap (λ z. z ∷ []) same
 taken (y ∷ ys) (suc i) x at = ap (λ later. y ∷ later) (taken ys i x at)
 
--- none behind the last
+-- none after the last
 pub none_taken : {A : Type 0} (xs : List A) (i : ℕ) → slice_get xs i ≡ None → take (suc i) xs ≡ take i xs
 none_taken [] zero at = refl
 none_taken [] (suc i) at = refl

@@ -172,7 +172,7 @@ nothing_in : (hand : HandAudit) (player : Player) → list_any (same_player play
 nothing_in (Rejected line cause hundredths) player absent = refl
 nothing_in (Accepted s all_in names players) player absent = absent_share totals_are_sums s.hundredths (seat_sums s all_in) (playing names players) player absent
 
--- sums over one hand before others, and behind them
+-- sums over one hand before others, and after them
 sums_before : (hand : HandAudit) (hands : List HandAudit) (player : Player) → sums_over (hand ∷ hands) player ≡ plus (sums_in hand player) (sums_over hands player)
 sums_before hand hands player =
     let in_hands = sum_by-cons (λ h. (sums_in h player).hands) hand hands in

@@ -1,4 +1,4 @@
--- The lines of a street behind an all-in, from a tally of all its runouts.
+-- The lines of a street after an all-in, from a tally of all its runouts.
 use Rattle.std.proofs.Common.{◌≡◌, ℕ, Bool, true, false, List, take, sym, refl, ◌∙◌, arith, inl, inr}
 use Rattle.std.proofs.lemmas.Bool.{cases_lt}
 use mathlib.Core.Bool.{true≢false}

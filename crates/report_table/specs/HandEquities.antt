@@ -1,4 +1,4 @@
--- The lines of a hand behind its verdict: its all-in, how all runouts of it end, and what each hand of the table may expect.
+-- The lines of a hand after its verdict: its all-in, how all runouts of it end, and what each hand of the table may expect.
 -- The columns are those of a spot.
 use Rattle.std.specs.Prelude.{ℕ, ◌*◌, Bool, if◌then◌else◌, nat_lt, List, [], ◌∷◌, ◌++◌, length, sum, codes, decimal, slice_index, slice_get, unwrap_or}
 use Rattle.std.specs.List.{flat_map, sum_by}
@@ -100,7 +100,7 @@ gross_of pots k = option_map_or (λ pot. pot.gross) (slice_get pots k) 0
 abbrev pub given_to : List PotLine → Figures → ℕ → ℕ → ℕ
 given_to pots figures hand n = sum_by (λ k. gross_of pots k * figures.units k hand) (every_pot n)
 
--- what a hand may expect of all pots in units of money, rounded once behind their sum: given is what all runouts give it, in
+-- what a hand may expect of all pots in units of money, rounded once after their sum: given is what all runouts give it, in
 -- 1/5040 of a unit
 abbrev pub expected_units : ℕ → ℕ → ℕ
 expected_units all given = round given (5040 * all) 0
@@ -152,7 +152,7 @@ all_in_block form s names Unknown = line_in form (plain (codes "all-in" ∷ code
 all_in_block form s names (Known street seats table) =
     known_all_in form s names seats street (deal_of table)
 
--- the lines of a hand behind its verdict, where its equity is asked for; a hand with a line that departs has none
+-- the lines of a hand after its verdict, where its equity is asked for; a hand with a line that departs has none
 abbrev pub equity_block : Form → Bool → HandAudit → List ℕ
 equity_block form asked (Rejected line cause hundredths) = []
 equity_block form asked (Accepted settlement all_in names players) =

@@ -56,7 +56,7 @@ pot_title hundredths k gross = codes "pot" ∷ decimal k ∷ codes "gross" ∷ m
 abbrev pub seen_word : Bool → List ℕ
 seen_word checked = if checked then codes "checked" else codes "unseen"
 
--- what stands behind that: the rake, and whether it is known who wins the pot, as `rake 0 checked`; or that the names of
+-- what stands after that: the rake, and whether it is known who wins the pot, as `rake 0 checked`; or that the names of
 -- the collections don't fit the pots
 unfoldable pub pot_state : Bool → Bool → ℕ → Bool → List (List ℕ)
 pot_state hundredths fits rake checked =

@@ -79,7 +79,7 @@ unfoldable pub made_title : ℕ → ℕ → List (List ℕ)
 made_title hands accepted =
     codes "made" ∷ codes "hands" ∷ decimal hands ∷ codes "accepted" ∷ decimal accepted ∷ []
 
--- what stands behind them, as `runouts 99000 first 249480000 second 249480000`
+-- what stands after them, as `runouts 99000 first 249480000 second 249480000`
 unfoldable pub made_columns : AllInSums → List (List ℕ)
 made_columns sums =
     codes "runouts" ∷ money false sums.runouts ∷ codes "first" ∷ money false sums.first

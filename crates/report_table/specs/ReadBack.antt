@@ -16,7 +16,7 @@ abbrev pub fields_of_line : Line → List (List ℕ)
 fields_of_line (plain words) = thirteen words []
 fields_of_line (named words name) = thirteen words name
 
--- a reader that stands before the record of a line reads its fields, and then stands before what comes behind
+-- a reader that stands before the record of a line reads its fields, and then stands before what comes after
 abbrev pub IsReadBack : Line → List ℕ → Type 0
 IsReadBack line later =
     next_record default_config state.StartRecord [] [] (line_in Csv line ++ later)

@@ -92,7 +92,7 @@ unfoldable pub settle_lines : Form → Settlement → Seated → ℕ → List �
 settle_lines form s names players =
     if are_checked s.pots then flat_map (settle_lines_of form s names) (seats_in players) else []
 
--- the lines of a hand that can be settled, behind its first
+-- the lines of a hand that can be settled, after its first
 unfoldable pub settled_lines : Form → Settlement → Seated → ℕ → List (List PartShare) → List ℕ
 settled_lines form s names players parts =
     settled_pots_from form s.hundredths s.fits names parts 0 s.pots

@@ -1,4 +1,4 @@
--- The lines of a street behind an all-in: how all runouts end for each pot once the cards of that street are known.
+-- The lines of a street after an all-in: how all runouts end for each pot once the cards of that street are known.
 use Rattle.std.specs.Prelude.{◌≡◌, ℕ, Bool, true, false, if◌then◌else◌, List, [], ◌∷◌, ◌++◌, codes, decimal, unwrap_or, Option, Some, None}
 use Rattle.std.specs.List.{flat_map}
 use Rattle.card_sets.specs.declared.streets.Street.{Street}
@@ -42,7 +42,7 @@ table_street form names seats street None = line_in form (word_line street (code
 table_street form names seats street (Some table) =
     counted_street form names seats street (deal_of table) (full_figures (deal_of table))
 
--- a street behind an all-in, whose hands are those of the table there; without a known one there is none
+-- a street after an all-in, whose hands are those of the table there; without a known one there is none
 abbrev pub all_in_street : Form → Seated → StreetState → AllIn → List ℕ
 all_in_street form names state NoAllIn = []
 all_in_street form names state Unknown = []
@@ -66,7 +66,7 @@ abbrev pub has_counted : HandAudit → Bool
 has_counted (Rejected line cause hundredths) = false
 has_counted (Accepted settlement all_in names players) = is_counted_all_in all_in
 
--- the blocks of some streets of a hand, one behind the other; there are none where its all-in isn't counted
+-- the blocks of some streets of a hand, one after the other; there are none where its all-in isn't counted
 unfoldable pub street_blocks : Form → HandAudit → List StreetState → List ℕ
 street_blocks form audit states =
     if has_counted audit then flat_map (street_block form audit) states else []
@@ -81,6 +81,6 @@ abbrev pub IsOfTable : Option Table → Equity → Type 0
 IsOfTable None equity = Unit {0}
 IsOfTable (Some table) equity = IsCountOf (deal_of table) equity
 
--- the equity of a street behind an all-in
+-- the equity of a street after an all-in
 abbrev pub IsOfStreet : StreetState → Equity → Type 0
 IsOfStreet state equity = IsOfTable state.table equity

@@ -35,7 +35,7 @@ street_word game ThirdDraw = None
 street_word game ShowDown = None
 street_word game Summary = None
 
--- how a street is written that is shown behind an all-in; the first street of a game is never behind one, and nobody's cards are
+-- how a street is written that is shown after an all-in; the first street of a game is never after one, and nobody's cards are
 -- known before the second of three draws, so there is none
 abbrev pub later_word : Street → Option (List ℕ)
 later_word First = None

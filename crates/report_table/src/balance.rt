@@ -75,7 +75,7 @@ impl Balance {
         self.rejected
     }
 
-    /// Adds a hand, by its verdict with the chips of its seats and the equity of its all-in. Want of memory
+    /// Adds a hand, by its verdict with the chips of its seats and the equity of its all-in. Out of memory it
     /// leaves the balance as it was. A hand of more than ten pots, which no call of `hand_audit` answers, is
     /// refused as if memory lacked, so that the sums always have room.
     pub fn add(&mut self, hand: &AuditedChips, equity: &Equity) -> Result<(), Memory>
@@ -104,7 +104,7 @@ impl Balance {
             names,
             players: *players,
         };
-        // Before anything is changed: want of memory for the keys then leaves the balance as it was.
+        // Before anything is changed: no memory for the keys then leaves the balance as it was.
         let keys = lineup.keys(self.players.allocator())?;
         add_players(&mut self.players, &lineup)?;
         let settled = SettledHand {
@@ -130,7 +130,7 @@ impl Balance {
         write_players(out, &self.players, form)
     }
 
-    /// Appends the balance: a line of all hands, and a line for each name in each unit. Want of memory leaves
+    /// Appends the balance: a line of all hands, and a line for each name in each unit. Out of memory it leaves
     /// `out` as it was.
     pub fn write(&self, out: &mut Vec<u8>, form: Form) -> Result<(), Memory>
         ensures block { OnOk result (out.new.items ≡ out.old.items ++ balance_lines form self.now) }

@@ -95,10 +95,10 @@ fn hand_block(
 }
 
 /// Appends the block of a hand: the line of its rejection, or its pots and who got what of them, and
-/// behind that, where an equity is asked for, its all-in with what each hand of the table may expect.
+/// after that, where an equity is asked for, its all-in with what each hand of the table may expect.
 /// The number is that of the hand's header, digit by digit. The equity is that of the all-in's table;
 /// where the hand is rejected or no all-in is known, it isn't looked at beyond whether it is asked for.
-/// Want of memory leaves `out` as it was.
+/// Out of memory it leaves `out` as it was.
 pub fn write_hand(
     out: &mut Vec<u8>,
     number: &[u8],

@@ -1,4 +1,4 @@
-//! The lines of a hand behind its verdict: its all-in, how all runouts of it end, and what each hand of
+//! The lines of a hand after its verdict: its all-in, how all runouts of it end, and what each hand of
 //! the table may expect. Each call appends whole lines, but for those that add words to one.
 
 ghost use Rattle.std.specs.Prelude.{◌≡◌, ℕ, ◌*◌, ◌<◌, ◌≤◌, ◌^◌, [], OnOk, length, unwrap_or};

@@ -24,7 +24,7 @@ pub fn law_money_is_written_whole()
 {}
 
 /// A law: the record of a line is read back by a reader of CSV as the fields of the line, whatever its
-/// words and its name hold, and whatever stands behind it. Of twelve words or fewer they are thirteen.
+/// words and its name hold, and whatever stands after it. Of twelve words or fewer they are thirteen.
 pub fn law_a_record_is_read_back()
     ensures fields { (line : Line) (later : List ℕ) → IsReadBack line later }
     ensures thirteen { (line : Line) → HasThirteen line }

@@ -172,7 +172,7 @@ impl MadeSums {
         self.accepted
     }
 
-    /// Appends the line of so many hands that were made. Want of memory leaves `out` as it was.
+    /// Appends the line of so many hands that were made. Out of memory it leaves `out` as it was.
     pub fn write(&self, out: &mut Vec<u8>, hands: u64, form: Form) -> Result<(), Memory>
         ensures block { OnOk result (out.new.items
             ≡ out.old.items ++ line_in form (made_line hands self.now.accepted self.now.all_ins)) }
@@ -214,7 +214,7 @@ fn made_title(sheet: &mut Sheet, hands: u64, accepted: u64) -> Result<(), AllocE
     name_and_count(sheet, "accepted", accepted)
 }
 
-/// What stands behind them.
+/// What stands after them.
 #[tactic(auto, using(report_sheet::proofs::CallerLemmas::word_steps), unfolding(crate::specs::Made::made_columns))]
 fn made_columns(sheet: &mut Sheet, sums: &AllInSums) -> Result<(), AllocError>
     ensures { OnOk result (sheet.new ≡ with_words sheet.old (made_columns sums.now)) }

@@ -118,7 +118,7 @@ fn add_player<S: Sums>(
     players.push(key)
 }
 
-/// Gives each player of a hand sums of no hand, where he has none yet. For want of memory some first of
+/// Gives each player of a hand sums of no hand, where he has none yet. Out of memory some first of
 /// them have got theirs.
 fn add_each_player<S: Sums>(players: &mut Players<S>, lineup: &Lineup) -> Result<(), AllocError>
     ensures added { OnOk result (players.new
@@ -135,7 +135,7 @@ fn add_each_player<S: Sums>(players: &mut Players<S>, lineup: &Lineup) -> Result
     Ok(())
 }
 
-/// The same, and want of memory changes nothing.
+/// The same, and out of memory it changes nothing.
 pub(crate) fn add_players<S: Sums>(players: &mut Players<S>, lineup: &Lineup) -> Result<(), Memory>
     ensures added { OnOk result (players.new
         ≡ with_players S.nothing players.old

@@ -307,7 +307,7 @@ fn settle_lines(
     settle_each(sheet, settlement, names, PlayerSet::of(players))
 }
 
-/// The lines of a hand that can be settled, behind its first.
+/// The lines of a hand that can be settled, after its first.
 #[tactic(auto, using(report_sheet::proofs::CallerLemmas::lines_more), unfolding(crate::specs::Settles::settled_lines))]
 fn settled_lines(
     sheet: &mut Sheet,
@@ -399,7 +399,7 @@ fn settle_block(sheet: &mut Sheet, number: &[u8], hand: &AuditedShares) -> Resul
 /// Appends the settlement of a hand. Its first line is that of the verdict. Where the hand is accepted and the names
 /// of the collections fit its pots, or it is rejected for its payments alone, there follow its pots: of one of which
 /// it is known who wins it what each winner of a side of each part gets, and what each player is due and got; of
-/// another what each player got. Behind them stands, where it is known who wins each pot, what each player is still
+/// another what each player got. After them stands, where it is known who wins each pot, what each player is still
 /// to get, or to give back. A hand whose names don't fit has the lines that `write_hand` writes of its payments, and
 /// one that is rejected for another cause no line more. The number is that of the hand's header, digit by digit. Out
 /// of memory leaves `out` as it was.

@@ -63,7 +63,7 @@ fn spot_block(
 /// Appends the block of a spot: the line of its rejection, that it has too many runouts, or how all of
 /// its runouts end for each hand. Places and lines count from 1. The known cards are an answer of
 /// `read_spot`, and the equity is that of `table_alone`; where the spot is rejected it isn't looked at.
-/// Want of memory leaves `out` as it was.
+/// Out of memory it leaves `out` as it was.
 pub fn write_spot(
     out: &mut Vec<u8>,
     place: u64,

@@ -1,4 +1,4 @@
-//! The lines of a street behind an all-in: how all runouts end for each pot once the cards of that street
+//! The lines of a street after an all-in: how all runouts end for each pot once the cards of that street
 //! are known.
 
 ghost use Rattle.std.specs.Prelude.{◌≡◌, ◌<◌, [], ◌∷◌, ◌++◌, true, unwrap_or, OnOk, OnErr};
@@ -20,7 +20,7 @@ use report_sheet::{Form, Sheet};
 use showdown_tally::{Table, Tally};
 use std::alloc::AllocError;
 
-/// How a street behind an all-in is written.
+/// How a street after an all-in is written.
 fn later_text(street: Street) -> &'static str
     ensures { result.now ≡ unwrap_or (later_word street) [] }
 {
@@ -199,7 +199,7 @@ fn street_block(
     }
 }
 
-/// Appends the block of a street of a hand behind its all-in: how many runouts are left once its cards are
+/// Appends the block of a street of a hand after its all-in: how many runouts are left once its cards are
 /// known, and how all of them end for each hand of each pot; or that a contender's cards on it aren't known,
 /// and then the equity isn't looked at. The equity is that of the street's table, counted: after an all-in that
 /// is counted each later street is, since it has no more runouts. Out of memory `out` is as it was.

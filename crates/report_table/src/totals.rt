@@ -71,7 +71,7 @@ impl Totals {
         self.rejected
     }
 
-    /// Adds a hand, by its verdict and the equity of its all-in. Want of memory leaves the totals as they
+    /// Adds a hand, by its verdict and the equity of its all-in. Out of memory it leaves the totals as they
     /// were.
     pub fn add(&mut self, audit: &HandAudit, equity: &Equity) -> Result<(), Memory>
         requires asked { is_asked equity.now ≡ true }
@@ -96,7 +96,7 @@ impl Totals {
             names,
             players: *players,
         };
-        // Before anything is changed: want of memory for the keys then leaves the totals as they were.
+        // Before anything is changed: no memory for the keys then leaves the totals as they were.
         let keys = lineup.keys(self.players.allocator())?;
         add_players(&mut self.players, &lineup)?;
         let hand = PlayedHand {
@@ -121,7 +121,7 @@ impl Totals {
         write_players(out, &self.players, form)
     }
 
-    /// Appends the totals: a line of all hands, and a line for each name in each unit. Want of memory
+    /// Appends the totals: a line of all hands, and a line for each name in each unit. Out of memory it
     /// leaves `out` as it was.
     pub fn write(&self, out: &mut Vec<u8>, form: Form) -> Result<(), Memory>
         ensures block { OnOk result (out.new.items ≡ out.old.items ++ run_block form self.now) }

@@ -32,7 +32,7 @@ pub fn street_word(game: Game, street: Street) -> Option<&'static str>
     }
 }
 
-/// How a street is written that is shown behind an all-in. None where no such street is shown: the first
+/// How a street is written that is shown after an all-in. None where no such street is shown: the first
 /// street of a game, and the draws before the third of three.
 pub(crate) fn later_word(street: Street) -> Option<&'static str>
     ensures { option_map (λ word. word.now) result ≡ later_word street }

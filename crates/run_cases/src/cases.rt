@@ -12,7 +12,7 @@
 //! ..
 //! ```
 //!
-//! `case` begins one, with its name. `words` has the words of the command, with blanks between. Lines behind `input` and `report` that
+//! `case` begins one, with its name. `words` has the words of the command, with blanks between. Lines after `input` and `report` that
 //! begin with `|` are their lines, without that mark; one that begins with `:` is a last line that has no newline. What isn't told is
 //! empty, and the status 0.
 

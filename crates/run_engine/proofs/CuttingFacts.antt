@@ -116,7 +116,7 @@ comes_more limit n kind cutter bytes after done s within short few some =
     let t = length-take-le n after within in
     (omega arith, omega arith, omega (arith, length-append bytes (take n after)))
 
--- memory ran out behind a piece
+-- memory ran out after a piece
 pub begins_piece : (limit : ℕ) (kind : CutKind) (cutter : CutterState) (bytes piece counted : List ℕ) (done : List UnitLines) (ending : Ending) → Cuts limit kind (with cutter Open) bytes done
     → is_whole ending ≡ false → counted ≡ bytes ++ piece → Begins kind ending counted done
 begins_piece limit kind cutter bytes piece counted done ending s open_now same = (
@@ -201,7 +201,7 @@ cuts_again limit kind cutter cutter' bytes done s f =
           ∙ ap (λ us. done ++ us) (f.units whole more may') ∙ ap (λ k. done ++ units_in k whole cutter'.line (rest cutter' ++ more)) kind_same;
     }
 
--- one read more, behind others
+-- one read more, after others
 pub reads_one_more : {S : Type 0} (reads : S → S → Option (List ℕ) → Type 0) (limit : ℕ) (kind : CutKind) (done : List UnitLines) (old : S) (ending : Ending) (bytes : List ℕ) (made : List (Option (List ℕ))) (mid : S) (ending' : Ending) (bytes' : List ℕ)
     (read : Option (List ℕ)) (new : S) (how : Ending) → ReadsOn reads limit kind done old ending bytes made mid ending' bytes' → ending' ≡ Open → units_in kind false 1 bytes' ≡ done → reads mid new read → Comes limit bytes' read how
     → ReadsOn reads limit kind done old ending bytes (made ++ read ∷ []) new how (with_read limit bytes' read)

@@ -12,7 +12,7 @@ use Rattle.report_sheet.specs.declared.form.Form.{Form}
 use Rattle.run_engine.specs.Histories.{block_by, hand_block, number_text, streets_told, tells_all_in, verdict_of}
 use Rattle.run_engine.specs.declared.block_kinds.Detail.{Detail}
 
--- the verdict and the all-in, and what is told behind them, are the block of the hand
+-- the verdict and the all-in, and what is told after them, are the block of the hand
 pub hand_told : (form : Form) (told : Detail) (hand : UnitLines) (audit : HandAudit) (items number : List ℕ) (asked : Bool) →
     verdict_of hand ≡ Some audit → asked ≡ tells_all_in told → number ≡ number_text hand.lines →
     (items ++ audit_block form asked number audit) ++ streets_told form told hand audit ≡ items ++ hand_block form told hand
@@ -23,7 +23,7 @@ hand_told form told hand audit items number asked verdict is_asked is_number =
     ∙ append_assoc items (audit_block form (tells_all_in told) (number_text hand.lines) audit) (streets_told form told hand audit)
     ∙ ap (λ v. items ++ block_by form told hand v) (sym verdict)
 
--- a hand whose all-in isn't counted has no street behind it
+-- a hand whose all-in isn't counted has no street after it
 pub streets_none : (form : Form) (audit : HandAudit) (states : List StreetState) → has_counted audit ≡ false → [] ≡ street_blocks form audit states
 unfolding street_blocks
 streets_none form audit states none = sym (ap (λ (b : Bool). if b then flat_map (street_block form audit) states else []) none)
@@ -41,7 +41,7 @@ unfolding street_blocks
 streets_by_lines form (Rejected line cause hundredths) lines = refl
 streets_by_lines form (Accepted settlement all_in names players) lines = refl
 
--- behind what there was
+-- after what there was
 pub told_by_lines : (form : Form) (audit : HandAudit) (lines : List (List ℕ)) (states : List StreetState) (items : List ℕ) →
     states ≡ streets_of audit lines → items ++ street_blocks form audit states ≡ items ++ street_blocks form audit (states_in lines)
 told_by_lines form audit lines states items same =

@@ -41,7 +41,7 @@ over_given limit n cutter cutter' after ending inside within few same =
     let total = length-append cutter.held (take n after) in
     rw same (let e : limit - (cutter.given + length (take n after)) + (length (cutter.held ++ take n after) - cutter.at) ≤ limit - cutter.given + (length cutter.held - cutter.at) = omega arith in e)
 
--- the turns that are left: one for each byte that may still be read, one for the end, and one behind it
+-- the turns that are left: one for each byte that may still be read, one for the end, and one after it
 abbrev pub left_to_read : Ending → ℕ → ℕ
 left_to_read Whole given = 0
 left_to_read Failed given = 0

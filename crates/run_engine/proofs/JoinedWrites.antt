@@ -41,13 +41,13 @@ out_fails writes old new a b fault f = (
   f.6,
 )
 
--- what was gathered is written, and then a block behind it
+-- what was gathered is written, and then a block after it
 pub gathers_joined : {K : Type 0} (writes : K → K → Option (List ℕ) → Type 0) (old mid new : K) (block ready ready' : List ℕ) (result : Result (Unit {0}) Fault) → ready' ≡ []
     → WritesOut writes old mid ready (Ok tt) → WritesOut writes mid new block result → Gathers writes old new block ready ready' result
 gathers_joined writes old mid new block ready ready' (Ok x) none f l = inr (out_twice writes old mid new ready block f l, none)
 gathers_joined writes old mid new block ready ready' (Err fault) none f l = out_then_fails writes old mid new ready block fault f l
 
--- all that was gathered is written, a block behind it among them, or a write of it fails
+-- all that was gathered is written, a block after it among them, or a write of it fails
 pub gathers_written : {K : Type 0} (writes : K → K → Option (List ℕ) → Type 0) (old new : K) (block ready ready' : List ℕ) (result : Result (Unit {0}) Fault) → OnOk result (ready' ≡ [])
     → WritesOut writes old new (ready ++ block) result → Gathers writes old new block ready ready' result
 gathers_written writes old new block ready ready' (Ok x) none w = inr (w, none)

@@ -15,7 +15,7 @@ use Rattle.hand_ranges.specs.declared.tally.RangeJobFault.TheVariants.{AboveLimi
 use Rattle.hand_ranges.specs.declared.tally.RangeTally.{RangeTally}
 use Rattle.run_engine.specs.RangeLines.{IsCountFor, is_memory, is_no_choice, is_rejected_range}
 
--- a fault that isn't want of memory is what the line says
+-- a fault is what the line says, unless memory ran out
 pub fault_said : (line : List ℕ) (fault : RangeFault) → IsFaultOf line fault → is_memory fault ≡ false → Err fault ≡ ranges_of line
 fault_said line UnknownWord is some = sym is
 fault_said line BadCard is some = sym is

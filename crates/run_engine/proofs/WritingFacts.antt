@@ -11,7 +11,7 @@ use Rattle.run_engine.specs.declared.block_kinds.BlockKind.{BlockKind}
 use Rattle.run_engine.specs.declared.reading.Ending.{Ending}
 use Rattle.run_engine.proofs.UnitFacts.{blocks-append, blocks_by_units}
 
--- some first units of what is reported, and the blocks behind theirs
+-- some first units of what is reported, and the blocks after theirs
 pub blocks_begun : (command : Command) (listed : BlockKind) (ending : Ending) (bytes : List ℕ) (done more : List UnitLines) → block_kind_in command.mode ≡ Some listed
     → units_in (listed_kind listed) (is_whole ending) 1 bytes ≡ done ++ more
     → blocks command (reported command.mode ending bytes) ≡ unit_blocks command.form listed 1 done ++ unit_blocks command.form listed (place_after command.form listed 1 done) more

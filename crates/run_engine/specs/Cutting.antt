@@ -61,7 +61,7 @@ ReadsOne reads limit old new kind before after bytes done (Err _) =
     × Begins kind ending (with_read limit bytes read) done
     × Holds limit before after None
 
--- some reads, one after the other, each at a moment when no more units were closed than these, and what counts behind them
+-- some reads, one after the other, each at a moment when no more units were closed than these, and what counts after them
 abbrev pub ReadsOn : {S : Type 0} → (S → S → Option (List ℕ) → Type 0) → ℕ → CutKind → List UnitLines → S → Ending → List ℕ →
     List (Option (List ℕ)) → S → Ending → List ℕ → Type 0
 ReadsOn reads limit kind done old ending bytes [] new ending' bytes' =
@@ -95,7 +95,7 @@ pub record PullsOne {S : Type 0} (reads : S → S → Option (List ℕ) → Type
   pub order : ReadsOn reads limit kind done old before.ending bytes made new ending behind
   pub hands : Hands limit kind before after ending behind done result
 
--- some reads, one after the other, while the reading goes on, and what counts behind them
+-- some reads, one after the other, while the reading goes on, and what counts after them
 abbrev pub ReadsAll : {S : Type 0} → (S → S → Option (List ℕ) → Type 0) → ℕ → S → Ending → List ℕ →
     List (Option (List ℕ)) → S → Ending → List ℕ → Type 0
 ReadsAll reads limit old ending bytes [] new ending' bytes' =

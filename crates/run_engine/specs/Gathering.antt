@@ -11,7 +11,7 @@ use Rattle.run_engine.specs.declared.reading.Input.{Input}
 use Rattle.run_engine.specs.declared.write_fault.WriteFault.{WriteFault}
 use Rattle.run_engine.specs.declared.write_fault.WriteFault.TheVariants.{Failed, Memory}
 
--- a block is put behind those that were gathered, and all still wait, or all are written, or a write of them fails
+-- a block is put after those that were gathered, and all still wait, or all are written, or a write of them fails
 abbrev pub Gathers : {K : Type 0} → (K → K → Option (List ℕ) → Type 0) → K → K → List ℕ → List ℕ → List ℕ →
     Result (Unit {0}) Fault → Type 0
 Gathers writes old new block ready ready' (Ok _) =

@@ -24,7 +24,7 @@ pub record IsFaultless (old new : Ends) : Type 0 where
   pub read : ¬ Rises old.read_faults new.read_faults
   pub write : ¬ Rises old.write_faults new.write_faults
 
--- all was read, unless hands are made, and written: the report of what was read stands behind what was taken before
+-- all was read, unless hands are made, and written: the report of what was read stands after what was taken before
 pub record IsFinished (limit : ℕ) (command : Command) (status : ℕ) (old new : Ends) : Type 0 where
   pub bytes : List ℕ
   pub read : reads_input command.mode ≡ true → ReadWhole limit old.left new.left bytes
@@ -103,16 +103,16 @@ pub record IsRun (limit : ℕ) (asked : Option Command) (status : ℕ) (old new 
   -- 6: memory ran out
   pub memory : status ≡ 6 → IfSome asked (λ command. IsMemoryShort limit command old new)
   pub usage_memory : status ≡ 6 → IfNone asked (new.taken ≡ old.taken)
-  -- words that ask for a report of the input, no fault and an input within the limit end in 0 or 1, or for want of memory in 6
+  -- words that ask for a report of the input, no fault and an input within the limit end in 0 or 1, or out of memory in 6
   pub complete : reads asked ≡ true → IsFaultless old new →
       IfSome old.left (λ bytes. length bytes ≤ limit → (status ≡ 0) ⊎ (status ≡ 1) ⊎ (status ≡ 6))
-  -- such words, no fault and an input above the limit end in 5, or for want of memory in 6
+  -- such words, no fault and an input above the limit end in 5, or out of memory in 6
   pub complete_long : reads asked ≡ true → IsFaultless old new →
       IfSome old.left (λ bytes. limit < length bytes → (status ≡ 5) ⊎ (status ≡ 6))
-  -- words that ask for hands that are made, and no failed write end in 0 or 1, or for want of memory in 6
+  -- words that ask for hands that are made, and no failed write end in 0 or 1, or out of memory in 6
   pub complete_made : makes asked ≡ true → ¬ Rises old.write_faults new.write_faults →
       (status ≡ 0) ⊎ (status ≡ 1) ⊎ (status ≡ 6)
-  -- words in no form and no failed write end in 2, or for want of memory in 6
+  -- words in no form and no failed write end in 2, or out of memory in 6
   pub complete_usage : IsNone asked → ¬ Rises old.write_faults new.write_faults →
       (status ≡ 2) ⊎ (status ≡ 6)
 

@@ -41,7 +41,7 @@ tells_all_in Verdict = false
 tells_all_in AllIn = true
 tells_all_in LaterStreets = true
 
--- the blocks of the streets of a hand behind its all-in, where they are told
+-- the blocks of the streets of a hand after its all-in, where they are told
 abbrev pub streets_told : Form → Detail → UnitLines → HandAudit → List ℕ
 streets_told form Verdict hand audit = []
 streets_told form AllIn hand audit = []

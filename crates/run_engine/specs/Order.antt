@@ -25,7 +25,7 @@ due asked Whole bytes = report asked (reported asked.mode Whole bytes)
 due asked Failed bytes = report asked (reported asked.mode Failed bytes)
 due asked TooLong bytes = report asked (reported asked.mode TooLong bytes)
 
--- how the reading stands behind one more read, which gives a piece at the most
+-- how the reading stands after one more read, which gives a piece at the most
 abbrev pub Comes : ℕ → List ℕ → Option (List ℕ) → Ending → Type 0
 Comes limit bytes None ending = ending ≡ Failed
 Comes limit bytes (Some more) Whole = more ≡ []
@@ -33,7 +33,7 @@ Comes limit bytes (Some more) Failed = ⊥
 Comes limit bytes (Some more) TooLong = (length more ≤ piece) × (limit < length (bytes ++ more))
 Comes limit bytes (Some more) Open = (length more ≤ piece) × (0 < length more) × (length (bytes ++ more) ≤ limit)
 
--- the bytes that count behind one more read: no more than the limit
+-- the bytes that count after one more read: no more than the limit
 abbrev pub with_read : ℕ → List ℕ → Option (List ℕ) → List ℕ
 with_read limit bytes None = bytes
 with_read limit bytes (Some more) = take limit (bytes ++ more)
@@ -52,7 +52,7 @@ begun asked = if reads_input asked then Open else Whole
 
 -- what is left to do of a run that has read some bytes and written some, and its status. It reads only while the reading goes
 -- on, and when all that is due is written. It writes only what is due. A failed write is the last thing that it does. It ends when
--- the reading has ended and all is written, or for want of memory, with whole blocks written
+-- the reading has ended and all is written, or memory ran out, with whole blocks written
 abbrev pub Follows : ℕ → Command → Ending → List ℕ → List ℕ → List Event → ℕ → Type 0
 Follows limit asked ending bytes wrote [] status =
     (ending ≡ Open → ⊥) × (wrote ≡ due asked ending bytes)

@@ -22,7 +22,7 @@ is_no_choice (Ok tally) = false
 is_no_choice (Err AboveLimit) = false
 is_no_choice (Err NoChoice) = true
 
--- whether a fault is want of memory
+-- whether a fault is that memory ran out
 abbrev pub is_memory : RangeFault → Bool
 is_memory Memory = true
 is_memory _ = false

@@ -14,7 +14,7 @@ told_status ending (Ok rejected) = written_status ending rejected
 told_status ending (Err Failed) = 4
 told_status ending (Err Memory) = 6
 
--- what becomes of one block of all hands, and how many are rejected: it is written, a write of it fails, or for want of memory
+-- what becomes of one block of all hands, and how many are rejected: it is written, a write of it fails, or memory runs out
 -- nothing is written
 abbrev pub WritesMade : {K : Type 0} → (K → K → Option (List ℕ) → Type 0) → K → K → List ℕ → ℕ → Result ℕ WriteFault → Type 0
 WritesMade writes old new block count (Ok rejected) = WritesOut writes old new block (Ok tt) × (rejected ≡ count)

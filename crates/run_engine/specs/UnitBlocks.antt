@@ -59,7 +59,7 @@ is_rejected_unit (Hands told) unit = is_rejected_hand unit
 is_rejected_unit Results unit = is_rejected_hand unit
 is_rejected_unit Settle unit = is_rejected_hand unit
 
--- the place behind a unit by its block, and the block in front of others
+-- the place after a unit by its block, and the block before others
 abbrev pub place_behind : ℕ → Option (List ℕ) → ℕ
 place_behind place None = place
 place_behind place (Some block) = place + 1
@@ -68,7 +68,7 @@ abbrev pub before : Option (List ℕ) → List (List ℕ) → List (List ℕ)
 before None blocks = blocks
 before (Some block) blocks = block ∷ blocks
 
--- the place behind some units, and their blocks
+-- the place after some units, and their blocks
 abbrev pub place_after : Form → BlockKind → ℕ → List UnitLines → ℕ
 place_after form listed place [] = place
 place_after form listed place (unit ∷ later) =

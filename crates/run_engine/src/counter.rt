@@ -195,7 +195,7 @@ impl<C: Counter> EquityCounter<C> {
         }
     }
 
-    /// Asks for the equity of a street behind an all-in. Where its cards aren't known it is one that nobody
+    /// Asks for the equity of a street after an all-in. Where its cards aren't known it is one that nobody
     /// looks at.
     pub(crate) fn ask_street(&mut self, state: &StreetState) -> Result<(), Memory>
         requires ready { C.ready }

@@ -19,7 +19,7 @@ use hand_cuts::{INPUT_MAX, Unit};
 /// How many bytes of blocks are gathered before they are written, if nothing is to be read before.
 const GATHERED: usize = 65_536;
 
-/// Whether a block may wait for those behind it. It may where none of them takes long: where no equity is
+/// Whether a block may wait for those after it. It may where none of them takes long: where no equity is
 /// counted.
 pub(crate) fn may_wait(listed: BlockKind) -> bool {
     match listed {
@@ -69,7 +69,7 @@ pub(crate) fn next_written<S: Source, K: Sink>(
     }
 }
 
-/// Writes what was gathered, and a block behind it.
+/// Writes what was gathered, and a block after it.
 fn write_behind<K: Sink>(block: &[u8], ready: &mut Vec<u8>, sink: &mut K) -> Result<(), Failed>
     ensures { Gathers K.writes sink.old sink.new block.now ready.old.items ready.new.items result }
 {
@@ -80,7 +80,7 @@ fn write_behind<K: Sink>(block: &[u8], ready: &mut Vec<u8>, sink: &mut K) -> Res
 }
 
 /// A block more. It waits with those that were gathered, or all are written: where it may not wait, and where
-/// there are many. Where there is no memory to gather it, it is written behind them.
+/// there are many. Where there is no memory to gather it, it is written after them.
 pub(crate) fn gather<K: Sink>(
     waits: bool,
     block: &[u8],

@@ -53,7 +53,7 @@ fn is_rejection(audit: &HandAudit) -> bool
     matches!(audit, HandAudit::Rejected { .. })
 }
 
-/// Appends the blocks of some streets of a hand, one behind the other, with the equity of each.
+/// Appends the blocks of some streets of a hand, one after the other, with the equity of each.
 fn write_states<C: Counter>(
     form: Form,
     audit: &HandAudit,
@@ -73,7 +73,7 @@ fn write_states<C: Counter>(
     Ok(())
 }
 
-/// Appends the blocks of some streets of a hand behind its all-in, where that is counted. The
+/// Appends the blocks of some streets of a hand after its all-in, where that is counted. The
 /// last equity is that of the hand.
 fn write_streets<C: Counter>(
     form: Form,
@@ -121,7 +121,7 @@ fn read_hand(
     }
 }
 
-/// Appends what is told of a hand behind the block of its verdict and its all-in. The last equity is
+/// Appends what is told of a hand after the block of its verdict and its all-in. The last equity is
 /// that of the hand.
 fn write_told<C: Counter>(
     form: Form,
@@ -139,7 +139,7 @@ fn write_told<C: Counter>(
     requires counted { told ≡ Detail.LaterStreets → has_counted hand.now.audit ≡ true
         → All IsCountedStreet hand.now.streets.items }
 
-    // What is told of its streets stands behind what there was.
+    // What is told of its streets stands after what there was.
     ensures { (unit : UnitLines) → HasStreets told unit.lines hand.now.audit hand.now.streets.items
         → OnOk result (block.new.items
         ≡ block.old.items ++ streets_told form told unit hand.now.audit) }

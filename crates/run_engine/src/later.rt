@@ -1,4 +1,4 @@
-//! What is counted behind an all-in: where its equity is, so is that of each later street.
+//! What is counted after an all-in: where its equity is, so is that of each later street.
 
 ghost use Rattle.std.specs.Prelude.{◌≡◌, ℕ, List, All, Some, true};
 ghost use Rattle.hand_audit.specs.LaterCards.{KnowsNoLessThan};
@@ -34,7 +34,7 @@ fn are_counted_streets(table: &Table, states: &[StreetState])
     }
 }
 
-/// The same of the streets behind an all-in.
+/// The same of the streets after an all-in.
 fn are_counted_behind(all_in: &AllIn, states: &[StreetState])
     ensures { (table : Table) → table_in all_in.now ≡ Some table
         → All (KnowsNoLessThan table) states.now → is_counted (deal_of table) ≡ true

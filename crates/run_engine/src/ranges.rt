@@ -16,7 +16,7 @@ use hand_ranges::{
 use report_table::Form;
 use std::alloc::Global;
 
-/// Whether a line couldn't be read for want of memory.
+/// Whether memory ran out while a line was read.
 fn is_memory(fault: &RangeFault) -> bool
     ensures { result ≡ is_memory fault.now }
 {

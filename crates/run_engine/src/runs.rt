@@ -38,7 +38,7 @@ const USAGE_LINE: &[u8; 76] =
 /// Runs the command that the words name: reads the source, unless hands are made, and writes the report to
 /// the sink. Answers the status: 0 where all was read and written, 1 where beside that a spot or a hand was
 /// rejected, 2 where the words are in no form, 3 where a read failed, 4 where a write failed, 5 where the
-/// source gave more than `INPUT_MAX` bytes, 6 for want of memory. It always returns.
+/// source gave more than `INPUT_MAX` bytes, 6 when out of memory. It always returns.
 pub fn run_alone<S: Source, K: Sink>(
     alloc: Global,
     words: &[String],

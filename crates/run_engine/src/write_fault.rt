@@ -8,7 +8,7 @@ use card_sets::Memory;
 pub(crate) enum WriteFault {
     /// A write failed.
     Failed,
-    /// Want of memory.
+    /// Out of memory.
     Memory,
 }
 

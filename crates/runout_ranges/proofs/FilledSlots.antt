@@ -1,4 +1,4 @@
--- The first way to fill slots, and the way behind one.
+-- The first way to fill slots, and the way after one.
 use Rattle.std.proofs.Common.{◌≡◌, ℕ, zero, suc, ◌+◌, ◌-◌, ◌<◌, ◌≤◌, List, [], ◌∷◌, ◌++◌, map, refl, sym, ap, ◌∙◌, inl, inr, append-nil, length, take, drop, get_or, arith, true, false, cond, ◌||◌, ◌==◌, not}
 use Rattle.std.specs.List.{flat_map}
 use borrow.Rule.Slice.PartMut.{put_mid}
@@ -11,14 +11,14 @@ use Rattle.card_sets.specs.Rising.{has_card-low}
 use Rattle.runout_ranges.specs.Runouts.{runouts, left_by, Begins, Ends}
 use Rattle.runout_ranges.proofs.NextChoice.{place_choice, choose_within, choose_length, first_choice}
 
--- a list by its first and the part behind it
+-- a list by its first and the part after it
 pub first_part : {X : Type 0} (xs : List X) (d : X) → 0 < length xs → xs ≡ get_or xs 0 d ∷ take (length xs - 1) (drop 1 xs)
 first_part [] d h = absurd (omega arith)
 first_part (x ∷ xs) d h =
     let n : suc (length xs) - 1 ≡ length xs = omega arith in
     ap (λ l. x ∷ l) (sym (ap (λ k. take k xs) n ∙ take_all (length xs) xs (omega arith)))
 
--- a list whose part behind the first was written
+-- a list whose part after the first was written
 pub put_rest : {X : Type 0} (x : X) (xs ys : List X) → put_mid 1 (length (x ∷ xs) - 1) (x ∷ xs) ys ≡ x ∷ ys
 put_rest x xs ys =
     let none : drop (suc (length xs) - 1) xs ≡ [] = drop_all (suc (length xs) - 1) xs (omega arith) in

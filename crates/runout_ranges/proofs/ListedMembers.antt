@@ -9,42 +9,14 @@ use Rattle.runout_ranges.specs.Slots.{counts_of}
 use Rattle.runout_ranges.specs.declared.shapes.Slot.{Slot}
 use Rattle.std.proofs.lemmas.Nat.{mod_below}
 use Rattle.std.proofs.lemmas.Bool.{cases_lt}
-use Rattle.card_sets.specs.Cards.{IsCardSet, IsRising, RisingFrom, with_card, without_card, minus}
+use Rattle.card_sets.specs.Cards.{IsCardSet, IsRising, minus}
 use Rattle.card_sets.specs.Choose.{choose}
-use Rattle.card_sets.specs.Bits.{first_rest}
-use Rattle.card_sets.specs.Rising.{RisingFrom-lower, rising_front, with_card-push}
 use Rattle.runout_ranges.specs.Runouts.{runouts, left_by, HasMember}
 use Rattle.runout_ranges.specs.Ways.{binomial, ways}
 use Rattle.runout_ranges.proofs.ListingLength.{length_choose, length_runouts, binomial_none, binomial_some, ways_some, rising_left}
 use Rattle.runout_ranges.proofs.CardLists.{minus_left}
 use borrow.Rule.Slice.PartMut.{put_mid}
 use Rattle.runout_ranges.proofs.FilledSlots.{left_length, put_rest}
-
--- a rising list stays so without one of its cards
-rising_without : (low : ℕ) (taken : List ℕ) (x : ℕ) (rest : List ℕ) → RisingFrom low (taken ++ x ∷ rest) → RisingFrom low (taken ++ rest)
-rising_without low [] x rest r = RisingFrom-lower (x + 1) low rest (omega arith) r.2
-rising_without low (y ∷ taken) x rest r = (r.0, r.1, rising_without (y + 1) taken x rest r.2)
-
--- what is left of a set without its first card, and what is taken with it
-pub record FirstTaken (taken rest : List ℕ) (card : ℕ) : Type 0 where
-  pub first : rest ≡ card ∷ without_card rest card
-  pub more : with_card taken card ≡ taken ++ card ∷ []
-  pub above : IsRising (with_card taken card ++ without_card rest card)
-  pub left_out : IsRising (taken ++ without_card rest card)
-
-pub first_taken : (taken rest : List ℕ) (card : ℕ) → IsRising (taken ++ rest) → IsCardSet rest → slice_get rest 0 ≡ Some card → FirstTaken taken rest card
-first_taken taken rest card r set is =
-    let first : rest ≡ card ∷ without_card rest card = first_rest rest card set is in
-    let P : List ℕ → Type 0 = λ cards. IsRising (taken ++ cards) in
-    let risen : IsRising (taken ++ card ∷ without_card rest card) = subst P first r in
-    let more : with_card taken card ≡ taken ++ card ∷ [] = with_card-push taken card (rising_front 0 taken card (without_card rest card) risen) in
-    let Q : List ℕ → Type 0 = λ cards. IsRising cards in
-    record {
-      first = first;
-      more = more;
-      above = subst Q (sym (append_assoc taken (card ∷ []) (without_card rest card)) ∙ ap (λ front. front ++ without_card rest card) (sym more)) risen;
-      left_out = rising_without 0 taken card (without_card rest card) risen;
-    }
 
 -- a list with no first has nothing
 pub nothing : (cards : List ℕ) → slice_get cards 0 ≡ None → length cards ≡ 0
@@ -100,7 +72,7 @@ choice_without taken rest others card (suc k) place with result some first w h e
     ∙ ap (λ i. slice_get (map (λ more. taken ++ more) (map (λ rest. card ∷ rest) (choose k others) ++ choose (suc k) others)) i) at
     ∙ sym (high_choice taken card (choose k others) (choose (suc k) others) (place - with)) ∙ e
 
--- what is left of a place behind the choices with the first card
+-- what is left of a place after the choices with the first card
 pub place_without : (n missing place with : ℕ) → (missing ≡ 0 → ⊥) → with ≡ binomial n (missing - 1) → with ≤ place → place < binomial (suc n) missing → place - with < binomial n missing
 place_without n zero place with some w h l = absurd (some refl)
 place_without n (suc k) place with some w h l =

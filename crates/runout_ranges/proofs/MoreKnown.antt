@@ -70,7 +70,7 @@ ways_slot u r zero rest =
     rw none (omega arith)
 ways_slot u r (suc n) rest = refl
 
--- one slot and those behind it, where the other state lacks no more in the slot or behind it
+-- one slot and those after it, where the other state lacks no more in the slot or after it
 fewer_ways : (u v n m more less : ℕ) (before after : List Slot) → m ≤ n → less ≤ more → v + (n + more) ≤ u + (m + less)
     → ((v - m) + more ≤ (u - n) + less → ways (v - m) (counts_of after) ≤ ways (u - n) (counts_of before))
     → binomial v m * ways (v - m) (counts_of after) ≤ binomial u n * ways (u - n) (counts_of before)

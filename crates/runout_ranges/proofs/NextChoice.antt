@@ -1,4 +1,4 @@
--- Where a choice stands among the choices, and which one stands behind it.
+-- Where a choice stands among the choices, and which one stands after it.
 use Rattle.std.proofs.Common.{◌≡◌, ◌≢◌, ℕ, zero, suc, ◌+◌, ◌<◌, ◌≤◌, List, [], ◌∷◌, ◌++◌, map, refl, sym, ap, ◌∙◌, subst, inl, inr, ◌⊎◌, length, length-append, take, arith, Bool, true, false, ◌||◌, ◌==◌}
 use mathlib.Core.Bool.{true≢false}
 use Rattle.std.proofs.lemmas.Bool.{cases_eq}
@@ -86,7 +86,7 @@ step_rest k c cs r r' out h front back e = elim (place_choice k c cs (c ∷ r) f
   | inr p ↦ absurd (not_first (suc k) c cs r p.0 back out p.1)
 ]
 
--- behind the last choice with the head come the choices without it
+-- after the last choice with the head come the choices without it
 pub turn : (k c : ℕ) (cs r f : List ℕ) (more : List (List ℕ)) → has_card cs c ≡ false → Ends (choose k cs) r → choose (suc k) cs ≡ f ∷ more
     → Follows (choose (suc k) (c ∷ cs)) (c ∷ r) f
 turn k c cs r f more out last begins front back e = elim (place_choice k c cs (c ∷ r) front back e) [

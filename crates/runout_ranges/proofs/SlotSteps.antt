@@ -1,4 +1,4 @@
--- One slot of a shape, then the slots behind it.
+-- One slot of a shape, then the slots after it.
 use Rattle.std.proofs.Common.{◌≡◌, ℕ, suc, ◌+◌, ◌-◌, ◌<◌, ◌≤◌, List, [], ◌∷◌, ◌++◌, refl, sym, ap, ◌∙◌, subst, length, take, drop, get_or, set, sum, arith, Bool, true, ◌==◌}
 use Rattle.std.specs.Prelude.{MatchBool}
 use borrow.Rule.Slice.PartMut.{put_mid}
@@ -156,7 +156,7 @@ only_slot_follows unseen left chosen next (s ∷ []) d (x ∷ []) k none same f 
     let P : List (List ℕ) → Type 0 = λ v. Follows (runouts unseen (counts_of (s ∷ []))) (x ∷ []) v in
     subst P (put_rest next [] []) (choice_follows unseen left chosen next (minus unseen next) (s ∷ []) d (x ∷ []) (x ∷ []) [] k (no_slots left [] [] (omega arith)) f refl ([], refl) (omega arith))
 
--- the parts behind the first
+-- the parts after the first
 pub same_rest : {X Y : Type 0} (xs : List X) (ys : List Y) → length xs ≡ length ys → length (take (length xs - 1) (drop 1 xs)) ≡ length (take (length ys - 1) (drop 1 ys))
 same_rest [] [] h = refl
 same_rest [] (y ∷ ys) h = absurd (omega arith)

@@ -22,7 +22,7 @@ HasMember {X} list x = (front back : List X) × (list ≡ front ++ x ∷ back)
 abbrev pub Begins : {X : Type 0} → List X → X → Type 0
 Begins {X} list x = (rest : List X) × (list ≡ x ∷ rest)
 
--- wherever the list has `at`, next stands behind it
+-- wherever the list has `at`, next stands after it
 abbrev pub Follows : {X : Type 0} → List X → X → X → Type 0
 Follows {X} list at next = (done todo : List X) → list ≡ done ++ at ∷ todo → (rest : List X) × (todo ≡ next ∷ rest)
 

@@ -6,10 +6,10 @@ ghost use Rattle.runout_ranges.specs.Runouts.{HasMember, Follows, Ends};
 
 use card_sets::CardSet;
 
-/// The choice behind one of as many of the cards. None exactly behind the last.
+/// The choice after one of as many of the cards. None exactly after the last.
 ///
 /// The greatest chosen card with a free card above it moves up by one, and the cards that were chosen
-/// above it follow right behind it.
+/// above it follow right after it.
 #[inline]
 pub(crate) fn next_choice(cards: CardSet, chosen: CardSet) -> Option<CardSet>
     requires { HasMember (choose (length chosen) cards) chosen }

@@ -23,6 +23,6 @@ pub use laws::{
     law_no_more_runouts, law_no_runout_twice, law_runouts_are_counted, law_runouts_fill_the_slots,
 };
 pub use limits::{JobFault, RUNOUT_MAX};
-pub use places::runout_at;
+pub use places::{count_ways, runout_at};
 pub use shapes::{Receiver, Shape, Slot};
 pub use successor::{Runout, advance, first_runout};

@@ -34,8 +34,8 @@ fn choice_at(taken: CardSet, rest: CardSet, missing: u32, place: u64) -> CardSet
     choice_at(taken, others, missing, place - with_card)
 }
 
-/// How many ways there are to fill the slots, which are known to fit 64 bits.
-fn count_ways(left: u32, slots: &[Slot]) -> u64
+/// How many ways there are to fill the slots from so many cards, which are known to fit 64 bits.
+pub fn count_ways(left: u32, slots: &[Slot]) -> u64
     requires deck { left ≤ 52 }
     requires enough { sum (counts_of slots.now) ≤ left }
     requires fits { ways left (counts_of slots.now) < 2 ^ 64 }

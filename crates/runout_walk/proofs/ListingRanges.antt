@@ -15,7 +15,7 @@ range-none {X} lo hi = drop_none lo
     drop_none zero = take_none (hi - lo)
     drop_none (suc n) = take_none (hi - lo)
 
--- a range of two lists behind one another
+-- a range of two lists after one another
 pub range-append : {X : Type 0} (xs ys : List X) (lo hi : ℕ) → slice_range (xs ++ ys) lo hi ≡ slice_range xs lo (min hi (length xs)) ++ slice_range ys (lo - length xs) (hi - length xs)
 range-append [] ys lo hi =
     let a : lo - 0 ≡ lo = omega arith in

@@ -16,7 +16,8 @@ use Rattle.runout_ranges.specs.Ways.{ways, binomial}
 use Rattle.runout_ranges.specs.declared.shapes.Receiver.TheVariants.{Board}
 use Rattle.runout_ranges.specs.declared.shapes.Shape.{Shape}
 use Rattle.runout_ranges.specs.declared.shapes.Slot.{Slot}
-use Rattle.runout_ranges.proofs.CallerLemmas.{minus_left, first_part, left_length, at_first, enough_for, first_taken, length_runouts}
+use Rattle.card_sets.proofs.CallerLemmas.{first_taken}
+use Rattle.runout_ranges.proofs.CallerLemmas.{minus_left, first_part, left_length, at_first, enough_for, length_runouts}
 use Rattle.showdown_tally.specs.Showdown.{Showdown}
 use Rattle.showdown_tally.specs.SideCounts.{CountsGrow}
 use Rattle.showdown_tally.specs.Tallies.{runouts_after}

@@ -10,9 +10,9 @@ ghost use Rattle.runout_walk.specs.Listing.{last_count};
 
 use crate::branch::Branch;
 use crate::leaf::{Leaf, OpenSlot};
-use crate::range::{count_range, count_ways};
+use crate::range::count_range;
 use card_sets::CardSet;
-use runout_ranges::Shape;
+use runout_ranges::{Shape, count_ways};
 use std::sync::ledger::Ledger;
 use step_count::Steps;
 

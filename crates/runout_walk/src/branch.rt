@@ -9,7 +9,7 @@ use runout_ranges::Slot;
 pub(crate) struct Branch<'a> {
     /// Its place among the slots, from 0.
     pub(crate) slot: usize,
-    /// The slots behind it.
+    /// The slots after it.
     pub(crate) later: &'a [Slot],
     /// In how many ways these can be filled once it has its cards.
     pub(crate) each: u64,

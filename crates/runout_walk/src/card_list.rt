@@ -11,7 +11,7 @@ pub const DECK: usize = 52;
 /// Some cards as a list, on the stack. Clauses see it as that list.
 #[derive(Drop)]
 pub struct CardList {
-    /// The cards, and others behind them.
+    /// The cards, and others after them.
     cards: [Card; DECK],
     /// How many they are.
     used: usize,

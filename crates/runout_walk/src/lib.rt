@@ -1,6 +1,6 @@
 //! How many runouts each set of hands wins each side of each pot with, in one walk over a range of the listing.
 //!
-//! [`count_runouts_of`] goes through the listing slot after slot, card after card, and leaves out what lies before or behind the
+//! [`count_runouts_of`] goes through the listing slot after slot, card after card, and leaves out what lies before or after the
 //! range. It hands the last cards of a runout to a [`Leaf`], which counts them and takes a step for each. Counts are a row of 2,048
 //! numbers for each side of each pot, the high's row before the low's: [`clear_counts`] makes them 0.
 //!

@@ -100,7 +100,7 @@ fn count_one(table: &Table, shape: &Shape, sets: &[CardSet], counts: &mut [[u32;
     }
 }
 
-/// Puts some sets to the front, and one more behind them.
+/// Puts some sets to the front, and one more after them.
 #[inline]
 fn put_sets(sets: &mut [CardSet], front: &[CardSet], last: CardSet)
     requires { length front.now < length sets.old }

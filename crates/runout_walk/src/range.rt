@@ -1,9 +1,9 @@
 //! A range of the listing of runouts, slot after slot.
 
-ghost use Rattle.std.specs.Prelude.{◌≡◌, ℕ, ◌+◌, ◌-◌, ◌*◌, ◌<◌, ◌≤◌, ◌^◌, ◌==◌, ◌++◌, ◌&&◌, List, length, map, sum, take};
+ghost use Rattle.std.specs.Prelude.{◌≡◌, ℕ, ◌+◌, ◌-◌, ◌*◌, ◌<◌, ◌≤◌, ◌^◌, ◌==◌, ◌++◌, ◌&&◌, List, length, map, take};
 ghost use Rattle.std.specs.List.{slice_range};
 ghost use Rattle.runout_ranges.specs.Slots.{counts_of};
-ghost use Rattle.runout_ranges.specs.Ways.{binomial, ways};
+ghost use Rattle.runout_ranges.specs.Ways.{binomial};
 ghost use Rattle.showdown_tally.specs.SideCounts.{CountsFit, CountsGrow};
 ghost use Rattle.runout_walk.specs.Branches.{IsAt};
 ghost use Rattle.runout_walk.specs.Listing.{going_on};
@@ -11,23 +11,9 @@ ghost use Rattle.runout_walk.specs.Listing.{going_on};
 use crate::branch::Branch;
 use crate::leaf::{Leaf, OpenSlot};
 use card_sets::CardSet;
-use runout_ranges::{Slot, count_choices};
+use runout_ranges::{Slot, count_choices, count_ways};
 use std::sync::ledger::Ledger;
 use step_count::Steps;
-
-/// How many ways there are to fill the slots from so many cards, which are known to fit 64 bits.
-pub(crate) fn count_ways(left: u32, slots: &[Slot]) -> u64
-    requires deck { left ≤ 52 }
-    requires enough { sum (counts_of slots.now) ≤ left }
-    requires fits { ways left (counts_of slots.now) < 2 ^ 64 }
-    ensures { result ≡ ways left (counts_of slots.now) }
-{
-    let [slot, later @ ..] = slots else {
-        return 1;
-    };
-    let count = u32::from(slot.count);
-    count_choices(left, count) * count_ways(left - count, later)
-}
 
 /// How many choices of so many cards have the first of them, where so many others are left. With a number for k no division is left.
 #[inline]
@@ -59,7 +45,7 @@ fn count_first(others: u32, left: u32, each: u64) -> u64
     count_with(others, left) * each
 }
 
-/// Whether no slot is left behind one, and it gets as many cards as are dealt at once.
+/// Whether no slot is left after one, and it gets as many cards as are dealt at once.
 #[inline]
 fn is_last(later: &[Slot], left: u32, depth: u32) -> bool
     ensures { result ≡ ((length later.now == 0) && (left == depth)) }
@@ -68,7 +54,7 @@ fn is_last(later: &[Slot], left: u32, depth: u32) -> bool
 }
 
 /// Counts the runouts that go on from a branch, from one place of the listing of these to another: for each pot, on each side. The sets
-/// of the slots before it are the first ones, and those behind them are overwritten. It takes a step a runout.
+/// of the slots before it are the first ones, and those after them are overwritten. It takes a step a runout.
 pub(crate) fn count_range<F: Leaf, L: Ledger>(
     leaf: &mut F,
     counts: &mut [[u32; 2048]],
@@ -78,7 +64,7 @@ pub(crate) fn count_range<F: Leaf, L: Ledger>(
     hi: u64,
     steps: &mut Steps<L>,
 )
-    // The sets in front lead to this branch, and behind them there is room for those of the later slots.
+    // The sets dealt before lead to this branch, and after them there is room for those of the later slots.
     requires at { IsAt (F.deal leaf.old) (F.depth (F.deal leaf.old))
         (take branch.now.slot sets.old) branch.now.unseen branch.now.tail.taken
         branch.now.tail.rest branch.now.tail.left branch.now.later.now branch.now.each }
@@ -94,7 +80,7 @@ pub(crate) fn count_range<F: Leaf, L: Ledger>(
     requires places { 2 * length (F.deal leaf.old).pots ≤ length counts.old }
     requires fits { CountsFit (F.deal leaf.old) counts.old (hi - lo) }
 
-    // The ways to go on that are between the places are counted, each behind the sets in front, and no others.
+    // The ways to go on that are between the places are counted, each after the sets dealt before, and no others.
     ensures counts { CountsGrow (F.deal leaf.old)
         (map (λ more. take branch.now.slot sets.old ++ more)
         (slice_range
@@ -102,7 +88,7 @@ pub(crate) fn count_range<F: Leaf, L: Ledger>(
         (counts_of branch.now.later.now)) lo hi))
         counts.old counts.new }
 
-    // Sizes, the sets in front and the deal stay, and the steps are as many as the runouts.
+    // Sizes, the sets dealt before and the deal stay, and the steps are as many as the runouts.
     ensures places { length counts.new ≡ length counts.old }
     ensures front { take branch.now.slot sets.new ≡ take branch.now.slot sets.old }
     ensures room { length sets.new ≡ length sets.old }

@@ -4,7 +4,7 @@ use Rattle.std.proofs.lemmas.List.{drop-drop}
 use Rattle.std.specs.Fmt.{decimal}
 use Rattle.share_fractions.specs.Round.{digit_at, last_digits, fixed_text}
 
--- what stays behind one piece and then behind the next stays behind both
+-- what stays after one piece and then after the next stays after both
 pub behind_both : (old middle new : List ℕ) (next end : ℕ) →
     drop next middle ≡ drop next old → drop end new ≡ drop end middle → next ≤ end →
     drop end new ≡ drop end old
@@ -19,7 +19,7 @@ first_of_last_digits : (place n : ℕ) → 0 < place →
 first_of_last_digits zero n some = absurd (omega arith)
 first_of_last_digits (suc place) n some = rw sub-one refl
 
--- one more digit behind what is put there so far
+-- one more digit after what is put there so far
 pub digits_more : (place n byte : ℕ) (done more : List ℕ) → 0 < place →
     byte ≡ digit_at (place - 1) n → more ≡ done ++ byte ∷ [] →
     more ++ last_digits (place - 1) n ≡ done ++ last_digits place n

@@ -102,7 +102,7 @@ pub fn law_rounds_to_the_nearest_half_up()
         2 * a * 10 ^ places + b < 2 * b * (round a b places + 1) }
 {}
 
-/// The digits before the point and the places behind it, put together, are the number,
+/// The digits before the point and the places after it, put together, are the number,
 /// and the places are as many as are asked for.
 pub fn law_the_text_says_the_number()
     ensures places { (n places : ℕ) → length (last_digits places n) ≡ places }
@@ -119,7 +119,7 @@ fn digit(whole: u128, place: u32) -> u8
     b'0' + last_digit(quotient(whole, power_of_ten(place)))
 }
 
-/// Puts the last digits, so many, at a place, and answers the place behind them.
+/// Puts the last digits, so many, at a place, and answers the place after them.
 fn put_places(out: &mut [u8], at: usize, whole: u128, places: u32) -> usize
     requires few { places ≤ 4 }
     requires room { at + places ≤ length out.old }

@@ -6,7 +6,7 @@ pub use Rattle.showdown_tally.proofs.MaskWinners.{some_among}
 pub use Rattle.showdown_tally.proofs.DealtCards.{IsChoice, filtered, Deals, runout_deals, dealt_cards}
 -- After a runout each hand and the board are full, and no hand shares a card with the board.
 pub use Rattle.showdown_tally.proofs.FullHands.{hand_of, Sound, list_all-index, known_sound, unseen_free, any-index, full_own, full_board, full_apart}
-pub use Rattle.showdown_tally.proofs.FullHands.{hand_IsFull}
+pub use Rattle.showdown_tally.proofs.FullHands.{hand_IsFull, no_earlier}
 -- Going through the slots and the sets of a runout together.
 pub use Rattle.showdown_tally.proofs.SlotsAndSets.{dealt_here, dealt_on, index_default}
 -- The winners of a pot are the hands with the greatest number, where the numbers keep the order of the values.
@@ -17,8 +17,8 @@ pub use Rattle.showdown_tally.proofs.SideWinners.{KeptSide, kept_side}
 pub use Rattle.showdown_tally.proofs.PotFacts.{eligible_pot, among_hands, no_side, pot_winners, pot_cell}
 -- A pot is given out whole, and each runout ends in one way.
 pub use Rattle.showdown_tally.proofs.WholePots.{among_passed}
--- The numbers of two values of a side are in the order of the values.
-pub use Rattle.showdown_tally.proofs.KeptOrder.{is-eight, best-KeepOrder}
+-- The numbers of two values of a side are in the order of the values: which of two is the greater, and the less.
+pub use Rattle.showdown_tally.proofs.KeptOrder.{is-eight, best-KeepOrder, greater_is, less_is}
 -- Two own cards and a board make a flush of one suit at most.
 pub use Rattle.showdown_tally.proofs.OnlySuits.{only-suit}
 -- Some hands as the number with their bits, and back.

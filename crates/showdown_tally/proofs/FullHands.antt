@@ -30,7 +30,8 @@ no_board size number (hand ∷ hands) sets = one (λ others. no_board size (numb
     one rest (suc n) [] = refl
     one rest (suc n) (set ∷ others) = rest others
 
-no_earlier : (size number : ℕ) (hands : List (List ℕ)) (sets : List (List ℕ)) (i : ℕ) → i < number → dealt (hand_slots size number hands) sets (Hand i) ≡ []
+-- slots of later hands are none of an earlier one
+pub no_earlier : (size number : ℕ) (hands : List (List ℕ)) (sets : List (List ℕ)) (i : ℕ) → i < number → dealt (hand_slots size number hands) sets (Hand i) ≡ []
 no_earlier size number [] sets i l = refl
 no_earlier size number (hand ∷ hands) sets i l =
     let other : (number == i) ≡ false = grind arith in

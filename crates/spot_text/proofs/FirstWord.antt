@@ -1,20 +1,9 @@
--- The words of a list are its first word and the words behind it.
-use Rattle.std.proofs.Common.{◌≡◌, ℕ, suc, ◌+◌, ◌<◌, Bool, true, false, not, List, [], ◌∷◌, length, take, drop, refl, sym, ap, ◌∙◌, subst, inl, inr, arith}
+-- The words of a list are its first word and the words after it.
+use Rattle.std.proofs.Common.{◌≡◌, ℕ, suc, ◌+◌, ◌<◌, Bool, true, false, not, List, [], ◌∷◌, length, take, drop, refl, sym, ap, ◌∙◌, subst, arith}
 use Rattle.std.specs.Prelude.{Option, filter, nat_lt, position, unwrap_or}
 use Rattle.std.specs.List.{slice_split, onto_first, position_or_len}
-use Rattle.std.proofs.lemmas.Bool.{cases_lt}
-use Rattle.std.proofs.lemmas.List.Sums.{prefix_len-le-length}
+use Rattle.line_text.proofs.CallerLemmas.{place_or_end}
 use Rattle.spot_text.specs.Words.{is_gap, words}
-
--- the first place that passes, or the length
-place_or_end : (p : ℕ → Bool) (xs : List ℕ) → unwrap_or (position p xs) (length xs) ≡ position_or_len p xs
-place_or_end p xs = elim (cases_lt (position_or_len p xs) (length xs)) [
-  | inl inside ↦ let passes : nat_lt (position_or_len p xs) (length xs) ≡ true = grind arith in rw passes refl
-  | inr past ↦
-      let fails : nat_lt (position_or_len p xs) (length xs) ≡ false = grind arith in
-      let end = prefix_len-le-length (λ x. not (p x)) xs in
-      rw fails (omega (arith, end))
-]
 
 -- the pieces that aren't empty
 abbrev filled : List (List ℕ) → List (List ℕ)
@@ -87,7 +76,7 @@ first_piece p xs word is some =
     let kept : filled (word ∷ r.parts) ≡ word ∷ filled r.parts = rw yes refl in
     ap filled (r.cut ∙ ap (λ w. w ∷ r.parts) (sym is)) ∙ kept ∙ ap (λ ws. word ∷ ws) r.others
 
--- where nothing stands before the first separator behind the front of separators, nothing stands there
+-- where nothing stands before the first separator after the front of separators, nothing stands there
 abbrev OnlyNothing : (ℕ → Bool) → List ℕ → Type 0
 OnlyNothing p rest = length (take (position_or_len p rest) rest) ≡ 0 → rest ≡ []
 

@@ -10,7 +10,7 @@ use Rattle.spot_text.specs.Parts.{is_slash, is_dashes, is_dash, hand_words, boar
 use Rattle.spot_text.specs.Sections.{behind_card, section_behind, stands_from}
 use Rattle.spot_text.proofs.PartsByWord.{before_yes, before_no, after_yes, after_no, slash_first, dashes_first, hand_first, none_first}
 
--- what stands behind a word that may or may not stand where it is
+-- what stands after a word that may or may not stand where it is
 abbrev pub rest_stands : List (List ℕ) → Option Section → Bool
 rest_stands ws behind = option_map_or (λ s. stands_from s ws) behind false
 

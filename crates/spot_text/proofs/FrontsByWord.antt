@@ -1,4 +1,4 @@
--- A spot, part by part: the cards in front, the mark behind them, and what stands behind that.
+-- A spot, part by part: the cards that come first, the mark after them, and what stands after that.
 use Rattle.std.proofs.Common.{◌≡◌, ℕ, Bool, true, false, cond, List, [], ◌∷◌, drop, get_or, refl, sym, ap, ◌∙◌, Some, None}
 use Rattle.std.specs.Prelude.{Option, IsTrue, MatchOption, is_some}
 use Rattle.std.specs.List.{onto_first, before_first, after_first}
@@ -35,7 +35,7 @@ card_section Hands w h = let m = no_mark w h in rw (m.slash, m.dashes, m.dash, h
 card_section Board w h = let m = no_mark w h in rw (m.slash, h) refl
 card_section Dead w h = rw h refl
 
--- cards in front change neither the form nor the parts behind them
+-- cards that come first change neither the form nor the parts after them
 pub record Cut (ws : List (List ℕ)) : Type 0 where
   pub hands : hand_words ws ≡ onto_words (front_cards ws) (hand_words (from_mark ws))
   pub board : board_words ws ≡ board_words (from_mark ws)
@@ -72,7 +72,7 @@ cut (w ∷ ws) = at (is_some (card_of_text w)) refl (cut ws)
           form = λ s. sym (ap (stands_from s) from);
         }
 
--- a card more in front, another word, and no word
+-- one card more, another word, and no word
 pub front_more : (w : List ℕ) (ws left : List (List ℕ)) (card : ℕ) (o : Option ℕ) → left ≡ w ∷ ws → o ≡ card_of_text w → o ≡ Some card →
     (front_cards left ≡ w ∷ front_cards ws) × (from_mark left ≡ from_mark ws)
 unfolding front_cards from_mark
@@ -95,7 +95,7 @@ pub front_none : (left : List (List ℕ)) → left ≡ [] → (front_cards left 
 unfolding front_cards from_mark
 front_none left none = (ap front_cards none, ap from_mark none)
 
--- where no mark stands behind the cards, all words are cards
+-- where no mark stands after the cards, all words are cards
 pub front_all : (ws : List (List ℕ)) → from_mark ws ≡ [] → front_cards ws ≡ ws
 unfolding front_cards from_mark
 front_all [] h = refl
@@ -111,7 +111,7 @@ front_all (w ∷ ws) h = at (is_some (card_of_text w)) refl (λ e. front_all ws 
         let none : w ∷ ws ≡ [] = sym from ∙ h in
         cc
 
--- the first word behind the cards is none
+-- the first word after the cards is none
 pub first_no_card : (ws fs : List (List ℕ)) (w : List ℕ) → from_mark ws ≡ w ∷ fs → is_some (card_of_text w) ≡ false
 unfolding from_mark
 first_no_card [] fs w h = cc
@@ -235,7 +235,7 @@ mark_other (w ∷ ws) h = at (is_slash w) (is_dashes w) (is_dash w) refl refl re
     at false false true e f g h = cc
     at false false false e f g h = record { word = w; is = refl; on_slash = e; on_dashes = f; on_dash = g }
 
--- the form and the parts behind a mark
+-- the form and the parts after a mark
 pub record Behind (fs : List (List ℕ)) (hands : List (List (List ℕ))) (board dead : List (List ℕ)) (form : Bool) : Type 0 where
   pub is_hands : hand_words fs ≡ hands
   pub is_board : board_words fs ≡ board
@@ -290,7 +290,7 @@ behind_dash fs h =
       is_form = ap in_form b.is ∙ stands_step Hands b.word (drop 1 fs) ∙ ap (rest_stands (drop 1 fs)) to;
     }
 
--- behind some cards no other word may stand
+-- after some cards no other word may stand
 pub behind_other : (ws : List (List ℕ)) → mark_of (from_mark ws) ≡ Other → (s : Section) → stands_from s ws ≡ false
 behind_other ws h s =
     let fs = from_mark ws in
@@ -303,7 +303,7 @@ behind_other ws h s =
     at Board w e f g none = rw (e, none) refl
     at Dead w e f g none = rw none refl
 
--- all words are dead cards where no mark stands behind those in front, and else one of them is none
+-- all words are dead cards where no mark stands after those that come first, and else one of them is none
 pub dead_stand : (ws : List (List ℕ)) → mark_of (from_mark ws) ≡ End → (stands_from Dead ws ≡ true) × (front_cards ws ≡ ws)
 dead_stand ws h =
     let none = mark_end (from_mark ws) h in
@@ -361,7 +361,7 @@ dash_left Slash h = cc
 dash_left End h = cc
 dash_left Other h = cc
 
--- the board and the dead cards behind a mark
+-- the board and the dead cards after a mark
 pub has_table : (fs board dead : List (List ℕ)) (form : Bool) (table : Table) → Behind fs ([] ∷ []) board dead form → form ≡ true →
     table.board ≡ set_of (cards_of board) → table.dead ≡ set_of (cards_of dead) → HasTable fs table
 has_table fs board dead form table h formed on_board are_dead = record {

@@ -55,7 +55,7 @@ next_hand all left count hands h first =
     ∙ ap (λ l. get_or l (length h.done) []) (h.hands ∙ ap (λ l. h.done ++ l) (first_hand left hands first))
     ∙ at_end h.done (front_cards left) hands
 
--- behind the last hand all is read
+-- after the last hand all is read
 pub record AllRead (all left : List (List ℕ)) (count : ℕ) (table : Table) : Type 0 where
   pub form : in_form all ≡ true
   pub whole : count + 1 ≡ length (hand_words all)
@@ -83,7 +83,7 @@ none_read all left count h bad = h.form ∙ bad
 pub crowded : (all left : List (List ℕ)) (count : ℕ) → HandsLeft all left count → 10 ≤ count → 10 < length (hand_words all)
 crowded all left count h many = omega (arith, h.long, ap length h.hands, length-append h.done (hand_words left), some_hand left)
 
--- the sets of the hands that are read, and empty ones behind them
+-- the sets of the hands that are read, and empty ones after them
 pub record SetsRead (sets : List (List ℕ)) (hands : List (List (List ℕ))) (count : ℕ) : Type 0 where
   pub read : (k : ℕ) → k < count → get_or sets k [] ≡ set_of (cards_of (get_or hands k []))
   pub left : (k : ℕ) → count ≤ k → get_or sets k [] ≡ []

@@ -4,7 +4,7 @@ use Rattle.std.specs.List.{slice_split, onto_first, position_or_len, before_firs
 use Rattle.std.proofs.lemmas.List.Splits.{length-slice_split}
 use Rattle.spot_text.specs.Parts.{is_slash, is_dashes, is_dash, hand_words, board_words, dead_words}
 
--- what stands before and behind the first element that passes
+-- what stands before and after the first element that passes
 pub before_yes : {X : Type 0} (p : X → Bool) (x : X) (xs : List X) → p x ≡ true → before_first p (x ∷ xs) ≡ []
 before_yes p x xs h = let none : position_or_len p (x ∷ xs) ≡ 0 = rw h refl in ap (λ n. take n (x ∷ xs)) none
 
@@ -56,7 +56,7 @@ hand_first w ws h k =
       after_no is_slash w ws h,
     )
 
--- behind no word stand one empty hand, no board and no dead cards
+-- after no word stand one empty hand, no board and no dead cards
 pub none_first : (hand_words [] ≡ [] ∷ []) × (board_words [] ≡ []) × (dead_words [] ≡ [])
 unfolding hand_words board_words dead_words
 none_first = (refl, refl, refl)
@@ -66,7 +66,7 @@ pub some_hand : (ws : List (List ℕ)) → 1 ≤ length (hand_words ws)
 unfolding hand_words
 some_hand ws = omega (arith, length-slice_split is_dash (before_first is_dashes (before_first is_slash ws)))
 
--- words in front of the first hand
+-- words before the first hand
 unfoldable pub onto_words : List (List ℕ) → List (List (List ℕ)) → List (List (List ℕ))
 onto_words [] hands = hands
 onto_words (w ∷ ws) hands = onto_first w (onto_words ws hands)

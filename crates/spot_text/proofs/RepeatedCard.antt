@@ -8,7 +8,7 @@ use Rattle.card_sets.specs.Rising.{has_card-push}
 use Rattle.spot_text.specs.Spot.{repeated_after}
 use Rattle.spot_text.specs.Written.{all_differ}
 
--- cards of which none stands among those before it, and others behind them
+-- cards of which none stands among those before it, and others after them
 pub repeated_behind : (before xs ys : List ℕ) → repeated_after before xs ≡ None →
     repeated_after before (xs ++ ys) ≡ repeated_after (before ++ xs) ys
 repeated_behind before [] ys h = ap (λ b. repeated_after b ys) (sym (append-nil before))

@@ -7,7 +7,7 @@ use Rattle.spot_text.specs.Spot.{repeated_after}
 use Rattle.spot_text.specs.Collected.{IsSeen, twice_or}
 use Rattle.spot_text.proofs.CardsByWord.{set_of_more, has_seen}
 
--- behind the last the first that stands twice is found
+-- after the last the first that stands twice is found
 pub seen_whole : (seen : Seen) (left all : List ℕ) → IsSeen seen left all → left ≡ [] → seen.twice ≡ repeated_after [] all
 seen_whole seen left all h none = at seen.twice (sym (h.same ∙ ap (λ l. twice_or seen.twice (repeated_after h.front l)) none))
   where

@@ -9,7 +9,7 @@ use Rattle.spot_text.specs.Games.{least_own, hand_fits, board_fits}
 use Rattle.spot_text.specs.Spot.{hands_fit, players_within}
 use Rattle.spot_text.proofs.PartsByWord.{before_yes, before_no, slash_first, dashes_first, hand_first, none_first, some_hand}
 
--- the hands end at a mark behind them
+-- the hands end at a mark after them
 pub hands_end : (w : List ℕ) (ws : List (List ℕ)) → (is_slash w || is_dashes w) ≡ true → hand_words (w ∷ ws) ≡ [] ∷ []
 hands_end w ws h = at (is_slash w) (is_dashes w) refl refl h
   where

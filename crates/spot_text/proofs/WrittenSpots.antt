@@ -57,7 +57,7 @@ plain card inside = from (text_of_card card) (text_is_plain card (let lt : card 
           dash = not_out (is_dash w) (and_second (not (is_dashes w)) (not (is_dash w)) others);
         }
 
--- cards in front of other words stand in the first hand
+-- cards before other words stand in the first hand
 texts_parts : (cards : List ℕ) (ws : List (List ℕ)) → all_in_deck cards ≡ true →
     (hand_words (texts cards ++ ws) ≡ onto_words (texts cards) (hand_words ws)) × (board_words (texts cards ++ ws) ≡ board_words ws) × (dead_words (texts cards ++ ws) ≡ dead_words ws)
 unfolding onto_words
@@ -81,7 +81,7 @@ before_texts (card ∷ cards) ws h =
       after_no is_slash (text_of_card card) (texts cards ++ codes "/" ∷ ws) is.slash ∙ rest.1,
     )
 
--- the words behind the hands
+-- the words after the hands
 abbrev tail : List ℕ → List ℕ → List (List ℕ)
 tail board dead = codes "--" ∷ (texts board ++ codes "/" ∷ texts dead)
 
@@ -194,7 +194,7 @@ passes_all game others state h =
     ∙ ap (λ b. cond b (unless_short (state_of_words game others)) (Err PlayerCount)) h.players
     ∙ ap unless_short h.is ∙ ap (λ b. cond b (Err DeckShort) (Ok state)) h.enough
 
--- the words behind the game's
+-- the words after the game's
 abbrev written : List (List ℕ) → List ℕ → List ℕ → List (List ℕ)
 written hands board dead = hands_text hands ++ tail board dead
 

@@ -19,7 +19,7 @@ pub record IsSeen (seen : Seen) (left all : List ℕ) : Type 0 where
   pub is : seen.cards ≡ set_of front
   pub same : repeated_after [] all ≡ twice_or seen.twice (repeated_after front left)
 
--- words that begin behind a hand have a board and dead cards
+-- words that begin after a hand have a board and dead cards
 pub record HasTable (others : List (List ℕ)) (table : Table) : Type 0 where
   pub form : IsTrue (in_form others)
   pub hands : hand_words others ≡ [] ∷ []

@@ -1,11 +1,11 @@
--- The cards that words begin with, and the mark behind them.
+-- The cards that words begin with, and the mark after them.
 use Rattle.std.specs.Prelude.{ℕ, Bool, true, false, if◌then◌else◌, List, [], ◌∷◌, is_some}
 use Rattle.card_sets.specs.CardText.{card_of_text}
 use Rattle.spot_text.specs.declared.walk.Mark.{Mark}
 use Rattle.spot_text.specs.declared.walk.Mark.TheVariants.{Dash, Dashes, Slash, End, Other}
 use Rattle.spot_text.specs.Parts.{is_slash, is_dashes, is_dash}
 
--- the words in front that name cards
+-- the first words, which name cards
 unfoldable pub front_cards : List (List ℕ) → List (List ℕ)
 front_cards [] = []
 front_cards (word ∷ others) =
@@ -23,7 +23,7 @@ mark_of (word ∷ others) =
     if is_slash word then Slash else (if is_dashes word then Dashes
     else (if is_dash word then Dash else Other))
 
--- whether no hand begins behind a mark
+-- whether no hand begins after a mark
 abbrev pub ends_hands : Mark → Bool
 ends_hands Dash = false
 ends_hands Dashes = true

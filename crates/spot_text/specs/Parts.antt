@@ -15,11 +15,11 @@ is_dashes word = bytes_eq word (codes "--")
 abbrev pub is_dash : List ℕ → Bool
 is_dash word = bytes_eq word (codes "-")
 
--- the dead cards stand behind the first slash
+-- the dead cards stand after the first slash
 unfoldable pub dead_words : List (List ℕ) → List (List ℕ)
 dead_words others = after_first is_slash others
 
--- the board stands before it, behind the first two dashes
+-- the board stands before it, after the first two dashes
 unfoldable pub board_words : List (List ℕ) → List (List ℕ)
 board_words others = after_first is_dashes (before_first is_slash others)
 

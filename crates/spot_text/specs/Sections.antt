@@ -6,11 +6,11 @@ use Rattle.spot_text.specs.declared.form.Section.{Section}
 use Rattle.spot_text.specs.declared.form.Section.TheVariants.{Hands, Board, Dead}
 use Rattle.spot_text.specs.Parts.{is_slash, is_dashes, is_dash, all_cards, in_form}
 
--- the same section behind a card, and none behind another word
+-- the same section after a card, and none after another word
 abbrev pub behind_card : Section → List ℕ → Option Section
 behind_card section word = if is_some (card_of_text word) then Some section else None
 
--- the section behind a word, if the word may stand there
+-- the section after a word, if the word may stand there
 abbrev pub section_behind : Section → List ℕ → Option Section
 section_behind Hands word =
     if is_slash word then Some Dead else (if is_dashes word then Some Board

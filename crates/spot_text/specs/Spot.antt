@@ -59,7 +59,7 @@ abbrev pub unless_repeated : Option ℕ → Game → List (List ℕ) → Result 
 unless_repeated None game others = spot_of_sizes game others
 unless_repeated (Some card) game others = Err (TwiceCard card)
 
--- what the words behind the game's say
+-- what the words after the game's say
 abbrev pub spot_behind : Game → List (List ℕ) → Result State SpotFault
 spot_behind game others =
     if in_form others then unless_repeated (repeated_after [] (cards_of others)) game others

@@ -7,7 +7,7 @@ use card_sets::Card;
 pub enum SpotFault {
     /// The first word is no game word, or there is no word.
     UnknownWord,
-    /// A word behind it is neither a card nor a mark in its place.
+    /// A word after it is neither a card nor a mark in its place.
     BadCard,
     /// A card stands twice: the first word, from the left, that repeats an earlier one.
     TwiceCard(Card),

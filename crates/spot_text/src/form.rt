@@ -35,7 +35,7 @@ pub(crate) enum Section {
 }
 
 impl Section {
-    /// The section behind a word, if the word may stand here.
+    /// The section after a word, if the word may stand here.
     fn behind(self, word: &[u8]) -> Option<Section>
         ensures { result ≡ section_behind self word.now }
     {

@@ -15,7 +15,7 @@ pub fn law_written_words_are_read()
 {}
 
 /// There is no repeated card exactly where all cards differ,
-/// and behind cards that differ the first that is one of them is the repeated card.
+/// and after cards that differ the first that is one of them is the repeated card.
 pub fn law_the_first_repeated_card()
     ensures none { (cards : List ℕ) → is_none (repeated_after [] cards) ≡ all_differ cards }
     ensures first { (front others : List ℕ) (card : ℕ) →

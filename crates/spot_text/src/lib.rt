@@ -1,6 +1,6 @@
 //! Spot lines: the known cards of a deal, written in one line of words.
 //!
-//! A line is the word of a game and the hands, with a `-` between hands. Behind them may stand `--`
+//! A line is the word of a game and the hands, with a `-` between hands. After them may stand `--`
 //! and the board, and then `/` and the dead cards, as in
 //! `holdem As Ah - Kd Qd - 9c 9d -- Jd Td 2c / 3h`. Words stand between spaces and tabs.
 //!
@@ -10,7 +10,7 @@
 //!
 //! A line is read where it lies, in one walk over its words: it collects each hand, the board, the dead
 //! cards and the first card that stands twice, and ends at a word that may not stand where it stands. The
-//! sizes and the number of hands are looked at behind it. Only a line of more than ten hands, which is no
+//! sizes and the number of hands are looked at after it. Only a line of more than ten hands, which is no
 //! spot, is walked again, once for each fault that it may have. So a line is read in time that grows with
 //! it alone. The crate takes no memory, and it knows neither where a line comes from nor what is counted
 //! of it.

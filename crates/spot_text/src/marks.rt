@@ -30,7 +30,7 @@ pub fn is_dash(word: &[u8]) -> bool
     word == DASH
 }
 
-/// A mark behind the hands.
+/// A mark after the hands.
 pub fn ends_hands(word: &[u8]) -> bool
     ensures { result ≡ (is_slash word.now || is_dashes word.now) }
 {

@@ -50,7 +50,7 @@ fn table_fits(game: Game, count: u32) -> bool
     count == 0 || (count >= 3 && count <= game.board_size())
 }
 
-/// The known cards, or the first fault behind the form of the words.
+/// The known cards, or the first fault after the form of the words.
 fn known_of(game: Game, words: Words, parts: &Collected) -> Result<Known, SpotFault>
     requires parts { IsCollected (words_left words) parts.now }
     ensures read { MatchResult result

@@ -15,7 +15,7 @@ use crate::marks::{is_dash, is_dashes, is_slash};
 use crate::words::Words;
 use card_sets::{Card, CardSet};
 
-/// What stands behind some cards.
+/// What stands after some cards.
 #[derive(Clone, Copy)]
 pub(crate) enum Mark {
     /// The mark before the next hand.
@@ -47,7 +47,7 @@ impl Mark {
         Mark::Other
     }
 
-    /// Whether no hand begins behind it.
+    /// Whether no hand begins after it.
     fn ends_hands(self) -> bool
         ensures { result ≡ ends_hands self }
     {
@@ -67,7 +67,7 @@ pub(crate) struct Seen {
     twice: Option<Card>,
 }
 
-/// The first card that stands twice, behind a card that stands there again or not.
+/// The first card that stands twice, after a card that stands there again or not.
 fn first_twice(twice: Option<Card>, is_again: bool, card: Card) -> Option<Card>
     ensures { result ≡ twice_or twice (if is_again then Some card else None) }
 {
@@ -103,11 +103,11 @@ impl Seen {
 #[derive(Drop)]
 struct Part {
     cards: CardSet,
-    /// What stands behind them.
+    /// What stands after them.
     mark: Mark,
 }
 
-/// The cards that the words begin with. It takes the mark behind them too.
+/// The cards that the words begin with. It takes the mark after them too.
 fn read_part(words: &mut Words, seen: &mut Seen) -> Part
     ensures cards { result.cards ≡ set_of (cards_of (front_cards (words_left words.old))) }
     ensures mark { result.mark ≡ mark_of (from_mark (words_left words.old)) }
@@ -158,7 +158,7 @@ fn read_dead(words: &mut Words, seen: &mut Seen) -> Option<CardSet>
     }
 }
 
-/// The board, with which the words that are left begin, and the dead cards behind it. None where a word
+/// The board, with which the words that are left begin, and the dead cards after it. None where a word
 /// may not stand where it stands.
 fn read_board(words: &mut Words, seen: &mut Seen) -> Option<Table>
     ensures cards { MatchOption result
@@ -189,7 +189,7 @@ fn read_board(words: &mut Words, seen: &mut Seen) -> Option<Table>
     }
 }
 
-/// The board and the dead cards behind the mark that ends the hands. None where a word may not stand
+/// The board and the dead cards after the mark that ends the hands. None where a word may not stand
 /// where it stands.
 fn read_table(mark: Mark, words: &mut Words, seen: &mut Seen) -> Option<Table>
     requires { IsTrue (ends_hands mark) }
@@ -226,7 +226,7 @@ fn read_table(mark: Mark, words: &mut Words, seen: &mut Seen) -> Option<Table>
 pub(crate) struct Collected {
     /// How many hands there are.
     pub(crate) count: u8,
-    /// The hands, and empty sets behind them.
+    /// The hands, and empty sets after them.
     pub(crate) hands: [CardSet; 10],
     /// The board.
     pub(crate) board: CardSet,

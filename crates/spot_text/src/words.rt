@@ -31,7 +31,7 @@ fn gap_at(bytes: &[u8]) -> Option<usize>
     bytes.iter().position(|byte| is_gap(*byte))
 }
 
-/// The first word, empty where there is none, and what stands behind it.
+/// The first word, empty where there is none, and what stands after it.
 fn split_word(line: &[u8]) -> (&[u8], &[u8])
     ensures first { 0 < length result.0.now → words line.now ≡ result.0.now ∷ words result.1.now }
     ensures none { length result.0.now ≡ 0 → (words line.now ≡ []) × (words result.1.now ≡ []) }

@@ -10,7 +10,8 @@ use Rattle.steal_core.specs.declared.events.CoreEvent.{CoreEvent}
 use Rattle.steal_core.specs.declared.state.State.{State}
 use Rattle.steal_core.specs.Machine.{run}
 use Rattle.steal_core.specs.Interleavings.{every_block, queued, in_hands, pushed_by, deal_blocks, IsFair, IsInterleaved}
-use Rattle.steal_core.proofs.BlockSums.{sum_flat, all_blocks, same_sums}
+use Rattle.equity_job.proofs.CallerLemmas.{sum_flat, all_blocks}
+use Rattle.steal_core.proofs.BlockSums.{same_sums}
 use Rattle.steal_core.proofs.NumberRanges.{range_times}
 use Rattle.steal_core.proofs.BlockWeights.{run_weight, pushed_front}
 

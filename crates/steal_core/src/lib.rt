@@ -15,7 +15,7 @@
 //! - `step` is one event, and has no loop. `run_core` is a list of them.
 //! - An event that may not be is `Refused`, and changes nothing: a worker's number is out of range,
 //!   the queue that is taken from is empty, the hand isn't empty (pop, steal) or is (book), or a
-//!   worker would steal from itself. A list of events goes on behind it.
+//!   worker would steal from itself. A list of events goes on after it.
 //! - Clauses see queues, hands and what is booked as lists.
 #![tactic(auto)]
 

@@ -42,7 +42,7 @@ impl Blocks {
         self.items.is_empty()
     }
 
-    /// One block more, at the back. For want of memory all stays.
+    /// One block more, at the back. Out of memory all stays.
     pub(crate) fn push(&mut self, block: u32) -> Result<(), Memory>
         ensures pushed { OnOk result (self.new ≡ self.old ++ block ∷ []) }
         ensures memory { OnErr result (self.new ≡ self.old) }
@@ -110,7 +110,7 @@ impl Queues {
         self.items[worker as usize].is_empty()
     }
 
-    /// One block more at the back of a worker's queue. For want of memory all stays.
+    /// One block more at the back of a worker's queue. Out of memory all stays.
     pub(crate) fn push_at(&mut self, worker: u32, block: u32) -> Result<(), Memory>
         requires { worker < length self.old }
         ensures pushed { OnOk result

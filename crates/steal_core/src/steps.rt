@@ -8,7 +8,7 @@ use crate::{CoreEvent, State, Stepped};
 use card_sets::Memory;
 
 /// One event. `Refused` exactly where a worker's number is out of range, the queue that is taken from is empty, the hand isn't
-/// empty (pop, steal) or is (book), or a worker would steal from itself. The state then stays, and so it does for want of memory.
+/// empty (pop, steal) or is (book), or a worker would steal from itself. The state then stays, and so it does when out of memory.
 pub fn step(state: &mut State, event: CoreEvent) -> Result<Stepped, Memory>
     ensures answered { IfOk result (λ stepped. stepped ≡ answer (is_refused state.old event)) }
     ensures moved { OnOk result (state.new ≡ after state.old event) }

@@ -15,7 +15,7 @@ no_more : (xs : List ℕ) → length xs ≡ 0 → xs ≡ []
 no_more [] e = refl
 no_more (x ∷ xs) e = absurd (omega arith)
 
--- what stands behind as many end marks as there are is nothing
+-- what stands after as many end marks as there are is nothing
 pub nothing_left : (blocks workers : ℕ) (front got items : List ℕ) → 0 < workers → sum_by (one_at blocks) front ≡ 0 → front ++ replicate workers blocks ≡ got ++ items → workers ≤ sum_by (one_at blocks) got → items ≡ []
 nothing_left blocks workers [] got items some none is marks =
     let n = ap length is ∙ length-append got items in

@@ -46,7 +46,7 @@ end_mark workers blocks deque x v w is took high = ⊎_elim (λ (e : blocks ≡ 
     absurd (omega (arith, sum_by-cons (one_at x) x [])))
     (cases_eq blocks x)
 
--- the end mark behind what was taken
+-- the end mark after what was taken
 pub ends : (blocks x : ℕ) (claimed taken : List ℕ) (ended : Bool) → claimed ≡ noted blocks taken ended → ended ≡ false → x ≡ blocks → claimed ++ x ∷ [] ≡ noted blocks taken true
 ends blocks x claimed taken ended is unended mark =
     let bare : noted blocks taken ended ≡ taken = ap (noted blocks taken) unended ∙ append-nil taken in

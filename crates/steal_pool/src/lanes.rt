@@ -96,7 +96,7 @@ pub(crate) fn drain<N: Naming, R: Wait, G: Gate>(
     requires lane { IsALane (N.all - 1) (blocks_of (length (runouts_after N.deal.state))) lane.old }
     requires fresh { (lane.old.taken.items ≡ []) × (lane.old.ended ≡ false) }
 
-    // It still leads there, and has its end mark, behind which it takes nothing.
+    // It still leads there, and has its end mark, after which it takes nothing.
     ensures lane { StaysLane (N.all - 1)
         (blocks_of (length (runouts_after N.deal.state))) lane.old lane.new }
     ensures ended { lane.new.ended ≡ true }

@@ -1,7 +1,7 @@
 //! The count of a job by several workers.
 //!
 //! The blocks of a job are dealt out to as many deques as there are workers, block b to the deque
-//! of b modulo the workers, and behind them an end mark for each worker. A worker takes from its
+//! of b modulo the workers, and after them an end mark for each worker. A worker takes from its
 //! own deque until it gets an end mark there, then from the others, one after the other. So nobody
 //! stands idle while a deque has blocks, and a worker that has an end mark of each deque knows that
 //! nothing is left anywhere.

@@ -56,7 +56,7 @@ fn push_where<N: Naming>(owner: &mut Owner<N>, here: bool, block: u32)
     // There is room for the block, if it belongs here.
     requires room { here ≡ true → worker_index owner.old < worker_capacity owner.old }
 
-    // The pass knows it as pushed behind all others.
+    // The pass knows it as pushed after all others.
     ensures same { SameWorker owner.old owner.new }
     ensures index { worker_index owner.new
         ≡ worker_index owner.old + length (if here then block ∷ [] else []) }

@@ -2,7 +2,7 @@
 //!
 //! A bound on a function's work is a clause on the number of its steps: `steps.new ≡ steps.old + n`.
 //! The function takes a `&mut Steps<L>` and calls `tick` at the one operation that is to be
-//! counted, and places that operation behind the tick, so that it isn't done without one.
+//! counted, and places that operation after the tick, so that it isn't done without one.
 //! `Steps` has no bytes and `tick` does nothing when it runs: the count is there for proofs alone.
 //!
 //! - A caller that counts gives its own ledger: it is generic over `L: Ledger`, takes a `Blank` of

@@ -280,7 +280,7 @@ fit_after game count hands new sets board dead board' fits known m e b =
     (subst (λ hs. all_fit game (after s sets).board (hs ++ drop count hands) ≡ true) (sym e)
     (known_fit s (drop count hands) sets known (subst (λ hs. all_fit game board hs ≡ true) (sym (take-append-drop count hands)) fits) m))
 
--- as many hands as before stand in front
+-- as many hands as before come first
 pub front_after : (some : List Slot) (count : ℕ) (hands new sets : List (List ℕ)) → count ≤ length hands → new ≡ hands_after some sets 0 (take count hands) → (take count (new ++ drop count hands) ≡ new) × (drop count (new ++ drop count hands) ≡ drop count hands)
 front_after some count hands new sets l e =
     let long : length new ≡ count = ap length e ∙ length_after some sets 0 (take count hands) ∙ length-take-le count hands l in

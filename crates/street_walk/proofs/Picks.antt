@@ -127,7 +127,7 @@ deals_same [] cards f g h = h [] cards
 deals_same (n ∷ counts) cards f g h =
     picks_same n cards _ _ (λ c rest. deals_same counts rest (λ sets left. f (c ∷ sets) left) (λ sets left. g (c ∷ sets) left) (λ sets left. h (c ∷ sets) left))
 
--- a pick behind some slots may come before them
+-- a pick after some slots may come before them
 pub deals_swap : (counts : List ℕ) (m : ℕ) (cards : List ℕ) (g : List (List ℕ) → List ℕ → List ℕ → ℕ)
     → deals counts cards (λ sets rest. picks m rest (λ c left. g sets c left)) ≡ picks m cards (λ c rest. deals counts rest (λ sets left. g sets c left))
 deals_swap [] m cards g = refl

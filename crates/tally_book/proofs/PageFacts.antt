@@ -11,7 +11,8 @@ use Rattle.equity_job.specs.Blocks.{block_of, blocks_of}
 use Rattle.runout_ranges.specs.declared.limits.TheConstants.{RUNOUT_MAX}
 use Rattle.equity_job.proofs.CallerLemmas.{cells_fit, units_fit}
 use Rattle.tally_book.specs.Pages.{marked_of, marked_from, IsPage}
-use Rattle.tally_book.proofs.MarkedBlocks.{all_blocks, ones, marked_more, marked_few, none_marked, all_marked, count_none, count_all}
+use Rattle.equity_job.proofs.CallerLemmas.{all_blocks, ones}
+use Rattle.tally_book.proofs.MarkedBlocks.{marked_more, marked_few, none_marked, all_marked, count_none, count_all}
 
 -- what a sum of two tallies needs to fit 64 bits
 pub record BothFit (a b : Sums) : Type 0 where

@@ -108,7 +108,7 @@ const TOO_MANY: &[Whole] = &[(b"", Ok(())), (b"h", Err(Failed))];
 /// A write that fails on the way.
 const CUT: &[Whole] = &[(b"abcdefg", Err(Failed))];
 
-/// A write behind it.
+/// A write after it.
 const BEHIND: &[Whole] = &[(b"xyz", Ok(()))];
 
 /// Writes of five bytes.
@@ -164,7 +164,7 @@ fn has_taken(sink: &MemorySink, bytes: &[u8]) -> bool {
     sink.bytes() == bytes
 }
 
-/// A source of bytes in pieces, of which no read fails; none for want of memory.
+/// A source of bytes in pieces, of which no read fails; none when out of memory.
 fn source_of(alloc: Global, bytes: &[u8], piece: usize) -> Option<MemorySource>
     requires { 0 < piece }
 {
@@ -181,7 +181,7 @@ fn failing_source(alloc: Global, bytes: &[u8], piece: usize) -> Option<MemorySou
     Some(MemorySource::new(bytes, piece, fails))
 }
 
-/// A sink with room, of which no write fails; none for want of memory.
+/// A sink with room, of which no write fails; none when out of memory.
 fn sink_of(alloc: Global, room: usize, piece: usize) -> Option<MemorySink>
     requires { 0 < piece }
 {
@@ -244,7 +244,7 @@ fn a_memory_sink_takes_pieces_until_its_room_is_full(rt: HostRuntime) {
     assert!(rt; takes(sink_of(rt.alloc(), 5, 3), FILLING, b"abcde"));
 }
 
-/// Whether a sink that there is has taken these bytes behind the first writes, and these behind the others.
+/// Whether a sink that there is has taken these bytes after the first writes, and these after the others.
 fn writes(
     sink: Option<MemorySink>,
     first: &[Whole],

@@ -11,7 +11,7 @@ fn cut_at(bytes: &[u8], at: usize) -> Option<(usize, usize, usize)> {
     Some((line.first, line.end, line.next))
 }
 
-/// The place behind the line at a place, where its text is this.
+/// The place after the line at a place, where its text is this.
 fn behind(bytes: &[u8], at: usize, text: &[u8]) -> Option<usize> {
     if at > bytes.len() {
         return None;

@@ -45,7 +45,7 @@ Total pot 1600 Main pot 400. Side pot-1 600. Side pot-2 600. | Rake 0
 Seat 3: cat mucked [Qd Qh]
 ";
 
-/// A hand in which bob and cat are all-in on the flop, and cat folds behind it. Ann's cards are known, and she folds
+/// A hand in which bob and cat are all-in on the flop, and cat folds after it. Ann's cards are known, and she folds
 /// before it.
 const FOLDED_BEHIND: &[u8] =
     b"PokerStars Hand #4: Tournament #5, $1+$0.10 USD Hold'em No Limit - Level I (10/20)

@@ -38,7 +38,7 @@ fn hands_all_out(cutter: &mut Cutter, units: &[(&[u8], u32)]) -> bool
     true
 }
 
-/// Whether these are handed out behind a piece of an open stream.
+/// Whether these are handed out after a piece of an open stream.
 fn goes_on(cutter: &mut Cutter, piece: &[u8], units: &[(&[u8], u32)]) -> bool
     requires { cutter.old.closed ≡ false }
     ensures { cutter.new.closed ≡ false }
@@ -49,13 +49,13 @@ fn goes_on(cutter: &mut Cutter, piece: &[u8], units: &[(&[u8], u32)]) -> bool
     hands_all_out(cutter, units)
 }
 
-/// Whether these are handed out behind the end.
+/// Whether these are handed out after the end.
 fn ends(cutter: &mut Cutter, units: &[(&[u8], u32)]) -> bool {
     cutter.close();
     hands_all_out(cutter, units)
 }
 
-/// Whether these are the bytes that are held behind what is forgotten.
+/// Whether these are the bytes that are held after what is forgotten.
 fn forgets(cutter: &mut Cutter, rest: &[u8]) -> bool {
     cutter.forget();
     cutter.held() == rest

@@ -174,7 +174,7 @@ fn is_before_the_flop(replay: &Replay) -> bool {
     replay.owes().is_none() && replay.button() == 1
 }
 
-/// Whether this is the state of the hand behind its flop.
+/// Whether this is the state of the hand after its flop.
 fn is_behind_the_flop(replay: &Replay) -> bool {
     replay.owes() == Some(1) && replay.street() == Some(Street::Turn) && replay.stack(1) == 4700
 }
@@ -229,7 +229,7 @@ const THREE_SEATS: [&[u8]; 6] = [
     b"*** HOLE CARDS ***",
 ];
 
-/// Whether lines like these are refused at their last behind those of three seats.
+/// Whether lines like these are refused at their last after those of three seats.
 fn all_refused(names: &Option<Names>, table: &[(&[&[u8]], BetFault)]) -> bool {
     let Some(names) = names else {
         return false;

@@ -68,7 +68,7 @@ has_come OnRiver Flop = true
 has_come OnRiver Turn = true
 has_come _ _ = false
 
--- a street behind the first has begun
+-- a street after the first has begun
 abbrev pub has_begun : Phase → StreetName → Bool
 has_begun OnFlop Flop = true
 has_begun OnTurn Flop = true
@@ -88,7 +88,7 @@ is_before Flop River = true
 is_before Turn River = true
 is_before _ _ = false
 
--- the street behind one on a board
+-- the street after one on a board
 abbrev pub next_board : Option StreetName → Option StreetName
 next_board None = Some First
 next_board (Some s) = street_after s (streets_by family.Board)
@@ -237,7 +237,7 @@ board_is game b = ap board_size_by (board_family (family_of game) b)
 pub then_is : (game : Game) (s : StreetName) → has_board game ≡ true → board_then game s ≡ size_on s
 then_is game s b = ap (λ f. sum_up_to (λ t. if is_board_family f then cards_of_street t else 0) s (streets_by f)) (board_family (family_of game) b)
 
--- how many cards a board has before a street, and the street behind one adds its own
+-- how many cards a board has before a street, and the street after one adds its own
 abbrev pub size_before : StreetName → ℕ
 size_before Turn = 3
 size_before River = 4

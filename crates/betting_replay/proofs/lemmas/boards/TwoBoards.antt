@@ -52,7 +52,7 @@ never_none s is = true≢false (sym is)
 pub begun_by : (n number : BoardNumber) (s : StreetName) (b c : Bool) → is_number n number ≡ b → is_end s ≡ c → (cards : List ℕ) → begins_on n (Street s number cards) ≡ (if b && not c then Some s else None)
 begun_by n number s b c is over cards = rw (is, over) refl
 
--- in the second board's first marker, and behind it, the hand is run twice
+-- in the second board's first marker, and after it, the hand is run twice
 pub second_needs : (o : Option StreetName) (m : BoardNumber) (last : Bool) (next : Option StreetName) (s : StreetName) → same_street s (next_second o m last next) ≡ true → is_some o ≡ true
 second_needs None m last next s stands = absurd (never_none s stands)
 second_needs (Some from) m last next s stands = refl

@@ -161,7 +161,7 @@ never_on s t board.Second none next from = by t.course.split_from t.course.marke
     by (Some other) board.Second b f = next
 
 -- two streets that are the same
-street_is : (s t : StreetName) → is_street s t ≡ true → s ≡ t
+pub street_is : (s t : StreetName) → is_street s t ≡ true → s ≡ t
 street_is First First e = refl
 street_is Flop Flop e = refl
 street_is Turn Turn e = refl

@@ -1,4 +1,4 @@
--- Places by the events behind the last that threw a card away, and cards that stay thrown away.
+-- Places by the events after the last that threw a card away, and cards that stay thrown away.
 use Rattle.std.proofs.Common.{◌≡◌, ℕ, List, [], ◌∷◌, refl, ap, ◌∙◌, Bool, true, false, not, ◌&&◌}
 use Rattle.std.specs.Prelude.{Option, Some, None, if◌then◌else◌}
 use Rattle.card_sets.specs.Cards.{has_card, union, minus}

@@ -116,7 +116,7 @@ marked_end g (Discard seat count cards ∷ h) is = marked_end g h (from_before (
 marked_end g (Pat seat ∷ h) is = marked_end g h (from_before (begun_by_drawing g.game (street g h)) (street g h) (no_end g.game (street g h)) is)
 marked_end g (e ∷ h) is = marked_end g h is
 
--- behind it no street comes on any board
+-- after it no street comes on any board
 none_on_any : (t : ReplayState) (number : BoardNumber) → next_street t.header.game t.course.street ≡ None → is_last_of t.header.game t.course.street ≡ false → next_on t number ≡ None
 none_on_any t board.Only none last = by t.course.split_from
   where

@@ -1,4 +1,4 @@
--- What goes by the family of a game: its own cards, whether it draws, and what comes behind an end.
+-- What goes by the family of a game: its own cards, whether it draws, and what comes after an end.
 use Rattle.std.proofs.Common.{◌≡◌, refl, true, false}
 use Rattle.std.specs.Prelude.{Option, Some, None, slice_get}
 use Rattle.card_sets.specs.declared.games.Game.{Game}
@@ -110,7 +110,7 @@ draw_off (Some _) off = refl
 pub none_begun : (game : Game) (o : Option StreetName) → has_draw game ≡ false → begun_by_drawing game o ≡ None
 none_begun game o b = rw (draw_off (next_street game o) (never_next game o b)) refl
 
--- nothing comes behind a showdown or the summary, and neither is a last street
+-- nothing comes after a showdown or the summary, and neither is a last street
 end_after : (f : Family) (s : StreetName) → is_end s ≡ true → street_after s (streets_by f) ≡ None
 end_after family.Board ShowDown is = refl
 end_after family.Stud ShowDown is = refl

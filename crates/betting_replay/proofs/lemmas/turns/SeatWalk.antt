@@ -7,7 +7,7 @@ use Rattle.betting_replay.specs.Seats.{first_from, first_after, or_else}
 use Rattle.betting_replay.specs.Table.{ReplayState}
 use Rattle.betting_replay.specs.Turns.{contender_count, has_chips, is_contender, is_open, is_pending, is_played, owes}
 
--- the first of the seats from one that doesn't pass is the first of those behind it
+-- the first of the seats from one that doesn't pass is the first of those after it
 pub first_from-next : (test : ℕ → Bool) (p end : ℕ) → test p ≡ false → p < end → first_from test p (end - p) ≡ first_from test (p + 1) (end - (p + 1))
 first_from-next test p end fails h =
     let more : end - p ≡ suc (end - (p + 1)) = omega arith in
@@ -57,7 +57,7 @@ pub some_after : (test : ℕ → Bool) (last : Option ℕ) (s : ℕ) → first_a
 some_after test None s h = some_from test 1 10 s h
 some_after test (Some a) s h = either_some _ _ s h test (some_from test (a + 1) (10 - a) s) (some_from test 1 a s)
 
--- what the walk around the table answers, of the parts behind the last actor and up to him
+-- what the walk around the table answers, of the parts after the last actor and up to him
 pub found_after : (test : ℕ → Bool) (a : ℕ) (behind before r : Option ℕ) → behind ≡ first_from test (a + 1) (11 - (a + 1)) → before ≡ first_from test 1 (a + 1 - 1) → r ≡ option_or behind before → r ≡ first_after test (Some a)
 found_after test a behind before r b1 b2 is =
     let some : 11 - (a + 1) ≡ 10 - a = omega arith in

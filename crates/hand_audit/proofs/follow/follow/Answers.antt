@@ -83,7 +83,7 @@ lines-preserved c =
       counted = (let n = c.lines.invariant.counted in omega (arith, count, n));
       sound = c.in_ok-cause-2.ensures.sound;
       among = others_on c.lines.state c.take_read-in-Some-next_line.new.self c.args.header.now c.args.players all text (lines (drop line.next c.args.bytes.now)) left c.lines.names _ c.lines.count c.read-said.result r
-          c.in-Some-next_line.ensures.texts c.read-said.ensures c.in_ok-name_seat.ensures
+          c.in-Some-next_line.ensures.texts c.read-said.ensures c.in_ok-seat_name_said.ensures
           (subst (λ (o : Option Cause). Goes c.take_read-in-Some-next_line.new.self c.args.header.now c.args.players r.going.so_far text (read_at c.args.header.now r.going.so_far text) o) c.in_default-3.is
           (c.in_ok-cause-2.ensures.goes c.args.players r.going.so_far text r.going.keeps (other_is_said c.lines.state c.args.header.now c.args.players all left c.lines.names c.lines.count text c.read-said.result r c.read-said.ensures)));
     }

@@ -37,7 +37,7 @@ digits_first x xs all = by (is_ascii_digit x) refl
         (grind (arith, is), grind (arith, is), omega (arith, more))
     by false is = let none : 0 ≡ length (x ∷ xs) = sym (ap (λ b. cond b (1 + digit_count xs) 0) is) ∙ all in absurd (omega (arith, none))
 
--- digits behind a number
+-- digits after a number
 text_after : (xs : List ℕ) (n : ℕ) → 0 < n → digit_count xs ≡ length xs → digits_text (fold (λ number digit. number * 10 + (digit - 48)) n xs) ≡ digits_text n ++ xs
 text_after [] n some all = sym (append-nil (digits_text n))
 text_after (x ∷ xs) n some all =

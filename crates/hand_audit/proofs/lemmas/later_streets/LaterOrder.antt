@@ -3,13 +3,13 @@ use Rattle.std.proofs.Common.{◌≡◌, ℕ, List, [], ◌∷◌, ◌++◌, ref
 use Rattle.std.specs.Prelude.{Option, Some, None, is_some, if◌then◌else◌, Ok}
 use Rattle.std.proofs.lemmas.List.{append-nil}
 use mathlib.Core.Bool.{true≢false}
-use Rattle.card_sets.specs.Streets.{is_street, street_after, streets_by, next_street}
+use Rattle.card_sets.specs.Streets.{street_after, streets_by, next_street}
 use Rattle.card_sets.specs.Games.{family_of}
 use Rattle.card_sets.specs.declared.games.Game.{Game}
 use Rattle.card_sets.specs.declared.games.Family.{Family}
 use Rattle.card_sets.specs.declared.games.Family.TheVariants as family
 use Rattle.card_sets.specs.declared.streets.Street.{Street as StreetName}
-use Rattle.card_sets.specs.declared.streets.Street.TheVariants.{First, Flop, Turn, Fourth, Fifth, Sixth, River, Draw, FirstDraw, SecondDraw, ThirdDraw, ShowDown, Summary}
+use Rattle.card_sets.specs.declared.streets.Street.TheVariants.{First, Flop, Turn, Fourth, Fifth, Sixth, Draw, FirstDraw, SecondDraw, ShowDown, Summary}
 use Rattle.hand_events.specs.declared.events.Header.{Header}
 use Rattle.hand_events.specs.declared.events.BoardNumber.{BoardNumber}
 use Rattle.hand_events.specs.declared.events.BoardNumber.TheVariants as board
@@ -30,7 +30,7 @@ use Rattle.betting_replay.specs.Sums.{street, is_last_of, twice_from, marker_boa
 use Rattle.betting_replay.specs.Table.{ReplayState}
 use Rattle.betting_replay.specs.TableAfter.{table_of, table_with, point}
 use Rattle.betting_replay.specs.Turns.{any_shown}
-use Rattle.betting_replay.proofs.CallerLemmas.{marker_of, no_draw, none_begun, none_after_end, stands_on, never_none, second_needs, twice_board, point_kept}
+use Rattle.betting_replay.proofs.CallerLemmas.{marker_of, street_is, no_draw, none_begun, none_after_end, stands_on, never_none, second_needs, twice_board, point_kept}
 use Rattle.std.proofs.lemmas.Bool.{and_parts}
 use Rattle.hand_audit.specs.LaterOrder.{ComeInOrder}
 use Rattle.hand_audit.specs.Streets.{state_on, states_of}
@@ -59,26 +59,9 @@ order_more : (game : Game) (before : StreetName) (some : List StreetName) (s : S
 order_more game before [] s order is = (is, tt)
 order_more game before (t ∷ rest) s order is = (order.0, order_more game t rest s order.1 is)
 
--- streets that are the same
-street_same : (s t : StreetName) → is_street s t ≡ true → s ≡ t
-street_same First First e = refl
-street_same Flop Flop e = refl
-street_same Turn Turn e = refl
-street_same Fourth Fourth e = refl
-street_same Fifth Fifth e = refl
-street_same Sixth Sixth e = refl
-street_same River River e = refl
-street_same Draw Draw e = refl
-street_same FirstDraw FirstDraw e = refl
-street_same SecondDraw SecondDraw e = refl
-street_same ThirdDraw ThirdDraw e = refl
-street_same ShowDown ShowDown e = refl
-street_same Summary Summary e = refl
-street_same _ _ e = cc
-
 same_is : (s : StreetName) (o : Option StreetName) → same_street s o ≡ true → o ≡ Some s
 same_is s None is = absurd (never_none s is)
-same_is s (Some t) is = ap Some (sym (street_same s t is))
+same_is s (Some t) is = ap Some (sym (street_is s t is))
 
 none_some : (s : StreetName) → None ≡ Some s → ⊥
 none_some s e = cc
@@ -98,7 +81,7 @@ later_plain ShowDown later = cc
 later_plain Summary later = cc
 later_plain _ later = refl
 
--- the first street of a game comes behind no other
+-- the first street of a game comes after no other
 not_first : (f : Family) (s : StreetName) → same_street First (street_after s (streets_by f)) ≡ false
 not_first family.Board First = refl
 not_first family.Board Flop = refl
@@ -278,7 +261,7 @@ unfolding point
 point_begins g players e h found none is =
     point_at (table_with g players (e ∷ h) None) found (ap (λ (o : Option Point). or_else o (point_now (table_with g players (e ∷ h) None))) (sym none) ∙ is)
 
--- while no showdown's marker and no second board's stood, the street that comes next is the one behind this
+-- while no showdown's marker and no second board's stood, the street that comes next is the one after this
 abbrev pub IsBehind : Header → List Event → StreetName → Type 0
 IsBehind g h last = any_shown (showdowns_of h) ≡ false → is_second (marker_board h) ≡ false → (s : StreetName) → next_street g.game (street g h) ≡ Some s → next_street g.game (Some last) ≡ Some s
 
@@ -335,7 +318,7 @@ keeps g players (Pat seat) h last ok some none before =
     λ shown second s next. before shown second s (ap (next_street g.game) (sym (drawing_keeps g players (Pat seat) h last some refl refl none shown)) ∙ next)
 keeps g players _ h last ok some none before = before
 
--- the later streets so far come in order, and the next is the one behind the last of them
+-- the later streets so far come in order, and the next is the one after the last of them
 pub record InOrder (g : Header) (players : ℕ) (h : List Event) (found : Point) : Type 0 where
   pub order : ComeInOrder g.game found.street (later_streets g players h)
   pub behind : IsBehind g h (last_in found.street (later_streets g players h))

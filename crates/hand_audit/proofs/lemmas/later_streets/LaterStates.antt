@@ -27,7 +27,7 @@ use Rattle.hand_audit.proofs.lemmas.lines.HandVerdict.{audit_fault, audit_depart
 unlike : true ≡ false → ⊥
 unlike e = cc
 
--- a hand that is accepted with a known all-in: its header line can be read, and no line behind it departs
+-- a hand that is accepted with a known all-in: its header line can be read, and no line after it departs
 pub header_known : (n : ℕ) (all : List (List ℕ)) (line : List ℕ) (rest : List (List ℕ)) (fault : TextFault) → all ≡ line ∷ rest → header_of line ≡ Err fault → has_known_all_in (audit_of n all) ≡ true → ⊥
 header_known n all line rest fault is read known = unlike (sym known ∙ ap has_known_all_in (audit_fault n all line rest fault is read))
 

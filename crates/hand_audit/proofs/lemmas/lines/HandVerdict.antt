@@ -1,4 +1,4 @@
--- The verdict on a hand, by what becomes of its header line and of those behind it.
+-- The verdict on a hand, by what becomes of its header line and of those after it.
 use Rattle.std.proofs.Common.{◌≡◌, ℕ, List, ◌∷◌, sym, ap, ◌∙◌, false}
 use Rattle.std.specs.Prelude.{Option, Some, None, Ok, Err}
 use Rattle.hand_events.specs.declared.events.Header.{Header}

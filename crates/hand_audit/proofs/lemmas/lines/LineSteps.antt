@@ -160,7 +160,7 @@ split_is : (hand : AuditState) (g : Header) (players : ℕ) (so_far : SoFar) (fi
 unfolding end_cause
 split_is hand g players so_far first k some is = let t : list_any is_total so_far.events ≡ true = sym k.total ∙ some in rw (t, is) refl
 
--- behind an accepted hand's total line each pot is decided
+-- after an accepted hand's total line each pot is decided
 abbrev pub DecidesPots : Type 0
 DecidesPots = (g : Header) (players : ℕ) (h : List Event) → IsAccepted g players h → MarkersFit g.game h → part_of h ≡ SummaryPart → AreDecided (showing_of g players h) (pots (paid_in (table_of g players h)))
 

@@ -30,7 +30,7 @@ cause_in (Some at) = Some at.1
 same_cause : (c d : Cause) → Some c ≡ Some d → c ≡ d
 same_cause c d h = cc
 
--- a line departs for no payment but behind all of them
+-- a line departs for no payment but after all of them
 no_total_split : (p k : ℕ) (e : Event) (c : Cause) → total_cause p k e ≡ Some c → is_split c ≡ false
 no_total_split p k (Total units rake) c h = by (units == p) (units == k + rake) h
   where

@@ -1,11 +1,8 @@
 -- The numbers of fives tell which are of best value, and so which card is the mark.
-use Rattle.std.proofs.Common.{◌≡◌, ℕ, ◌^◌, ◌-◌, ◌<◌, ◌≤◌, List, [], ◌∷◌, refl, sym, ap, ◌∙◌, true, false, not, ◌==◌, ◌&&◌, arith, length, inl, inr}
+use Rattle.std.proofs.Common.{◌≡◌, ℕ, ◌^◌, ◌-◌, ◌≤◌, List, [], ◌∷◌, refl, sym, ap, ◌∙◌, true, not, ◌==◌, ◌&&◌, arith, length}
 use Rattle.std.specs.Prelude.{nat_le, nat_lt, filter, map, max, if◌then◌else◌}
 use Rattle.std.specs.List.{list_all}
-use Rattle.std.specs.Cmp.{nat_cmp_is}
-use Rattle.std.specs.Ordering.{nat_cmp, is_gt, is_lt}
-use Rattle.std.specs.declared.cmp.Ordering.TheVariants.{Less, Equal, Greater}
-use Rattle.std.proofs.lemmas.Bool.{cases_order}
+use Rattle.std.specs.Ordering.{is_gt, is_lt}
 use Rattle.card_sets.specs.Cards.{IsCardSet}
 use Rattle.card_sets.specs.declared.games.Side.{Side}
 use Rattle.card_sets.specs.declared.games.Side.TheVariants.{High, Low}
@@ -14,28 +11,11 @@ use Rattle.rank_low.specs.Low.{low_a5, ace_number}
 use Rattle.rank_high.proofs.CallerLemmas.{value_of-order, high-IsHighList}
 use Rattle.rank_low.proofs.CallerLemmas.{IsAceList, ace-order, low_a5-IsAceList, set-FewOfEach, ace_number-lt}
 use Rattle.hand_choice.specs.AllowedFives.{AreFives}
+use Rattle.showdown_tally.proofs.CallerLemmas.{greater_is, less_is}
 use Rattle.showdown_tally.specs.Showdown.{beats}
 use Rattle.showdown_tally.specs.Numbers.{turned}
 use Rattle.hand_audit.specs.Marks.{worth_of_five, best_fives, highest, top_card, mark_among}
 use Rattle.hand_audit.specs.MarkNumbers.{number_of_five, top_number}
-
-greater_is : (m n : ℕ) → is_gt (nat_cmp m n) ≡ nat_lt n m
-greater_is m n = elim (cases_order m n) [
-  | inl e ↦ (let f : nat_lt n m ≡ false = grind arith in ap is_gt (sym (nat_cmp_is m n Equal e)) ∙ sym f)
-  | inr o ↦ elim o [
-    | inl l ↦ (let f : nat_lt n m ≡ false = grind arith in ap is_gt (sym (nat_cmp_is m n Less l)) ∙ sym f)
-    | inr g ↦ (let t : nat_lt n m ≡ true = grind arith in ap is_gt (sym (nat_cmp_is m n Greater g)) ∙ sym t)
-  ]
-]
-
-less_is : (m n : ℕ) → m < 2 ^ 32 → n < 2 ^ 32 → is_lt (nat_cmp m n) ≡ nat_lt (turned n) (turned m)
-less_is m n h i = elim (cases_order m n) [
-  | inl e ↦ (let f : nat_lt (turned n) (turned m) ≡ false = grind arith in ap is_lt (sym (nat_cmp_is m n Equal e)) ∙ sym f)
-  | inr o ↦ elim o [
-    | inl l ↦ (let d : turned n < turned m = omega arith in let t : nat_lt (turned n) (turned m) ≡ true = grind arith in ap is_lt (sym (nat_cmp_is m n Less l)) ∙ sym t)
-    | inr g ↦ (let d : turned m < turned n = omega arith in let f : nat_lt (turned n) (turned m) ≡ false = grind arith in ap is_lt (sym (nat_cmp_is m n Greater g)) ∙ sym f)
-  ]
-]
 
 -- one five beats another where its number is the greater
 beats_by_number : (side : Side) (a b : List ℕ) → IsCardSet a → length a ≡ 5 → IsCardSet b → length b ≡ 5 → beats side (worth_of_five side a) (worth_of_five side b) ≡ nat_lt (number_of_five side b) (number_of_five side a)

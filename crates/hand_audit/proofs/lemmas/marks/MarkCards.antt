@@ -46,7 +46,7 @@ use Rattle.hand_audit.proofs.lemmas.won_pots.DecidedPots.{decided}
 use Rattle.hand_audit.proofs.lemmas.tables.SettlementPots.{paid_shown}
 use Rattle.hand_audit.proofs.lemmas.lines.AcceptedHand.{accepted_is}
 
--- the first item, and those behind it
+-- the first item, and those after it
 here : {A : Type 0} (x : A) (xs : List A) → Contains (x ∷ xs) x
 here x xs = (zero, omega arith, refl)
 

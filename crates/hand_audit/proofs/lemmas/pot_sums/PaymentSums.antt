@@ -61,7 +61,7 @@ pub of_shares : (units high low : ℕ) (high_order low_order : List ℕ) → OfT
 unfolding shares
 of_shares units high low high_order low_order = of_from units high low high_order low_order 1 10 (omega arith) (omega arith)
 
--- so of some shares with others behind them, and what they give together
+-- so of some shares with others after them, and what they give together
 pub of_both : (some others : List Share) → OfTable some → OfTable others → OfTable (some ++ others)
 of_both [] others a b = b
 of_both (share ∷ some) others a b = (a.0, a.1, of_both some others a.2 b)

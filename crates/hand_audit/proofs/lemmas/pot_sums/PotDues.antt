@@ -171,7 +171,7 @@ part_given law s eligible part some button more = by (is_alone eligible) refl
         let m = more (at_least (length (seats_in eligible)) some e) in
         others_given s part (first_winners s part.board eligible) (second_winners s part.board eligible) (first_seats s part.board eligible) (second_seats s part.board eligible) m.marks button m.some
 
--- what two parts are given, one behind the other
+-- what two parts are given, one after the other
 both_given : (some others : List Share) (up down : ℕ) → IsGiven some up → IsGiven others down → IsGiven (some ++ others) (up + down)
 both_given some others up down a b = record {
   table = of_both some others a.table b.table;

@@ -29,7 +29,7 @@ won_by : (high p seat : ℕ) → IsOnly high p → seat < 11 → (b : Bool) → 
 won_by high p seat only l true e = let one : has_player high seat ≡ true = only seat l ∙ e in let z : bit_at 0 seat ≡ 0 = bit_at-zero seat in rw (one, z) refl
 won_by high p seat only l false e = let one : has_player high seat ≡ false = only seat l ∙ e in let z : bit_at 0 seat ≡ 0 = bit_at-zero seat in rw (one, z) refl
 
--- the walk over the seats: before that seat, at it and behind it
+-- the walk over the seats: before that seat, at it and after it
 abbrev share_of : ℕ → ℕ → ℕ → ℕ → Share
 share_of units high p seat = record { seat = seat; units = side_share (high_half units 0) (p ∷ []) seat + side_share (low_half units 0) [] seat; sides = sides_won high 0 seat }
 

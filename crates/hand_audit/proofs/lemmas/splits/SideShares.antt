@@ -92,7 +92,7 @@ pot_is s pot eligible units none all set checked more e nothing is =
     is ∙ ap (λ xs. xs ++ shares_on_boards s eligible 1 (parts_of s units)) nothing ∙ ap (λ n. shares_on_boards s n 1 (parts_of s units)) set ∙ ap (λ n. shares_on_boards s pot.eligible 1 (parts_of s n)) e
     ∙ ap (λ b. part_shares_if b s pot.eligible (pot.gross - pot.rake)) (sym some)
 
--- one pot more, and those behind it
+-- one pot more, and those after it
 rest_is : (pot : PotLine) (others : List PotLine) → take (length (pot ∷ others) - 1) (drop 1 (pot ∷ others)) ≡ others
 rest_is pot others = take_all (length (pot ∷ others) - 1) others (omega arith)
 

@@ -101,7 +101,7 @@ seats_apart f w p (suc n) known low high each all =
     by true all later first = here (known p) refl all later first
     by false all later first = later all
 
--- behind them there are none
+-- after them there are none
 drop_all : {A : Type 0} (xs ys : List A) → drop (length xs) (xs ++ ys) ≡ ys
 drop_all [] ys = refl
 drop_all (x ∷ xs) ys = drop_all xs ys

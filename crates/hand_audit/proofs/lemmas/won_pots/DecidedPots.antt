@@ -1,4 +1,4 @@
--- Behind a total line of an accepted hand: where a pot has two players or more, the board is whole, and final cards that are known
+-- After a total line of an accepted hand: where a pot has two players or more, the board is whole, and final cards that are known
 -- are whole hands that share no card with it.
 use Rattle.std.proofs.Common.{◌≡◌, ℕ, zero, suc, ◌+◌, ◌<◌, ◌≤◌, List, [], ◌∷◌, ◌++◌, refl, sym, ap, ◌∙◌, subst, Bool, true, false, ◌==◌, ◌&&◌, ◌||◌, inl, inr, length, length-append, arith}
 use Rattle.std.specs.Prelude.{Option, Some, None, is_some, unwrap_or, IfSome, if◌then◌else◌, nat_lt, slice_index_or}

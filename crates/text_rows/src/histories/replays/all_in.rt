@@ -160,7 +160,7 @@ fn has_shown_hand(replay: &Replay) -> bool {
         && replay.final_cards(1).is_none()
 }
 
-/// Whether the second hand isn't known before the summary, and is so behind it.
+/// Whether the second hand isn't known before the summary, and is so after it.
 fn is_shown_late(names: &Option<Names>) -> bool {
     let Some(names) = names else {
         return false;
@@ -270,7 +270,7 @@ fn what_is_kept_goes_by_the_discards(rt: HostRuntime) {
     assert!(rt; all_kept(&names, Game::Draw5, &DRAW, Street::First, WAYS_TO_DRAW));
 }
 
-/// Two draws, behind which both are all in. A card that x threw away on the first is dealt to him on the second.
+/// Two draws, after which both are all in. A card that x threw away on the first is dealt to him on the second.
 const TWO_DRAWS: [&[u8]; 21] = [
     b"Seat 1: x (100 in chips)",
     b"Seat 2: y (100 in chips)",

@@ -51,7 +51,7 @@ fn has_two_boards(replay: &Replay) -> bool {
         && is_second_board(replay, card(40), card(36))
 }
 
-/// Whether a hand isn't run twice before its boards, and is so behind them.
+/// Whether a hand isn't run twice before its boards, and is so after them.
 fn deals_two_boards(names: &Option<Names>) -> bool {
     let Some(names) = names else {
         return false;
@@ -86,7 +86,7 @@ fn shares_the_flop(replay: &Replay) -> bool {
     }
 }
 
-/// Whether this is so behind two rivers.
+/// Whether this is so after two rivers.
 fn deals_two_rivers(names: &Option<Names>) -> bool {
     let Some(names) = names else {
         return false;
@@ -102,7 +102,7 @@ fn two_boards_share_the_cards_before(rt: HostRuntime) {
     assert!(rt; deals_two_rivers(&names_of(rt.alloc(), THREE_NAMES)));
 }
 
-/// Whether lines like these are refused at their last behind the all-in.
+/// Whether lines like these are refused at their last after the all-in.
 fn is_refused_behind(names: &Names, lines: &[&[u8]], fault: &BetFault) -> bool {
     let mut replay = Replay::new(&DOLLARS, 6);
     all_stand(&mut replay, names, &ALL_IN) && is_refused(&mut replay, names, lines, fault)
@@ -120,7 +120,7 @@ fn all_disordered(names: &Names, table: &[&[&[u8]]]) -> bool {
 
 /// Lines of which the last is out of order.
 const DISORDERED: &[&[&[u8]]] = &[
-    // a plain street behind one of a first board
+    // a plain street after one of a first board
     &[
         b"*** FIRST FLOP *** [2c 7d 9h]",
         b"*** TURN *** [2c 7d 9h] [4s]",

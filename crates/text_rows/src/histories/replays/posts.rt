@@ -52,7 +52,7 @@ const BOTH: [&[u8]; 8] = [
     b"cat: checks",
 ];
 
-/// Whether behind these lines a seat has so much in, of which so much is live and so much dead.
+/// Whether after these lines a seat has so much in, of which so much is live and so much dead.
 fn is_paid(names: &Names, lines: &[&[u8]], seat: u8, live: u64, dead: u64) -> bool
     requires { seat < 11 }
 {
