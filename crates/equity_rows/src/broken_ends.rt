@@ -4,12 +4,24 @@ use crate::checks::SIDE_POTS_REPORT;
 use crate::forms::{line_count, told};
 use crate::histories::{CUT_AND_WHOLE, Hand, TWICE_REPORT};
 use crate::runs::{AMPLE, Edges, Part, did, front, input_of, joined, run_by_workers};
-use crate::streets::ACES_REPORT;
 use std::alloc::Global;
 use std::process::Abort;
 use std::sync::Wait;
 use std::test::Fail;
 use std::thread::Threads;
+
+/// What `audit` reports of aces against kings; the counts are those of a listing.
+const ACES_REPORT: &str = "hand 96 accepted holdem rake 0
+pot 0 gross 2000 rake 0 checked
+paid 2000 y
+all-in preflop runouts 1712304
+pot 0 high win 1410336 82.36 tie 9308 0.54 lose 292660 17.09 x
+pot 0 ev 0.826 x
+pot 0 high win 292660 17.09 tie 9308 0.54 lose 1410336 82.36 y
+pot 0 ev 0.174 y
+expect 1653 x
+expect 347 y
+";
 
 /// A mode and its input of three hands or lines, which end here and there.
 struct Broken {

@@ -1,28 +1,21 @@
 //! Histories of hands.
 
-use crate::checks::TIED_STUD;
-use crate::more_games::{DRAW5, ODD5, STUD8, TRIPLE};
+use crate::more_games::{DRAW5, TRIPLE};
 use crate::other_games::{DRAW, LONG_SEATS, RAZZ};
 use crate::runs::{LAST, Part};
-use crate::streets::ACES;
 
 /// The hands of which inputs are made.
 #[derive(Clone, Copy)]
 pub(crate) enum Hand {
     SixSeats,
     SidePots,
-    OddChips,
     HeadsUp,
-    OddNames,
     Twice,
     Aces,
-    TiedStud,
     Razz,
     SingleDraw,
     Triple,
-    Stud8,
     Draw5,
-    Odd5,
     LongSeats,
 }
 
@@ -107,38 +100,6 @@ Seat 1: a (button) showed [As Ad] and won (3500) with a pair of Aces\n\
 Seat 2: b (small blind) showed [Kc Kd] and lost with a pair of Kings\n\
 Seat 3: c (big blind) showed [9h Th] and lost with high card Queen\n";
 
-/// A pot of 100 chips for three winners, with the button after them; their collections are to stand in line 23.
-const ODD_CHIPS: &str = "\
-PokerStars Hand #15: Tournament #7, $1+$0.10 USD Hold'em No Limit - Level I (5/10)\n\
-Table '7 2' 9-max Seat #4 is the button\n\
-Seat 1: p1 (30 in chips)\n\
-Seat 2: p2 (30 in chips)\n\
-Seat 3: p3 (30 in chips)\n\
-Seat 4: p4 (100 in chips)\n\
-p1: posts small blind 5\n\
-p2: posts big blind 10\n\
-*** HOLE CARDS ***\n\
-p3: calls 10\n\
-p4: calls 10\n\
-p1: raises 20 to 30 and is all-in\n\
-p2: calls 20 and is all-in\n\
-p3: calls 20 and is all-in\n\
-p4: folds\n\
-*** FLOP *** [Ts Js Qs]\n\
-*** TURN *** [Ts Js Qs] [Ks]\n\
-*** RIVER *** [Ts Js Qs Ks] [As]\n\
-*** SHOW DOWN ***\n\
-p1: shows [2c 3c]\n\
-p2: shows [2d 3d]\n\
-p3: shows [2h 3h]\n\
-the winners collect\n\
-*** SUMMARY ***\n\
-Total pot 100 | Rake 0\n\
-Board [Ts Js Qs Ks As]\n\
-Seat 1: p1 (small blind) showed [2c 3c] and won\n\
-Seat 2: p2 (big blind) showed [2d 3d] and won\n\
-Seat 3: p3 showed [2h 3h] and won\n";
-
 /// A hand of two players that is checked down after one bet.
 const HEADS_UP: &str = "\
 PokerStars Hand #2: Hold'em No Limit ($0.50/$1.00 USD)\n\
@@ -165,28 +126,6 @@ x: shows [As Ah]\n\
 x collected $6 from pot\n\
 *** SUMMARY ***\n\
 Total pot $6 | Rake $0\n";
-
-/// A hand in which the name of a seat reads like an act of another.
-const ODD_NAMES: &str = "\
-PokerStars Hand #3: Hold'em No Limit ($0.50/$1.00 USD)\n\
-Table 'T' 6-max Seat #1 is the button\n\
-Seat 1: A ($50 in chips)\n\
-Seat 2: A: folds ($50 in chips)\n\
-Seat 3: x ($50 in chips)\n\
-A: folds: posts small blind $0.50\n\
-x: posts big blind $1\n\
-*** HOLE CARDS ***\n\
-A: folds\n\
-A: folds: calls $0.50\n\
-x: checks\n\
-*** FLOP *** [2c 7d 9h]\n\
-A: folds: checks\n\
-x: bets $1\n\
-A: folds: folds\n\
-Uncalled bet ($1) returned to x\n\
-x collected $2 from pot\n\
-*** SUMMARY ***\n\
-Total pot $2 | Rake $0\n";
 
 /// A short hand of two players that is run twice, all in on the turn.
 const TWICE: &str = "\
@@ -215,23 +154,39 @@ y collected 100 from pot\n\
 *** SUMMARY ***\n\
 Total pot 200 | Rake 0\n";
 
+/// Aces against kings, all in before the flop.
+const ACES: &str = "PokerStars Hand #96: Hold'em No Limit (10/20)
+Table '9 7' 2-max Seat #1 is the button
+Seat 1: x (1000 in chips)
+Seat 2: y (1000 in chips)
+x: posts small blind 10
+y: posts big blind 20
+*** HOLE CARDS ***
+x: raises 980 to 1000 and is all-in
+y: calls 980 and is all-in
+*** FLOP *** [2c 7c 9c]
+*** TURN *** [2c 7c 9c] [Kd]
+*** RIVER *** [2c 7c 9c Kd] [4h]
+*** SHOW DOWN ***
+y: shows [Ks Kh]
+x: shows [As Ah]
+y collected 2000 from pot
+*** SUMMARY ***
+Total pot 2000 | Rake 0
+";
+
 /// The text of a hand.
 pub(crate) fn text_of(hand: Hand) -> &'static str {
     match hand {
         Hand::SixSeats => SIX_SEATS,
         Hand::SidePots => SIDE_POTS,
-        Hand::OddChips => ODD_CHIPS,
         Hand::HeadsUp => HEADS_UP,
-        Hand::OddNames => ODD_NAMES,
         Hand::Twice => TWICE,
         Hand::Aces => ACES,
-        Hand::TiedStud => TIED_STUD,
         Hand::Razz => RAZZ,
         Hand::SingleDraw => DRAW,
         Hand::Triple => TRIPLE,
-        Hand::Stud8 => STUD8,
         Hand::Draw5 => DRAW5,
-        Hand::Odd5 => ODD5,
         Hand::LongSeats => LONG_SEATS,
     }
 }
@@ -246,20 +201,4 @@ paid 100 y\n";
 pub(crate) const CUT_AND_WHOLE: &[Part] = &[
     Part::Lines(Hand::SidePots, 1, 12),
     Part::All(Hand::SidePots),
-];
-
-/// The hand with side pots, whose shortest stack mucks cards that nobody sees.
-pub(crate) const MUCKED: &[Part] = &[
-    Part::Lines(Hand::SidePots, 1, 25),
-    Part::Whole("b: mucks hand\n"),
-    Part::Lines(Hand::SidePots, 27, 31),
-    Part::Whole("Seat 2: b (small blind) mucked\n"),
-    Part::Lines(Hand::SidePots, 33, LAST),
-];
-
-/// The same hand with a card on the river that a player has.
-pub(crate) const CARD_TWICE: &[Part] = &[
-    Part::Lines(Hand::SidePots, 1, 20),
-    Part::Whole("*** RIVER *** [7h 8h 2c Qs] [As]\n"),
-    Part::Lines(Hand::SidePots, 22, LAST),
 ];

@@ -2,8 +2,6 @@
 #![tactic(auto)]
 
 #[cfg(test)]
-mod audits;
-#[cfg(test)]
 mod broken_ends;
 #[cfg(test)]
 mod broken_writes;
@@ -21,8 +19,6 @@ mod cut_off;
 mod faults;
 #[cfg(test)]
 mod forms;
-#[cfg(test)]
-mod games;
 #[cfg(test)]
 mod histories;
 #[cfg(test)]
@@ -42,20 +38,12 @@ mod other_games;
 #[cfg(test)]
 mod plain;
 #[cfg(test)]
-mod ranges;
-#[cfg(test)]
 mod refusals;
 #[cfg(test)]
 mod runs;
 #[cfg(test)]
-mod spots;
-#[cfg(test)]
 mod streams;
 #[cfg(test)]
-mod streets;
-#[cfg(test)]
 mod sums;
-#[cfg(test)]
-mod twice;
 #[cfg(test)]
 mod words;

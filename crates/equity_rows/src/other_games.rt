@@ -2,7 +2,7 @@
 //! hand: the board of neither hand can change who wins.
 
 use crate::histories::Hand;
-use crate::runs::{AMPLE, Case, Change, Changed, LAST, Part, each_change, each_ends};
+use crate::runs::{Change, Changed, each_change};
 use std::test::Fail;
 
 pub(crate) const RAZZ: &str =
@@ -43,18 +43,6 @@ Seat 1: x showed [As 2d 3h 4c 5s 6d Th] and won (62) with Lo: 5,4,3,2,A
 Seat 2: y mucked [8c 8d Kc Kd Qc Qd 9h]
 ";
 
-/// x has five, four, three, two and ace already, the best hand there is.
-const RAZZ_REPORT: &str = "hand 90 accepted razz rake 0\n\
-pot 0 gross 62 rake 0 checked\n\
-paid 62 x\n\
-all-in 5th runouts 671580\n\
-pot 0 low win 671580 100.00 tie 0 0.00 lose 0 0.00 x\n\
-pot 0 ev 1.000 x\n\
-pot 0 low win 0 0.00 tie 0 0.00 lose 671580 100.00 y\n\
-pot 0 ev 0.000 y\n\
-expect 62 x\n\
-expect 0 y\n";
-
 pub(crate) const DRAW: &str =
     "PokerStars Hand #91: Tournament #9, Freeroll  Single Draw 2-7 Lowball No Limit - Level I (10/20)
 Table '9 2' 7-max Seat #1 is the button
@@ -75,61 +63,6 @@ x collected 200 from pot
 *** SUMMARY ***
 Total pot 200 | Rake 0
 ";
-
-/// Both stand pat, so there is one runout.
-const DRAW_REPORT: &str = "hand 91 accepted lowball27 rake 0\n\
-pot 0 gross 200 rake 0 checked\n\
-paid 200 x\n\
-all-in predraw runouts 1\n\
-pot 0 low win 1 100.00 tie 0 0.00 lose 0 0.00 x\n\
-pot 0 ev 1.000 x\n\
-pot 0 low win 0 0.00 tie 0 0.00 lose 1 100.00 y\n\
-pot 0 ev 0.000 y\n\
-expect 200 x\n\
-expect 0 y\n";
-
-const UNKNOWN_DRAW: &str = "hand 91 accepted lowball27 rake 0\n\
-pot 0 gross 200 rake 0 checked\n\
-paid 200 x\n\
-all-in unknown\n";
-
-const MARKED_DRAW: &[Part] = &[
-    Part::Lines(Hand::SingleDraw, 1, 9),
-    Part::Whole("y: calls 80 and is all-in\n*** DRAW ***\n"),
-    Part::Lines(Hand::SingleDraw, 11, LAST),
-];
-
-const UNSEEN_DRAW: &[Part] = &[
-    Part::Lines(Hand::SingleDraw, 1, 11),
-    Part::Whole("y: discards 1 card\n"),
-    Part::Lines(Hand::SingleDraw, 13, LAST),
-];
-
-const CASES: &[Case] = &[
-    // An all-in on the fifth street, the face-down cards of one player known from what the summary gives.
-    (
-        &["audit"],
-        AMPLE,
-        &[Part::All(Hand::Razz)],
-        0,
-        &[RAZZ_REPORT],
-    ),
-    // The line that begins the draw may stand, and a discard that nobody saw leaves the all-in unknown.
-    (
-        &["audit"],
-        AMPLE,
-        &[Part::All(Hand::SingleDraw)],
-        0,
-        &[DRAW_REPORT],
-    ),
-    (&["audit"], AMPLE, MARKED_DRAW, 0, &[DRAW_REPORT]),
-    (&["audit"], AMPLE, UNSEEN_DRAW, 0, &[UNKNOWN_DRAW]),
-];
-
-#[test]
-fn all_ins_of_razz_and_single_draw(rt: HostRuntime) -> Result<(), Fail> {
-    each_ends(&rt, rt.alloc(), CASES)
-}
 
 /// Lines that stud refuses.
 const RAZZ_CHANGES: &[Change] = &[

@@ -23,42 +23,6 @@ total chips hands 1 allins 1 collected 3500 expected 2214 a\n\
 total chips hands 1 allins 1 collected 0 expected 36 b\n\
 total chips hands 1 allins 1 collected 0 expected 1250 c\n";
 
-/// The same as records.
-const RECORDS: &str = "totals,hands,1,accepted,1,rejected,0,,,,,,\n\
-total,chips,hands,1,allins,1,collected,3500,expected,2214,,,a\n\
-total,chips,hands,1,allins,1,collected,0,expected,36,,,b\n\
-total,chips,hands,1,allins,1,collected,0,expected,1250,,,c\n";
-
-/// A hand in which names have a comma, quotes, a blank and a letter beyond ASCII, and its totals in both forms.
-const QUOTED: &str = "\
-PokerStars Hand #4: Hold'em No Limit ($0.50/$1.00 USD)\n\
-Table 'T' 3-max Seat #1 is the button\n\
-Seat 1: say \"gl\" ($50 in chips)\n\
-Seat 2: a,b ($50 in chips)\n\
-Seat 3: zoë b ($50 in chips)\n\
-a,b: posts small blind $0.50\n\
-zoë b: posts big blind $1\n\
-*** HOLE CARDS ***\n\
-say \"gl\": folds\n\
-a,b: folds\n\
-Uncalled bet ($0.50) returned to zoë b\n\
-zoë b collected $1 from pot\n\
-*** SUMMARY ***\n\
-Total pot $1 | Rake $0\n";
-
-const QUOTED_TOTALS: &str = "totals hands 1 accepted 1 rejected 0\n\
-total hundredths hands 1 allins 0 collected 0.00 expected 0.00 say \"gl\"\n\
-total hundredths hands 1 allins 0 collected 0.00 expected 0.00 a,b\n\
-total hundredths hands 1 allins 0 collected 0.00 expected 0.00 zoë b\n";
-
-const QUOTED_RECORDS: &str = "totals,hands,1,accepted,1,rejected,0,,,,,,\n\
-total,hundredths,hands,1,allins,0,collected,0.00,expected,0.00,,,\"say \"\"gl\"\"\"\n\
-total,hundredths,hands,1,allins,0,collected,0.00,expected,0.00,,,\"a,b\"\n\
-total,hundredths,hands,1,allins,0,collected,0.00,expected,0.00,,,zoë b\n";
-
-/// Of no hand.
-const NONE: &str = "totals hands 0 accepted 0 rejected 0\n";
-
 /// Of three and of a hundred made hands with seed 1, and of forty with seed 9.
 const THREE: &str = "made hands 3 accepted 3 runouts 2970 first 4309200 second 10659600\n";
 
@@ -79,28 +43,6 @@ const TWO_UNITS: &[Part] = &[
 const CASES: &[Case] = &[
     // Each name in each unit has a line, in the order of the first seat lines; a rejected hand counts as one.
     (&["totals", "--format=text"], AMPLE, TWO_UNITS, 1, &[BOTH]),
-    (
-        &["totals", "--format=csv"],
-        AMPLE,
-        &[Part::All(Hand::SidePots)],
-        0,
-        &[RECORDS],
-    ),
-    (
-        &["totals", "--format=text"],
-        AMPLE,
-        &[Part::Whole(QUOTED)],
-        0,
-        &[QUOTED_TOTALS],
-    ),
-    (
-        &["totals", "--format=csv"],
-        AMPLE,
-        &[Part::Whole(QUOTED)],
-        0,
-        &[QUOTED_RECORDS],
-    ),
-    (&["totals", "--format=text"], AMPLE, &[], 0, &[NONE]),
     // After a failed read the closed hands have their totals, and a failed write leaves nothing.
     (
         &["totals"],
