@@ -50,60 +50,22 @@ lanes() {
     if [ "$most" -ge 1 ]; then printf '%s' "$most"; fi
 }
 
-# Whether rt ci keeps on this machine what it passes: it does so beside the kit, where there is room.
-keeps() {
-    local beside free
-    beside="$(dirname "$(readlink -f "$(command -v rt)")")/../.."
-    if [ ! -w "$beside" ] && [ ! -w "$beside/rattle-kept" ]; then return 1; fi
-    free="$(df -Pk "$beside" | awk 'NR == 2 { print $4 }')" && [ "${free:-0}" -gt 8000000 ]
-}
-
-# wide: the crates that don't stand on equity_job. Many of them can be proved side by side; above it one stands on the other.
-wide() {
-    local name lower more=1
-    local -A above=([equity_job]=1)
-    while [ "$more" = 1 ]; do
-        more=0
-        for name in "${needed[@]}"; do
-            [ -z "${above[$name]-}" ] || continue
-            for lower in ${below[$name]}; do
-                if [ -n "${above[$lower]-}" ]; then above[$name]=1 more=1; fi
-            done
-        done
-    done
-    for name in "${needed[@]}"; do [ -n "${above[$name]-}" ] || printf '%s\n' "$name"; done
-}
-
-# pass TREE ROOM: has rt ci pass what lies there. Where few proofs can run side by side, as that of card_sets, on which nearly all others
-# stand, and those above equity_job, rt gives each several processors; between them it is to run as many as there are lanes. So it runs
-# three times where it keeps what it passed, and each time goes on from there.
+# pass TREE ROOM: has rt ci pass what lies there
 pass() {
-    local side_by_side="${RT_JOBS-$(lanes 2>/dev/null)}" crates
-    export TMPDIR="$2"
-    cd "$1" || return
-    if keeps; then
-        rt ci card_sets || return
-        mapfile -t crates < <(wide)
-        RT_JOBS="$side_by_side" rt ci "${crates[@]}" || return
-        exec rt ci
-    fi
-    RT_JOBS="$side_by_side" exec rt ci
+    cd "$1" && RT_JOBS="${RT_JOBS-$(lanes 2>/dev/null)}" TMPDIR="$2" exec rt ci
 }
 
 # told FILE: copies what the prover says to the file, and says at a terminal how far it is
 told() {
-    local line name
-    local -A proved=()
+    local line done=0
     while IFS= read -r line; do
         printf '%s\n' "$line"
         case "$line" in
         "rt: "*" proved" | "rt: "*" is kept: "*)
-            name="${line#rt: }"
-            name="${name%% *}"
-            if [ -n "${proved[$name]-}" ]; then continue; fi
-            proved[$name]=1
+            done=$((done + 1))
             if [ -t 2 ]; then
-                printf 'proved %s, %d of %d, after %d:%02d minutes\n' "$name" "${#proved[@]}" "${#needed[@]}" $((SECONDS / 60)) $((SECONDS % 60)) >&2
+                line="${line#rt: }"
+                printf 'proved %s, %d of %d, after %d:%02d minutes\n' "${line%% *}" "$done" "${#needed[@]}" $((SECONDS / 60)) $((SECONDS % 60)) >&2
             fi
             ;;
         esac
