@@ -8,7 +8,7 @@ use std::marker::Model;
 
 /// A set of players, each by the number of his seat at the table, 1 to 10, or by that of the hand that
 /// he holds in a deal, 0 to 9. Clauses see it as the number with the bits of its players.
-#[derive(Clone, Copy, Debug, PartialEq, Eq)]
+#[derive(Clone, Copy)]
 pub struct PlayerSet {
     bits: u16,
 }

@@ -39,7 +39,7 @@ pub enum Street {
 }
 
 /// How many cards a street deals to each player.
-#[derive(Clone, Copy, Debug, PartialEq, Eq)]
+#[derive(Clone, Copy)]
 pub struct Dealt {
     /// Those that he alone sees.
     pub down: u8,

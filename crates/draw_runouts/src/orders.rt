@@ -165,7 +165,7 @@ pub(crate) fn put_orders(row: &mut [u32], below: u16, equal: u16, above: u16, or
         ≡ slice_index row.old place + times_of below equal above orders place }
     ensures places { length row.new ≡ length row.old }
 {
-    row[usize::from(below)] += orders.below;
-    row[usize::from(equal)] += orders.equal;
-    row[usize::from(above)] += orders.above;
+    add_times(row, below, orders.below);
+    add_times(row, equal, orders.equal);
+    add_times(row, above, orders.above);
 }

@@ -45,7 +45,7 @@ pub(crate) const THIRD_RANK: u32 = 0x100;
 pub(crate) const FOURTH_RANK: u32 = 0x10;
 
 /// What a high hand is worth; greater is better. Clauses see it as its number.
-#[derive(Clone, Copy, Debug, PartialEq, Eq, PartialOrd, Ord)]
+#[derive(Clone, Copy, PartialEq, Eq, PartialOrd, Ord)]
 pub struct HighValue(u32);
 
 impl Model for HighValue {

@@ -17,6 +17,10 @@ pub only_member : (M : List ℕ → Type 0) (taken rest : List ℕ) (left : ℕ)
 only_member M taken rest zero z all = subst M (append-nil taken) (all [] ([], [], refl))
 only_member M taken rest (suc n) z all = absurd (omega arith)
 
+pub only_length : (left : ℕ) (rest : List ℕ) → left ≡ 0 → length (choose left rest) ≡ 1
+only_length zero rest z = refl
+only_length (suc n) rest z = absurd (omega arith)
+
 pub only_grown : (deal : Showdown) (front : List (List ℕ)) (taken rest : List ℕ) (left lo hi : ℕ) (old new : List (List ℕ)) → left ≡ 0 → lo < hi → hi ≤ length (choose left rest) → CountsGrow deal ((front ++ taken ∷ []) ∷ []) old new
     → CountsGrow deal (map (λ more. front ++ (taken ++ more) ∷ []) (slice_range (choose left rest) lo hi)) old new
 only_grown deal front taken rest left lo hi old new z l h grown =

@@ -1,15 +1,19 @@
 -- Counts that are cleared, and one runout more among the counts of each pot.
-use Rattle.std.proofs.Common.{◌≡◌, ◌≢◌, ℕ, ◌+◌, ◌*◌, ◌<◌, ◌≤◌, ◌==◌, ◌&&◌, Bool, true, false, cond, List, [], length, set, refl, sym, ap, ◌∙◌, arith, inl, inr, get_or-set_same, get_or-set_other}
-use Rattle.std.specs.Prelude.{nat_lt, slice_index, slice_index_or}
+use Rattle.std.proofs.Common.{◌≡◌, ◌≢◌, ℕ, ◌+◌, ◌*◌, ◌<◌, ◌≤◌, ◌==◌, ◌&&◌, Bool, true, false, cond, List, [], ◌∷◌, length, set, refl, sym, ap, ◌∙◌, arith, inl, inr, get_or-set_same, get_or-set_other, zero-add}
+use Rattle.std.specs.Prelude.{nat_lt, slice_index, slice_index_or, take}
+use Rattle.std.proofs.lemmas.List.{length-map, length-take}
 use Rattle.std.proofs.lemmas.Bool.{cases_eq, cases_lt}
 use Rattle.card_sets.specs.Games.{has_side}
 use Rattle.card_sets.specs.declared.games.Game.{Game}
 use Rattle.card_sets.specs.declared.games.Side.{Side}
 use Rattle.card_sets.specs.declared.games.Side.TheVariants.{High, Low}
 use Rattle.showdown_tally.specs.Cells.{is_side, side_place}
+use Rattle.card_sets.specs.PlayerSets.{hands_of}
+use Rattle.showdown_tally.specs.Deals.{deal_of}
 use Rattle.showdown_tally.specs.Showdown.{Showdown}
-use Rattle.showdown_tally.specs.SideCounts.{count_at, count_place, low_mark}
+use Rattle.showdown_tally.specs.SideCounts.{CountsGrow, count_at, count_place, low_mark}
 use Rattle.showdown_tally.specs.Sides.{side_outcome}
+use Rattle.showdown_tally.specs.declared.table.Table.{Table}
 use Rattle.runout_walk.specs.OneMore.{AddsAt, AddsOne, ClearsAt, ClearsTo, set_place}
 
 -- a row that is written, and the other side's rows
@@ -124,3 +128,23 @@ one_counted deal runout pot high low first old new h l far one =
     let there : (s : Side) → set_place s high low ≡ count_place deal pot s runout = (λ s. ap (λ x. set_place s x low) h ∙ ap (λ x. set_place s (side_outcome High deal pot runout) x) l ∙ place_is s deal pot runout) in
     let more = one_added deal.state.game (λ p s. count_place deal p s runout) pot high low first old new there (record { done = far.done; later = far.later }) one in
     record { done = more.done; later = more.later }
+
+-- and for all of them
+pub all_counted : (deal : Showdown) (runout : List (List ℕ)) (old new : List (List ℕ)) → IsCounted deal runout (length deal.pots) old new → CountsGrow deal (runout ∷ []) old new
+all_counted deal runout old new far = λ pot place side l has m.
+    far.done pot place side has l ∙ ap (λ n. count_at old pot side place + n) (sym (zero-add (cond (count_place deal pot side runout == place) 1 0)))
+
+-- a set of up to ten hands stands at one of the 2048 places of a side
+marked : (b : Bool) (high : ℕ) → high < 1024 → high + cond b 0 1024 < 2048
+marked true high h = omega arith
+marked false high h = omega arith
+
+pub set_place-small : (s : Side) (high low : ℕ) → high < 1024 → low < 1024 → set_place s high low < 2048
+set_place-small High high low h l = marked (low == 0) high h
+set_place-small Low high low h l = omega arith
+
+-- how many pots a table's deal has
+pub length-pots : (t : Table) → length t.eligible ≡ 10 → length (deal_of t).pots ≡ t.pots
+length-pots t ten =
+    let few = t.few_pots in
+    length-map (take t.pots t.eligible) hands_of ∙ omega (arith, length-take t.pots t.eligible, ten, few)

@@ -8,7 +8,7 @@ use Rattle.card_sets.specs.declared.games.Side.TheVariants.{High, Low}
 use Rattle.showdown_tally.specs.Cells.{Sums, CellFits, cell_at, cell_plus, no_runout}
 use Rattle.showdown_tally.specs.declared.cells.Cell.{Cell}
 use Rattle.card_sets.specs.declared.games.Side.{Side}
-use Rattle.showdown_tally.specs.Settling.{side_cells, ended, whole_of, is_none, both_cells}
+use Rattle.showdown_tally.specs.Settling.{side_cells, side_units, ended, whole_of, is_none, both_cells}
 use Rattle.showdown_tally.specs.Showdown.{Showdown, best, part_of, units, units_by_sides, has_two_sides, value_after, own_after, board_after, eligible_in, winners, winners_of, is_beaten_by}
 use Rattle.showdown_tally.specs.Laws.{AddUp}
 use Rattle.showdown_tally.proofs.PotFacts.{no_side}
@@ -22,6 +22,18 @@ use Rattle.showdown_tally.proofs.WholePots.{sum_passed, whole_parts, all_among, 
 -- what stands on the high side leaves the low side
 pub high_leaves_low : (pot mask : ℕ) (tops : List ℕ) (n p h : ℕ) → side_cells pot High mask tops n p h Low ≡ no_runout
 high_leaves_low pot mask tops n p h = rw (and-false (p == pot)) refl
+
+-- whether somebody has a low, by the number of those who do
+pub some_lows : (tops : List ℕ) → nat_lt 0 (length tops) ≡ not (is_none tops)
+some_lows [] = refl
+some_lows (w ∷ tops) = grind arith
+
+-- the units of a hand of the pot itself
+pub units_here : (whole pot : ℕ) (tops : List ℕ) (n h : ℕ) → h < n → side_units whole pot tops n pot h ≡ part_of whole tops h
+units_here whole pot tops n h l =
+    let here : (pot == pot) ≡ true = grind arith in
+    let below : nat_lt h n ≡ true = grind arith in
+    rw (here, below) refl
 
 -- the units of both sides, by the definition and by the code
 pub units-both : (highs lows : List ℕ) (h : ℕ) → units_by_sides true highs lows h ≡ part_of (whole_of (not (is_none lows))) highs h + part_of 2520 lows h

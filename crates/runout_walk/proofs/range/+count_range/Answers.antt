@@ -42,18 +42,11 @@ count_first-with_card-requires-clause-fits g t c =
 pub count_range-requires-then-hi-with_card : goal.count_range-requires-then-hi-with_card
 count_range-requires-then-hi-with_card g t c =
     let b = c.args.branch.now in
-    let deal = g.F.Leaf.deal c.args.leaf.now in
-    let front = take b.slot c.args.sets.now in
     let s = step_at (g.F.Leaf.deal c.args.leaf.now) (g.F.Leaf.depth (g.F.Leaf.deal c.args.leaf.now)) (take b.slot c.args.sets.now) b.unseen b.tail.taken c.with-more.result b.tail.rest c.without-others.result b.tail.left b.later.now b.each c.count_first-with_card.result c.count-2.result c.in-Some.card c.first.result c.rising.ensures.set c.if-tail-eq0.false (λ none same. not_last (length b.later.now) b.tail.left (g.F.Leaf.depth (g.F.Leaf.deal c.args.leaf.now)) c.depth.result c.is_last.result c.is_last.ensures c.if-is_last.false c.depth.ensures none same) c.requires.at
     c.first.ensures.set c.first.ensures.value c.in-Some.is c.with-more.ensures c.without-others.ensures c.count-2.ensures.value c.count_first-with_card.ensures in
-    let all = going_on b.unseen b.tail.taken b.tail.rest b.tail.left (counts_of b.later.now) in
     let A = going_on b.unseen c.with-more.result c.without-others.result (b.tail.left - 1) (counts_of b.later.now) in
-    let B = going_on b.unseen b.tail.taken c.without-others.result b.tail.left (counts_of b.later.now) in
     let w : c.count_first-with_card.result ≡ length A = s.weighed in
-    let whole : length all ≡ length A + length B = s.whole in
     let shorter : length b.tail.rest ≡ suc (length c.without-others.result) = s.shorter in
-    let order = c.requires.order in
-    let inside = c.requires.inside in
     λ κs lives. (omega arith, (lives.0, (lives.1, (s.has, (c.requires.room, (c.requires.order, (omega arith, (c.requires.places, c.requires.fits))))))))
 
 pub returns-then-hi-with_card-clause-counts : goal.returns-then-hi-with_card-clause-counts
@@ -67,17 +60,12 @@ returns-then-hi-with_card-clause-counts g t c =
     let A = going_on b.unseen c.with-more.result c.without-others.result (b.tail.left - 1) (counts_of b.later.now) in
     let B = going_on b.unseen b.tail.taken c.without-others.result b.tail.left (counts_of b.later.now) in
     let w : c.count_first-with_card.result ≡ length A = s.weighed in
-    let whole : length all ≡ length A + length B = s.whole in
-    let shorter : length b.tail.rest ≡ suc (length c.without-others.result) = s.shorter in
-    let order = c.requires.order in
-    let inside = c.requires.inside in
     grown_with deal front all A B c.args.lo c.args.hi c.args.counts.now c.count_range-then-hi-with_card.new.counts s.parts (omega arith) c.count_range-then-hi-with_card.ensures.counts
 
 pub count_range-requires-then-with_card-lo : goal.count_range-requires-then-with_card-lo
 count_range-requires-then-with_card-lo g t c =
     let b = c.args.branch.now in
     let deal = g.F.Leaf.deal c.args.leaf.now in
-    let front = take b.slot c.args.sets.now in
     let s = step_at (g.F.Leaf.deal c.args.leaf.now) (g.F.Leaf.depth (g.F.Leaf.deal c.args.leaf.now)) (take b.slot c.args.sets.now) b.unseen b.tail.taken c.with-more.result b.tail.rest c.without-others.result b.tail.left b.later.now b.each c.count_first-with_card.result c.count-2.result c.in-Some.card c.first.result c.rising.ensures.set c.if-tail-eq0.false (λ none same. not_last (length b.later.now) b.tail.left (g.F.Leaf.depth (g.F.Leaf.deal c.args.leaf.now)) c.depth.result c.is_last.result c.is_last.ensures c.if-is_last.false c.depth.ensures none same) c.requires.at
     c.first.ensures.set c.first.ensures.value c.in-Some.is c.with-more.ensures c.without-others.ensures c.count-2.ensures.value c.count_first-with_card.ensures in
     let all = going_on b.unseen b.tail.taken b.tail.rest b.tail.left (counts_of b.later.now) in
@@ -101,27 +89,17 @@ returns-then-with_card-lo-clause-counts g t c =
     let A = going_on b.unseen c.with-more.result c.without-others.result (b.tail.left - 1) (counts_of b.later.now) in
     let B = going_on b.unseen b.tail.taken c.without-others.result b.tail.left (counts_of b.later.now) in
     let w : c.count_first-with_card.result ≡ length A = s.weighed in
-    let whole : length all ≡ length A + length B = s.whole in
-    let shorter : length b.tail.rest ≡ suc (length c.without-others.result) = s.shorter in
-    let order = c.requires.order in
-    let inside = c.requires.inside in
     grown_without deal front all A B c.args.lo c.args.hi c.count_first-with_card.result c.args.counts.now c.count_range-then-with_card-lo.new.counts s.parts w (omega arith) c.count_range-then-with_card-lo.ensures.counts
 
 pub count_range-requires-2 : goal.count_range-requires-2
 count_range-requires-2 g t c =
     let b = c.args.branch.now in
     let deal = g.F.Leaf.deal c.args.leaf.now in
-    let front = take b.slot c.args.sets.now in
     let s = step_at (g.F.Leaf.deal c.args.leaf.now) (g.F.Leaf.depth (g.F.Leaf.deal c.args.leaf.now)) (take b.slot c.args.sets.now) b.unseen b.tail.taken c.with-more.result b.tail.rest c.without-others.result b.tail.left b.later.now b.each c.count_first-with_card.result c.count-2.result c.in-Some.card c.first.result c.rising.ensures.set c.if-tail-eq0.false (λ none same. not_last (length b.later.now) b.tail.left (g.F.Leaf.depth (g.F.Leaf.deal c.args.leaf.now)) c.depth.result c.is_last.result c.is_last.ensures c.if-is_last.false c.depth.ensures none same) c.requires.at
     c.first.ensures.set c.first.ensures.value c.in-Some.is c.with-more.ensures c.without-others.ensures c.count-2.ensures.value c.count_first-with_card.ensures in
-    let all = going_on b.unseen b.tail.taken b.tail.rest b.tail.left (counts_of b.later.now) in
     let A = going_on b.unseen c.with-more.result c.without-others.result (b.tail.left - 1) (counts_of b.later.now) in
-    let B = going_on b.unseen b.tail.taken c.without-others.result b.tail.left (counts_of b.later.now) in
     let w : c.count_first-with_card.result ≡ length A = s.weighed in
-    let whole : length all ≡ length A + length B = s.whole in
     let shorter : length b.tail.rest ≡ suc (length c.without-others.result) = s.shorter in
-    let order = c.requires.order in
-    let inside = c.requires.inside in
     λ κs lives. (omega arith, (lives.0, (lives.1, (s.has, (c.requires.room, (omega arith, (omega arith, (c.requires.places, room_less deal c.args.counts.now (c.args.hi - c.args.lo) _ (omega arith) c.requires.fits))))))))
 
 pub count_range-requires-3 : goal.count_range-requires-3
@@ -161,10 +139,6 @@ returns-clause-counts g t c =
     let A = going_on b.unseen c.with-more.result c.without-others.result (b.tail.left - 1) (counts_of b.later.now) in
     let B = going_on b.unseen b.tail.taken c.without-others.result b.tail.left (counts_of b.later.now) in
     let w : c.count_first-with_card.result ≡ length A = s.weighed in
-    let whole : length all ≡ length A + length B = s.whole in
-    let shorter : length b.tail.rest ≡ suc (length c.without-others.result) = s.shorter in
-    let order = c.requires.order in
-    let inside = c.requires.inside in
     let same : g.F.Leaf.deal c.count_range-2.new.leaf ≡ deal = c.count_range-2.ensures.deal in
     let again : take b.slot c.count_range-2.new.sets ≡ front = c.count_range-2.ensures.front in
     let P : Showdown → Type 0 = λ d. CountsGrow d (map (λ more. take b.slot c.count_range-2.new.sets ++ more) (slice_range B 0 (c.args.hi - c.count_first-with_card.result))) c.count_range-2.new.counts c.count_range-3.new.counts in
@@ -174,8 +148,6 @@ returns-clause-counts g t c =
 pub overflow_sub-count : goal.overflow_sub-count
 overflow_sub-count g t c =
     let b = c.args.branch.now in
-    let deal = g.F.Leaf.deal c.args.leaf.now in
-    let front = take b.slot c.args.sets.now in
     let s = next_slot (g.F.Leaf.deal c.args.leaf.now) (g.F.Leaf.depth (g.F.Leaf.deal c.args.leaf.now)) (take b.slot c.args.sets.now) b.unseen b.tail.taken b.tail.rest c.minus-cards.result b.later.now record { receiver = Board; count = 0 } b.tail.left c.from-count.result b.each c.rising.ensures.set c.if-tail-eq0.true (omega arith) c.from-count.ensures c.minus-cards.ensures.value c.requires.at in
     let last : List Slot = take (length b.later.now - 1) (drop 1 b.later.now) in
     omega (arith, s.within, c.count-then-tail-eq0.ensures.value)
@@ -183,8 +155,6 @@ overflow_sub-count g t c =
 pub count_ways-requires-clause-enough : goal.count_ways-requires-clause-enough
 count_ways-requires-clause-enough g t c =
     let b = c.args.branch.now in
-    let deal = g.F.Leaf.deal c.args.leaf.now in
-    let front = take b.slot c.args.sets.now in
     let s = next_slot (g.F.Leaf.deal c.args.leaf.now) (g.F.Leaf.depth (g.F.Leaf.deal c.args.leaf.now)) (take b.slot c.args.sets.now) b.unseen b.tail.taken b.tail.rest c.minus-cards.result b.later.now record { receiver = Board; count = 0 } b.tail.left c.from-count.result b.each c.rising.ensures.set c.if-tail-eq0.true (omega arith) c.from-count.ensures c.minus-cards.ensures.value c.requires.at in
     let last : List Slot = take (length b.later.now - 1) (drop 1 b.later.now) in
     omega (arith, s.enough, c.count-then-tail-eq0.ensures.value)
@@ -192,8 +162,6 @@ count_ways-requires-clause-enough g t c =
 pub count_ways-requires-clause-fits : goal.count_ways-requires-clause-fits
 count_ways-requires-clause-fits g t c =
     let b = c.args.branch.now in
-    let deal = g.F.Leaf.deal c.args.leaf.now in
-    let front = take b.slot c.args.sets.now in
     let s = next_slot (g.F.Leaf.deal c.args.leaf.now) (g.F.Leaf.depth (g.F.Leaf.deal c.args.leaf.now)) (take b.slot c.args.sets.now) b.unseen b.tail.taken b.tail.rest c.minus-cards.result b.later.now record { receiver = Board; count = 0 } b.tail.left c.from-count.result b.each c.rising.ensures.set c.if-tail-eq0.true (omega arith) c.from-count.ensures c.minus-cards.ensures.value c.requires.at in
     let last : List Slot = take (length b.later.now - 1) (drop 1 b.later.now) in
     rw c.count-then-tail-eq0.ensures.value s.fewer
@@ -239,8 +207,6 @@ pub count-requires-clause-deep : goal.count-requires-clause-deep
 count-requires-clause-deep g t c =
     let b = c.args.branch.now in
     let last = yes_last (length b.later.now) b.tail.left c.depth.result c.is_last.result c.is_last.ensures c.if-is_last.true in
-    let deal = g.F.Leaf.deal c.args.leaf.now in
-    let front = take b.slot c.args.sets.now in
     let s = last_slot (g.F.Leaf.deal c.args.leaf.now) (g.F.Leaf.depth (g.F.Leaf.deal c.args.leaf.now)) (take b.slot c.args.sets.now) b.unseen b.tail.taken b.tail.rest b.tail.left b.later.now b.each last.0 c.requires.at in
     last.1 ∙ c.depth.ensures
 
@@ -248,8 +214,6 @@ pub count-requires-clause-last : goal.count-requires-clause-last
 count-requires-clause-last g t c =
     let b = c.args.branch.now in
     let last = yes_last (length b.later.now) b.tail.left c.depth.result c.is_last.result c.is_last.ensures c.if-is_last.true in
-    let deal = g.F.Leaf.deal c.args.leaf.now in
-    let front = take b.slot c.args.sets.now in
     let s = last_slot (g.F.Leaf.deal c.args.leaf.now) (g.F.Leaf.depth (g.F.Leaf.deal c.args.leaf.now)) (take b.slot c.args.sets.now) b.unseen b.tail.taken b.tail.rest b.tail.left b.later.now b.each last.0 c.requires.at in
     s.place
 
@@ -257,8 +221,6 @@ pub count-requires-clause-end : goal.count-requires-clause-end
 count-requires-clause-end g t c =
     let b = c.args.branch.now in
     let last = yes_last (length b.later.now) b.tail.left c.depth.result c.is_last.result c.is_last.ensures c.if-is_last.true in
-    let deal = g.F.Leaf.deal c.args.leaf.now in
-    let front = take b.slot c.args.sets.now in
     let s = last_slot (g.F.Leaf.deal c.args.leaf.now) (g.F.Leaf.depth (g.F.Leaf.deal c.args.leaf.now)) (take b.slot c.args.sets.now) b.unseen b.tail.taken b.tail.rest b.tail.left b.later.now b.each last.0 c.requires.at in
     s.end
 
@@ -266,8 +228,6 @@ pub count-requires-clause-members : goal.count-requires-clause-members
 count-requires-clause-members g t c =
     let b = c.args.branch.now in
     let last = yes_last (length b.later.now) b.tail.left c.depth.result c.is_last.result c.is_last.ensures c.if-is_last.true in
-    let deal = g.F.Leaf.deal c.args.leaf.now in
-    let front = take b.slot c.args.sets.now in
     let s = last_slot (g.F.Leaf.deal c.args.leaf.now) (g.F.Leaf.depth (g.F.Leaf.deal c.args.leaf.now)) (take b.slot c.args.sets.now) b.unseen b.tail.taken b.tail.rest b.tail.left b.later.now b.each last.0 c.requires.at in
     s.members
 
@@ -275,8 +235,6 @@ pub count-requires-clause-inside : goal.count-requires-clause-inside
 count-requires-clause-inside g t c =
     let b = c.args.branch.now in
     let last = yes_last (length b.later.now) b.tail.left c.depth.result c.is_last.result c.is_last.ensures c.if-is_last.true in
-    let deal = g.F.Leaf.deal c.args.leaf.now in
-    let front = take b.slot c.args.sets.now in
     let s = last_slot (g.F.Leaf.deal c.args.leaf.now) (g.F.Leaf.depth (g.F.Leaf.deal c.args.leaf.now)) (take b.slot c.args.sets.now) b.unseen b.tail.taken b.tail.rest b.tail.left b.later.now b.each last.0 c.requires.at in
     let i = c.requires.inside in
     omega (arith, s.same)
@@ -289,3 +247,24 @@ returns-then-is_last-clause-counts g t c =
     let front = take b.slot c.args.sets.now in
     let s = last_slot (g.F.Leaf.deal c.args.leaf.now) (g.F.Leaf.depth (g.F.Leaf.deal c.args.leaf.now)) (take b.slot c.args.sets.now) b.unseen b.tail.taken b.tail.rest b.tail.left b.later.now b.each last.0 c.requires.at in
     grown_last deal front b.tail.taken (going_on b.unseen b.tail.taken b.tail.rest b.tail.left (counts_of b.later.now)) (choose b.tail.left b.tail.rest) c.args.lo c.args.hi c.args.counts.now c.count.new.counts s.parts c.count.ensures.counts
+
+pub returns-then-with_card-lo-clause-steps : goal.returns-then-with_card-lo-clause-steps
+returns-then-with_card-lo-clause-steps g t c = omega (arith, c.count_range-then-with_card-lo.ensures.steps, c.if-with_card-lo.true)
+
+pub returns-clause-places : goal.returns-clause-places
+returns-clause-places g t c = c.count_range-3.ensures.places ∙ c.count_range-2.ensures.places
+
+pub returns-clause-front : goal.returns-clause-front
+returns-clause-front g t c = c.count_range-3.ensures.front ∙ c.count_range-2.ensures.front
+
+pub returns-clause-room : goal.returns-clause-room
+returns-clause-room g t c = c.count_range-3.ensures.room ∙ c.count_range-2.ensures.room
+
+pub returns-clause-deal : goal.returns-clause-deal
+returns-clause-deal g t c = c.count_range-3.ensures.deal ∙ c.count_range-2.ensures.deal
+
+pub returns-clause-steps : goal.returns-clause-steps
+returns-clause-steps g t c = omega (arith, c.count_range-3.ensures.steps, c.count_range-2.ensures.steps, c.if-hi-with_card.false, c.if-with_card-lo.false)
+
+pub returns-then-tail-eq0-clause-room : goal.returns-then-tail-eq0-clause-room
+returns-then-tail-eq0-clause-room g t c = c.count_range.ensures.room ∙ length-set c.args.sets.now c.args.branch.now.slot c.args.branch.now.tail.taken

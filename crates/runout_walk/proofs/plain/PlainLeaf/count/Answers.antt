@@ -1,9 +1,10 @@
-use Rattle.std.proofs.Common.{◌++◌, ◌∷◌, [], ℕ, List, sym, subst}
+use Rattle.std.proofs.Common.{◌-◌, ◌++◌, ◌∷◌, [], ℕ, List, arith, sym, subst}
 use Rattle.runout_ranges.specs.Runouts.{HasMember}
 use Rattle.showdown_tally.specs.Deals.{deal_of}
 use Rattle.showdown_tally.specs.SideCounts.{CountsGrow}
 use Rattle.showdown_tally.specs.Tallies.{runouts_after}
-use Rattle.runout_walk.proofs.NoCardLeaf.{only_grown, only_member}
+use Rattle.runout_walk.proofs.NoCardLeaf.{only_grown, only_length, only_member}
+use Rattle.runout_walk.proofs.GrowingCounts.{room_less}
 use Rattle.runout_walk.proofs.plain.PlainLeaf.count.Goals as goal
 
 pub count_one-requires-clause-runout : goal.count_one-requires-clause-runout
@@ -16,3 +17,11 @@ pub returns-clause-counts : goal.returns-clause-counts
 returns-clause-counts g c =
     let P : List (List ℕ) → Type 0 = λ r. CountsGrow (deal_of c.args.self.now.table) (r ∷ []) c.args.counts.now c.count_one.new.counts in
     only_grown (deal_of c.args.self.now.table) c.args.front.now c.args.tail.taken c.args.tail.rest c.args.tail.left c.args.lo c.args.hi c.args.counts.now c.count_one.new.counts c.requires.deep c.requires.order c.requires.inside (subst P c.put_sets.ensures.written c.count_one.ensures.counts)
+
+pub count_one-requires-clause-fits : goal.count_one-requires-clause-fits
+count_one-requires-clause-fits g c =
+    let order = c.requires.order in
+    room_less (deal_of c.args.self.now.table) c.args.counts.now (c.args.hi - c.args.lo) 1 (omega arith) c.requires.fits
+
+pub returns-clause-steps : goal.returns-clause-steps
+returns-clause-steps g c = omega (arith, only_length c.args.tail.left c.args.tail.rest c.requires.deep, c.requires.order, c.requires.inside, c.tick.ensures)
