@@ -129,7 +129,21 @@ second_board_at t =
     (shared_by t.course.split_from t.first_board.flop t.first_board.turn t.first_board.river)
     (union (union t.second_board.flop t.second_board.turn) t.second_board.river)
 
--- what the text gives of a seat's cards
+-- what the text gives of the cards of a seat in this state, where these were thrown away
+abbrev pub holding_by : SeatState → List ℕ → Holding
+holding_by s thrown = record {
+  own = s.own;
+  dealt = s.dealt;
+  held = s.held;
+  shown = s.shown;
+  deals = s.deals;
+  row = s.seven_shown;
+  draws = s.draws;
+  last = s.last_draw;
+  thrown = thrown;
+}
+
+-- what it gives of those of a seat of the table
 abbrev pub holding_at : ReplayState → ℕ → Holding
 holding_at t p = record {
   own = own_at t p;

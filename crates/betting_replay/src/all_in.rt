@@ -115,9 +115,10 @@ impl Replay {
     {
         let mut cards = CardSet::empty();
         for seat in 0..11 {
-            if self.had_folded(point, seat) {
-                cards = cards.union(self.seats[seat as usize].own);
+            if !self.had_folded(point, seat) {
+                continue;
             }
+            cards = cards.union(self.seats[seat as usize].own);
         }
         cards
     }

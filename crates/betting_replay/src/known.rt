@@ -1,12 +1,13 @@
 //! The cards of the players that are known: at the end of the hand, and at a street of it.
 
-ghost use Rattle.std.specs.Prelude.{◌≡◌, ℕ, ◌<◌};
+ghost use Rattle.std.specs.Prelude.{◌≡◌, ℕ, ◌<◌, []};
 ghost use Rattle.card_sets.specs.Cards.{union, minus};
 ghost use Rattle.betting_replay.specs.Known.{final_drawn, final_held, final_with, final_in, final_by, first_outside, with_down, with_first, so_many, known_stud, draws_openly, kept, known_drawn, draws_last_openly, kept_last, known_triple, known_in, known_by};
-ghost use Rattle.betting_replay.specs.Table.{holding_at, last_draw_at, final_at, known_at};
+ghost use Rattle.betting_replay.specs.Table.{holding_by, final_at, known_at};
 
 use crate::hands::if_many;
 use crate::replay::Replay;
+use crate::seats::{LastDraw, SeatState};
 use card_sets::{Card, CardSet, Family};
 use hand_events::Street;
 
@@ -41,48 +42,142 @@ fn with_down(cards: CardSet, up: CardSet, row: Option<[Card; 7]>) -> Option<Card
     }
 }
 
-impl Replay {
-    /// The last whole hand that a seat showed, or else its dealt cards, where they are so many.
-    fn final_with(&self, seat: u8, count: u32) -> Option<CardSet>
-        requires { seat < 11 }
-        ensures { result ≡ final_with count (holding_at self.now seat) }
+impl LastDraw {
+    /// Whether the five with which a player came to the last draw are in the text, and what he threw away
+    /// on it too.
+    fn draws_openly(&self) -> bool
+        ensures { result ≡ draws_last_openly self.now }
     {
-        let place = seat as usize;
-        self.seats[place]
-            .shown
-            .or(if_many(count, self.seats[place].dealt))
+        self.held.count() == 5 && !self.hidden_before && !self.hidden
+    }
+}
+
+impl SeatState {
+    /// The last whole hand that the seat showed, or else its dealt cards, where they are so many.
+    fn final_with(&self, count: u32) -> Option<CardSet>
+        ensures { result ≡ final_with count (holding_by self.now []) }
+    {
+        self.shown.or(if_many(count, self.dealt))
     }
 
-    /// The final cards of a draw game.
-    fn final_drawn(&self, seat: u8) -> Option<CardSet>
-        requires { seat < 11 }
-        ensures { result ≡ final_drawn (holding_at self.now seat) }
+    /// The final cards of a draw game, where these are the cards that were thrown away.
+    fn final_drawn(&self, thrown: CardSet) -> Option<CardSet>
+        ensures { result ≡ final_drawn (holding_by self.now thrown) }
     {
-        let place = seat as usize;
-        if let Some(cards) = self.seats[place].shown {
+        if let Some(cards) = self.shown {
             return Some(cards);
         }
-        if self.seats[place].draws.hidden {
+        if self.draws.hidden {
             return None;
         }
-        if_many(5, self.seats[place].dealt.minus(self.thrown))
+        if_many(5, self.dealt.minus(thrown))
     }
 
     /// The final cards of a game with several draws.
-    fn final_held(&self, seat: u8) -> Option<CardSet>
-        requires { seat < 11 }
-        ensures { result ≡ final_held (holding_at self.now seat) }
+    fn final_held(&self) -> Option<CardSet>
+        ensures { result ≡ final_held (holding_by self.now []) }
     {
-        let place = seat as usize;
-        if let Some(cards) = self.seats[place].shown {
+        if let Some(cards) = self.shown {
             return Some(cards);
         }
-        if self.seats[place].draws.hidden {
+        if self.draws.hidden {
             return None;
         }
-        if_many(5, self.seats[place].held)
+        if_many(5, self.held)
     }
 
+    /// Some dealt cards with those face down, where they are so many.
+    fn so_many(&self, count: u32, cards: CardSet) -> Option<CardSet>
+        ensures { result ≡ so_many count (with_first (holding_by self.now []) cards) }
+    {
+        if self.deals.down {
+            return if_many(count, cards);
+        }
+        match with_down(cards, self.deals.up, self.seven_shown) {
+            Some(cards) => if_many(count, cards),
+            None => None,
+        }
+    }
+
+    /// The cards of the streets up to one in a stud game.
+    fn known_stud(&self, street: Street) -> Option<CardSet>
+        ensures { result ≡ known_stud (holding_by self.now []) street }
+    {
+        let fourth = self.deals.first.union(self.deals.fourth);
+        let fifth = fourth.union(self.deals.fifth);
+        match street {
+            Street::First => self.so_many(3, self.deals.first),
+            Street::Fourth => self.so_many(4, fourth),
+            Street::Fifth => self.so_many(5, fifth),
+            Street::Sixth => self.so_many(6, fifth.union(self.deals.sixth)),
+            _ => if_many(7, self.own),
+        }
+    }
+
+    /// Whether five were dealt in the text, and the discards are shown and are of these.
+    fn draws_openly(&self, thrown: CardSet) -> bool
+        ensures { result ≡ draws_openly (holding_by self.now thrown) }
+    {
+        let given = self.deals.given;
+        given.count() == 5 && !self.draws.hidden && self.own.minus(given).is_apart(thrown)
+    }
+
+    /// What a player keeps when he draws.
+    fn kept_cards(&self, thrown: CardSet) -> Option<CardSet>
+        ensures { result ≡ kept (holding_by self.now thrown) }
+    {
+        if self.draws_openly(thrown) {
+            return Some(self.deals.given.minus(thrown));
+        }
+        if self.draws.pat && self.own.is_apart(thrown) {
+            return self.final_drawn(thrown);
+        }
+        if self.draws.five {
+            return Some(CardSet::empty());
+        }
+        None
+    }
+
+    /// The cards of a draw game on a street.
+    fn known_drawn(&self, thrown: CardSet, street: Street) -> Option<CardSet>
+        ensures { result ≡ known_drawn (holding_by self.now thrown) street }
+    {
+        match street {
+            Street::First => self.kept_cards(thrown),
+            _ => self.final_drawn(thrown),
+        }
+    }
+
+    /// What a player keeps when he draws for the last time.
+    fn last_kept_cards(&self) -> Option<CardSet>
+        ensures { result ≡ kept_last (holding_by self.now []) }
+    {
+        let last = &self.last_draw;
+        if last.pat {
+            return self.final_held();
+        }
+        if last.five {
+            return Some(CardSet::empty());
+        }
+        if last.draws_openly() {
+            return Some(last.held.minus(last.thrown));
+        }
+        None
+    }
+
+    /// The cards of a game with three draws on a street.
+    fn known_triple(&self, street: Street) -> Option<CardSet>
+        ensures { result ≡ known_triple (holding_by self.now []) street }
+    {
+        match street {
+            Street::First | Street::FirstDraw => None,
+            Street::SecondDraw => self.last_kept_cards(),
+            _ => self.final_held(),
+        }
+    }
+}
+
+impl Replay {
     /// A seat's final cards. With a board they are the last whole hand that it showed, or that the
     /// summary gives, or else its dealt cards, where they are a whole hand. In a stud game they are
     /// all seven. In a draw game they are the last whole hand after its last discard, or else what it
@@ -94,124 +189,12 @@ impl Replay {
         ensures { result ≡ final_at self.now seat }
     {
         let game = self.header.game;
+        let state = &self.seats[seat as usize];
         match game.family() {
-            Family::Board => self.final_with(seat, game.own_size()),
-            Family::Stud => if_many(7, self.seats[seat as usize].own),
-            Family::Draw => self.final_drawn(seat),
-            Family::TripleDraw => self.final_held(seat),
-        }
-    }
-
-    /// Some dealt cards with those face down, where they are so many.
-    fn so_many(&self, seat: u8, count: u32, cards: CardSet) -> Option<CardSet>
-        requires { seat < 11 }
-        ensures { result ≡ so_many count (with_first (holding_at self.now seat) cards) }
-    {
-        let deals = self.seats[seat as usize].deals;
-        if deals.down {
-            return if_many(count, cards);
-        }
-        match with_down(cards, deals.up, self.seats[seat as usize].seven_shown) {
-            Some(cards) => if_many(count, cards),
-            None => None,
-        }
-    }
-
-    /// The cards of the streets up to one in a stud game.
-    fn known_stud(&self, seat: u8, street: Street) -> Option<CardSet>
-        requires { seat < 11 }
-        ensures { result ≡ known_stud (holding_at self.now seat) street }
-    {
-        let deals = self.seats[seat as usize].deals;
-        let fourth = deals.first.union(deals.fourth);
-        let fifth = fourth.union(deals.fifth);
-        match street {
-            Street::First => self.so_many(seat, 3, deals.first),
-            Street::Fourth => self.so_many(seat, 4, fourth),
-            Street::Fifth => self.so_many(seat, 5, fifth),
-            Street::Sixth => self.so_many(seat, 6, fifth.union(deals.sixth)),
-            _ => if_many(7, self.seats[seat as usize].own),
-        }
-    }
-
-    /// Whether five were dealt in the text, and the discards are shown and are of these.
-    fn draws_openly(&self, seat: u8) -> bool
-        requires { seat < 11 }
-        ensures { result ≡ draws_openly (holding_at self.now seat) }
-    {
-        let place = seat as usize;
-        let given = self.seats[place].deals.given;
-        given.count() == 5
-            && !self.seats[place].draws.hidden
-            && self.seats[place].own.minus(given).is_apart(self.thrown)
-    }
-
-    /// What a player keeps when he draws.
-    fn kept_cards(&self, seat: u8) -> Option<CardSet>
-        requires { seat < 11 }
-        ensures { result ≡ kept (holding_at self.now seat) }
-    {
-        let place = seat as usize;
-        if self.draws_openly(seat) {
-            return Some(self.seats[place].deals.given.minus(self.thrown));
-        }
-        if self.seats[place].draws.pat && self.seats[place].own.is_apart(self.thrown) {
-            return self.final_drawn(seat);
-        }
-        if self.seats[place].draws.five {
-            return Some(CardSet::empty());
-        }
-        None
-    }
-
-    /// The cards of a draw game on a street.
-    fn known_drawn(&self, seat: u8, street: Street) -> Option<CardSet>
-        requires { seat < 11 }
-        ensures { result ≡ known_drawn (holding_at self.now seat) street }
-    {
-        match street {
-            Street::First => self.kept_cards(seat),
-            _ => self.final_drawn(seat),
-        }
-    }
-
-    /// Whether the five with which a player came to the last draw are in the text, and what he threw away
-    /// on it too.
-    fn draws_last_openly(&self, seat: u8) -> bool
-        requires { seat < 11 }
-        ensures { result ≡ draws_last_openly (last_draw_at self.now seat) }
-    {
-        let last = self.seats[seat as usize].last_draw;
-        last.held.count() == 5 && !last.hidden_before && !last.hidden
-    }
-
-    /// What a player keeps when he draws for the last time.
-    fn last_kept_cards(&self, seat: u8) -> Option<CardSet>
-        requires { seat < 11 }
-        ensures { result ≡ kept_last (holding_at self.now seat) }
-    {
-        let last = self.seats[seat as usize].last_draw;
-        if last.pat {
-            return self.final_held(seat);
-        }
-        if last.five {
-            return Some(CardSet::empty());
-        }
-        if self.draws_last_openly(seat) {
-            return Some(last.held.minus(last.thrown));
-        }
-        None
-    }
-
-    /// The cards of a game with three draws on a street.
-    fn known_triple(&self, seat: u8, street: Street) -> Option<CardSet>
-        requires { seat < 11 }
-        ensures { result ≡ known_triple (holding_at self.now seat) street }
-    {
-        match street {
-            Street::First | Street::FirstDraw => None,
-            Street::SecondDraw => self.last_kept_cards(seat),
-            _ => self.final_held(seat),
+            Family::Board => state.final_with(game.own_size()),
+            Family::Stud => if_many(7, state.own),
+            Family::Draw => state.final_drawn(self.thrown),
+            Family::TripleDraw => state.final_held(),
         }
     }
 
@@ -226,11 +209,12 @@ impl Replay {
         ensures { result ≡ known_at self.now seat street }
     {
         let game = self.header.game;
+        let state = &self.seats[seat as usize];
         match game.family() {
-            Family::Board => self.final_with(seat, game.own_size()),
-            Family::Stud => self.known_stud(seat, street),
-            Family::Draw => self.known_drawn(seat, street),
-            Family::TripleDraw => self.known_triple(seat, street),
+            Family::Board => state.final_with(game.own_size()),
+            Family::Stud => state.known_stud(street),
+            Family::Draw => state.known_drawn(self.thrown, street),
+            Family::TripleDraw => state.known_triple(street),
         }
     }
 }

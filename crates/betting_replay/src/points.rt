@@ -4,7 +4,7 @@ use hand_events::Street;
 
 /// An all-in point: two players or more are in the hand, at most one of them has chips left, nobody
 /// owes an act, and cards are to come.
-#[derive(Clone, Copy, Debug, PartialEq, Eq)]
+#[derive(Clone, Copy)]
 pub struct Point {
     /// The street on which it lies.
     pub street: Street,
@@ -13,7 +13,7 @@ pub struct Point {
 }
 
 /// Which showdown markers stood.
-#[derive(Clone, Copy, Debug, PartialEq, Eq)]
+#[derive(Clone, Copy)]
 pub struct Showdowns {
     /// That of the only board.
     pub plain: bool,

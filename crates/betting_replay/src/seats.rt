@@ -6,7 +6,7 @@ ghost use Rattle.betting_replay.specs.Table.{no_seat};
 use card_sets::{Card, CardSet};
 
 /// The chips of a seat, in units.
-#[derive(Clone, Copy, Debug, PartialEq, Eq)]
+#[derive(Clone, Copy)]
 pub struct Chips {
     /// Whether its seat line stood.
     pub seated: bool,
@@ -21,7 +21,7 @@ pub struct Chips {
 }
 
 /// What the player of a seat has done.
-#[derive(Clone, Copy, Debug, PartialEq, Eq)]
+#[derive(Clone, Copy)]
 pub struct Acts {
     /// He has folded.
     pub folded: bool,
@@ -51,7 +51,7 @@ pub struct Deals {
 }
 
 /// How the player of a seat drew.
-#[derive(Clone, Copy, Debug, PartialEq, Eq)]
+#[derive(Clone, Copy)]
 pub struct SeatDraws {
     /// He discarded cards that weren't shown.
     pub hidden: bool,

@@ -316,7 +316,7 @@ impl Replay {
     fn may_end(&self) -> bool
         ensures { result ≡ may_end self.now }
     {
-        self.all_begun() || self.contender_count() < 2
+        self.all_begun() || !self.two_contend()
     }
 
     /// Whether a showdown's marker comes in its order: once, and of two boards only in a hand that is run

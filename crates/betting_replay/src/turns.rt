@@ -1,6 +1,6 @@
 //! Who owes an act, who may act, and whose turn it is.
 
-ghost use Rattle.std.specs.Prelude.{◌≡◌, ℕ, ◌+◌, ◌-◌, ◌<◌, ◌≤◌, ◌&&◌, nat_le, true, false, None, IfSome, IsNone};
+ghost use Rattle.std.specs.Prelude.{◌≡◌, ℕ, ◌+◌, ◌-◌, ◌<◌, ◌≤◌, ◌&&◌, nat_le, nat_lt, true, false, None, IfSome, IsNone};
 ghost use Rattle.card_sets.specs.PlayerSets.{has_player};
 ghost use Rattle.betting_replay.specs.Seats.{first_from, first_between, first_after};
 ghost use Rattle.betting_replay.specs.Accounts.{contenders};
@@ -43,14 +43,14 @@ impl Replay {
     pub(crate) fn contender_set(&self) -> PlayerSet
         ensures { result ≡ contenders self.now }
     {
-        PlayerSet::passing(11, |seat| self.is_contender(seat))
-    }
-
-    /// How many players have not folded.
-    pub(crate) fn contender_count(&self) -> u8
-        ensures { result ≡ contender_count self.now }
-    {
-        self.contender_set().count()
+        let mut set = PlayerSet::empty();
+        for seat in 0..11 {
+            if !self.is_contender(seat) {
+                continue;
+            }
+            set = set.with(seat);
+        }
+        set
     }
 
     /// Whether two players or more have not folded. The second one ends the search.
@@ -101,15 +101,16 @@ impl Replay {
         self.course.opened && !self.any_shown()
     }
 
-    /// How many other contenders have chips left.
-    pub(crate) fn rivals(&self, seat: u8) -> u8
-        requires { seat < 11 }
-        ensures { result ≡ rivals self.now seat }
+    /// Whether another contender has chips left. The first one ends the search.
+    fn has_rival(&self, seat: u8) -> bool
+        ensures { result ≡ nat_lt 0 (rivals self.now seat) }
     {
-        PlayerSet::passing(11, |rival| {
-            rival != seat && self.is_contender(rival) && self.has_chips(rival)
-        })
-        .count()
+        for rival in 0..11 {
+            if rival != seat && self.is_funded(rival) {
+                return true;
+            }
+        }
+        false
     }
 
     /// Whether the seat is below the greatest, which is given, or has a rival and has neither acted nor
@@ -121,7 +122,7 @@ impl Replay {
         ensures { result ≡ is_pending self.now seat }
     {
         let acts = self.seats[seat as usize].acts;
-        self.live(seat) < most || !acts.acted && !acts.brought_in && self.rivals(seat) > 0
+        self.live(seat) < most || !acts.acted && !acts.brought_in && self.has_rival(seat)
     }
 
     /// Whether anybody may owe an act: betting is open, and two are in the hand.

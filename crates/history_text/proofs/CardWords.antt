@@ -116,3 +116,17 @@ first_found text behind card read long letters some back =
 pub first_none : (text : List ℕ) (read : Option ℕ) → 2 ≤ length text
     → read ≡ card_of_letters (get_or text 0 0) (get_or text 1 0) → read ≡ None → first_card text ≡ None
 first_none text read long letters none = first_by_place text long ∙ ap (option_map (λ c. (c, drop 2 text))) (sym letters ∙ none)
+
+-- with one card more they are at most ten
+pub few_cards : (cards : List ℕ) (card : ℕ) → length cards < 10 → Some (cards ++ card ∷ []) ≡ option_and_then (λ all. at_most_ten all) (Some (cards ++ card ∷ []))
+few_cards cards card fewer =
+    let longer : length (cards ++ card ∷ []) ≡ length cards + 1 = length-append cards (card ∷ []) in
+    let few : nat_le (length (cards ++ card ∷ [])) 10 ≡ true = ten_at_most (length (cards ++ card ∷ [])) (omega (arith, longer)) in
+    rw few refl
+  where
+    ten_at_most : (count : ℕ) → count ≤ 10 → nat_le count 10 ≡ true
+    ten_at_most count h = grind arith
+
+pub nothing_left : (text : List ℕ) → length text ≡ 0 → text ≡ []
+nothing_left [] h = refl
+nothing_left (byte ∷ text) h = absurd (omega arith)

@@ -54,6 +54,13 @@ unfoldable pub all_in_end : List ℕ → Result Bool TextFault
 all_in_end text =
     if is_end text then Ok false else (if bytes_eq text (codes " and is all-in") then Ok true else Err BadAmount)
 
+-- the last amount of a bet, and whether the player is all-in with it
+unfoldable pub last_money : Bool → List ℕ → Result (ℕ × Bool) TextFault
+last_money hundredths text = do
+  paid ← some_money hundredths text
+  all_in ← all_in_end paid.1
+  Ok (paid.0, all_in)
+
 -- a seat is numbered 1 to 10
 abbrev pub seat_of : ℕ → Option ℕ
 seat_of number = if nat_le 1 number && nat_le number 10 then Some number else None

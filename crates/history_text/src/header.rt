@@ -7,7 +7,7 @@ ghost use Rattle.card_sets.specs.Games.{all_games};
 ghost use Rattle.history_text.specs.Games.{capped_stakes, kept_header, seen_found, seen_named};
 
 use crate::openings::{Opening, first_opening};
-use crate::texts::{behind, cut_at_byte, cut_last};
+use crate::texts::{behind, cut_at_byte, cut_last, is_one_of};
 use crate::{Header, Limit, TextFault};
 use card_sets::Game;
 use line_text::{GREATEST, WrittenAmount, digit_count, written};
@@ -65,17 +65,14 @@ pub fn hand_number(line: &[u8]) -> (usize, usize)
     }
 }
 
-const HAND: &[u8] = b"Hand ";
-
-const GAME: &[u8] = b"Game ";
-
-const ZOOM_HAND: &[u8] = b"Zoom Hand ";
+/// The words that begin a header that is read.
+const STARTS: &[&[u8]] = &[b"Hand ", b"Game ", b"Zoom Hand "];
 
 /// Whether these words begin a header that is read.
 fn is_start(words: &[u8]) -> bool
     ensures { result ≡ is_start words.now }
 {
-    words == HAND || words == GAME || words == ZOOM_HAND
+    is_one_of(words, STARTS)
 }
 
 /// What stands after the start, the number and the colon.
@@ -126,7 +123,12 @@ fn behind_name(game: Game, text: &[u8]) -> Option<&[u8]>
 fn named_at(game: Game, text: &[u8]) -> Option<NamedGame<'_>>
     ensures { option_map seen_named result ≡ game_at (game ∷ []) text.now }
 {
-    let (limit, rest) = first_opening(game, &LIMITS, behind_name(game, text)?)?;
+    let Some(text) = behind_name(game, text) else {
+        return None;
+    };
+    let Some((limit, rest)) = first_opening(game, &LIMITS, text) else {
+        return None;
+    };
     Some(NamedGame { game, limit, rest })
 }
 
@@ -203,31 +205,22 @@ fn word_before(before: &[u8]) -> &[u8]
     }
 }
 
-const SIX_PLUS: &[u8] = b"6+";
-
-const CARD: &[u8] = b"Card";
-
-const SPLIT: &[u8] = b"Split";
-
-const TEMPEST: &[u8] = b"Tempest";
-
-const UNFOLDED: &[u8] = b"Unfolded";
-
-const SHOWTIME: &[u8] = b"Showtime";
-
-const FUSION: &[u8] = b"Fusion";
+/// The words that make another game of the name after them.
+const OTHER_WORDS: &[&[u8]] = &[
+    b"6+",
+    b"Card",
+    b"Split",
+    b"Tempest",
+    b"Unfolded",
+    b"Showtime",
+    b"Fusion",
+];
 
 /// Whether the word makes another game of the name after it.
 fn is_other_word(word: &[u8]) -> bool
     ensures { result ≡ is_other_word word.now }
 {
-    word == SIX_PLUS
-        || word == CARD
-        || word == SPLIT
-        || word == TEMPEST
-        || word == UNFOLDED
-        || word == SHOWTIME
-        || word == FUSION
+    is_one_of(word, OTHER_WORDS)
 }
 
 /// The game of a name, by what stands before it.
@@ -258,7 +251,10 @@ fn stakes_of(text: &[u8]) -> Option<(WrittenAmount, WrittenAmount)>
 {
     let first = written(text)?;
     let (_, rest) = text.split_at(first.length);
-    let second = written(behind(rest, b"/")?)?;
+    let Some(rest) = behind(rest, b"/") else {
+        return None;
+    };
+    let second = written(rest)?;
     Some((first, second))
 }
 
@@ -339,9 +335,15 @@ pub fn read_header(line: &[u8]) -> Result<Header, TextFault>
     requires { IsTrue (is_header line.now) }
     ensures { result ≡ header_of line.now }
 {
-    let text = behind_start(line).ok_or(TextFault::BadHeader)?;
-    let (place, found) = first_game(text).ok_or(TextFault::UnknownGame)?;
+    let Some(text) = behind_start(line) else {
+        return Err(TextFault::BadHeader);
+    };
+    let Some((place, found)) = first_game(text) else {
+        return Err(TextFault::UnknownGame);
+    };
     let (before, _) = text.split_at(place);
-    let game = game_of(before, found.game).ok_or(TextFault::UnknownGame)?;
+    let Some(game) = game_of(before, found.game) else {
+        return Err(TextFault::UnknownGame);
+    };
     header_behind(game, found.limit, found.rest)
 }

@@ -3,10 +3,9 @@
 ghost use Rattle.std.specs.Prelude.{◌≡◌, ◌<◌, ◌≤◌, option_map, IfOk, IfSome, length};
 ghost use Rattle.line_text.specs.Amounts.{digit_count};
 ghost use Rattle.history_text.specs.Gives.{Gives};
-ghost use Rattle.history_text.specs.Reading.{all_in_end, digits_front, follows, is_end, money, seat_front, seat_of, some_money};
+ghost use Rattle.history_text.specs.Reading.{all_in_end, digits_front, is_end, last_money, money, seat_front, seat_of, some_money};
 
 use crate::TextFault;
-use crate::texts::behind;
 use line_text::{AmountFault, digit_count, number_of, read_amount};
 
 /// An amount and what stands after it.
@@ -34,20 +33,12 @@ pub(crate) fn some_money(text: &[u8], hundredths: bool) -> Result<(u64, &[u8]), 
     Ok((units, rest))
 }
 
-/// What stands after the words that must follow an amount.
-#[tactic(auto, unfolding(crate::specs::Reading::follows))]
-pub(crate) fn follows<'a>(text: &'a [u8], words: &[u8]) -> Result<&'a [u8], TextFault>
-    ensures { Gives (λ rest. rest.now) result (follows words.now text.now) }
-{
-    behind(text, words).ok_or(TextFault::BadAmount)
-}
-
 /// The words of a bet that takes the whole stack.
 const ALL_IN: &[u8] = b" and is all-in";
 
 /// Whether the line says that the player is all-in, after the last amount of a bet.
 #[tactic(auto, unfolding(crate::specs::Reading::all_in_end))]
-pub(crate) fn all_in_end(text: &[u8]) -> Result<bool, TextFault>
+fn all_in_end(text: &[u8]) -> Result<bool, TextFault>
     ensures { result ≡ all_in_end text.now }
 {
     if text.is_empty() {
@@ -57,6 +48,16 @@ pub(crate) fn all_in_end(text: &[u8]) -> Result<bool, TextFault>
     } else {
         Err(TextFault::BadAmount)
     }
+}
+
+/// An amount that isn't 0 at the end of a line, and whether the player is all-in with it.
+#[tactic(auto, unfolding(crate::specs::Reading::last_money))]
+pub(crate) fn last_money(text: &[u8], hundredths: bool) -> Result<(u64, bool), TextFault>
+    ensures { result ≡ last_money hundredths text.now }
+{
+    let (units, rest) = some_money(text, hundredths)?;
+    let all_in = all_in_end(rest)?;
+    Ok((units, all_in))
 }
 
 /// The seat of a number.

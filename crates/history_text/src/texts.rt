@@ -1,10 +1,23 @@
 //! Fronts and cuts of texts.
 
 ghost use Rattle.std.specs.Prelude.{◌≡◌, ◌<◌, ◌≤◌, ◌+◌, [], ◌∷◌, true, false, nat_eq, option_map, drop, length, IfSome};
-ghost use Rattle.std.specs.List.{starts_with};
+ghost use Rattle.std.specs.List.{list_any, starts_with};
+ghost use Rattle.std.specs.Str.{bytes_eq};
 ghost use Rattle.history_text.specs.Texts.{behind, first_place, last_place, cut_first, cut_last};
 
 use memchr::{memchr, memmem};
+
+/// Whether a text is one of some words.
+pub(crate) fn is_one_of(text: &[u8], words: &[&[u8]]) -> bool
+    ensures { result ≡ list_any (λ word. bytes_eq text.now word.now) words.now }
+{
+    for word in words {
+        if text == *word {
+            return true;
+        }
+    }
+    false
+}
 
 /// Whether the first two bytes differ, or the first alone where there is one, so that the text can't begin with
 /// the front.

@@ -1,11 +1,8 @@
--- How many seats pass a test is how many the set of them has.
-use Rattle.std.proofs.Common.{◌≡◌, ℕ, zero, suc, ◌+◌, ◌<◌, ◌≤◌, ◌^◌, [], ◌∷◌, ◌++◌, refl, ap, subst, ◌∙◌, Bool, true, false, arith, add-one, length, length-append}
-use Rattle.std.specs.Prelude.{if◌then◌else◌, nat_le}
+-- How many seats pass a test: one more or none, and one or two of them at the least or at the most.
+use Rattle.std.proofs.Common.{◌≡◌, ℕ, zero, suc, ◌+◌, ◌<◌, ◌≤◌, refl, subst, Bool, true, false, arith, add-one}
+use Rattle.std.specs.Prelude.{if◌then◌else◌, nat_le, nat_lt}
 use Rattle.std.proofs.lemmas.Bool.Decides.{nat_tests}
-use Rattle.card_sets.specs.Cards.{cards_below}
-use Rattle.card_sets.specs.PlayerSets.{has_player, players_where, players_in}
-use Rattle.card_sets.specs.PlayerSetLaws.{players_where-small, has_player-where, players_in-hands}
-use Rattle.betting_replay.specs.Seats.{count_below, count_seats}
+use Rattle.betting_replay.specs.Seats.{count_below}
 
 pub same_count : (f g : ℕ → Bool) (n : ℕ) → ((p : ℕ) → p < n → f p ≡ g p) → count_below f n ≡ count_below g n
 same_count f g zero h = refl
@@ -13,21 +10,6 @@ same_count f g (suc n) h =
     let rest : count_below f n ≡ count_below g n = same_count f g n (λ p l. h p (omega arith)) in
     let here : f n ≡ g n = h n (omega arith) in
     rw (rest, here) refl
-
-listed : (f : ℕ → Bool) (n : ℕ) → length (cards_below f n) ≡ count_below f n
-listed f zero = refl
-listed f (suc n) = by (f n) (listed f n)
-  where
-    by : (b : Bool) → length (cards_below f n) ≡ count_below f n → length (cards_below f n ++ (if b then n ∷ [] else [])) ≡ count_below f n + (if b then 1 else 0)
-    by true rest = (let more : length (cards_below f n ++ n ∷ []) ≡ length (cards_below f n) + 1 = length-append (cards_below f n) (n ∷ []) in omega (arith, more, rest))
-    by false rest = (let same : length (cards_below f n ++ []) ≡ length (cards_below f n) + 0 = length-append (cards_below f n) [] in omega (arith, same, rest))
-
-pub counted_players : (f : ℕ → Bool) → length (players_in (players_where f 11)) ≡ count_seats f
-counted_players f =
-    let small : players_where f 11 < 2 ^ 11 = players_where-small f 11 in
-    ap length (players_in-hands (players_where f 11) 11 (omega arith) small)
-    ∙ listed (has_player (players_where f 11)) 11
-    ∙ same_count (has_player (players_where f 11)) f 11 (λ p l. has_player-where f 11 p l)
 
 -- one number more that passes, or doesn't
 pub count_past : (f : ℕ → Bool) (p k : ℕ) → count_below f p ≡ k → f p ≡ false → count_below f (p + 1) ≡ k
@@ -51,6 +33,14 @@ count_grows f m (suc n) within = by (nat_le m n) refl (λ less. count_grows f m 
     by false e rest =
         let all : suc n ≡ m = grind (arith, nat_tests) in
         subst (λ k. count_below f k ≤ count_below f n + (if f n then 1 else 0)) all (omega arith)
+
+-- one that passes is among those below a number above it
+pub one_there : (f : ℕ → Bool) (p n : ℕ) → f p ≡ true → p < n → nat_lt 0 (count_below f n) ≡ true
+one_there f p n passes within =
+    let one : count_below f (suc p) ≡ count_below f p + 1 = rw passes refl in
+    let more : count_below f (suc p) ≤ count_below f n = count_grows f (suc p) n (omega arith) in
+    let some : 0 < count_below f n = omega (arith, one, more) in
+    grind (arith, nat_tests)
 
 -- a second one that passes makes two of them or more
 second_found : (f : ℕ → Bool) (p n : ℕ) → count_below f p ≡ 1 → f p ≡ true → p < n → 2 ≤ count_below f n
