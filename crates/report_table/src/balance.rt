@@ -1,6 +1,6 @@
 //! What each player won and lost over all hands of a run.
 
-ghost use Rattle.std.specs.Prelude.{◌≡◌, ◌<◌, ◌^◌, List, [], ◌∷◌, ◌++◌, true, length, take, OnOk, OnErr};
+ghost use Rattle.std.specs.Prelude.{◌≡◌, ◌<◌, ◌^◌, List, [], ◌∷◌, ◌++◌, true, OnOk, OnErr};
 ghost use Rattle.hand_verdict.specs.declared.seat_chips.AuditedChips.{AuditedChips};
 ghost use Rattle.report_table.specs.Balance.{balance_lines, balance_of};
 ghost use Rattle.report_table.specs.Equities.{IsOfHand, is_asked};
@@ -8,12 +8,12 @@ ghost use Rattle.report_table.specs.Equities.{IsOfHand, is_asked};
 use crate::balance_sums::{BalanceSums, SettledHand};
 use crate::equity::Equity;
 use crate::player_rows::Players;
-use crate::players::{Lineup, add_players, add_sums};
-use crate::total_lines::{hands_line, write_players};
+use crate::players::{Lineup, add_hand};
+use crate::total_lines::write_sums;
 use card_sets::Memory;
 use hand_verdict::{AuditedChips, HandAudit};
-use report_sheet::{Form, Sheet};
-use std::alloc::{AllocError, Global};
+use report_sheet::Form;
+use std::alloc::Global;
 use std::marker::Model;
 
 /// The most pots that a hand has: one for each player.
@@ -104,30 +104,15 @@ impl Balance {
             names,
             players: *players,
         };
-        // Before anything is changed: no memory for the keys then leaves the balance as it was.
-        let keys = lineup.keys(self.players.allocator())?;
-        add_players(&mut self.players, &lineup)?;
         let settled = SettledHand {
             settlement,
             all_in,
             equity,
             chips: &hand.chips,
         };
-        add_sums(&mut self.players, &keys, &lineup, &settled);
+        add_hand(&mut self.players, &lineup, &settled)?;
         self.accepted += 1;
         Ok(())
-    }
-
-    /// The same as `write`, and out of memory may leave some first lines.
-    #[tactic(auto, unfolding(crate::specs::Balance::balance_lines))]
-    fn write_lines(&self, out: &mut Vec<u8>, form: Form) -> Result<(), AllocError>
-        ensures block { OnOk result (out.new.items ≡ out.old.items ++ balance_lines form self.now) }
-        ensures kept { take (length out.old.items) out.new.items ≡ out.old.items }
-    {
-        let mut sheet = Sheet::new(*out.allocator(), form);
-        hands_line(&mut sheet, "balance", self.accepted, self.rejected)?;
-        out.extend_from_slice(sheet.bytes())?;
-        write_players(out, &self.players, form)
     }
 
     /// Appends the balance: a line of all hands, and a line for each name in each unit. Out of memory it leaves
@@ -136,13 +121,13 @@ impl Balance {
         ensures block { OnOk result (out.new.items ≡ out.old.items ++ balance_lines form self.now) }
         ensures memory { OnErr result (out.new.items ≡ out.old.items) }
     {
-        let before = out.len();
-        match self.write_lines(out, form) {
-            Ok(()) => Ok(()),
-            Err(error) => {
-                out.truncate(before);
-                Err(Memory::from(error))
-            }
-        }
+        write_sums(
+            out,
+            "balance",
+            self.accepted,
+            self.rejected,
+            &self.players,
+            form,
+        )
     }
 }

@@ -8,6 +8,7 @@ ghost use Rattle.report_table.specs.TotalsSeen.{player_of};
 use crate::balance_sums::BalanceSums;
 use crate::player_key::PlayerKey;
 use crate::total_lines::unit_word;
+use crate::words::{name_and_money, name_and_number, name_and_word};
 use report_sheet::Sheet;
 use std::alloc::AllocError;
 
@@ -16,12 +17,9 @@ use std::alloc::AllocError;
 fn balance_title(sheet: &mut Sheet, hundredths: bool, sums: &BalanceSums) -> Result<(), AllocError>
     ensures { OnOk result (sheet.new ≡ with_words sheet.old (balance_title hundredths sums.now)) }
 {
-    sheet.text("balance")?;
-    sheet.text(unit_word(hundredths))?;
-    sheet.text("hands")?;
-    sheet.number(sums.hands)?;
-    sheet.text("got")?;
-    sheet.money(hundredths, sums.got)
+    name_and_word(sheet, "balance", unit_word(hundredths))?;
+    name_and_number(sheet, "hands", sums.hands)?;
+    name_and_money(sheet, "got", hundredths, sums.got)
 }
 
 /// What the player netted, and would have with even luck.
@@ -33,8 +31,7 @@ fn balance_nets(sheet: &mut Sheet, hundredths: bool, sums: &BalanceSums) -> Resu
     sheet.difference(hundredths, sums.got, sums.put)?;
     sheet.text("even")?;
     sheet.difference(hundredths, sums.even, sums.put)?;
-    sheet.text("unknown")?;
-    sheet.number(sums.unknown)
+    name_and_number(sheet, "unknown", sums.unknown)
 }
 
 /// The line of a player.

@@ -4,6 +4,7 @@ ghost use Rattle.std.specs.Prelude.{◌≡◌, OnOk};
 ghost use Rattle.report_table.specs.Causes.{carried_by_cause, carried_by_fault, cause_words, chips_words, seat_words, split_words};
 ghost use Rattle.report_sheet.specs.Sheets.{with_words};
 
+use crate::words::{name_and_money, name_and_number};
 use hand_events::BetFault;
 use hand_verdict::Cause;
 use report_sheet::Sheet;
@@ -14,8 +15,7 @@ use std::alloc::AllocError;
 fn seat_words(sheet: &mut Sheet, seat: u8) -> Result<(), AllocError>
     ensures { OnOk result (sheet.new ≡ with_words sheet.old (seat_words seat)) }
 {
-    sheet.text("seat")?;
-    sheet.number(u64::from(seat))
+    name_and_number(sheet, "seat", u64::from(seat))
 }
 
 /// What the fault of an event carries: a seat, an amount in units, or a card.
@@ -25,22 +25,22 @@ fn carried_by_fault(sheet: &mut Sheet, hundredths: bool, fault: &BetFault) -> Re
         ≡ with_words sheet.old (carried_by_fault hundredths fault.now)) }
 {
     match *fault {
-        BetFault::NotInHand => Ok(()),
-        BetFault::OutOfTurn(seat) => seat_words(sheet, seat),
-        BetFault::NothingOwed => Ok(()),
-        BetFault::CheckFacingBet(due) => sheet.money(hundredths, u128::from(due)),
-        BetFault::CallAmount(due) => sheet.money(hundredths, u128::from(due)),
-        BetFault::BetFacingBet => Ok(()),
-        BetFault::RaiseAmount(greatest) => sheet.money(hundredths, u128::from(greatest)),
-        BetFault::AboveStack(stack) => sheet.money(hundredths, u128::from(stack)),
-        BetFault::AllInWord => Ok(()),
-        BetFault::StreetEarly(seat) => seat_words(sheet, seat),
-        BetFault::StreetOrder => Ok(()),
-        BetFault::UncalledAmount(due) => sheet.money(hundredths, u128::from(due)),
+        BetFault::NotInHand
+        | BetFault::NothingOwed
+        | BetFault::BetFacingBet
+        | BetFault::AllInWord
+        | BetFault::StreetOrder
+        | BetFault::PostLate
+        | BetFault::SeatTwice => Ok(()),
+        BetFault::OutOfTurn(seat) | BetFault::StreetEarly(seat) | BetFault::TooManyCards(seat) => {
+            seat_words(sheet, seat)
+        }
+        BetFault::CheckFacingBet(units)
+        | BetFault::CallAmount(units)
+        | BetFault::RaiseAmount(units)
+        | BetFault::AboveStack(units)
+        | BetFault::UncalledAmount(units) => sheet.money(hundredths, u128::from(units)),
         BetFault::CardTwice(card) => sheet.word(&card.text()),
-        BetFault::PostLate => Ok(()),
-        BetFault::SeatTwice => Ok(()),
-        BetFault::TooManyCards(seat) => seat_words(sheet, seat),
     }
 }
 
@@ -72,10 +72,8 @@ fn split_words(
         ≡ with_words sheet.old (split_words hundredths seat due got)) }
 {
     seat_words(sheet, seat)?;
-    sheet.text("due")?;
-    sheet.money(hundredths, u128::from(due))?;
-    sheet.text("got")?;
-    sheet.money(hundredths, u128::from(got))
+    name_and_money(sheet, "due", hundredths, u128::from(due))?;
+    name_and_money(sheet, "got", hundredths, u128::from(got))
 }
 
 /// What a cause carries.

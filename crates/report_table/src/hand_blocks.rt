@@ -6,9 +6,11 @@ ghost use Rattle.report_table.specs.HandEquities.{all_in_block, hand_block};
 ghost use Rattle.report_sheet.specs.Lines.{plain};
 ghost use Rattle.report_sheet.specs.Sheets.{IsBetweenLines, with_line, with_lines};
 
+use crate::blocks::append_sheet;
 use crate::equity::Equity;
 use crate::hand_equities::{Shown, known_all_in};
 use crate::hands::{accepted_hand, rejected_hand};
+use crate::words::name_and_word;
 use card_sets::Memory;
 use hand_events::Names;
 use hand_verdict::{AllIn, HandAudit, Settlement};
@@ -22,8 +24,7 @@ fn all_in_word(sheet: &mut Sheet, word: &str) -> Result<(), AllocError>
     ensures { OnOk result (sheet.new
         ≡ with_line sheet.old (plain (codes "all-in" ∷ word.now ∷ []))) }
 {
-    sheet.text("all-in")?;
-    sheet.text(word)?;
+    name_and_word(sheet, "all-in", word)?;
     sheet.end()
 }
 
@@ -113,6 +114,5 @@ pub fn write_hand(
 {
     let mut sheet = Sheet::new(*out.allocator(), form);
     hand_block(&mut sheet, number, audit, equity)?;
-    out.extend_from_slice(sheet.bytes())?;
-    Ok(())
+    append_sheet(out, &sheet)
 }

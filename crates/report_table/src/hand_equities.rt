@@ -17,7 +17,7 @@ ghost use Rattle.showdown_tally.specs.Showdown.{eligible_in};
 use crate::alone::hand_count;
 use crate::equity::Equity;
 use crate::hands::name_text;
-use crate::words::street_word;
+use crate::words::{name_and_money, name_and_number, name_and_word, street_word};
 use card_sets::{Game, PlayerSet, Side, sides};
 use hand_events::{Names, Street};
 use hand_verdict::{PotLine, Settlement};
@@ -122,8 +122,7 @@ fn street_text(game: Game, street: Street) -> &'static str
 fn pot_name(sheet: &mut Sheet, k: u8) -> Result<(), AllocError>
     ensures { OnOk result (sheet.new ≡ with_words sheet.old (pot_name k)) }
 {
-    sheet.text("pot")?;
-    sheet.number(u64::from(k))
+    name_and_number(sheet, "pot", u64::from(k))
 }
 
 /// How all runouts end for a hand on a side of a pot.
@@ -224,8 +223,7 @@ fn expect_line(
     ensures { OnOk result (sheet.new
         ≡ with_line sheet.old (expect_line hundredths name.now units)) }
 {
-    sheet.text("expect")?;
-    sheet.money(hundredths, units)?;
+    name_and_money(sheet, "expect", hundredths, units)?;
     sheet.end_with(name)
 }
 
@@ -254,10 +252,8 @@ fn all_in_line(sheet: &mut Sheet, game: Game, street: Street, all: u64) -> Resul
     requires { IsBetweenLines sheet.old }
     ensures { OnOk result (sheet.new ≡ with_line sheet.old (all_in_line game street all)) }
 {
-    sheet.text("all-in")?;
-    sheet.text(street_text(game, street))?;
-    sheet.text("runouts")?;
-    sheet.number(all)?;
+    name_and_word(sheet, "all-in", street_text(game, street))?;
+    name_and_number(sheet, "runouts", all)?;
     sheet.end()
 }
 
@@ -325,8 +321,7 @@ fn deck_short(sheet: &mut Sheet) -> Result<(), AllocError>
     ensures { OnOk result (sheet.new ≡ with_line sheet.old short_line) }
 {
     sheet.text("all-in")?;
-    sheet.text("refused")?;
-    sheet.text("DeckShort")?;
+    name_and_word(sheet, "refused", "DeckShort")?;
     sheet.end()
 }
 

@@ -5,6 +5,7 @@ ghost use Rattle.report_table.specs.Hands.{accepted_hand, accepted_line, due_wor
 ghost use Rattle.report_sheet.specs.Sheets.{IsBetweenLines, with_line, with_lines, with_words};
 
 use crate::causes::cause_words;
+use crate::words::{name_and_money, name_and_number, name_and_word};
 use hand_events::Names;
 use hand_verdict::{Cause, Payment, PotLine, Settlement};
 use report_sheet::Sheet;
@@ -43,8 +44,7 @@ fn rejected_title(sheet: &mut Sheet, number: &[u8], line: u32) -> Result<(), All
 {
     hand_title(sheet, number)?;
     sheet.text("rejected")?;
-    sheet.text("line")?;
-    sheet.number(u64::from(line))
+    name_and_number(sheet, "line", u64::from(line))
 }
 
 /// The line of a hand with a line that departs. Lines count from 1.
@@ -89,10 +89,13 @@ pub(crate) fn accepted_line(
         ≡ with_line sheet.old (accepted_line number.now settlement.now)) }
 {
     hand_title(sheet, number)?;
-    sheet.text("accepted")?;
-    sheet.text(settlement.game.word())?;
-    sheet.text("rake")?;
-    sheet.money(settlement.hundredths, u128::from(settlement.rake))?;
+    name_and_word(sheet, "accepted", settlement.game.word())?;
+    name_and_money(
+        sheet,
+        "rake",
+        settlement.hundredths,
+        u128::from(settlement.rake),
+    )?;
     twice_words(sheet, settlement.twice)?;
     sheet.end()
 }
@@ -102,10 +105,8 @@ pub(crate) fn accepted_line(
 fn pot_title(sheet: &mut Sheet, hundredths: bool, k: u64, gross: u64) -> Result<(), AllocError>
     ensures { OnOk result (sheet.new ≡ with_words sheet.old (pot_title hundredths k gross)) }
 {
-    sheet.text("pot")?;
-    sheet.number(k)?;
-    sheet.text("gross")?;
-    sheet.money(hundredths, u128::from(gross))
+    name_and_number(sheet, "pot", k)?;
+    name_and_money(sheet, "gross", hundredths, u128::from(gross))
 }
 
 /// The rake of a pot and whether it is known who wins it, or that the names don't fit the pots.
@@ -123,8 +124,7 @@ fn pot_state(
     if !fits {
         return sheet.text("unfit");
     }
-    sheet.text("rake")?;
-    sheet.money(hundredths, u128::from(rake))?;
+    name_and_money(sheet, "rake", hundredths, u128::from(rake))?;
     sheet.text(seen_word(checked))
 }
 
@@ -159,8 +159,7 @@ fn due_words(
     if !checked || pay.got == pay.due {
         return Ok(());
     }
-    sheet.text("due")?;
-    sheet.money(hundredths, u128::from(pay.due))
+    name_and_money(sheet, "due", hundredths, u128::from(pay.due))
 }
 
 /// Who got what.
@@ -176,8 +175,7 @@ pub(crate) fn paid_line(
     ensures { OnOk result (sheet.new
         ≡ with_line sheet.old (paid_line hundredths names.now checked pay.now)) }
 {
-    sheet.text("paid")?;
-    sheet.money(hundredths, u128::from(pay.got))?;
+    name_and_money(sheet, "paid", hundredths, u128::from(pay.got))?;
     due_words(sheet, hundredths, checked, pay)?;
     sheet.end_with(name_text(names, pay.seat))
 }

@@ -24,6 +24,7 @@ mod balance;
 mod balance_laws;
 mod balance_lines;
 mod balance_sums;
+mod blocks;
 mod causes;
 mod equity;
 mod even_luck;

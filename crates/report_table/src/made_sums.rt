@@ -1,6 +1,6 @@
 //! What the hands of a run with two seats come to.
 
-ghost use Rattle.std.specs.Prelude.{◌≡◌, ℕ, ◌<◌, ◌≤◌, ◌*◌, ◌^◌, List, [], ◌∷◌, ◌++◌, true, false, decimal, OnOk, OnErr};
+ghost use Rattle.std.specs.Prelude.{◌≡◌, ℕ, ◌<◌, ◌≤◌, ◌*◌, ◌^◌, List, [], ◌∷◌, ◌++◌, true, OnOk, OnErr};
 ghost use Rattle.hand_verdict.specs.declared.verdicts.HandAudit.{HandAudit};
 ghost use Rattle.report_table.specs.Equities.{IsEquityOf, IsFull, IsOfAllIn, IsOfHand, is_asked};
 ghost use Rattle.report_table.specs.HandEquities.{full_figures, tally_figures};
@@ -8,12 +8,13 @@ ghost use Rattle.report_sheet.specs.Lines.{line_in};
 ghost use Rattle.report_table.specs.Made.{all_in_sums, hand_units, known_all_in, made_columns, made_line, made_sums, made_title, seat_units};
 ghost use Rattle.report_table.specs.MadeSeen.{AreSmall};
 ghost use Rattle.report_sheet.specs.Sheets.{IsBetweenLines, with_line, with_words};
-ghost use Rattle.report_sheet.specs.Numbers.{money};
 ghost use Rattle.showdown_tally.specs.Deals.{deal_of};
 
+use crate::blocks::append_sheet;
 use crate::equity::Equity;
 use crate::hand_equities::pot_count;
 use crate::player_sums::hand_at;
+use crate::words::{name_and_money, name_and_number};
 use card_sets::Memory;
 use hand_verdict::{AllIn, HandAudit};
 use report_sheet::{Form, Sheet};
@@ -180,28 +181,8 @@ impl MadeSums {
     {
         let mut sheet = Sheet::new(*out.allocator(), form);
         made_line(&mut sheet, hands, self.accepted, &self.all_ins)?;
-        out.extend_from_slice(sheet.bytes())?;
-        Ok(())
+        append_sheet(out, &sheet)
     }
-}
-
-/// A name of a sum, and the sum.
-#[tactic(auto, using(report_sheet::proofs::CallerLemmas::word_steps))]
-fn name_and_sum(sheet: &mut Sheet, name: &str, number: u128) -> Result<(), AllocError>
-    ensures { OnOk result (sheet.new
-        ≡ with_words sheet.old (name.now ∷ money false number ∷ [])) }
-{
-    sheet.text(name)?;
-    sheet.money(false, number)
-}
-
-/// A name of a number, and the number.
-#[tactic(auto, using(report_sheet::proofs::CallerLemmas::word_steps))]
-fn name_and_count(sheet: &mut Sheet, name: &str, number: u64) -> Result<(), AllocError>
-    ensures { OnOk result (sheet.new ≡ with_words sheet.old (name.now ∷ decimal number ∷ [])) }
-{
-    sheet.text(name)?;
-    sheet.number(number)
 }
 
 /// The first words of the line of so many hands that were made.
@@ -210,8 +191,8 @@ fn made_title(sheet: &mut Sheet, hands: u64, accepted: u64) -> Result<(), AllocE
     ensures { OnOk result (sheet.new ≡ with_words sheet.old (made_title hands accepted)) }
 {
     sheet.text("made")?;
-    name_and_count(sheet, "hands", hands)?;
-    name_and_count(sheet, "accepted", accepted)
+    name_and_number(sheet, "hands", hands)?;
+    name_and_number(sheet, "accepted", accepted)
 }
 
 /// What stands after them.
@@ -219,9 +200,9 @@ fn made_title(sheet: &mut Sheet, hands: u64, accepted: u64) -> Result<(), AllocE
 fn made_columns(sheet: &mut Sheet, sums: &AllInSums) -> Result<(), AllocError>
     ensures { OnOk result (sheet.new ≡ with_words sheet.old (made_columns sums.now)) }
 {
-    name_and_sum(sheet, "runouts", sums.runouts)?;
-    name_and_sum(sheet, "first", sums.first)?;
-    name_and_sum(sheet, "second", sums.second)
+    name_and_money(sheet, "runouts", false, sums.runouts)?;
+    name_and_money(sheet, "first", false, sums.first)?;
+    name_and_money(sheet, "second", false, sums.second)
 }
 
 /// The line of so many hands that were made.

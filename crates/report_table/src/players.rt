@@ -136,7 +136,7 @@ fn add_each_player<S: Sums>(players: &mut Players<S>, lineup: &Lineup) -> Result
 }
 
 /// The same, and out of memory it changes nothing.
-pub(crate) fn add_players<S: Sums>(players: &mut Players<S>, lineup: &Lineup) -> Result<(), Memory>
+fn add_players<S: Sums>(players: &mut Players<S>, lineup: &Lineup) -> Result<(), Memory>
     ensures added { OnOk result (players.new
         ≡ with_players S.nothing players.old
         (map (λ who. named_player lineup.now.hundredths who.1)
@@ -155,7 +155,7 @@ pub(crate) fn add_players<S: Sums>(players: &mut Players<S>, lineup: &Lineup) ->
 
 /// Adds what a hand in which no line departs gives each of its players. Takes the keys of the names of its
 /// seat lines.
-pub(crate) fn add_sums<S: Sums, H: Gives<S>>(
+fn add_sums<S: Sums, H: Gives<S>>(
     players: &mut Players<S>,
     keys: &[PlayerKey],
     lineup: &Lineup,
@@ -181,4 +181,32 @@ pub(crate) fn add_sums<S: Sums, H: Gives<S>>(
             players.add(&keys[place], &more);
         }
     }
+}
+
+/// Adds a hand in which no line departs: its players have sums, and each gets what it gives him. Out of memory it
+/// changes nothing.
+pub(crate) fn add_hand<S: Sums, H: Gives<S>>(
+    players: &mut Players<S>,
+    lineup: &Lineup,
+    hand: &H,
+) -> Result<(), Memory>
+    requires whole { H.IsWhole hand.now }
+
+    // The sums have room for one hand more.
+    requires sums { AllAreOf S.AreOf (2 ^ 32) players.old }
+    ensures added { OnOk result (players.new
+        ≡ with_given S.plus (seated_share S.nothing lineup.now.hundredths (H.share hand.now)
+        (playing lineup.now.names.now lineup.now.players))
+        (with_players S.nothing players.old
+        (map (λ who. named_player lineup.now.hundredths who.1)
+        (playing lineup.now.names.now lineup.now.players)))) }
+    ensures small { OnOk result ((count : ℕ) → AllAreOf S.AreOf count players.old
+        → AllAreOf S.AreOf (count + 1) players.new) }
+    ensures memory { OnErr result (players.new ≡ players.old) }
+{
+    // Before anything is changed: no memory for the keys then leaves the players as they were.
+    let keys = lineup.keys(players.allocator())?;
+    add_players(players, lineup)?;
+    add_sums(players, &keys, lineup, hand);
+    Ok(())
 }

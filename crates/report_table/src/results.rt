@@ -8,9 +8,11 @@ ghost use Rattle.report_table.specs.Equities.{IsOfAllIn, IsOfHand, is_asked};
 ghost use Rattle.report_table.specs.Results.{accepted_results, even_word, net_words, player_result, result_line, result_title, results_block};
 ghost use Rattle.report_sheet.specs.Sheets.{IsBetweenLines, with_line, with_lines, with_words};
 
+use crate::blocks::append_sheet;
 use crate::equity::Equity;
 use crate::even_luck::{even_of, got_of};
 use crate::hands::{accepted_line, name_text, rejected_hand};
+use crate::words::name_and_money;
 use card_sets::{Memory, PlayerSet};
 use hand_events::Names;
 use hand_verdict::{AllIn, HandAudit, SeatChips, Settlement};
@@ -50,10 +52,8 @@ fn result_title(sheet: &mut Sheet, hundredths: bool, chips: SeatChips) -> Result
     ensures { OnOk result (sheet.new ≡ with_words sheet.old (result_title hundredths chips)) }
 {
     sheet.text("result")?;
-    sheet.text("had")?;
-    sheet.money(hundredths, u128::from(chips.had))?;
-    sheet.text("put")?;
-    sheet.money(hundredths, u128::from(chips.put))
+    name_and_money(sheet, "had", hundredths, u128::from(chips.had))?;
+    name_and_money(sheet, "put", hundredths, u128::from(chips.put))
 }
 
 /// What a player got and netted.
@@ -61,8 +61,7 @@ fn result_title(sheet: &mut Sheet, hundredths: bool, chips: SeatChips) -> Result
 fn net_words(sheet: &mut Sheet, hundredths: bool, put: u64, got: u128) -> Result<(), AllocError>
     ensures { OnOk result (sheet.new ≡ with_words sheet.old (net_words hundredths put got)) }
 {
-    sheet.text("got")?;
-    sheet.money(hundredths, got)?;
+    name_and_money(sheet, "got", hundredths, got)?;
     sheet.text("net")?;
     sheet.difference(hundredths, got, u128::from(put))
 }
@@ -214,6 +213,5 @@ pub fn write_results(
 {
     let mut sheet = Sheet::new(*out.allocator(), form);
     results_block(&mut sheet, number, audit, chips, equity)?;
-    out.extend_from_slice(sheet.bytes())?;
-    Ok(())
+    append_sheet(out, &sheet)
 }

@@ -8,9 +8,11 @@ ghost use Rattle.hand_verdict.specs.SeatSums.{due_by, due_of};
 ghost use Rattle.report_table.specs.Settles.{accepted_settlement, are_checked, given_line, given_lines, odd_word, part_line, part_lines, part_title, settle_block, settle_line, settle_lines, settle_lines_of, settled_lines, settled_pot, settled_pots_from, share_line, shares_at, split_lines, units_words};
 ghost use Rattle.report_sheet.specs.Sheets.{IsBetweenLines, with_line, with_lines, with_words};
 
+use crate::blocks::append_sheet;
 use crate::even_luck::got_of;
 use crate::hands::{accepted_hand, accepted_line, name_text, paid_line, pot_line, rejected_hand};
 use crate::player_sums::payment_of;
+use crate::words::{name_and_money, name_and_number, name_and_word};
 use card_sets::{Memory, PlayerSet};
 use hand_events::Names;
 use hand_verdict::{
@@ -71,8 +73,7 @@ fn odd_word(odd: bool) -> &'static str
 fn part_title(sheet: &mut Sheet, k: u64, share: &PartShare) -> Result<(), AllocError>
     ensures { OnOk result (sheet.new ≡ with_words sheet.old (part_title k share.now)) }
 {
-    sheet.text("part")?;
-    sheet.number(k)?;
+    name_and_number(sheet, "part", k)?;
     sheet.number(u64::from(share.board))?;
     sheet.text(side_word(share.side))
 }
@@ -83,10 +84,8 @@ fn units_words(sheet: &mut Sheet, hundredths: bool, share: &PartShare) -> Result
     ensures { OnOk result (sheet.new
         ≡ with_words sheet.old (units_words hundredths share.now)) }
 {
-    sheet.text("units")?;
-    sheet.money(hundredths, u128::from(share.units))?;
-    sheet.text("odd")?;
-    sheet.text(odd_word(share.odd))
+    name_and_money(sheet, "units", hundredths, u128::from(share.units))?;
+    name_and_word(sheet, "odd", odd_word(share.odd))
 }
 
 /// The line of a share. Pots count from 0.
@@ -120,12 +119,9 @@ fn share_line(
     ensures { OnOk result (sheet.new
         ≡ with_line sheet.old (share_line hundredths names.now k pay.now)) }
 {
-    sheet.text("share")?;
-    sheet.number(k)?;
-    sheet.text("due")?;
-    sheet.money(hundredths, u128::from(pay.due))?;
-    sheet.text("got")?;
-    sheet.money(hundredths, u128::from(pay.got))?;
+    name_and_number(sheet, "share", k)?;
+    name_and_money(sheet, "due", hundredths, u128::from(pay.due))?;
+    name_and_money(sheet, "got", hundredths, u128::from(pay.got))?;
     sheet.end_with(name_text(names, pay.seat))
 }
 
@@ -415,6 +411,5 @@ pub fn write_settlement(
 {
     let mut sheet = Sheet::new(*out.allocator(), form);
     settle_block(&mut sheet, number, hand)?;
-    out.extend_from_slice(sheet.bytes())?;
-    Ok(())
+    append_sheet(out, &sheet)
 }

@@ -7,6 +7,7 @@ ghost use Rattle.report_table.specs.Equities.{IsEquityOf};
 ghost use Rattle.report_sheet.specs.Sheets.{IsBetweenLines, with_lines};
 ghost use Rattle.report_table.specs.Spots.{alone, seen_spot, spot_block};
 
+use crate::blocks::append_sheet;
 use crate::equity::Equity;
 use crate::spots::{counted_spot, rejected_spot};
 use card_sets::{Known, Memory};
@@ -81,6 +82,5 @@ pub fn write_spot(
 {
     let mut sheet = Sheet::new(*out.allocator(), form);
     spot_block(&mut sheet, place, line, known, equity)?;
-    out.extend_from_slice(sheet.bytes())?;
-    Ok(())
+    append_sheet(out, &sheet)
 }

@@ -10,7 +10,7 @@ ghost use Rattle.showdown_tally.specs.Cells.{cell_at, units_at};
 ghost use Rattle.showdown_tally.specs.Tallies.{Counts, runouts_after};
 
 use crate::alone::hand_count;
-use crate::words::spot_fault;
+use crate::words::{name_and_number, spot_fault};
 use card_sets::{Game, Known, sides};
 use report_sheet::Sheet;
 use showdown_tally::Tally;
@@ -41,8 +41,7 @@ fn counted_line(sheet: &mut Sheet, place: u64, game: Game, all: u64) -> Result<(
     ensures { OnOk result (sheet.new ≡ with_line sheet.old (counted_line place game all)) }
 {
     sheet.spot_and_game(place, game)?;
-    sheet.text("runouts")?;
-    sheet.number(all)?;
+    name_and_number(sheet, "runouts", all)?;
     sheet.end()
 }
 

@@ -10,9 +10,10 @@ ghost use Rattle.report_table.specs.Totals.{is_counted};
 ghost use Rattle.report_table.specs.Words.{later_word};
 ghost use Rattle.showdown_tally.specs.Deals.{deal_of};
 
+use crate::blocks::append_sheet;
 use crate::equity::Equity;
 use crate::hand_equities::{Shown, pot_equities};
-use crate::words::later_word;
+use crate::words::{later_word, name_and_number, name_and_word};
 use card_sets::Memory;
 use hand_events::{Names, Street};
 use hand_verdict::{AllIn, HandAudit, Settlement, StreetState};
@@ -83,8 +84,7 @@ pub fn has_counted(audit: &HandAudit, equity: &Equity) -> bool
 fn street_name(sheet: &mut Sheet, street: Street) -> Result<(), AllocError>
     ensures { OnOk result (sheet.new ≡ with_words sheet.old (street_name street)) }
 {
-    sheet.text("street")?;
-    sheet.text(later_text(street))
+    name_and_word(sheet, "street", later_text(street))
 }
 
 /// What is said of a street in one word.
@@ -105,8 +105,7 @@ fn street_line(sheet: &mut Sheet, street: Street, all: u64) -> Result<(), AllocE
     ensures { OnOk result (sheet.new ≡ with_line sheet.old (street_line street all)) }
 {
     street_name(sheet, street)?;
-    sheet.text("runouts")?;
-    sheet.number(all)?;
+    name_and_number(sheet, "runouts", all)?;
     sheet.end()
 }
 
@@ -217,6 +216,5 @@ pub fn write_street(
 {
     let mut sheet = Sheet::new(*out.allocator(), form);
     street_block(&mut sheet, audit, state, equity)?;
-    out.extend_from_slice(sheet.bytes())?;
-    Ok(())
+    append_sheet(out, &sheet)
 }

@@ -7,10 +7,13 @@ ghost use Rattle.report_table.specs.SumsSeen.{lines_of};
 ghost use Rattle.report_table.specs.Totals.{hands_line, total_line, total_title, unit_word};
 ghost use Rattle.report_table.specs.TotalsSeen.{player_of};
 
+use crate::blocks::append_sheet;
 use crate::player_key::PlayerKey;
 use crate::player_rows::{PlayerRow, Players};
 use crate::player_sums::PlayerSums;
 use crate::sums::Sums;
+use crate::words::{name_and_money, name_and_number, name_and_word};
+use card_sets::Memory;
 use report_sheet::{Form, Sheet};
 use std::alloc::AllocError;
 
@@ -23,24 +26,16 @@ pub(crate) fn unit_word(hundredths: bool) -> &'static str
 
 /// The first line: the word of what is summed up, and how many hands there are.
 #[tactic(auto, using(report_sheet::proofs::CallerLemmas::sheet_steps), unfolding(crate::specs::Totals::hands_line))]
-pub(crate) fn hands_line(
-    sheet: &mut Sheet,
-    word: &str,
-    accepted: u64,
-    rejected: u64,
-) -> Result<(), AllocError>
+fn hands_line(sheet: &mut Sheet, word: &str, accepted: u64, rejected: u64) -> Result<(), AllocError>
     requires between { IsBetweenLines sheet.old }
     requires few { accepted + rejected ≤ 2 ^ 32 }
     ensures { OnOk result (sheet.new
         ≡ with_line sheet.old (hands_line word.now (accepted + rejected) accepted rejected)) }
 {
     sheet.text(word)?;
-    sheet.text("hands")?;
-    sheet.number(accepted + rejected)?;
-    sheet.text("accepted")?;
-    sheet.number(accepted)?;
-    sheet.text("rejected")?;
-    sheet.number(rejected)?;
+    name_and_number(sheet, "hands", accepted + rejected)?;
+    name_and_number(sheet, "accepted", accepted)?;
+    name_and_number(sheet, "rejected", rejected)?;
     sheet.end()
 }
 
@@ -49,12 +44,9 @@ pub(crate) fn hands_line(
 fn total_title(sheet: &mut Sheet, hundredths: bool, sums: &PlayerSums) -> Result<(), AllocError>
     ensures { OnOk result (sheet.new ≡ with_words sheet.old (total_title hundredths sums.now)) }
 {
-    sheet.text("total")?;
-    sheet.text(unit_word(hundredths))?;
-    sheet.text("hands")?;
-    sheet.number(sums.hands)?;
-    sheet.text("allins")?;
-    sheet.number(sums.all_ins)
+    name_and_word(sheet, "total", unit_word(hundredths))?;
+    name_and_number(sheet, "hands", sums.hands)?;
+    name_and_number(sheet, "allins", sums.all_ins)
 }
 
 /// The line of a player.
@@ -69,36 +61,25 @@ pub(crate) fn total_line(
         ≡ with_line sheet.old (total_line (player_of key.now) sums.now)) }
 {
     total_title(sheet, key.hundredths, sums)?;
-    sheet.text("collected")?;
-    sheet.money(key.hundredths, sums.collected)?;
-    sheet.text("expected")?;
-    sheet.money(key.hundredths, sums.expected)?;
+    name_and_money(sheet, "collected", key.hundredths, sums.collected)?;
+    name_and_money(sheet, "expected", key.hundredths, sums.expected)?;
     sheet.end_with(key.name.as_slice())
 }
 
 /// Appends the line of a player. Out of memory leaves `out` as it was.
-fn write_player<S: Sums>(
-    out: &mut Vec<u8>,
-    row: &PlayerRow<S>,
-    form: Form,
-) -> Result<(), AllocError>
+fn write_player<S: Sums>(out: &mut Vec<u8>, row: &PlayerRow<S>, form: Form) -> Result<(), Memory>
     ensures line { OnOk result (out.new.items
         ≡ out.old.items ++ line_in form (S.line (player_of row.now.key) row.now.sums)) }
     ensures memory { OnErr result (out.new.items ≡ out.old.items) }
 {
     let mut sheet = Sheet::new(*out.allocator(), form);
     row.sums.write_line(&mut sheet, &row.key)?;
-    out.extend_from_slice(sheet.bytes())?;
-    Ok(())
+    append_sheet(out, &sheet)
 }
 
 /// Appends the lines of all players, one by one, so that no other place holds them too. Out of memory leaves
 /// what stood in `out`, and may leave some first lines.
-pub(crate) fn write_players<S: Sums>(
-    out: &mut Vec<u8>,
-    players: &Players<S>,
-    form: Form,
-) -> Result<(), AllocError>
+fn write_players<S: Sums>(out: &mut Vec<u8>, players: &Players<S>, form: Form) -> Result<(), Memory>
     ensures lines { OnOk result (out.new.items
         ≡ out.old.items ++ lines_of S.line form players.now) }
     ensures kept { take (length out.old.items) out.new.items ≡ out.old.items }
@@ -109,4 +90,51 @@ pub(crate) fn write_players<S: Sums>(
         }
     }
     Ok(())
+}
+
+/// Appends a line of all hands, with the word of what is summed up, and the lines of all players. Out of memory
+/// leaves what stood in `out`, and may leave some first lines.
+fn write_lines<S: Sums>(
+    out: &mut Vec<u8>,
+    word: &str,
+    accepted: u64,
+    rejected: u64,
+    players: &Players<S>,
+    form: Form,
+) -> Result<(), Memory>
+    requires few { accepted + rejected ≤ 2 ^ 32 }
+    ensures lines { OnOk result (out.new.items
+        ≡ out.old.items ++ (line_in form (hands_line word.now (accepted + rejected) accepted rejected)
+        ++ lines_of S.line form players.now)) }
+    ensures kept { take (length out.old.items) out.new.items ≡ out.old.items }
+{
+    let mut sheet = Sheet::new(*out.allocator(), form);
+    hands_line(&mut sheet, word, accepted, rejected)?;
+    append_sheet(out, &sheet)?;
+    write_players(out, players, form)
+}
+
+/// The same, and out of memory leaves `out` as it was.
+pub(crate) fn write_sums<S: Sums>(
+    out: &mut Vec<u8>,
+    word: &str,
+    accepted: u64,
+    rejected: u64,
+    players: &Players<S>,
+    form: Form,
+) -> Result<(), Memory>
+    requires few { accepted + rejected ≤ 2 ^ 32 }
+    ensures lines { OnOk result (out.new.items
+        ≡ out.old.items ++ (line_in form (hands_line word.now (accepted + rejected) accepted rejected)
+        ++ lines_of S.line form players.now)) }
+    ensures memory { OnErr result (out.new.items ≡ out.old.items) }
+{
+    let before = out.len();
+    match write_lines(out, word, accepted, rejected, players, form) {
+        Ok(()) => Ok(()),
+        Err(error) => {
+            out.truncate(before);
+            Err(error)
+        }
+    }
 }

@@ -1,6 +1,6 @@
 //! What all hands of a run come to.
 
-ghost use Rattle.std.specs.Prelude.{◌≡◌, ℕ, ◌<◌, ◌^◌, List, [], ◌∷◌, ◌++◌, true, length, take, OnOk, OnErr};
+ghost use Rattle.std.specs.Prelude.{◌≡◌, ℕ, ◌<◌, ◌^◌, List, [], ◌∷◌, ◌++◌, true, OnOk, OnErr};
 ghost use Rattle.hand_verdict.specs.declared.verdicts.HandAudit.{HandAudit};
 ghost use Rattle.report_table.specs.Equities.{IsOfHand, is_asked};
 ghost use Rattle.report_table.specs.Totals.{run_block, totals_of};
@@ -8,12 +8,12 @@ ghost use Rattle.report_table.specs.Totals.{run_block, totals_of};
 use crate::equity::Equity;
 use crate::player_rows::Players;
 use crate::player_sums::{PlayedHand, PlayerSums};
-use crate::players::{Lineup, add_players, add_sums};
-use crate::total_lines::{hands_line, write_players};
+use crate::players::{Lineup, add_hand};
+use crate::total_lines::write_sums;
 use card_sets::Memory;
 use hand_verdict::HandAudit;
-use report_sheet::{Form, Sheet};
-use std::alloc::{AllocError, Global};
+use report_sheet::Form;
+use std::alloc::Global;
 use std::marker::Model;
 
 /// What all hands of a run come to: how many there are, and the sums of each name in each unit, in the
@@ -96,29 +96,14 @@ impl Totals {
             names,
             players: *players,
         };
-        // Before anything is changed: no memory for the keys then leaves the totals as they were.
-        let keys = lineup.keys(self.players.allocator())?;
-        add_players(&mut self.players, &lineup)?;
         let hand = PlayedHand {
             settlement,
             all_in,
             equity,
         };
-        add_sums(&mut self.players, &keys, &lineup, &hand);
+        add_hand(&mut self.players, &lineup, &hand)?;
         self.accepted += 1;
         Ok(())
-    }
-
-    /// The same as `write`, and out of memory may leave some first lines.
-    #[tactic(auto, unfolding(crate::specs::Totals::run_block))]
-    fn write_lines(&self, out: &mut Vec<u8>, form: Form) -> Result<(), AllocError>
-        ensures block { OnOk result (out.new.items ≡ out.old.items ++ run_block form self.now) }
-        ensures kept { take (length out.old.items) out.new.items ≡ out.old.items }
-    {
-        let mut sheet = Sheet::new(*out.allocator(), form);
-        hands_line(&mut sheet, "totals", self.accepted, self.rejected)?;
-        out.extend_from_slice(sheet.bytes())?;
-        write_players(out, &self.players, form)
     }
 
     /// Appends the totals: a line of all hands, and a line for each name in each unit. Out of memory it
@@ -127,13 +112,13 @@ impl Totals {
         ensures block { OnOk result (out.new.items ≡ out.old.items ++ run_block form self.now) }
         ensures memory { OnErr result (out.new.items ≡ out.old.items) }
     {
-        let before = out.len();
-        match self.write_lines(out, form) {
-            Ok(()) => Ok(()),
-            Err(error) => {
-                out.truncate(before);
-                Err(Memory::from(error))
-            }
-        }
+        write_sums(
+            out,
+            "totals",
+            self.accepted,
+            self.rejected,
+            &self.players,
+            form,
+        )
     }
 }

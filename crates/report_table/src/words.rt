@@ -1,6 +1,7 @@
 //! The words of the report.
 
-ghost use Rattle.std.specs.Prelude.{◌≡◌, OnOk, option_map};
+ghost use Rattle.std.specs.Prelude.{◌≡◌, [], ◌∷◌, decimal, OnOk, option_map};
+ghost use Rattle.report_sheet.specs.Numbers.{money};
 ghost use Rattle.report_sheet.specs.Sheets.{with_words};
 ghost use Rattle.report_table.specs.Words.{fault_words, first_word, later_word, street_word};
 
@@ -75,4 +76,37 @@ pub(crate) fn spot_fault(sheet: &mut Sheet, fault: &SpotFault) -> Result<(), All
         SpotFault::TwiceCard(card) => sheet.word(&card.text()),
         _ => Ok(()),
     }
+}
+
+/// A name, and the number that stands after it.
+#[tactic(auto, using(report_sheet::proofs::CallerLemmas::word_steps))]
+pub(crate) fn name_and_number(sheet: &mut Sheet, name: &str, number: u64) -> Result<(), AllocError>
+    ensures { OnOk result (sheet.new ≡ with_words sheet.old (name.now ∷ decimal number ∷ [])) }
+{
+    sheet.text(name)?;
+    sheet.number(number)
+}
+
+/// A name, and the amount in units that stands after it.
+#[tactic(auto, using(report_sheet::proofs::CallerLemmas::word_steps))]
+pub(crate) fn name_and_money(
+    sheet: &mut Sheet,
+    name: &str,
+    hundredths: bool,
+    units: u128,
+) -> Result<(), AllocError>
+    ensures { OnOk result (sheet.new
+        ≡ with_words sheet.old (name.now ∷ money hundredths units ∷ [])) }
+{
+    sheet.text(name)?;
+    sheet.money(hundredths, units)
+}
+
+/// A name, and the word that stands after it.
+#[tactic(auto, using(report_sheet::proofs::CallerLemmas::word_steps))]
+pub(crate) fn name_and_word(sheet: &mut Sheet, name: &str, word: &str) -> Result<(), AllocError>
+    ensures { OnOk result (sheet.new ≡ with_words sheet.old (name.now ∷ word.now ∷ [])) }
+{
+    sheet.text(name)?;
+    sheet.text(word)
 }

@@ -8,5 +8,4 @@ returns c =
     let two = then_words _ _ _ _ _ c.in_ok-text.ensures c.in_ok-difference.ensures in
     let three = then_words _ _ _ _ _ two c.in_ok-text-2.ensures in
     let four = then_words _ _ _ _ _ three c.in_ok-difference-2.ensures in
-    let five = then_words _ _ _ _ _ four c.in_ok-text-3.ensures in
-    rw (five, words_more) at c.number.ensures
+    rw (four, words_more) at c.name_and_number.ensures

@@ -5,6 +5,5 @@ use Rattle.report_table.proofs.hand_equities.deck_short.Goals as goal
 pub returns : goal.returns
 unfolding short_line
 returns c =
-    let two = then_words _ _ _ _ _ c.in_ok-text.ensures c.in_ok-text-2.ensures in
-    let three = then_words _ _ _ _ _ two c.in_ok-text-3.ensures in
-    rw (line_ends _ _ _ three c.requires) at c.end.ensures
+    let two = then_words _ _ _ _ _ c.in_ok-text.ensures c.in_ok-name_and_word.ensures in
+    rw (line_ends _ _ _ two c.requires) at c.end.ensures

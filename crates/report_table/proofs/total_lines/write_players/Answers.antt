@@ -1,4 +1,5 @@
-use Rattle.std.proofs.Common.{◌++◌, ap, sym, ◌∙◌}
+use Rattle.std.proofs.Common.{◌++◌, length, take, ap, sym, ◌∙◌}
+use Rattle.std.proofs.Math.Seq.{take-append_seam}
 use Rattle.report_sheet.specs.Lines.{line_in}
 use Rattle.report_table.specs.TotalsSeen.{player_of}
 use Rattle.report_table.proofs.PlayerFacts.{lines_more, lines_same}
@@ -18,3 +19,13 @@ loop-place-preserved g c =
       | in_default w ↦
           lines_same g.S.Sums.line form players c.loop-place.place before _ (sym w.in_default.ensures) (ap (λ out. out.items) w.out-is ∙ c.loop-place.invariant)
     ]
+
+pub returns-in_err-write_player-clause-kept : goal.returns-in_err-write_player-clause-kept
+returns-in_err-write_player-clause-kept g c =
+    let before = c.args.out.now.items in
+    ap (take (length before)) (c.in_err-write_player.ensures.memory ∙ c.loop-place.invariant) ∙ take-append_seam before _
+
+pub returns-clause-kept : goal.returns-clause-kept
+returns-clause-kept g c =
+    let before = c.args.out.now.items in
+    ap (take (length before)) c.loop-place.invariant ∙ take-append_seam before _
