@@ -26,12 +26,12 @@ use Rattle.showdown_tally.proofs.CallerLemmas.{Deals, IsChoice, filtered, runout
 use Rattle.runout_walk.specs.Bests.{best_set, best_value}
 use Rattle.board_runouts.specs.Highs.{plain_of, high_of, flush_of}
 use Rattle.board_runouts.specs.Boards.{IsBoardAlone, AreFirst, board_lacks}
-use Rattle.board_runouts.specs.BoardWith.{IsBoardWith, low_number}
-use Rattle.board_runouts.specs.HighParts.{flush_part, high_number, plain_number, suited_number}
+use Rattle.board_ranks.specs.BoardWith.{IsBoardWith, low_number}
+use Rattle.board_ranks.specs.HighParts.{flush_part, high_number, plain_number, suited_number}
 use Rattle.board_runouts.specs.KeptRows.{AreWorthsAfter, HasNoFlush, IsFlushPart, IsRowFor}
 use Rattle.board_runouts.specs.SideRows.{AreRanksOf, IsBestOf, IsDealtWith}
-use Rattle.board_runouts.specs.Suits.{AreMost, IsShortWith}
-use Rattle.board_runouts.specs.Values.{one_of}
+use Rattle.board_ranks.specs.Suits.{AreMost, IsShortWith}
+use Rattle.board_ranks.specs.Values.{one_of}
 use Rattle.board_runouts.specs.declared.row.Row.{Row}
 use Rattle.board_runouts.specs.declared.sides.Worths.{Worths}
 use Rattle.board_runouts.specs.declared.spot.BoardSpot.{BoardSpot}
@@ -39,8 +39,8 @@ use Rattle.card_sets.specs.PlayerSets.{AreBelow}
 use Rattle.board_runouts.proofs.HighWinners.{Keeps, outcome_best, first_wins, second_wins}
 use Rattle.runout_walk.proofs.CallerLemmas.{set-same}
 use Rattle.board_runouts.proofs.BoardRunouts.{board_alone, board_apart, count-union, front-has, full_after, hand_apart, own_alone, pair_rises, set_of_member}
-use Rattle.board_runouts.proofs.HighLaws.{board_is_five, high_of_few, high_no_suit, high_one_suit, suited_again}
-use Rattle.board_runouts.proofs.SuitParts.{suit_fewer}
+use Rattle.board_ranks.proofs.CallerLemmas.{board_is_five, high_of_few, suit_fewer, suited_again}
+use Rattle.board_runouts.proofs.HighNumbers.{high_no_suit, high_one_suit, low_is}
 
 -- what is known of a table after a runout of one set
 pub record IsScene (st : State) (set : List ℕ) : Type 0 where
@@ -174,12 +174,12 @@ abbrev pub AreLows : State → List ℕ → ℕ → ℕ → List (Option ℕ) �
 AreLows st taken low high values = (h : ℕ) (full : List ℕ) → h < length st.hands → IsBoardWith (hand_of st h) (union st.board taken) low high full → number_of values h ≡ low_number st.game (hand_of st h) full
 
 -- that is what they are worth after a runout that is dealt with these ranks
-pub worths_after : (st : State) (taken ranks : List ℕ) (low high : ℕ) (runout : List (List ℕ)) (worths : Worths) → IsCardSet st.board → IsCardSet taken → AreFirst st taken → AreRanksOf ranks taken → IsDealtWith st ranks low high runout
+pub worths_after : (st : State) (taken ranks : List ℕ) (low high : ℕ) (runout : List (List ℕ)) (worths : Worths) → has_board st.game ≡ true → IsCardSet st.board → IsCardSet taken → AreFirst st taken → AreRanksOf ranks taken → IsDealtWith st ranks low high runout
     → ArePlain st taken low high worths.highs → AreLows st taken low high worths.lows → AreWorthsAfter st runout worths
-worths_after st taken ranks low high runout worths board is first are dealt plain lows = record {
+worths_after st taken ranks low high runout worths game board is first are dealt plain lows = record {
   as_highs = λ h l. plain h (board_after st runout) l (board_is st taken ranks low high h runout board is first are l dealt) ∙ ap (λ own. plain_number st.game own (board_after st runout)) (sym (dealt.own h l));
   as_lows = record {
-    numbers = λ h l. lows h (board_after st runout) l (board_is st taken ranks low high h runout board is first are l dealt) ∙ ap (λ own. low_number st.game own (board_after st runout)) (sym (dealt.own h l));
+    numbers = λ h l. lows h (board_after st runout) l (board_is st taken ranks low high h runout board is first are l dealt) ∙ ap (λ own. low_number st.game own (board_after st runout)) (sym (dealt.own h l)) ∙ low_is st.game (own_after st runout h) (board_after st runout) game;
     full = dealt.full;
   };
 }

@@ -20,7 +20,7 @@ use Rattle.card_sets.proofs.CallerLemmas.{Apart}
 use Rattle.showdown_tally.proofs.CallerLemmas.{Deals, IsChoice, runout_deals, hand_of, Sound, unseen_free, any-index, full_own, full_board, full_apart}
 use Rattle.board_runouts.specs.Boards.{IsBoardAlone, board_lacks}
 use Rattle.board_runouts.specs.Pairs.{cards_of_pair}
-use Rattle.board_runouts.specs.declared.pair.Pair.{Pair}
+use Rattle.board_ranks.specs.declared.pair.Pair.{Pair}
 use Rattle.runout_walk.proofs.CallerLemmas.{in_range, length-range, member-map, union-none}
 
 one-or : (f : ℕ → Bool) (p q : Bool) (n : ℕ) → (p ≡ true → q ≡ true → ⊥) → count_by f (cond (p || q) (n ∷ []) []) ≡ count_by f (cond p (n ∷ []) []) + count_by f (cond q (n ∷ []) [])

@@ -1,5 +1,5 @@
 -- Outcomes of all pots, and codes for them.
-use Rattle.std.proofs.Common.{◌≡◌, ℕ, zero, suc, ◌+◌, ◌*◌, ◌<◌, List, [], ◌∷◌, ◌++◌, length, refl, ap, ◌∙◌, arith, set, Some, subst}
+use Rattle.std.proofs.Common.{◌≡◌, ℕ, zero, suc, ◌+◌, ◌*◌, ◌<◌, List, [], ◌∷◌, length, refl, ap, ◌∙◌, arith, set, Some}
 use Rattle.std.specs.Prelude.{replicate, slice_get, slice_index, slice_index_or}
 use Rattle.std.proofs.Math.ListN.{length-set}
 use Rattle.std.proofs.lemmas.List.{get_or-set_other}
@@ -56,9 +56,3 @@ pub ends_count : (pot : ℕ) (side : Side) (ends : List (List ℕ)) → length (
 unfolding ends_of
 ends_count pot side [] = refl
 ends_count pot side (outcome ∷ ends) = ap suc (ends_count pot side ends)
-
-pub all_push : {X : Type 0} (P : X → Type 0) (xs : List X) (v : X) → ((i : ℕ) (x : X) → slice_get xs i ≡ Some x → P x) → P v → (i : ℕ) (x : X) → slice_get (xs ++ v ∷ []) i ≡ Some x → P x
-all_push P [] v all is zero x at = let same : v ≡ x = cc in subst P same is
-all_push P [] v all is (suc i) x at = cc
-all_push P (y ∷ xs) v all is zero x at = all zero x at
-all_push P (y ∷ xs) v all is (suc i) x at = all_push P xs v (λ k z e. all (suc k) z e) is i x at

@@ -20,14 +20,15 @@ use Rattle.board_runouts.specs.KeptRows.{HasNoFlush, IsNamed, PairsGrow, pair_pl
 use Rattle.board_runouts.specs.SideRows.{AreRanksOf, IsBestOf, IsSideRow}
 use Rattle.board_runouts.specs.Pairs.{cards_of_pair}
 use Rattle.board_runouts.specs.declared.codes.Codes.{Codes}
-use Rattle.board_runouts.specs.declared.pair.Pair.{Pair}
+use Rattle.board_ranks.specs.declared.pair.Pair.{Pair}
 use Rattle.board_runouts.specs.declared.row.Row.{Row}
 use Rattle.board_runouts.proofs.HighWinners.{Keeps}
 use Rattle.board_runouts.proofs.BoardDealt.{IsScene, dealt_there, pair_inside, plain_main, ranks_there}
 use Rattle.board_runouts.proofs.CodeSets.{ends_count, ends_index}
 use Rattle.runout_walk.proofs.CallerLemmas.{range-none}
 use Rattle.board_runouts.proofs.PackedSums.{AreCoded, fields_counted, sum_fits}
-use Rattle.board_runouts.proofs.PairCounts.{count_few, count_next, count_one, some_row}
+use Rattle.board_runouts.proofs.PairCounts.{count_few, some_row}
+use Rattle.board_ranks.proofs.CallerLemmas.{count_next, count_one}
 
 -- one of two numbers, by the side
 abbrev of_side : Side → ℕ → ℕ → ℕ

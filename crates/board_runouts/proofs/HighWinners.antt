@@ -16,7 +16,7 @@ use Rattle.showdown_tally.specs.Showdown.{Showdown, best, is_beaten_by, own_afte
 use Rattle.showdown_tally.specs.Sides.{side_outcome}
 use Rattle.runout_walk.specs.Bests.{best_value, best_set}
 use Rattle.runout_walk.proofs.CallerLemmas.{ordered_outcome}
-use Rattle.board_runouts.specs.HighParts.{high_number}
+use Rattle.board_ranks.specs.HighParts.{high_number}
 use Rattle.board_runouts.specs.Highs.{high_of}
 
 -- a test of the greater of two numbers

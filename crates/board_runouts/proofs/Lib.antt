@@ -1,9 +1,5 @@
-pub mod SuitParts
-pub mod HighLaws
-pub mod HighCalls
-pub mod RankCounts
-pub mod FullBoards
-pub mod ThreeCards
+pub mod HighNumbers
+pub mod PassingMembers
 pub mod PairListing
 pub mod BoardRunouts
 pub mod HighWinners
@@ -14,7 +10,6 @@ pub mod PackedSums
 pub mod CodeSets
 pub mod PairCounts
 pub mod CodedPairs
-pub mod SieveLists
 pub mod PlainPairs
 pub mod BoardLeaf
 pub mod NoTable

@@ -4,7 +4,7 @@ use Rattle.std.specs.Prelude.{slice_get, slice_index, slice_index_or}
 use Rattle.std.specs.List.{count_by, slice_range}
 use Rattle.std.proofs.lemmas.Bool.{cases_eq}
 use Rattle.std.proofs.lemmas.List.{length-take}
-use Rattle.std.proofs.lemmas.List.Sums.{count_by-le-length, sum_by-append, sum_by-cons}
+use Rattle.std.proofs.lemmas.List.Sums.{count_by-le-length}
 use mathlib.Core.Bool.{true≢false}
 use Rattle.card_sets.specs.Choose.{choose}
 use Rattle.card_sets.specs.Games.{has_board, has_side}
@@ -20,25 +20,14 @@ use Rattle.board_runouts.specs.Pairs.{cards_of_pair}
 use Rattle.card_sets.specs.Cards.{rank_of}
 use Rattle.card_sets.specs.PlayerSets.{AreBelow}
 use Rattle.showdown_tally.specs.Showdown.{eligible_in}
-use Rattle.board_runouts.specs.declared.pair.Pair.{Pair}
+use Rattle.board_ranks.specs.declared.pair.Pair.{Pair}
 use Rattle.board_runouts.specs.declared.row.Row.{Row}
 use Rattle.board_runouts.proofs.HighWinners.{Keeps}
 use Rattle.board_runouts.proofs.BoardDealt.{IsScene, plain_main, row_there}
 use Rattle.runout_walk.proofs.CallerLemmas.{count_map}
+use Rattle.board_ranks.proofs.CallerLemmas.{count_next, count_one}
 
--- how many of one pass
-pub count_one : {X : Type 0} (test : X → Bool) (x : X) → count_by test (x ∷ []) ≡ cond (test x) 1 0
-count_one test x = let c : count_by test (x ∷ []) ≡ cond (test x) 1 0 + count_by test [] = sum_by-cons (λ y. cond (test y) 1 0) x [] in omega (arith, c)
-
--- one more from the front
-pub take_next : {X : Type 0} (xs : List X) (i : ℕ) (x : X) → slice_get xs i ≡ Some x → take (suc i) xs ≡ take i xs ++ x ∷ []
-take_next [] i x e = cc
-take_next (y ∷ xs) zero x e = let same : y ≡ x = cc in ap (λ v. v ∷ []) same
-take_next (y ∷ xs) (suc i) x e = ap (λ l. y ∷ l) (take_next xs i x e)
-
-pub count_next : {X : Type 0} (test : X → Bool) (xs : List X) (i : ℕ) (x : X) → slice_get xs i ≡ Some x → count_by test (take (suc i) xs) ≡ count_by test (take i xs) + count_by test (x ∷ [])
-count_next test xs i x e = ap (count_by test) (take_next xs i x e) ∙ sum_by-append (λ y. cond (test y) 1 0) (take i xs) (x ∷ [])
-
+-- so many from the front pass at the most
 pub count_few : {X : Type 0} (test : X → Bool) (xs : List X) (i : ℕ) → count_by test (take i xs) ≤ i
 count_few test xs i = omega (arith, count_by-le-length test (take i xs), length-take i xs)
 

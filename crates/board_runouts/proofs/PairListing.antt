@@ -7,7 +7,7 @@ use Rattle.card_sets.specs.Choose.{choose}
 use Rattle.runout_ranges.specs.Ways.{binomial}
 use Rattle.runout_ranges.proofs.CallerLemmas.{length_choose}
 use Rattle.board_runouts.specs.Pairs.{cards_of_pair}
-use Rattle.board_runouts.specs.declared.pair.Pair.{Pair}
+use Rattle.board_ranks.specs.declared.pair.Pair.{Pair}
 use Rattle.runout_walk.proofs.CallerLemmas.{grows, range-map, range-none, two-first}
 
 -- what is left of a list from a place on

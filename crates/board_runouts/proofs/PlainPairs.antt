@@ -21,10 +21,10 @@ use Rattle.board_runouts.specs.Fields.{code_of, ends_of, field, fields_at}
 use Rattle.board_runouts.specs.KeptRows.{AreRowsOf, CellsGrow, HasNoFlush, IsRowFor, PairsGrow, pair_place, row_place}
 use Rattle.board_runouts.specs.Pairs.{cards_of_pair}
 use Rattle.board_runouts.specs.PlainRanks.{CodesGrow, HasCode, MainsGrow, RowsGrow, code_end}
-use Rattle.board_runouts.specs.Sieves.{flush_pairs, is_flush, is_plain, plain_pairs, plain_ranks}
-use Rattle.board_runouts.specs.Suits.{AreFivesWith, IsShortWith}
+use Rattle.board_ranks.specs.Sieves.{flush_pairs, is_flush, is_plain, plain_pairs, plain_ranks}
+use Rattle.board_ranks.specs.Suits.{AreFivesWith, IsShortWith}
 use Rattle.board_runouts.specs.declared.codes.Codes.{Codes}
-use Rattle.board_runouts.specs.declared.pair.Pair.{Pair}
+use Rattle.board_ranks.specs.declared.pair.Pair.{Pair}
 use Rattle.board_runouts.specs.declared.row.Row.{Row}
 use Rattle.board_runouts.specs.declared.spot.BoardSpot.{BoardSpot}
 use Rattle.board_runouts.proofs.HighWinners.{Keeps}
@@ -34,8 +34,9 @@ use Rattle.board_runouts.proofs.CodedPairs.{code_back, code_small, pair_code, ta
 use Rattle.board_runouts.proofs.CodeSets.{ends_count}
 use Rattle.runout_walk.proofs.CallerLemmas.{count_map, count_same}
 use Rattle.board_runouts.proofs.PackedSums.{AreCoded, coded_of, fields_counted, sum_fits}
-use Rattle.board_runouts.proofs.PairCounts.{count_few, count_next, count_one, row_pair, some_row}
-use Rattle.board_runouts.proofs.SieveLists.{count_parts, filter_member, map_member, size_parts}
+use Rattle.board_runouts.proofs.PairCounts.{count_few, row_pair, some_row}
+use Rattle.board_ranks.proofs.CallerLemmas.{count_next, count_one, size_parts}
+use Rattle.board_runouts.proofs.PassingMembers.{count_parts, filter_member, map_member}
 
 -- with a pair for whose suits a table names none nobody has a flush
 plain_pair : (spot : BoardSpot) (taken suits : List ℕ) (pair : Pair) → AreFivesWith spot.most taken suits → length suits ≡ 16 → HasMember (runouts_after (state_of spot.table.known)) ((taken ++ cards_of_pair pair) ∷ []) → is_plain suits pair ≡ true

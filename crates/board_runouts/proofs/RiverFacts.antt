@@ -26,12 +26,12 @@ use Rattle.showdown_tally.proofs.CallerLemmas.{IsChoice, hand_of}
 use Rattle.runout_walk.specs.Bests.{best_set}
 use Rattle.board_runouts.specs.Highs.{high_of, plain_of}
 use Rattle.board_runouts.specs.Boards.{board_lacks}
-use Rattle.board_runouts.specs.BoardWith.{low_number}
-use Rattle.board_runouts.specs.HighParts.{flush_part, plain_number}
+use Rattle.board_ranks.specs.BoardWith.{low_number}
+use Rattle.board_ranks.specs.HighParts.{flush_part, plain_number}
 use Rattle.board_runouts.specs.KeptRows.{AreWorthsAfter, HasNoFlush}
 use Rattle.board_runouts.specs.Rivers.{IsShortFor, IsWonBy, are_rivers}
-use Rattle.board_runouts.specs.Suits.{AreMost}
-use Rattle.board_runouts.specs.Values.{one_of}
+use Rattle.board_ranks.specs.Suits.{AreMost}
+use Rattle.board_ranks.specs.Values.{one_of}
 use Rattle.board_runouts.specs.declared.sides.Worths.{Worths}
 use Rattle.board_runouts.specs.declared.spot.BoardSpot.{BoardSpot}
 use Rattle.board_runouts.proofs.HighWinners.{Keeps}
@@ -39,8 +39,8 @@ use Rattle.runout_walk.proofs.CallerLemmas.{set-same, map_take, grow_more, membe
 use Rattle.board_runouts.proofs.BoardDealt.{IsScene, away_with, full_of, outcome_of, scene_of}
 use Rattle.board_runouts.proofs.BoardLeaf.{front_none}
 use Rattle.board_runouts.proofs.BoardRunouts.{board_alone, board_apart, count-union, own_alone, set_of_member}
-use Rattle.board_runouts.proofs.HighLaws.{high_of_few, same_low, same_plain}
-use Rattle.board_runouts.proofs.PairCounts.{count_one}
+use Rattle.board_runouts.proofs.HighNumbers.{low_is}
+use Rattle.board_ranks.proofs.CallerLemmas.{count_one, high_of_few, same_low, same_plain}
 
 -- how many cards of the board pass a test with a last card
 card-count : (f : ℕ → Bool) (st : State) (card : ℕ) → IsScene st (card ∷ []) → count_by f (board_after st ((card ∷ []) ∷ [])) ≡ count_by f st.board + cond (f card) 1 0
@@ -83,7 +83,8 @@ worths_of_rank st card other board worths s t same b highs lows =
         numbers = λ h l.
             lows h l ∙ ap (low_number st.game (hand_of st h)) there
             ∙ same_low st.game (hand_of st h) (board_after st ((card ∷ []) ∷ [])) (board_after st ((other ∷ []) ∷ [])) s.game (placed_at st card h s l) (placed_at st other h t l) (same_boards st card other s t (sym same))
-            ∙ ap (λ own. low_number st.game own (board_after st ((other ∷ []) ∷ []))) (sym (own_alone st (other ∷ []) h t.alone (t.hands h l)));
+            ∙ ap (λ own. low_number st.game own (board_after st ((other ∷ []) ∷ []))) (sym (own_alone st (other ∷ []) h t.alone (t.hands h l)))
+            ∙ low_is st.game (own_after st ((other ∷ []) ∷ []) h) (board_after st ((other ∷ []) ∷ [])) s.game;
         full = λ h l. full_of st (other ∷ []) h t l;
       };
     }

@@ -1,20 +1,16 @@
 -- Rows and flushes in their places.
-use Rattle.std.proofs.Common.{◌≡◌, ◌+◌, ◌<◌, ◌≤◌, ℕ, zero, suc, List, [], ◌∷◌, ◌++◌, refl, sym, ap, ◌∙◌, arith, Some, set, subst, inl, inr, take, drop, ◌-◌, get_or, ◌⊎◌}
+use Rattle.std.proofs.Common.{◌≡◌, ◌+◌, ◌<◌, ◌≤◌, ℕ, zero, suc, List, [], ◌∷◌, ◌++◌, length, refl, sym, ap, ◌∙◌, arith, Some, set, subst, inl, inr, take, drop, ◌-◌, get_or, ◌⊎◌}
 use Rattle.std.specs.Prelude.{slice_get, replicate}
 use Rattle.std.specs.List.{slice_range}
 use Rattle.std.proofs.lemmas.Bool.{cases_eq, cases_lt}
 use Rattle.card_sets.specs.Cards.{IsRising, rank_of}
 use Rattle.showdown_tally.specs.Showdown.{Showdown}
 use Rattle.runout_walk.proofs.CallerLemmas.{get-other}
+use Rattle.board_ranks.proofs.CallerLemmas.{get-same}
 use Rattle.board_runouts.specs.Highs.{IsBestFlush}
 use Rattle.board_runouts.specs.KeptRows.{IsAway, IsBestAt, IsButAt, IsRowFor}
 use Rattle.board_runouts.specs.SideRows.{AreRanksOf, IsSideRow}
 use Rattle.board_runouts.specs.declared.row.Row.{Row}
-
-pub get-same : {X : Type 0} (xs : List X) (i : ℕ) (v r : X) → slice_get (set xs i v) i ≡ Some r → r ≡ v
-get-same [] i v r e = cc
-get-same (x ∷ xs) zero v r e = cc
-get-same (x ∷ xs) (suc i) v r e = get-same xs i v r e
 
 pub some_same : {X : Type 0} (a b : X) → Some a ≡ Some b → a ≡ b
 some_same a b e = cc
@@ -129,6 +125,15 @@ same_best deal pot pot' cards cards' suit suit' top top' set set' p c s t w is =
     let T : ℕ → Type 0 = λ x. IsBestFlush deal pot' cards' suit' x set in
     let W : ℕ → Type 0 = λ x. IsBestFlush deal pot' cards' suit' top' x in
     subst W w (subst T t (subst S s (subst C c (subst D p is))))
+
+-- what stands at the front of a list that had more put after it stood there before
+get-front : {X : Type 0} (xs more : List X) (i : ℕ) → i < length xs → slice_get (xs ++ more) i ≡ slice_get xs i
+get-front [] more i l = absurd (omega arith)
+get-front (x ∷ xs) more zero l = refl
+get-front (x ∷ xs) more (suc i) l = get-front xs more i (omega arith)
+
+pub front_stood : {X : Type 0} (all xs more : List X) (i : ℕ) (x : X) → all ≡ xs ++ more → i < length xs → slice_get all i ≡ Some x → slice_get xs i ≡ Some x
+front_stood all xs more i x e l at = sym (get-front xs more i l) ∙ ap (λ list. slice_get list i) (sym e) ∙ at
 
 -- what stands in a range
 get-take : {X : Type 0} (n : ℕ) (xs : List X) (i : ℕ) (x : X) → slice_get (take n xs) i ≡ Some x → (i < n) × (slice_get xs i ≡ Some x)

@@ -13,7 +13,7 @@ use Rattle.board_runouts.specs.Fields.{code_of, end_of, ends_of, field, fields_a
 use Rattle.board_runouts.specs.KeptRows.{PairsGrow, pair_place}
 use Rattle.board_runouts.specs.SideRows.{AreRanksOf, IsBestOf, IsDealtWith}
 use Rattle.board_runouts.specs.declared.codes.Codes.{Codes}
-use Rattle.board_runouts.specs.declared.pair.Pair.{Pair}
+use Rattle.board_ranks.specs.declared.pair.Pair.{Pair}
 
 -- at a place stands a one in the field of a code, whose outcome says who is best by ranks after any runout that gives the two ranks
 pub record IsCodeFor (deal : Showdown) (codes : Codes) (place : ℕ) : Type 0 where

@@ -3,7 +3,7 @@ use Rattle.std.specs.Prelude.{◌≡◌, ℕ, ◌<◌, List, [], length, slice_i
 use Rattle.card_sets.specs.State.{State}
 use Rattle.showdown_tally.specs.Showdown.{Showdown, own_after, board_after, eligible_in}
 use Rattle.runout_walk.specs.Bests.{best_set, best_value}
-use Rattle.board_runouts.specs.HighParts.{high_number, plain_number, suited_number}
+use Rattle.board_ranks.specs.HighParts.{high_number, plain_number, suited_number}
 
 -- what a hand is worth as a high after a runout, by ranks alone and with flushes
 abbrev pub plain_of : State → List (List ℕ) → ℕ → ℕ

@@ -13,7 +13,7 @@ use Rattle.board_runouts.specs.Highs.{flush_of, high_of, plain_of}
 use Rattle.board_runouts.specs.SideRows.{AreRanksOf, IsBestOf, IsSideRow}
 use Rattle.board_runouts.specs.declared.flush.Suited.{Suited}
 use Rattle.board_runouts.specs.Pairs.{cards_of_pair}
-use Rattle.board_runouts.specs.declared.pair.Pair.{Pair}
+use Rattle.board_ranks.specs.declared.pair.Pair.{Pair}
 use Rattle.board_runouts.specs.declared.row.Row.{Row}
 use Rattle.board_runouts.specs.declared.sides.Worths.{Worths}
 

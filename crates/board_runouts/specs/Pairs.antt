@@ -1,6 +1,6 @@
 -- Pairs of cards as lists.
 use Rattle.std.specs.Prelude.{ℕ, List, [], ◌∷◌}
-use Rattle.board_runouts.specs.declared.pair.Pair.{Pair}
+use Rattle.board_ranks.specs.declared.pair.Pair.{Pair}
 
 -- the two cards
 abbrev pub cards_of_pair : Pair → List ℕ

@@ -13,7 +13,7 @@ use Rattle.showdown_tally.specs.declared.table.Table.{Table}
 use Rattle.runout_walk.specs.Bests.{best_set}
 use Rattle.board_runouts.specs.Highs.{plain_of}
 use Rattle.board_runouts.specs.Boards.{board_lacks}
-use Rattle.board_runouts.specs.Values.{one_of}
+use Rattle.board_ranks.specs.Values.{one_of}
 
 -- whether a table's runouts are single cards of the board, which alone lacks one
 abbrev pub are_rivers : Table → Shape → Bool

@@ -9,7 +9,7 @@ use Rattle.showdown_tally.specs.SideCounts.{low_mark}
 use Rattle.showdown_tally.specs.Sides.{side_outcome}
 use Rattle.runout_walk.specs.Bests.{best_set, best_value}
 use Rattle.board_runouts.specs.Highs.{plain_of}
-use Rattle.board_runouts.specs.Values.{one_of}
+use Rattle.board_ranks.specs.Values.{one_of}
 
 -- so many of each rank as the cards have
 abbrev pub AreRanksOf : List ℕ → List ℕ → Type 0

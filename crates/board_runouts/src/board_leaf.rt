@@ -10,18 +10,18 @@ ghost use Rattle.board_runouts.specs.Codes.{AreCodesFor, IsPairSummed, PairsSum}
 ghost use Rattle.board_runouts.specs.KeptFlushes.{AreFlushes};
 ghost use Rattle.board_runouts.specs.KeptRows.{AreRowsOf, CellsGrow, IsFlushPart, IsRowFor, PairsGrow, pair_place};
 ghost use Rattle.board_runouts.specs.Pairs.{cards_of_pair};
-ghost use Rattle.board_runouts.specs.Suits.{AreAllShort, AreFivesWith};
+ghost use Rattle.board_ranks.specs.Suits.{AreAllShort, AreFivesWith};
 
 use crate::codes::Codes;
 use crate::flush::Suited;
 use crate::flushes::Flushes;
 use crate::front::FirstCards;
 use crate::packed::{PIECE, put_sum};
-use crate::pair::Pair;
 use crate::places::{add_place, put_runout};
 use crate::row::Row;
 use crate::spot::BoardSpot;
 use crate::suited::{suited_part, suited_place};
+use board_ranks::Pair;
 use card_sets::{CardSet, Side};
 use runout_walk::{all_are_hands, are_hands};
 use showdown_tally::law_values_keep_order;

@@ -10,7 +10,7 @@ ghost use Rattle.board_runouts.specs.SideRows.{AreRanksOf, IsSideRow};
 
 use crate::row::Row;
 use crate::sides::{Worths, add_rank, hand_ranks, pot_ends, worths_with};
-use crate::threes::Threes;
+use board_ranks::Threes;
 use card_sets::CardSet;
 use showdown_tally::Table;
 

@@ -10,7 +10,7 @@ ghost use Rattle.board_runouts.specs.Highs.{AreFlushesOf, IsBestFlush};
 ghost use Rattle.board_runouts.specs.KeptFlushes.{AreFlushes, ArePast};
 
 use crate::flush::{Flush, HandFlushes, Suited};
-use crate::high::suited_value;
+use board_ranks::suited_value;
 use card_sets::Memory;
 use runout_walk::{Best, filled, pot_best};
 use showdown_tally::Table;

@@ -1,10 +1,10 @@
 //! First cards of a board, and where somebody may have a flush with two more.
 
 ghost use Rattle.std.specs.Prelude.{◌≡◌, false, length, IsTrue};
-ghost use Rattle.board_runouts.specs.Suits.{AreAllShort, AreFivesWith};
+ghost use Rattle.board_ranks.specs.Suits.{AreAllShort, AreFivesWith};
 
 use crate::spot::BoardSpot;
-use crate::suits::suits_for;
+use board_ranks::suits_for;
 use card_sets::CardSet;
 
 /// First cards of a board, and where somebody may have a flush with two more.

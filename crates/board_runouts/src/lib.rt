@@ -8,8 +8,7 @@
 //!    and kept: at most 91 places, each of which costs a value a hand and side. Before the flop there are 455 rows. Where any five make
 //!    a hand, the ranks of a hand with the first cards are taken once a row, the lower rank is added to them once for all its places,
 //!    and each place adds the higher. Where two own cards come to three of the board, of which fewer than three are known, a value is
-//!    the best of ten look-ups: what the own cards are worth with each three ranks is worked out once a hand and side, 455 numbers, and
-//!    a board has ten threes of cards.
+//!    the best of ten look-ups: `Threes` of `board_ranks`.
 //! 2. *A code.* The outcomes of a row, each of all pots and sides together, are numbered: up to seven codes. Each pair of last cards
 //!    is looked up by its ranks, and adds a one to its code's field, one of nine bits, of a sum, with a step. The fields go to the counts
 //!    after 511 pairs at most. Where a row has more than seven outcomes, each pair is added to the counts themselves.
@@ -24,12 +23,10 @@
 //! **Rivers** ([`Rivers`]: the same games, where the board lacks one card). All last cards are counted in one loop. By ranks there are
 //! thirteen boards, each worked out where its rank is met first. Cards with which somebody has five of a suit are settled hand by hand.
 //!
-//! A game more with a board adds its line to `flush_part` (how many own cards a flush may have), its arm in `high.rt`, `worth.rt` and
-//! `suits.rt`, and a line to each law of `HighLaws` and `HighCalls`: that its best five are the best by ranks or of one suit, and that
-//! ranks alone decide the former.
+//! What a hand is worth with a board by ranks, and which pairs may be a flush, is said by `board_ranks`: a game more with a board is
+//! added there, and here a line in the proofs that take the games one by one.
 #![tactic(auto)]
 
-mod board;
 mod board_leaf;
 mod boards;
 mod coded_rows;
@@ -38,29 +35,18 @@ mod deal;
 mod fill;
 mod flush;
 mod flushes;
-mod free;
 mod front;
-mod high;
 mod packed;
-mod pair;
 mod pairs;
 mod places;
 mod plain_ranks;
 mod rivers;
 mod row;
 mod rows;
-mod side_threes;
 mod sides;
-mod sieve;
 mod sieve_leaf;
-mod sieves;
 mod spot;
 mod suited;
-mod suits;
-mod ten_threes;
-mod three_ranks;
-mod threes;
-mod worth;
 
 pub use boards::{Boards, are_boards};
 pub use rivers::{Rivers, are_rivers};

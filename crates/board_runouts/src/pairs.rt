@@ -4,14 +4,12 @@ ghost use Rattle.std.specs.Prelude.{◌≡◌, ℕ, ◌+◌, ◌-◌, ◌<◌, �
 ghost use Rattle.std.specs.List.{slice_range};
 ghost use Rattle.card_sets.specs.Choose.{choose};
 ghost use Rattle.runout_ranges.specs.Ways.{binomial};
-ghost use Rattle.board_runouts.specs.KeptSieves.{AreSieves, IsSieve};
+ghost use Rattle.board_ranks.specs.KeptSieves.{AreSieves, IsSieve};
 ghost use Rattle.runout_walk.specs.Listing.{IsEndOf};
 ghost use Rattle.board_runouts.specs.Pairs.{cards_of_pair};
-ghost use Rattle.board_runouts.specs.declared.sieve.Sieve.{Sieve};
+ghost use Rattle.board_ranks.specs.declared.sieve.Sieve.{Sieve};
 
-use crate::pair::Pair;
-use crate::sieve::{PAIRS_MAX, Sieve};
-use crate::sieves::Sieves;
+use board_ranks::{PAIRS_MAX, Pair, Sieve, Sieves};
 use card_sets::{Card, CardSet, Memory};
 use runout_ranges::count_choices;
 use runout_walk::{CardList, filled};

@@ -15,18 +15,17 @@ ghost use Rattle.showdown_tally.specs.SideCounts.{CountsFit, CountsGrow};
 ghost use Rattle.showdown_tally.specs.Sides.{side_outcome};
 ghost use Rattle.showdown_tally.specs.Tallies.{runouts_after};
 ghost use Rattle.board_runouts.specs.Boards.{board_lacks};
-ghost use Rattle.board_runouts.specs.BoardWith.{low_number};
-ghost use Rattle.board_runouts.specs.HighParts.{plain_number};
+ghost use Rattle.board_ranks.specs.BoardWith.{low_number};
+ghost use Rattle.board_ranks.specs.HighParts.{plain_number};
 ghost use Rattle.board_runouts.specs.KeptRows.{AreWorthsAfter};
 ghost use Rattle.board_runouts.specs.Rivers.{AreWonWith, IsShortFor, IsWonBy, are_rivers};
-ghost use Rattle.board_runouts.specs.Values.{one_of};
+ghost use Rattle.board_ranks.specs.Values.{one_of};
 
 use crate::boards::board_lacks;
-use crate::high::plain_value;
 use crate::sides::Worths;
 use crate::spot::BoardSpot;
 use crate::suited::high_set;
-use crate::suits::one_of;
+use board_ranks::{one_of, plain_value};
 use card_sets::{Card, CardSet, Known, Side};
 use runout_ranges::Shape;
 use runout_walk::{

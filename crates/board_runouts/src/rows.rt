@@ -12,7 +12,7 @@ ghost use Rattle.board_runouts.specs.SideRows.{AreRanksOf};
 
 use crate::fill::fill_rows;
 use crate::row::Row;
-use crate::threes::Threes;
+use board_ranks::Threes;
 use card_sets::{CardSet, Memory};
 use showdown_tally::Table;
 use std::alloc::Global;

@@ -7,13 +7,13 @@ ghost use Rattle.card_sets.specs.State.{state_of};
 ghost use Rattle.showdown_tally.specs.Deals.{deal_of};
 ghost use Rattle.showdown_tally.specs.Settling.{number_of};
 ghost use Rattle.board_runouts.specs.Boards.{AreFirst};
-ghost use Rattle.board_runouts.specs.BoardWith.{AreHandRanks, AreHandRanksAnd, IsBoardWith, low_number};
-ghost use Rattle.board_runouts.specs.HighParts.{plain_number};
+ghost use Rattle.board_ranks.specs.BoardWith.{IsBoardWith, low_number};
+ghost use Rattle.board_runouts.specs.HandRanks.{AreHandRanks, AreHandRanksAnd};
+ghost use Rattle.board_ranks.specs.HighParts.{plain_number};
 ghost use Rattle.board_runouts.specs.KeptRows.{AreWorthsAfter};
 ghost use Rattle.board_runouts.specs.SideRows.{IsBestOf};
 
-use crate::threes::Threes;
-use crate::worth::worth_with;
+use board_ranks::{Threes, worth_with};
 use card_sets::{ByRank, CardSet, Known, Side};
 use runout_walk::{low_mark, pot_best, winners_on};
 use showdown_tally::Table;

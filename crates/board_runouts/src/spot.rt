@@ -9,10 +9,10 @@ ghost use Rattle.runout_ranges.specs.Slots.{unseen};
 ghost use Rattle.showdown_tally.specs.Deals.{deal_of};
 ghost use Rattle.board_runouts.specs.Boards.{IsBoardAlone, are_boards};
 ghost use Rattle.board_runouts.specs.Rivers.{are_rivers};
-ghost use Rattle.board_runouts.specs.Suits.{AreMost};
+ghost use Rattle.board_ranks.specs.Suits.{AreMost};
 
 use crate::deal::no_table;
-use crate::suits::most_of;
+use board_ranks::most_of;
 use card_sets::{CardSet, Known};
 use runout_ranges::Shape;
 use runout_walk::ten_places;

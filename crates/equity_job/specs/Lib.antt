@@ -8,5 +8,4 @@ pub use Rattle.showdown_tally.specs.Deals
 pub use Rattle.showdown_tally.specs.Tallies
 pub use Rattle.showdown_tally.specs.Cells
 pub use Rattle.showdown_tally.specs.Showdown
-pub mod Blocks
 pub mod Rooms

@@ -3,7 +3,7 @@ use Rattle.std.specs.Prelude.{◌≡◌, ◌*◌, ◌≤◌, ℕ, List, true, le
 use Rattle.std.proofs.Common.{Vec, Global}
 use Rattle.board_runouts.specs.Boards.{are_boards}
 use Rattle.draw_runouts.specs.Draws.{are_draws}
-use Rattle.equity_job.specs.declared.jobs.Job.{Job}
+use Rattle.job_blocks.specs.declared.jobs.Job.{Job}
 use Rattle.equity_job.specs.declared.scratch.Scratch.{Scratch}
 
 -- there are so many rows of counts, or more

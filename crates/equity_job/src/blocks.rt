@@ -8,11 +8,12 @@ ghost use Rattle.showdown_tally.specs.Deals.{deal_of};
 ghost use Rattle.showdown_tally.specs.SideCounts.{AreSideCounts};
 ghost use Rattle.showdown_tally.specs.Tallies.{Counts, runouts_after};
 ghost use Rattle.runout_walk.specs.Listing.{last_count};
-ghost use Rattle.equity_job.specs.Blocks.{block_of, blocks_of};
+ghost use Rattle.job_blocks.specs.Blocks.{block_of, blocks_of};
 
-use crate::{BLOCK, Job, Scratch};
+use crate::Scratch;
 use board_runouts::{Boards, Rivers, are_boards, are_rivers};
 use draw_runouts::{Draws, are_draws};
+use job_blocks::{BLOCK, Job};
 use runout_ranges::{Runout, first_runout};
 use runout_walk::{Leaf, Plain, clear_counts, count_runouts_of};
 use showdown_tally::{Tally, fill_tally, settle_runout};

@@ -4,9 +4,10 @@ ghost use Rattle.std.specs.Prelude.{◌≡◌, ◌+◌, ◌<◌, ◌≤◌, leng
 ghost use Rattle.card_sets.specs.State.{state_of};
 ghost use Rattle.showdown_tally.specs.Deals.{deal_of};
 ghost use Rattle.showdown_tally.specs.Tallies.{Counts, runouts_after};
-ghost use Rattle.equity_job.specs.Blocks.{blocks_below};
+ghost use Rattle.job_blocks.specs.Blocks.{blocks_below};
 
-use crate::{Job, Scratch, fill_block};
+use crate::{Scratch, fill_block};
+use job_blocks::Job;
 use showdown_tally::Tally;
 use std::marker::Brand;
 use std::sync::ledger::{Blank, Ledger};

@@ -1,6 +1,6 @@
 //! Equities that can be counted, and their count, one block of runouts after another.
 //!
-//! A `Job` is a table whose runouts are few enough. To count it is to settle each of its runouts once, and to add them up in
+//! A `Job` of `job_blocks` is a table whose runouts are few enough. To count it is to settle each of its runouts once, and to add them up in
 //! one `Tally`. The runouts stand in blocks of `BLOCK`, in the order of their listing, and `count_block` counts one of them,
 //! so that a job can be counted in parts. `count_job` counts them all. Only [`Scratch::ready`] asks for memory.
 //!
@@ -11,15 +11,11 @@
 
 mod blocks;
 mod counting;
-mod jobs;
-mod laws;
-mod limits;
 mod scratch;
 
 pub use blocks::{count_block, fill_block};
 pub use counting::{count_blocks, count_job};
-pub use jobs::Job;
-pub use laws::{law_block_sums_add, law_blocks_add_up, law_blocks_are_all};
-pub use limits::BLOCK;
-pub use runout_ranges::{JobFault, RUNOUT_MAX};
+pub use job_blocks::{
+    BLOCK, Job, JobFault, RUNOUT_MAX, law_block_sums_add, law_blocks_add_up, law_blocks_are_all,
+};
 pub use scratch::Scratch;

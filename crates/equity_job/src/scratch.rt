@@ -3,11 +3,11 @@
 ghost use Rattle.std.specs.Prelude.{◌≡◌, ◌*◌, ◌<◌, ◌≤◌, length, IfOk, IsSome, IsTrue, OnErr, OnOk};
 ghost use Rattle.equity_job.specs.Rooms.{HasRows, IsReady, newer};
 
-use crate::Job;
 use crate::blocks::is_full;
 use board_runouts::{Boards, are_boards};
 use card_sets::Memory;
 use draw_runouts::{Draws, are_draws};
+use job_blocks::Job;
 use std::alloc::Global;
 
 /// The room that counts work in. It is made without memory, and has its parts on the heap once [`Scratch::ready`] was asked for
@@ -30,6 +30,15 @@ fn rows_of(alloc: Global, rows: usize) -> Result<Vec<[u32; 2048]>, Memory>
     let mut counts = Vec::new(alloc);
     counts.resize(rows, [0; 2048])?;
     Ok(counts)
+}
+
+/// Puts a new part in the place of an old one, where there is one.
+fn renew<T: Drop>(part: &mut Option<T>, new: Option<T>)
+    ensures { part.new ≡ newer new part.old }
+{
+    if let Some(new) = new {
+        *part = Some(new);
+    }
 }
 
 impl Scratch {
@@ -122,14 +131,8 @@ impl Scratch {
         ensures boards { self.new.boards ≡ newer boards self.old.boards }
         ensures draws { self.new.draws ≡ newer draws self.old.draws }
     {
-        if let Some(counts) = counts {
-            self.counts = Some(counts);
-        }
-        if let Some(boards) = boards {
-            self.boards = Some(boards);
-        }
-        if let Some(draws) = draws {
-            self.draws = Some(draws);
-        }
+        renew(&mut self.counts, counts);
+        renew(&mut self.boards, boards);
+        renew(&mut self.draws, draws);
     }
 }

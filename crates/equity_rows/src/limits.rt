@@ -2,7 +2,7 @@
 
 ghost use Rattle.std.specs.Prelude.{◌≡◌, ◌<◌, length};
 ghost use Rattle.card_sets.specs.State.{state_of};
-ghost use Rattle.equity_job.specs.Blocks.{blocks_of};
+ghost use Rattle.job_blocks.specs.Blocks.{blocks_of};
 ghost use Rattle.showdown_tally.specs.Tallies.{runouts_after};
 
 use card_sets::Side;

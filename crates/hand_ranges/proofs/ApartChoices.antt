@@ -5,8 +5,8 @@ use Rattle.std.specs.List.{sum_by, flat_map, list_all}
 use Rattle.std.proofs.lemmas.List.Sums.{sum_by-cons, sum_by-append}
 use Rattle.std.proofs.lemmas.List.Folds.{list_all-append}
 use Rattle.card_sets.specs.Disjoint.{apart, all_apart}
-use Rattle.hand_ranges.specs.declared.spot.Weighted.{Weighted}
-use Rattle.hand_ranges.specs.Choices.{taken_from, hands_in, is_disjoint, choices, walked}
+use Rattle.range_lines.specs.declared.spot.Weighted.{Weighted}
+use Rattle.range_lines.specs.Choices.{taken_from, hands_in, is_disjoint, choices, walked}
 
 pub sum_same : {X : Type 0} (xs : List X) (f g : X → ℕ) → ((x : X) → f x ≡ g x) → sum_by f xs ≡ sum_by g xs
 sum_same [] f g h = refl

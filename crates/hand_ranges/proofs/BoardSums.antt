@@ -18,13 +18,13 @@ use Rattle.runout_ranges.specs.Ways.{binomial}
 use Rattle.runout_ranges.specs.Slots.{unseen, slot_of, counts_of}
 use Rattle.runout_ranges.specs.declared.shapes.Receiver.TheVariants.{Board}
 use Rattle.showdown_tally.specs.Tallies.{runouts_after}
-use Rattle.hand_ranges.specs.declared.spot.Weighted.{Weighted}
+use Rattle.range_lines.specs.declared.spot.Weighted.{Weighted}
 use Rattle.hand_ranges.specs.Boards.{board_adds, boards_add, is_off, open_cards}
-use Rattle.hand_ranges.specs.Choices.{hands_in, is_disjoint, walked}
-use Rattle.hand_ranges.specs.Sound.{IsHand, AreHands, AreRanges}
+use Rattle.range_lines.specs.Choices.{hands_in, is_disjoint, walked}
+use Rattle.range_lines.specs.Sound.{IsHand, AreHands, AreRanges}
 use Rattle.hand_ranges.proofs.ApartChoices.{sum_same, sum_none, sum_filter, sum_flat, sum_map}
-use Rattle.hand_ranges.proofs.CardsLeft.{of_twos, AreTwos, slots_twos}
-use Rattle.hand_ranges.proofs.TakenHands.{and_true, hands_push}
+use Rattle.range_lines.proofs.CallerLemmas.{of_twos, AreTwos, slots_twos}
+use Rattle.range_lines.proofs.CallerLemmas.{and_true, hands_push}
 
 -- ---- walks over the hands that pass
 

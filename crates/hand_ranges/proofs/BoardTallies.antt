@@ -15,19 +15,19 @@ use Rattle.showdown_tally.specs.SetShares.{set_cell}
 use Rattle.showdown_tally.specs.Showdown.{part_of}
 use Rattle.showdown_tally.specs.Tallies.{runouts_after}
 use Rattle.hand_ranges.specs.declared.ends.Ends.{Ends}
-use Rattle.hand_ranges.specs.declared.spot.Weighted.{Weighted}
+use Rattle.range_lines.specs.declared.spot.Weighted.{Weighted}
 use Rattle.hand_ranges.specs.Boards.{boards_add, ends_number, worth}
-use Rattle.hand_ranges.specs.Choices.{are_above, deal_of_choice, full_cell, full_units, is_disjoint, runouts_of_choice, walked, weight_of}
-use Rattle.hand_ranges.specs.RangeSpot.{Ranges}
-use Rattle.hand_ranges.specs.Sound.{AreHands, IsSound}
-use Rattle.hand_ranges.specs.Walks.{Column, Choices, Weight, Wins, Ties, Losses, Units, all_added}
+use Rattle.range_lines.specs.Choices.{are_above, deal_of_choice, full_cell, full_units, is_disjoint, runouts_of_choice, walked, weight_of}
+use Rattle.range_lines.specs.RangeSpot.{Ranges}
+use Rattle.range_lines.specs.Sound.{AreHands, IsSound}
+use Rattle.range_lines.specs.Walks.{Column, Choices, Weight, Wins, Ties, Losses, Units, all_added}
 use Rattle.hand_ranges.proofs.ApartChoices.{length_walked, sum_none, walked_none}
 use Rattle.hand_ranges.proofs.BoardSums.{walked_alike, walked_times}
-use Rattle.hand_ranges.proofs.CardsLeft.{of_twos}
+use Rattle.range_lines.proofs.CallerLemmas.{of_twos}
 use Rattle.hand_ranges.proofs.ChoiceEnds.{KeepsOrder, boards_walked, losses_over, over_runouts, ties_over, units_over_all, wins_over}
 use Rattle.hand_ranges.proofs.EndSums.{worth_none}
-use Rattle.hand_ranges.proofs.RangeWalks.{choice_runouts, most_few, runouts_some}
-use Rattle.hand_ranges.proofs.SmallTallies.{choices_few}
+use Rattle.range_lines.proofs.CallerLemmas.{choice_runouts, most_few, runouts_some}
+use Rattle.range_lines.proofs.CallerLemmas.{choices_few}
 
 -- what the counts are worth beside all boards
 abbrev pub AreOverBoards : Ranges → Ends → Type 0

@@ -26,18 +26,18 @@ use Rattle.showdown_tally.specs.Showdown.{best, value_after, own_after, board_af
 use Rattle.showdown_tally.specs.Sides.{side_outcome}
 use Rattle.showdown_tally.specs.Tallies.{cell_over, runouts_after}
 use Rattle.showdown_tally.proofs.CallerLemmas.{set_again, pot_cell, no_side, pot_winners, KeptSide, kept_side, is_set, runout_deals, Deals, Sound, full_own, full_board, full_apart}
-use Rattle.hand_ranges.specs.declared.spot.Weighted.{Weighted}
+use Rattle.range_lines.specs.declared.spot.Weighted.{Weighted}
 use Rattle.hand_ranges.specs.Boards.{adds_beside, board_adds, boards_add, is_off, numbers_beside, winners_beside}
-use Rattle.hand_ranges.specs.Choices.{hands_in, deal_of_choice, full_cell, full_runouts, full_units, runouts_of_choice, walked, weight_of}
-use Rattle.hand_ranges.specs.RangeSpot.{Ranges}
-use Rattle.hand_ranges.specs.Sound.{AreHands, IsSound}
+use Rattle.range_lines.specs.Choices.{hands_in, deal_of_choice, full_cell, full_runouts, full_units, runouts_of_choice, walked, weight_of}
+use Rattle.range_lines.specs.RangeSpot.{Ranges}
+use Rattle.range_lines.specs.Sound.{AreHands, IsSound}
 use Rattle.hand_ranges.specs.Taken.{number_beside}
 use Rattle.hand_ranges.proofs.ApartChoices.{sum_same}
 use Rattle.hand_ranges.proofs.BoardSums.{is_free, off_board, over_free_boards, runout_of, sum_chosen, walked_alike, walked_passing, walked_sum}
-use Rattle.hand_ranges.proofs.CardsLeft.{AreTwos, of_twos, slots_twos}
+use Rattle.range_lines.proofs.CallerLemmas.{AreTwos, of_twos, slots_twos}
 use Rattle.hand_ranges.proofs.FullBoards.{hand_facts, mask_bit, plays_all}
-use Rattle.hand_ranges.proofs.RangeWalks.{board_small, choice_runouts}
-use Rattle.hand_ranges.proofs.TakenHands.{hands_twos}
+use Rattle.range_lines.proofs.CallerLemmas.{board_small, choice_runouts}
+use Rattle.range_lines.proofs.CallerLemmas.{hands_twos}
 
 -- every law that numbers keep the order of values
 abbrev pub KeepsOrder : Type 0

@@ -12,10 +12,10 @@ use Rattle.showdown_tally.specs.Settling.{is_top, number_of, tops_below}
 use Rattle.showdown_tally.specs.Showdown.{part_of}
 use Rattle.showdown_tally.proofs.CallerLemmas.{tops_set}
 use Rattle.hand_ranges.specs.declared.ends.Ends.{Ends}
-use Rattle.hand_ranges.specs.declared.tally.RangeCell.{RangeCell}
-use Rattle.hand_ranges.specs.declared.tally.RangeTally.{RangeTally}
+use Rattle.range_lines.specs.declared.tally.RangeCell.{RangeCell}
+use Rattle.range_lines.specs.declared.tally.RangeTally.{RangeTally}
 use Rattle.hand_ranges.specs.Boards.{ends_number_below, worth, worth_from}
-use Rattle.hand_ranges.specs.Walks.{Column, Choices, Weight, Wins, Ties, Losses, Units, none, number_in}
+use Rattle.range_lines.specs.Walks.{Column, Choices, Weight, Wins, Ties, Losses, Units, none, number_in}
 
 -- ---- what counts are worth
 

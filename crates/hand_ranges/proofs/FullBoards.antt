@@ -14,9 +14,9 @@ use Rattle.card_sets.specs.declared.games.Side.TheVariants.{High}
 use Rattle.showdown_tally.specs.Numbers.{side_number}
 use Rattle.showdown_tally.specs.Settling.{number_of, greater, top_below}
 use Rattle.showdown_tally.specs.Showdown.{best}
-use Rattle.hand_ranges.specs.declared.spot.Weighted.{Weighted}
-use Rattle.hand_ranges.specs.Choices.{hands_in, numbers_below}
-use Rattle.hand_ranges.specs.Sound.{AreHands}
+use Rattle.range_lines.specs.declared.spot.Weighted.{Weighted}
+use Rattle.range_lines.specs.Choices.{hands_in, numbers_below}
+use Rattle.range_lines.specs.Sound.{AreHands}
 use Rattle.hand_ranges.specs.Taken.{AreValues}
 
 pub hand_facts : (board dead : List ℕ) (choice : List Weighted) (h : ℕ) → AreHands board dead choice → h < length choice

@@ -10,14 +10,14 @@ use Rattle.card_sets.specs.declared.games.Side.TheVariants.{High}
 use Rattle.showdown_tally.specs.Laws.{AddUp, EndsOneWay}
 use Rattle.showdown_tally.specs.Showdown.{Showdown, eligible_in, is_among, plays, units}
 use Rattle.showdown_tally.specs.Tallies.{runouts_after}
-use Rattle.hand_ranges.specs.declared.spot.Weighted.{Weighted}
-use Rattle.hand_ranges.specs.Choices.{choices, deal_of_choice, full_cell, full_units, full_weight, is_disjoint, numbers_below, over_choices, runouts_of_choice, taken_from, weight_of}
-use Rattle.hand_ranges.specs.Counted.{wins_of, ties_of, losses_of, units_of}
-use Rattle.hand_ranges.specs.RangeSpot.{Ranges}
-use Rattle.hand_ranges.specs.Sound.{AreHands, IsSound}
+use Rattle.range_lines.specs.declared.spot.Weighted.{Weighted}
+use Rattle.range_lines.specs.Choices.{choices, deal_of_choice, full_cell, full_units, full_weight, is_disjoint, numbers_below, over_choices, runouts_of_choice, taken_from, weight_of}
+use Rattle.range_lines.specs.Counted.{wins_of, ties_of, losses_of, units_of}
+use Rattle.range_lines.specs.RangeSpot.{Ranges}
+use Rattle.range_lines.specs.Sound.{AreHands, IsSound}
 use Rattle.hand_ranges.proofs.ApartChoices.{choices_walked}
 use Rattle.hand_ranges.proofs.BoardSums.{sum_both, sum_swap, walked_alike, walked_times}
-use Rattle.hand_ranges.proofs.RangeWalks.{choice_runouts}
+use Rattle.range_lines.proofs.CallerLemmas.{choice_runouts}
 
 -- a sum over the choices, where each has so much as often as it counts
 over_equal : (spot : Ranges) (number : List Weighted → ℕ) (each : ℕ) → IsSound spot

@@ -10,12 +10,12 @@ use Rattle.card_sets.specs.Disjoint.{apart}
 use Rattle.card_sets.specs.PlayerSets.{set_of_players}
 use Rattle.showdown_tally.specs.Settling.{number_of, top_below, tops_of}
 use Rattle.hand_ranges.specs.declared.beside.Shown.{Shown}
-use Rattle.hand_ranges.specs.declared.spot.Weighted.{Weighted}
+use Rattle.range_lines.specs.declared.spot.Weighted.{Weighted}
 use Rattle.hand_ranges.specs.Boards.{AreShown, AllShown, IsShown, adds_beside, is_off, level_of, pick, ranges_shown, shown_beside, shown_of, versus_adds, weighted_in, winners_beside}
-use Rattle.hand_ranges.specs.Choices.{is_disjoint, most_choices, walked, weight_of, hands_in}
-use Rattle.hand_ranges.specs.Sound.{AreHands, AreRanges}
+use Rattle.range_lines.specs.Choices.{is_disjoint, most_choices, walked, weight_of, hands_in}
+use Rattle.range_lines.specs.Sound.{AreHands, AreRanges}
 use Rattle.hand_ranges.specs.Taken.{number_beside}
-use Rattle.hand_ranges.proofs.TakenHands.{disjoint_push, weight_push}
+use Rattle.range_lines.proofs.CallerLemmas.{disjoint_push, weight_push}
 use Rattle.hand_ranges.proofs.WalkSums.{first_next, first_of, step_none, step_of, step_some}
 use Rattle.hand_ranges.proofs.WinnersBeside.{winners_push}
 

@@ -5,12 +5,12 @@ use Rattle.std.proofs.lemmas.Bool.{cases_lt, cases_eq, cases_order}
 use Rattle.std.proofs.lemmas.Nat.{mul-le}
 use Rattle.showdown_tally.specs.declared.cells.Cell.{Cell}
 use Rattle.runout_ranges.specs.declared.limits.TheConstants.{RUNOUT_MAX}
-use Rattle.hand_ranges.specs.declared.spot.Weighted.{Weighted}
-use Rattle.hand_ranges.specs.declared.tally.RangeCell.{RangeCell}
-use Rattle.hand_ranges.specs.declared.tally.RangeTally.{RangeTally}
-use Rattle.hand_ranges.specs.Choices.{weight_of, full_cell, full_units}
-use Rattle.hand_ranges.specs.RangeSpot.{Ranges}
-use Rattle.hand_ranges.specs.Walks.{Column, Choices, Weight, Wins, Ties, Losses, Units, none, added_by, hand_adds, hands_add, count_adds, GrowsBy, IsWithin, HasRoom}
+use Rattle.range_lines.specs.declared.spot.Weighted.{Weighted}
+use Rattle.range_lines.specs.declared.tally.RangeCell.{RangeCell}
+use Rattle.range_lines.specs.declared.tally.RangeTally.{RangeTally}
+use Rattle.range_lines.specs.Choices.{weight_of, full_cell, full_units}
+use Rattle.range_lines.specs.RangeSpot.{Ranges}
+use Rattle.range_lines.specs.Walks.{Column, Choices, Weight, Wins, Ties, Losses, Units, none, added_by, hand_adds, hands_add, count_adds, GrowsBy, IsWithin, HasRoom}
 
 -- ---- one hand more
 

@@ -6,13 +6,13 @@ use Rattle.std.proofs.lemmas.Bool.{lt-ltb, le-ltb}
 use Rattle.std.proofs.lemmas.Nat.{mul-le}
 use Rattle.std.proofs.lemmas.List.{take_all}
 use Rattle.std.proofs.lemmas.List.Sums.{sum_by_more}
-use Rattle.hand_ranges.specs.declared.spot.Weighted.{Weighted}
-use Rattle.hand_ranges.specs.declared.tally.RangeCell.{RangeCell}
-use Rattle.hand_ranges.specs.declared.tally.RangeTally.{RangeTally}
-use Rattle.hand_ranges.specs.Choices.{choices, is_disjoint, weight_of, walked, over_choices, full_cell, full_units, runouts_of_choice}
-use Rattle.hand_ranges.specs.Counted.{IsTallyOf}
-use Rattle.hand_ranges.specs.RangeSpot.{Ranges}
-use Rattle.hand_ranges.specs.Walks.{Column, Choices, Weight, Wins, Ties, Losses, Units, none, cell_in, number_in, added_by, all_added, GrowsBy, IsAllOf, AreNoneBeyond}
+use Rattle.range_lines.specs.declared.spot.Weighted.{Weighted}
+use Rattle.range_lines.specs.declared.tally.RangeCell.{RangeCell}
+use Rattle.range_lines.specs.declared.tally.RangeTally.{RangeTally}
+use Rattle.range_lines.specs.Choices.{choices, is_disjoint, weight_of, walked, over_choices, full_cell, full_units, runouts_of_choice}
+use Rattle.range_lines.specs.Counted.{IsTallyOf}
+use Rattle.range_lines.specs.RangeSpot.{Ranges}
+use Rattle.range_lines.specs.Walks.{Column, Choices, Weight, Wins, Ties, Losses, Units, none, cell_in, number_in, added_by, all_added, GrowsBy, IsAllOf, AreNoneBeyond}
 use Rattle.showdown_tally.proofs.CallerLemmas.{index_default}
 use Rattle.hand_ranges.proofs.ApartChoices.{choices_walked, length_walked, walked_same, walked_none}
 

@@ -8,9 +8,9 @@ use Rattle.std.proofs.lemmas.List.{length-map, map_push, get_or_push, get_or_app
 use Rattle.std.proofs.lemmas.List.Sums.{sum_by-append}
 use Rattle.card_sets.specs.PlayerSets.{set_of_players}
 use Rattle.showdown_tally.specs.Settling.{greater, is_top, number_of, top_below, tops_below, tops_of}
-use Rattle.hand_ranges.specs.declared.spot.Weighted.{Weighted}
+use Rattle.range_lines.specs.declared.spot.Weighted.{Weighted}
 use Rattle.hand_ranges.specs.Boards.{level_of, numbers_beside, pick, winners_beside}
-use Rattle.hand_ranges.specs.Choices.{hands_in}
+use Rattle.range_lines.specs.Choices.{hands_in}
 use Rattle.hand_ranges.specs.Taken.{number_beside}
 use Rattle.hand_ranges.proofs.FullBoards.{mask_bit}
 

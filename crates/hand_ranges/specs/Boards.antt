@@ -10,11 +10,11 @@ use Rattle.showdown_tally.specs.Settling.{tops_of}
 use Rattle.showdown_tally.specs.Showdown.{part_of}
 use Rattle.hand_ranges.specs.declared.beside.Shown.{Shown}
 use Rattle.hand_ranges.specs.declared.ends.Ends.{Ends}
-use Rattle.hand_ranges.specs.declared.spot.Weighted.{Weighted}
+use Rattle.range_lines.specs.declared.spot.Weighted.{Weighted}
 use Rattle.hand_ranges.specs.declared.versus.Versus.{Versus}
-use Rattle.hand_ranges.specs.Choices.{walked, weight_of}
+use Rattle.range_lines.specs.Choices.{walked, weight_of}
 use Rattle.hand_ranges.specs.Taken.{number_beside}
-use Rattle.hand_ranges.specs.Walks.{Column, Choices, Weight, Wins, Ties, Losses, Units}
+use Rattle.range_lines.specs.Walks.{Column, Choices, Weight, Wins, Ties, Losses, Units}
 
 -- a number, or 0 where there is none
 abbrev pub number_or_none : Option ℕ → ℕ

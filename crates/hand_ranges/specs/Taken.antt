@@ -6,9 +6,9 @@ use Rattle.card_sets.specs.declared.games.Side.TheVariants.{High}
 use Rattle.showdown_tally.specs.Numbers.{side_number}
 use Rattle.showdown_tally.specs.Settling.{number_of}
 use Rattle.showdown_tally.specs.Showdown.{best}
-use Rattle.hand_ranges.specs.declared.spot.Weighted.{Weighted}
+use Rattle.range_lines.specs.declared.spot.Weighted.{Weighted}
 use Rattle.hand_ranges.specs.declared.taken.Taken.{Taken}
-use Rattle.hand_ranges.specs.Choices.{hands_in}
+use Rattle.range_lines.specs.Choices.{hands_in}
 
 -- the hands that are taken
 abbrev pub chosen : Taken → List Weighted

@@ -3,11 +3,11 @@
 ghost use Rattle.std.specs.Prelude.{◌≡◌, ◌<◌, ◌≤◌, ◌++◌, [], ◌∷◌, length, true};
 ghost use Rattle.card_sets.specs.Disjoint.{apart};
 ghost use Rattle.hand_ranges.specs.Boards.{number_or_none, shown_of};
-ghost use Rattle.hand_ranges.specs.Sound.{AreHands};
+ghost use Rattle.range_lines.specs.Sound.{AreHands};
 ghost use Rattle.hand_ranges.specs.Taken.{number_beside};
 
-use crate::spot::{Range, RangeSpot};
 use card_sets::{CardSet, Game, Side};
+use range_lines::{Range, RangeSpot};
 use showdown_tally::side_value;
 use std::marker::Model;
 

@@ -3,21 +3,20 @@
 ghost use Rattle.std.specs.Prelude.{◌≡◌, ℕ, ◌+◌, ◌*◌, ◌<◌, ◌≤◌, ◌^◌, [], length, true, false};
 ghost use Rattle.card_sets.specs.Disjoint.{apart};
 ghost use Rattle.hand_ranges.specs.Boards.{AreEndsWithin, EndsGrow, board_adds, boards_add};
-ghost use Rattle.hand_ranges.specs.Choices.{are_above, most_choices, runouts_of_choice};
-ghost use Rattle.hand_ranges.specs.RangeSpot.{ranges_in};
-ghost use Rattle.hand_ranges.specs.Sound.{IsSound};
-ghost use Rattle.hand_ranges.specs.Walks.{IsAllOf};
+ghost use Rattle.range_lines.specs.Choices.{are_above, most_choices, runouts_of_choice};
+ghost use Rattle.range_lines.specs.RangeSpot.{ranges_in};
+ghost use Rattle.range_lines.specs.Sound.{IsSound};
+ghost use Rattle.range_lines.specs.Walks.{IsAllOf};
 ghost use Rattle.runout_ranges.specs.declared.limits.TheConstants.{RUNOUT_MAX};
 ghost use Rattle.runout_ranges.specs.Ways.{binomial};
 
 use crate::beside::ShownRange;
 use crate::ends::Ends;
 use crate::showdowns::add_shown;
-use crate::spot::RangeSpot;
 use crate::taken::Taken;
-use crate::tally::RangeTally;
 use card_sets::CardSet;
 use equity_job::RUNOUT_MAX;
+use range_lines::{RangeSpot, RangeTally};
 use showdown_tally::law_values_keep_order;
 
 /// Adds the choices beside a full board: each hand of each range is valued once, and each choice of hands that share no card is compared by

@@ -3,20 +3,20 @@
 ghost use Rattle.std.specs.Prelude.{◌≡◌, ℕ, ◌+◌, ◌*◌, ◌<◌, ◌≤◌, ◌^◌, [], length, false, IfOk};
 ghost use Rattle.runout_ranges.specs.declared.limits.TheConstants.{RUNOUT_MAX};
 ghost use Rattle.showdown_tally.specs.Tallies.{Counts, runouts_after};
-ghost use Rattle.hand_ranges.specs.Choices.{are_above, deal_of_choice, most_choices, runouts_of_choice};
-ghost use Rattle.hand_ranges.specs.Counted.{IsCountOf};
-ghost use Rattle.hand_ranges.specs.Sound.{IsSound};
-ghost use Rattle.hand_ranges.specs.RangeSpot.{ranges_in};
+ghost use Rattle.range_lines.specs.Choices.{are_above, deal_of_choice, most_choices, runouts_of_choice};
+ghost use Rattle.range_lines.specs.Counted.{IsCountOf};
+ghost use Rattle.range_lines.specs.Sound.{IsSound};
+ghost use Rattle.range_lines.specs.RangeSpot.{ranges_in};
 ghost use Rattle.hand_ranges.specs.Taken.{chosen};
-ghost use Rattle.hand_ranges.specs.Walks.{AreFew, AreNoneBeyond, GrowsBy, IsAllOf, IsWalk, IsWithin, added, all_added};
+ghost use Rattle.range_lines.specs.Walks.{AreFew, AreNoneBeyond, GrowsBy, IsAllOf, IsWalk, IsWithin, added, all_added};
 
 use crate::boards::count_by_boards;
-use crate::spot::{Range, RangeSpot};
+use crate::empty::{four_places, no_tally};
 use crate::sums::add_count;
 use crate::taken::Taken;
-use crate::tally::{RangeJobFault, RangeTally, four_places, no_tally};
 use card_sets::Memory;
 use equity_job::{Job, RUNOUT_MAX, Scratch, count_job};
+use range_lines::{Range, RangeJobFault, RangeSpot, RangeTally};
 use runout_ranges::count_choices;
 use showdown_tally::Tally;
 use std::alloc::Global;

@@ -5,12 +5,13 @@ ghost use Rattle.card_sets.specs.PlayerSets.{hands_below};
 ghost use Rattle.showdown_tally.specs.SetShares.{set_cell};
 ghost use Rattle.showdown_tally.specs.Showdown.{part_of};
 ghost use Rattle.hand_ranges.specs.Boards.{worth, AreEndsWithin, EndsGrow, ends_adds, ends_number};
-ghost use Rattle.hand_ranges.specs.Walks.{Column, number_in};
+ghost use Rattle.range_lines.specs.Walks.{Column, number_in};
 
-use crate::tally::{RangeCell, RangeTally, four_places, no_tally};
+use crate::empty::{four_places, no_tally};
 use crate::versus::Versus;
 use crate::winners::{cell_beside, units_beside};
 use card_sets::PlayerSet;
+use range_lines::{RangeCell, RangeTally};
 
 /// How often each set of hands wins beside the boards so far, each choice as often as it counts.
 #[derive(Clone, Copy)]

@@ -3,13 +3,13 @@
 ghost use Rattle.std.specs.Prelude.{◌≡◌, ℕ, ◌+◌, ◌*◌, ◌<◌, List, [], length, true};
 ghost use Rattle.std.specs.List.{sum_by};
 ghost use Rattle.runout_ranges.specs.Runouts.{HasMember};
-ghost use Rattle.hand_ranges.specs.declared.spot.Weighted.{Weighted};
-ghost use Rattle.hand_ranges.specs.Choices.{choices, full_runouts, full_weight, is_disjoint, numbers_below, runouts_of_choice, walked, weight_of};
-ghost use Rattle.hand_ranges.specs.Counted.{IsSpotOf, losses_of, ties_of, units_of, wins_of};
-ghost use Rattle.hand_ranges.specs.Sound.{IsSound};
-ghost use Rattle.hand_ranges.specs.RangeSpot.{ranges_in};
+ghost use Rattle.range_lines.specs.declared.spot.Weighted.{Weighted};
+ghost use Rattle.range_lines.specs.Choices.{choices, full_runouts, full_weight, is_disjoint, numbers_below, runouts_of_choice, walked, weight_of};
+ghost use Rattle.range_lines.specs.Counted.{IsSpotOf, losses_of, ties_of, units_of, wins_of};
+ghost use Rattle.range_lines.specs.Sound.{IsSound};
+ghost use Rattle.range_lines.specs.RangeSpot.{ranges_in};
 
-use crate::spot::RangeSpot;
+use range_lines::RangeSpot;
 use showdown_tally::{law_each_runout_ends_one_way, law_pots_are_given_out};
 
 /// What a walk adds up that goes from range to range, and drops a hand as soon as it shares a card

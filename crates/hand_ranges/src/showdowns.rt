@@ -2,16 +2,16 @@
 
 ghost use Rattle.std.specs.Prelude.{◌≡◌, ℕ, ◌+◌, ◌*◌, ◌<◌, ◌≤◌, ◌^◌, [], ◌∷◌, length, map};
 ghost use Rattle.hand_ranges.specs.Boards.{AllShown, AreEndsWithin, AreShown, EndsGrow, adds_beside, level_of, ranges_shown, weighted_in};
-ghost use Rattle.hand_ranges.specs.Choices.{most_choices, walked};
+ghost use Rattle.range_lines.specs.Choices.{most_choices, walked};
 ghost use Rattle.hand_ranges.specs.Taken.{AreValues, chosen};
 
 use crate::beside::{Shown, ShownRange};
 use crate::ends::Ends;
-use crate::spot::Weighted;
 use crate::taken::Taken;
 use crate::versus::compare;
 use crate::winners::{top_of, tops};
 use card_sets::CardSet;
+use range_lines::Weighted;
 
 /// A number above each value that is less than this one, and 0 below all.
 #[inline]

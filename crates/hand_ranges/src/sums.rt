@@ -2,10 +2,10 @@
 
 ghost use Rattle.std.specs.Prelude.{◌≡◌, ℕ, ◌+◌, ◌*◌, ◌<◌, ◌≤◌, ◌^◌};
 ghost use Rattle.runout_ranges.specs.declared.limits.TheConstants.{RUNOUT_MAX};
-ghost use Rattle.hand_ranges.specs.Walks.{Column, GrowsBy, HasRoom, IsWithin, cell_and, choice_adds, hand_adds, sums_add};
+ghost use Rattle.range_lines.specs.Walks.{Column, GrowsBy, HasRoom, IsWithin, cell_and, choice_adds, hand_adds, sums_add};
 
-use crate::tally::{RangeCell, RangeTally};
 use card_sets::Side;
+use range_lines::{RangeCell, RangeTally};
 use showdown_tally::{Cell, Tally};
 
 /// A number, and so many times another more.

@@ -6,12 +6,12 @@ ghost use Rattle.std.specs.Prelude.{true, length, take, drop, set, replicate, Is
 ghost use Rattle.std.specs.List.{list_all};
 ghost use Rattle.card_sets.specs.Disjoint.{apart};
 ghost use Rattle.showdown_tally.specs.Deals.{deal_of};
-ghost use Rattle.hand_ranges.specs.Choices.{deal_of_choice, hands_in, is_disjoint, numbers_below, weight_of};
-ghost use Rattle.hand_ranges.specs.Sound.{AreHands};
+ghost use Rattle.range_lines.specs.Choices.{deal_of_choice, hands_in, is_disjoint, numbers_below, weight_of};
+ghost use Rattle.range_lines.specs.Sound.{AreHands};
 ghost use Rattle.card_sets.specs.PlayerSets.{hands_of};
 
-use crate::spot::Weighted;
 use card_sets::{CardSet, Game, Known};
+use range_lines::Weighted;
 use showdown_tally::Table;
 
 /// One hand from each of the first ranges, in which no card is in two hands, and how often they

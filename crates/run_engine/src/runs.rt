@@ -1,39 +1,24 @@
-//! The top call.
+//! The top calls.
 
-ghost use Rattle.std.specs.Prelude.{◌≡◌, ◌≤◌, [], ℕ, IfOk, Result, Some, false, true, map, string_bytes};
+ghost use Rattle.std.specs.Prelude.{◌≡◌, IfOk, map, string_bytes};
 ghost use Rattle.card_sets.specs.State.{state_of};
 ghost use Rattle.showdown_tally.specs.Deals.{deal_of};
 ghost use Rattle.showdown_tally.specs.Tallies.{Counts, runouts_after};
-ghost use Rattle.run_engine.specs.Command.{command, reads_input};
-ghost use Rattle.run_engine.specs.Headline.{IsRun, written_status};
-ghost use Rattle.run_engine.specs.Order.{IsInOrder};
-ghost use Rattle.run_engine.specs.Report.{report, rejects};
-ghost use Rattle.run_engine.specs.Reporting.{WritesMade, WritesUsage, told_status};
-ghost use Rattle.run_engine.specs.Units.{unit_kind};
-ghost use Rattle.run_engine.specs.declared.reading.Ending.TheVariants.{Whole};
+ghost use Rattle.run_loop.specs.Command.{command};
+ghost use Rattle.run_loop.specs.Headline.{IsRun};
+ghost use Rattle.run_loop.specs.Order.{IsInOrder};
 
-use crate::command::{Command, Mode};
-use crate::counter::{Alone, Counter, EquityCounter};
-use crate::made::write_made;
-use crate::reading::{Ending, Input};
-use crate::report::write_report;
+use crate::alone::Alone;
 use crate::shared::{Shared, count_shared};
-use crate::words::{WordFault, read_words};
-use crate::write_fault::WriteFault;
-use byte_ends::{Sink, Source, write_all};
+use byte_ends::{Sink, Source};
 use card_sets::Memory;
 use equity_job::Job;
-use hand_cuts::{CutKind, INPUT_MAX};
-use report_table::Equity;
+use run_loop::{EquityCounter, INPUT_MAX, run_with};
 use showdown_tally::Tally;
 use std::alloc::Global;
 use std::sync::Wait;
 use std::thread::Threads;
 use steal_pool::Gate;
-
-/// The line that says how the program is called.
-const USAGE_LINE: &[u8; 76] =
-    b"usage: equity MODE [--workers N] [--format text|csv] [--seed S] [--hands H]\n";
 
 /// Runs the command that the words name: reads the source, unless hands are made, and writes the report to
 /// the sink. Answers the status: 0 where all was read and written, 1 where beside that a spot or a hand was
@@ -61,12 +46,8 @@ pub fn run_alone<S: Source, K: Sink>(
     ensures order { IsInOrder S.reads K.writes INPUT_MAX (command (map string_bytes words.now)) result
         source.old sink.old source.new sink.new }
 {
-    let mut equities = EquityCounter {
-        counter: Alone::new(alloc),
-        workers: 1,
-        equity: Equity::NotAsked,
-    };
-    run_at(alloc, words, &mut equities, source, sink)
+    let mut equities = EquityCounter::new(Alone::new(alloc));
+    run_with(alloc, words, &mut equities, source, sink)
 }
 
 /// The same with several workers, as many as the words ask for, where an equity has many runouts: threads that
@@ -101,119 +82,9 @@ pub fn run<R: Threads + Wait + Sync, S: Source, K: Sink, G: Gate + Sync>(
             (runouts_after (state_of job.entry.now.table.known)) tally) }
     { count_shared(rt, alloc, job, workers, gate) };
     let mut alone = Alone::new(alloc);
-    let mut equities = EquityCounter {
-        counter: Shared {
-            by_workers,
-            alone: &mut alone,
-        },
-        workers: 1,
-        equity: Equity::NotAsked,
-    };
-    run_at(alloc, words, &mut equities, source, sink)
-}
-
-/// The same with whoever counts the equities.
-fn run_at<C: Counter, S: Source, K: Sink>(
-    alloc: Global,
-    words: &[String],
-    equities: &mut EquityCounter<C>,
-    source: &mut S,
-    sink: &mut K,
-) -> u8
-    requires ready { C.ready }
-    ensures { IsInOrder S.reads K.writes INPUT_MAX (command (map string_bytes words.now)) result
-        source.old sink.old source.new sink.new }
-{
-    let asked = match read_words(alloc, words) {
-        Ok(asked) => asked,
-        Err(WordFault::Usage) => return write_usage(sink),
-        Err(WordFault::Memory) => return 6,
-    };
-    equities.workers = asked.workers;
-    if asked.mode.reads_input() {
-        run_reading(alloc, asked, equities, source, sink)
-    } else {
-        run_made(alloc, asked, equities, sink)
-    }
-}
-
-/// Runs a command that reads its input.
-fn run_reading<C: Counter, S: Source, K: Sink>(
-    alloc: Global,
-    asked: Command,
-    equities: &mut EquityCounter<C>,
-    source: &mut S,
-    sink: &mut K,
-) -> u8
-    requires ready { C.ready }
-    requires reads { reads_input asked.mode ≡ true }
-    requires few { asked.hands ≤ 10000 }
-    ensures { IsInOrder S.reads K.writes INPUT_MAX (Some asked) result
-        source.old sink.old source.new sink.new }
-{
-    let mut input = Input::start(alloc, unit_kind(asked.mode));
-    match write_report(alloc, asked, source, &mut input, equities, sink) {
-        Ok(rejected) => status_of(input.ending, rejected),
-        Err(WriteFault::Failed) => 4,
-        Err(WriteFault::Memory) => 6,
-    }
-}
-
-/// What the input of a mode is cut into.
-fn unit_kind(mode: Mode) -> CutKind
-    ensures { result ≡ unit_kind mode }
-{
-    match mode {
-        Mode::Spots | Mode::Ranges => CutKind::Lines,
-        Mode::Check
-        | Mode::Audit
-        | Mode::Streets
-        | Mode::Results
-        | Mode::Settle
-        | Mode::Totals
-        | Mode::Balance
-        | Mode::Made => CutKind::Hands,
-    }
-}
-
-/// Runs a command that reads no input.
-fn run_made<C: Counter, K: Sink>(
-    alloc: Global,
-    asked: Command,
-    equities: &mut EquityCounter<C>,
-    sink: &mut K,
-) -> u8
-    requires ready { C.ready }
-    requires makes { reads_input asked.mode ≡ false }
-    requires few { asked.hands ≤ 10000 }
-    ensures { (outcome : Result ℕ WriteFault) × (result ≡ told_status Whole outcome)
-        × WritesMade K.writes sink.old sink.new (report asked []) (rejects asked []) outcome }
-{
-    match write_made(alloc, asked, equities, sink) {
-        Ok(rejected) => status_of(Ending::Whole, rejected),
-        Err(WriteFault::Failed) => 4,
-        Err(WriteFault::Memory) => 6,
-    }
-}
-
-/// Writes the usage line, and answers the status of a run whose words are in no form.
-fn write_usage<K: Sink>(sink: &mut K) -> u8
-    ensures { WritesUsage K.writes sink.old sink.new result }
-{
-    match write_all(sink, USAGE_LINE) {
-        Ok(()) => 2,
-        Err(_) => 4,
-    }
-}
-
-/// The status of a run whose report was written, after its reading had ended.
-fn status_of(ending: Ending, rejected: u64) -> u8
-    ensures { result ≡ written_status ending rejected }
-{
-    match ending {
-        Ending::Whole if rejected == 0 => 0,
-        Ending::Whole => 1,
-        Ending::Failed => 3,
-        Ending::TooLong | Ending::Open => 5,
-    }
+    let mut equities = EquityCounter::new(Shared {
+        by_workers,
+        alone: &mut alone,
+    });
+    run_with(alloc, words, &mut equities, source, sink)
 }

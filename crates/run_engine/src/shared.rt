@@ -5,10 +5,11 @@ ghost use Rattle.card_sets.specs.State.{state_of};
 ghost use Rattle.showdown_tally.specs.Deals.{deal_of};
 ghost use Rattle.showdown_tally.specs.Tallies.{Counts, runouts_after};
 
-use crate::counter::{Alone, Counter};
+use crate::alone::Alone;
 use card_sets::Memory;
 use equity_job::Job;
 use hand_ranges::{RangeJobFault, RangeSpot, RangeTally};
+use run_loop::Counter;
 use showdown_tally::Tally;
 use std::alloc::Global;
 use std::sync::Wait;

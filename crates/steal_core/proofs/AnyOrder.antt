@@ -5,12 +5,12 @@ use Rattle.std.proofs.lemmas.List.Sums.{sum_by-append}
 use Rattle.std.proofs.lemmas.List.Sorted.{sum_by-IsPermutation}
 use Rattle.showdown_tally.specs.Showdown.{Showdown}
 use Rattle.showdown_tally.specs.Tallies.{runouts_after}
-use Rattle.equity_job.specs.Blocks.{block_of}
+use Rattle.job_blocks.specs.Blocks.{block_of}
 use Rattle.steal_core.specs.declared.events.CoreEvent.{CoreEvent}
 use Rattle.steal_core.specs.declared.state.State.{State}
 use Rattle.steal_core.specs.Machine.{run}
 use Rattle.steal_core.specs.Interleavings.{every_block, queued, in_hands, pushed_by, deal_blocks, IsFair, IsInterleaved}
-use Rattle.equity_job.proofs.CallerLemmas.{sum_flat, all_blocks}
+use Rattle.job_blocks.proofs.CallerLemmas.{sum_flat, all_blocks}
 use Rattle.steal_core.proofs.BlockSums.{same_sums}
 use Rattle.steal_core.proofs.NumberRanges.{range_times}
 use Rattle.steal_core.proofs.BlockWeights.{run_weight, pushed_front}

@@ -4,7 +4,7 @@ use Rattle.std.specs.List.{sum_by}
 use Rattle.showdown_tally.specs.Cells.{Sums}
 use Rattle.showdown_tally.specs.Showdown.{Showdown, wins, ties, loses, units}
 use Rattle.showdown_tally.specs.Tallies.{Counts}
-use Rattle.equity_job.proofs.CallerLemmas.{ones}
+use Rattle.job_blocks.proofs.CallerLemmas.{ones}
 
 -- what sums alike is counted alike
 pub same_sums : (deal : Showdown) (xs ys : List (List (List ℕ))) (sums : Sums) → Counts deal xs sums → ((f : List (List ℕ) → ℕ) → sum_by f ys ≡ sum_by f xs) → Counts deal ys sums

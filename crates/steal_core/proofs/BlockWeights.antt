@@ -10,7 +10,7 @@ use Rattle.steal_core.specs.declared.events.CoreEvent.TheVariants.{Push, Pop, St
 use Rattle.steal_core.specs.declared.state.State.{State}
 use Rattle.steal_core.specs.Machine.{in_range, queue_of, hand_of, may_not_take, is_refused, taken, moved, after, run}
 use Rattle.steal_core.specs.Interleavings.{every_block, pushed_by}
-use Rattle.equity_job.proofs.CallerLemmas.{sum_flat}
+use Rattle.job_blocks.proofs.CallerLemmas.{sum_flat}
 
 -- the weight of all blocks of a state
 weight : (h : ℕ → ℕ) (state : State) → sum_by h (every_block state) ≡ sum_by (λ q. sum_by h q) state.queues + (sum_by (λ o. sum_by h (option_to_list o)) state.held + sum_by h state.booked)

@@ -4,7 +4,7 @@ use Rattle.std.specs.List.{flat_map, range_with_len}
 use Rattle.showdown_tally.specs.Showdown.{Showdown}
 use Rattle.showdown_tally.specs.Cells.{Sums}
 use Rattle.showdown_tally.specs.Tallies.{Counts, runouts_after}
-use Rattle.equity_job.specs.Blocks.{block_of, blocks_of}
+use Rattle.job_blocks.specs.Blocks.{block_of, blocks_of}
 use Rattle.steal_core.specs.declared.events.CoreEvent.{CoreEvent}
 use Rattle.steal_core.specs.declared.events.CoreEvent.TheVariants.{Push, Pop, Steal, Book}
 use Rattle.steal_core.specs.declared.state.State.{State}

@@ -7,7 +7,7 @@ ghost use Rattle.steal_core.specs.Interleavings.{IsFair, IsInterleaved};
 
 use crate::{CoreEvent, State, Stepped, step};
 use card_sets::Memory;
-use equity_job::Job;
+use job_blocks::Job;
 use std::alloc::Global;
 
 /// The state after a list of events, and how many of them were refused.

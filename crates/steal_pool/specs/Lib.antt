@@ -1,6 +1,6 @@
 pub use Rattle.tally_book.specs.Pages
 pub use Rattle.tally_book.specs.Parts
-pub use Rattle.equity_job.specs.Blocks
+pub use Rattle.job_blocks.specs.Blocks
 pub mod Claims
 pub mod Reaches
 pub mod Lanes

@@ -3,7 +3,7 @@
 ghost use Rattle.std.specs.Prelude.{◌≡◌, ◌<◌, replicate, false, length};
 ghost use Rattle.showdown_tally.specs.Deals.{deal_of};
 ghost use Rattle.showdown_tally.specs.Tallies.{Counts, runouts_after};
-ghost use Rattle.equity_job.specs.Blocks.{blocks_of};
+ghost use Rattle.job_blocks.specs.Blocks.{blocks_of};
 
 use crate::blocks::post_block;
 use equity_job::{Job, Scratch};

@@ -4,7 +4,7 @@ ghost use Rattle.std.specs.Prelude.{◌≡◌, ◌+◌, ◌<◌, ℕ, true, fals
 ghost use Rattle.card_sets.specs.State.{state_of};
 ghost use Rattle.showdown_tally.specs.Deals.{deal_of};
 ghost use Rattle.showdown_tally.specs.Tallies.{Counts, runouts_after};
-ghost use Rattle.equity_job.specs.Blocks.{block_of, blocks_of};
+ghost use Rattle.job_blocks.specs.Blocks.{block_of, blocks_of};
 ghost use Rattle.tally_book.specs.Pages.{is_marked};
 
 use equity_job::{Job, Scratch, fill_block};

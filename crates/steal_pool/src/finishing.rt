@@ -4,7 +4,7 @@ ghost use Rattle.std.specs.Prelude.{◌≡◌, ◌+◌, ◌<◌, ◌≤◌, ℕ,
 ghost use Rattle.std.specs.List.{sum_by};
 ghost use Rattle.showdown_tally.specs.Deals.{deal_of};
 ghost use Rattle.showdown_tally.specs.Tallies.{Counts, runouts_after};
-ghost use Rattle.equity_job.specs.Blocks.{blocks_of};
+ghost use Rattle.job_blocks.specs.Blocks.{blocks_of};
 ghost use Rattle.tally_book.specs.Pages.{is_marked};
 
 use crate::blocks::post_block;

@@ -3,7 +3,7 @@
 ghost use Rattle.std.specs.Prelude.{◌≡◌, ℕ, ◌-◌, ◌<◌, ◌≤◌, ◌||◌, [], true, false, length, vec_capacity, IfOk};
 ghost use Rattle.showdown_tally.specs.Deals.{deal_of};
 ghost use Rattle.showdown_tally.specs.Tallies.{runouts_after};
-ghost use Rattle.equity_job.specs.Blocks.{blocks_of};
+ghost use Rattle.job_blocks.specs.Blocks.{blocks_of};
 ghost use Rattle.tally_book.specs.Parts.{is_handed};
 ghost use Rattle.tally_book.specs.declared.limits.TheConstants.{BLOCKS_MAX};
 ghost use Rattle.steal_pool.specs.Reaches.{StaysOf};

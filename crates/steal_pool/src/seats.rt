@@ -4,7 +4,7 @@ ghost use Rattle.std.specs.Prelude.{◌≡◌, ◌+◌, ◌-◌, ◌<◌, ◌≤
 ghost use Rattle.std.specs.List.{sum_by};
 ghost use Rattle.showdown_tally.specs.Deals.{deal_of};
 ghost use Rattle.showdown_tally.specs.Tallies.{Counts, runouts_after};
-ghost use Rattle.equity_job.specs.Blocks.{blocks_of};
+ghost use Rattle.job_blocks.specs.Blocks.{blocks_of};
 ghost use Rattle.steal_pool.specs.Sittings.{IsFreshSitting, IsShared, taken_by, has_ended};
 
 use crate::Gate;
@@ -38,7 +38,7 @@ pub struct Seats<N: Naming> {
 impl<N: Naming> Model for Seats<N> {
     ghost use Rattle.std.specs.Prelude.{◌-◌, length};
     ghost use Rattle.showdown_tally.specs.Tallies.{runouts_after};
-    ghost use Rattle.equity_job.specs.Blocks.{blocks_of};
+    ghost use Rattle.job_blocks.specs.Blocks.{blocks_of};
     ghost use Rattle.steal_pool.specs.Sittings.{Sitting, sitting_of, IsSitting};
 
     ghost Value = { Sitting };

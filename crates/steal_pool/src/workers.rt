@@ -4,7 +4,7 @@ ghost use Rattle.std.specs.Prelude.{◌≡◌, ◌+◌, ◌≤◌, length, IfOk}
 ghost use Rattle.card_sets.specs.State.{state_of};
 ghost use Rattle.showdown_tally.specs.Deals.{deal_of};
 ghost use Rattle.showdown_tally.specs.Tallies.{Counts, runouts_after};
-ghost use Rattle.equity_job.specs.Blocks.{blocks_of};
+ghost use Rattle.job_blocks.specs.Blocks.{blocks_of};
 
 use crate::Gate;
 use crate::seats::Seats;

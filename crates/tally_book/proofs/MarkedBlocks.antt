@@ -2,8 +2,8 @@
 use Rattle.std.proofs.Common.{◌≡◌, ◌+◌, ◌<◌, ◌≤◌, ℕ, zero, suc, Bool, true, false, cond, List, [], ◌∷◌, length, get_or, set, replicate, refl, ap, arith}
 use Rattle.std.specs.List.{sum_by, count_by, range_with_len}
 use Rattle.std.proofs.lemmas.List.Sums.{sum_by-append, sum_by-cons}
-use Rattle.equity_job.specs.Blocks.{block_of, blocks_of}
-use Rattle.equity_job.proofs.CallerLemmas.{sum_flat, all_blocks, ones}
+use Rattle.job_blocks.specs.Blocks.{block_of, blocks_of}
+use Rattle.job_blocks.proofs.CallerLemmas.{sum_flat, all_blocks, ones}
 use Rattle.tally_book.specs.Pages.{marked_from, marked_of}
 
 -- with one more block marked the marked ones weigh what they did, and that block

@@ -7,11 +7,11 @@ use Rattle.card_sets.specs.declared.games.Side.{Side}
 use Rattle.showdown_tally.specs.Cells.{Sums, cell_at, units_at, cell_plus, CellFits, IsSum}
 use Rattle.showdown_tally.specs.Showdown.{Showdown, wins, ties, loses, units}
 use Rattle.showdown_tally.specs.Tallies.{Counts, runouts_after}
-use Rattle.equity_job.specs.Blocks.{block_of, blocks_of}
+use Rattle.job_blocks.specs.Blocks.{block_of, blocks_of}
 use Rattle.runout_ranges.specs.declared.limits.TheConstants.{RUNOUT_MAX}
-use Rattle.equity_job.proofs.CallerLemmas.{cells_fit, units_fit}
+use Rattle.job_blocks.proofs.CallerLemmas.{cells_fit, units_fit}
 use Rattle.tally_book.specs.Pages.{marked_of, marked_from, IsPage}
-use Rattle.equity_job.proofs.CallerLemmas.{all_blocks, ones}
+use Rattle.job_blocks.proofs.CallerLemmas.{all_blocks, ones}
 use Rattle.tally_book.proofs.MarkedBlocks.{marked_more, marked_few, none_marked, all_marked, count_none, count_all}
 
 -- what a sum of two tallies needs to fit 64 bits

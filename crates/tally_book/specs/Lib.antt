@@ -1,3 +1,3 @@
-pub use Rattle.equity_job.specs.Blocks
+pub use Rattle.job_blocks.specs.Blocks
 pub mod Parts
 pub mod Pages

@@ -4,7 +4,7 @@ use Rattle.std.specs.List.{flat_map}
 use Rattle.showdown_tally.specs.Cells.{Sums}
 use Rattle.showdown_tally.specs.Showdown.{Showdown}
 use Rattle.showdown_tally.specs.Tallies.{Counts, runouts_after}
-use Rattle.equity_job.specs.Blocks.{block_of, blocks_of}
+use Rattle.job_blocks.specs.Blocks.{block_of, blocks_of}
 use Rattle.runout_ranges.specs.declared.limits.TheConstants.{RUNOUT_MAX}
 
 -- what a book is seen as: a mark for each block, and the total

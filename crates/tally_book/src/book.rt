@@ -4,14 +4,14 @@ ghost use Rattle.std.specs.Prelude.{◌≡◌, ℕ, ◌+◌, ◌<◌, ◌≤◌,
 ghost use Rattle.showdown_tally.specs.Cells.{IsSum};
 ghost use Rattle.showdown_tally.specs.Deals.{deal_of};
 ghost use Rattle.showdown_tally.specs.Tallies.{Counts, runouts_after};
-ghost use Rattle.equity_job.specs.Blocks.{block_of, blocks_of};
+ghost use Rattle.job_blocks.specs.Blocks.{block_of, blocks_of};
 ghost use Rattle.tally_book.specs.Parts.{is_handed, no_blocks};
 ghost use Rattle.tally_book.specs.Pages.{Page, is_marked, marked_of};
 ghost use Rattle.tally_book.specs.declared.limits.TheConstants.{BLOCKS_MAX};
 
 use crate::{Naming, Part};
 use card_sets::Memory;
-use equity_job::Job;
+use job_blocks::Job;
 use showdown_tally::Tally;
 use std::alloc::Global;
 use std::marker::Model;

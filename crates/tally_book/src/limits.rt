@@ -1,6 +1,6 @@
 //! How many blocks there may be.
 
-use equity_job::{BLOCK, RUNOUT_MAX};
+use job_blocks::{BLOCK, RUNOUT_MAX};
 
 /// How many words of 64 bits the set of a part has.
 pub const WORDS: usize = 48;

@@ -22,3 +22,21 @@ loop-at-preserved g c =
       flushes = e.flushes;
       steps = (let s = was.steps in let n = e.steps in omega arith);
     }
+
+pub count_piece-requires-clause-suits : goal.count_piece-requires-clause-suits
+count_piece-requires-clause-suits g c = c.requires.suits
+
+pub count_piece-requires-clause-plain : goal.count_piece-requires-clause-plain
+count_piece-requires-clause-plain g c = c.requires.plain
+
+pub count_piece-requires-clause-rows : goal.count_piece-requires-clause-rows
+count_piece-requires-clause-rows g c = c.requires.rows
+
+pub count_piece-requires-clause-codes : goal.count_piece-requires-clause-codes
+count_piece-requires-clause-codes g c = c.requires.codes
+
+pub count_piece-requires-clause-flushes : goal.count_piece-requires-clause-flushes
+count_piece-requires-clause-flushes g c = c.loop-at.invariant.flushes
+
+pub returns-clause-flushes : goal.returns-clause-flushes
+returns-clause-flushes g c = c.loop-at.invariant.flushes

@@ -24,3 +24,36 @@ returns-then-not-has_side-clause-counts g c =
     let inside : 0 < length c.args.counts.now = (let q = c.requires.counts in omega arith) in
     let no_low : has_side Low c.args.spot.now.table.known.game ≡ false = grind (arith, c.has_side.ensures, c.if-not-has_side.true) in
     only_pot (deal_of c.args.spot.now.table) c.args.front.now.taken c.args.pairs.now c.args.counts.now _ (omega arith) no_low (λ place l. rw get_or-set_same (c.count_one_pot.ensures.cells place l))
+
+pub count_one_pot-requires-clause-suits : goal.count_one_pot-requires-clause-suits
+count_one_pot-requires-clause-suits g c = c.requires.suits
+
+pub count_one_pot-requires-clause-pairs : goal.count_one_pot-requires-clause-pairs
+count_one_pot-requires-clause-pairs g c = c.requires.pairs
+
+pub count_one_pot-requires-clause-flushes : goal.count_one_pot-requires-clause-flushes
+count_one_pot-requires-clause-flushes g c = c.requires.flushes
+
+pub count_pairs-requires-clause-suits : goal.count_pairs-requires-clause-suits
+count_pairs-requires-clause-suits g c = c.requires.suits
+
+pub count_pairs-requires-clause-rows : goal.count_pairs-requires-clause-rows
+count_pairs-requires-clause-rows g c = c.requires.rows
+
+pub count_pairs-requires-clause-pairs : goal.count_pairs-requires-clause-pairs
+count_pairs-requires-clause-pairs g c = c.requires.pairs
+
+pub count_pairs-requires-clause-flushes : goal.count_pairs-requires-clause-flushes
+count_pairs-requires-clause-flushes g c = c.requires.flushes
+
+pub count_pairs-requires-clause-fits : goal.count_pairs-requires-clause-fits
+count_pairs-requires-clause-fits g c = c.requires.fits
+
+pub returns-clause-counts : goal.returns-clause-counts
+returns-clause-counts g c = c.count_pairs.ensures.counts
+
+pub returns-clause-flushes : goal.returns-clause-flushes
+returns-clause-flushes g c = c.count_pairs.ensures.flushes
+
+pub returns-then-not-has_side-clause-flushes : goal.returns-then-not-has_side-clause-flushes
+returns-then-not-has_side-clause-flushes g c = c.count_one_pot.ensures.flushes

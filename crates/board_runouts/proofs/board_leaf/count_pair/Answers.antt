@@ -23,3 +23,33 @@ returns-in_default-clause-counts c =
     row_counted deal c.args.front.now.taken c.args.rows.now c.args.pair.now c.from.result c.args.counts.now c.put_runout.new.counts (c.requires.pots ∙ sym c.args.spot.now.pots)
     (λ pot side row p found. row_pair deal pot c.args.front.now.taken c.args.pair.now c.from.result row side c.law_values_keep_order.ensures scene (c.all_are_hands.ensures pot (let n = c.args.spot.now.pots in omega arith)) (c.requires.rows pot row found) (c.from.ensures ∙ c.args.pair.now.by_rank) c.in_default.ensures)
     c.put_runout.ensures.counts
+
+pub count_suited-requires-clause-rows : goal.count_suited-requires-clause-rows
+count_suited-requires-clause-rows c = c.requires.rows
+
+pub count_suited-requires-clause-member : goal.count_suited-requires-clause-member
+count_suited-requires-clause-member c = c.requires.member
+
+pub count_suited-requires-clause-fits : goal.count_suited-requires-clause-fits
+count_suited-requires-clause-fits c = c.requires.fits
+
+pub count_suited-requires-clause-flushes : goal.count_suited-requires-clause-flushes
+count_suited-requires-clause-flushes c = c.requires.flushes
+
+pub put_runout-requires-clause-fits : goal.put_runout-requires-clause-fits
+put_runout-requires-clause-fits c = c.requires.fits
+
+pub suited_part-requires-clause-suits : goal.suited_part-requires-clause-suits
+suited_part-requires-clause-suits c = c.requires.suits
+
+pub suited_part-requires-clause-member : goal.suited_part-requires-clause-member
+suited_part-requires-clause-member c = c.requires.member
+
+pub returns-clause-counts : goal.returns-clause-counts
+returns-clause-counts c = c.count_suited.ensures.counts
+
+pub returns-clause-flushes : goal.returns-clause-flushes
+returns-clause-flushes c = c.count_suited.ensures.flushes
+
+pub returns-in_default-clause-flushes : goal.returns-in_default-clause-flushes
+returns-in_default-clause-flushes c = c.requires.flushes

@@ -17,3 +17,33 @@ put_sum-requires-2-clause-fits g c = λ pot place side p has l.
 pub returns-clause-counts : goal.returns-clause-counts
 returns-clause-counts g c =
     fields_put (deal_of c.args.spot.now.table) c.args.front.now.taken c.args.codes.now c.args.pairs.now c.sum_piece-sum.result c.args.counts.now c.sum_piece-sum.new.counts c.put_sum-2.new.counts c.requires.few c.seven.ensures c.sum_piece-sum.ensures.counts c.put_sum-2.ensures.counts
+
+pub sum_plain-sum-requires-clause-pairs : goal.sum_plain-sum-requires-clause-pairs
+sum_plain-sum-requires-clause-pairs g c = c.requires.pairs
+
+pub sum_plain-sum-requires-clause-codes : goal.sum_plain-sum-requires-clause-codes
+sum_plain-sum-requires-clause-codes g c = c.requires.codes
+
+pub sum_piece-sum-requires-clause-suits : goal.sum_piece-sum-requires-clause-suits
+sum_piece-sum-requires-clause-suits g c = c.requires.suits
+
+pub sum_piece-sum-requires-clause-rows : goal.sum_piece-sum-requires-clause-rows
+sum_piece-sum-requires-clause-rows g c = c.requires.rows
+
+pub sum_piece-sum-requires-clause-pairs : goal.sum_piece-sum-requires-clause-pairs
+sum_piece-sum-requires-clause-pairs g c = c.requires.pairs
+
+pub sum_piece-sum-requires-clause-codes : goal.sum_piece-sum-requires-clause-codes
+sum_piece-sum-requires-clause-codes g c = c.requires.codes
+
+pub sum_piece-sum-requires-clause-flushes : goal.sum_piece-sum-requires-clause-flushes
+sum_piece-sum-requires-clause-flushes g c = c.requires.flushes
+
+pub sum_piece-sum-requires-clause-fits : goal.sum_piece-sum-requires-clause-fits
+sum_piece-sum-requires-clause-fits g c = c.requires.fits
+
+pub returns-then-front-clause-flushes : goal.returns-then-front-clause-flushes
+returns-then-front-clause-flushes g c = c.requires.flushes
+
+pub returns-clause-flushes : goal.returns-clause-flushes
+returns-clause-flushes g c = c.sum_piece-sum.ensures.flushes

@@ -39,3 +39,9 @@ add_place-requires-clause-fits_low c = λ two.
     let n = c.args.spot.now.pots in
     let t = c.loop-pot-test.true in
     room_for (deal_of c.args.spot.now.table) c.args.taken c.args.pair.now c.loop-pot.pot c.suited_place-place.result.low Low c.args.counts.now c.loop-pot.counts c.requires.fits (omega arith) (sym c.has_side-two_sides.ensures ∙ two) (let f = c.suited_place-place.ensures.few_lows in omega arith) c.loop-pot.invariant.counted
+
+pub suited_place-place-requires-clause-member : goal.suited_place-place-requires-clause-member
+suited_place-place-requires-clause-member c = c.requires.member
+
+pub suited_place-place-requires-clause-part : goal.suited_place-place-requires-clause-part
+suited_place-place-requires-clause-part c = c.requires.part

@@ -25,3 +25,27 @@ returns-in_default-clause-counts c =
 
 pub returns-clause-counts : goal.returns-clause-counts
 returns-clause-counts c = inl (refl, c.count_suited.ensures.counts)
+
+pub suited_part-requires-clause-suits : goal.suited_part-requires-clause-suits
+suited_part-requires-clause-suits c = c.requires.suits
+
+pub suited_part-requires-clause-member : goal.suited_part-requires-clause-member
+suited_part-requires-clause-member c = c.requires.member
+
+pub count_suited-requires-clause-rows : goal.count_suited-requires-clause-rows
+count_suited-requires-clause-rows c = c.requires.rows
+
+pub count_suited-requires-clause-member : goal.count_suited-requires-clause-member
+count_suited-requires-clause-member c = c.requires.member
+
+pub count_suited-requires-clause-fits : goal.count_suited-requires-clause-fits
+count_suited-requires-clause-fits c = c.requires.fits
+
+pub count_suited-requires-clause-flushes : goal.count_suited-requires-clause-flushes
+count_suited-requires-clause-flushes c = c.requires.flushes
+
+pub returns-clause-flushes : goal.returns-clause-flushes
+returns-clause-flushes c = c.count_suited.ensures.flushes
+
+pub returns-in_default-clause-flushes : goal.returns-in_default-clause-flushes
+returns-in_default-clause-flushes c = c.requires.flushes

@@ -20,3 +20,24 @@ returns-in_default-clause-value c =
     let set : List ℕ = c.args.front.now.taken ++ cards_of_pair c.args.pair.now in
     let scene : IsScene st set = scene_of c.args.spot.now set c.requires.member in
     row_pair (deal_of c.args.spot.now.table) 0 c.args.front.now.taken c.args.pair.now c.from.result c.args.row.now High c.law_values_keep_order.ensures scene c.are_hands.ensures c.requires.row (c.from.ensures ∙ c.args.pair.now.by_rank) c.in_default.ensures
+
+pub suited_part-requires-clause-suits : goal.suited_part-requires-clause-suits
+suited_part-requires-clause-suits c = c.requires.suits
+
+pub suited_part-requires-clause-member : goal.suited_part-requires-clause-member
+suited_part-requires-clause-member c = c.requires.member
+
+pub suited_place-requires-clause-member : goal.suited_place-requires-clause-member
+suited_place-requires-clause-member c = c.requires.member
+
+pub suited_place-requires-clause-row : goal.suited_place-requires-clause-row
+suited_place-requires-clause-row c = c.requires.row
+
+pub suited_place-requires-clause-flushes : goal.suited_place-requires-clause-flushes
+suited_place-requires-clause-flushes c = c.requires.flushes
+
+pub returns-clause-flushes : goal.returns-clause-flushes
+returns-clause-flushes c = c.suited_place.ensures.flushes
+
+pub returns-in_default-clause-flushes : goal.returns-in_default-clause-flushes
+returns-in_default-clause-flushes c = c.requires.flushes

@@ -36,3 +36,18 @@ loop-pair-preserved g c =
       flushes = new.ensures.flushes;
       steps = (let s = was.steps in omega (arith, c.tick.ensures));
     }
+
+pub one_of_pair-sum-requires-clause-suits : goal.one_of_pair-sum-requires-clause-suits
+one_of_pair-sum-requires-clause-suits g c = c.requires.suits
+
+pub one_of_pair-sum-requires-clause-rows : goal.one_of_pair-sum-requires-clause-rows
+one_of_pair-sum-requires-clause-rows g c = c.requires.rows
+
+pub one_of_pair-sum-requires-clause-codes : goal.one_of_pair-sum-requires-clause-codes
+one_of_pair-sum-requires-clause-codes g c = c.requires.codes
+
+pub one_of_pair-sum-requires-clause-flushes : goal.one_of_pair-sum-requires-clause-flushes
+one_of_pair-sum-requires-clause-flushes g c = c.loop-pair.invariant.flushes
+
+pub returns-clause-flushes : goal.returns-clause-flushes
+returns-clause-flushes g c = c.loop-pair.invariant.flushes

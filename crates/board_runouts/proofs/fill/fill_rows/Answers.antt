@@ -4,7 +4,7 @@ use Rattle.card_sets.specs.Cards.{union}
 use Rattle.card_sets.specs.State.{State, state_of}
 use Rattle.showdown_tally.specs.Deals.{deal_of}
 use Rattle.showdown_tally.specs.Showdown.{Showdown}
-use Rattle.board_runouts.specs.BoardWith.{AreHandRanks}
+use Rattle.board_runouts.specs.HandRanks.{AreHandRanks}
 use Rattle.board_runouts.specs.KeptRows.{IsBestAt}
 use Rattle.board_runouts.specs.SideRows.{IsDealtWith}
 use Rattle.board_runouts.proofs.BoardDealt.{worths_after}
@@ -64,7 +64,7 @@ loop-high-preserved c =
             let Q : ℕ → Type 0 = λ i. IsBestAt deal pot runout row i in
             let dealt' : IsDealtWith st c.args.ranks low high runout = subst R second (subst P first dealt) in
             subst Q (sym same) (e.here pot row runout lt at
-            (worths_after st c.args.taken c.args.ranks low high runout c.worths_with.new.worths c.rising.ensures.set c.rising-2.ensures.set c.requires.first c.requires.ranks dealt' c.worths_with.ensures.highs c.worths_with.ensures.lows))
+            (worths_after st c.args.taken c.args.ranks low high runout c.worths_with.new.worths c.requires.dealt c.rising.ensures.set c.rising-2.ensures.set c.requires.first c.requires.ranks dealt' c.worths_with.ensures.highs c.worths_with.ensures.lows))
       ];
       away = λ i away. e.away i away ∙ was.away i away;
     }
@@ -87,3 +87,12 @@ returns-clause-names c = c.loop-low.invariant.names
 
 pub returns-clause-away : goal.returns-clause-away
 returns-clause-away c = c.loop-low.invariant.away
+
+pub worths_with-requires-clause-dealt : goal.worths_with-requires-clause-dealt
+worths_with-requires-clause-dealt c = c.requires.dealt
+
+pub worths_with-requires-clause-first : goal.worths_with-requires-clause-first
+worths_with-requires-clause-first c = c.requires.first
+
+pub worths_with-requires-clause-own : goal.worths_with-requires-clause-own
+worths_with-requires-clause-own c = c.requires.own

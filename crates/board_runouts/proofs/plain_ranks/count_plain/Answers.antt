@@ -3,7 +3,7 @@ use Rattle.std.proofs.lemmas.Option.{slice_get-get_or}
 use Rattle.card_sets.specs.Games.{has_side}
 use Rattle.card_sets.specs.declared.games.Side.TheVariants.{High, Low}
 use Rattle.showdown_tally.specs.Deals.{deal_of}
-use Rattle.board_runouts.specs.Sieves.{plain_pairs}
+use Rattle.board_ranks.specs.Sieves.{plain_pairs}
 use Rattle.board_runouts.proofs.PairCounts.{board_high, only_pot}
 use Rattle.board_runouts.proofs.PlainPairs.{plain_all, plain_coded, plain_codes, plain_inside, plain_mains, plain_rows}
 use Rattle.board_runouts.proofs.plain_ranks.count_plain.Goals as goal

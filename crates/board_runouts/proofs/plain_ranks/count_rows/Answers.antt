@@ -5,7 +5,7 @@ use Rattle.runout_ranges.proofs.CallerLemmas.{member_at}
 use Rattle.showdown_tally.specs.Deals.{deal_of}
 use Rattle.board_runouts.specs.PlainRanks.{RowsGrow}
 use Rattle.board_runouts.proofs.PlainPairs.{rows_next, rows_room}
-use Rattle.board_runouts.proofs.SieveLists.{take_most}
+use Rattle.board_ranks.proofs.CallerLemmas.{take_most}
 use Rattle.board_runouts.proofs.plain_ranks.count_rows.Goals as goal
 
 pub put_runout-requires-clause-inside : goal.put_runout-requires-clause-inside

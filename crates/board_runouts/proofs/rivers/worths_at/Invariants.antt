@@ -2,8 +2,8 @@ use Rattle.std.proofs.Common.{◌≡◌, ℕ, ◌<◌, [], length, get_or}
 use Rattle.std.specs.Prelude.{slice_index_or}
 use Rattle.card_sets.specs.State.{state_of}
 use Rattle.showdown_tally.specs.Settling.{number_of}
-use Rattle.board_runouts.specs.BoardWith.{low_number}
-use Rattle.board_runouts.specs.HighParts.{plain_number}
+use Rattle.board_ranks.specs.BoardWith.{low_number}
+use Rattle.board_ranks.specs.HighParts.{plain_number}
 use Rattle.board_runouts.proofs.rivers.worths_at.Given as goal
 
 abbrev pub invariant-loop-hand : goal.invariant-loop-hand

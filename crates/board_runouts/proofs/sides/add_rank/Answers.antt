@@ -9,9 +9,9 @@ use Rattle.card_sets.specs.State.{State, state_of}
 use Rattle.card_sets.specs.declared.sets.ByRank.{ByRank}
 use Rattle.rank_high.specs.High.{count_of_rank}
 use Rattle.showdown_tally.proofs.CallerLemmas.{hand_of}
-use Rattle.board_runouts.specs.BoardWith.{AreRanksAnd, AreRanksWith}
+use Rattle.board_ranks.specs.BoardWith.{AreRanksAnd, AreRanksWith}
 use Rattle.runout_walk.proofs.CallerLemmas.{get-other}
-use Rattle.board_runouts.proofs.RowSets.{get-same}
+use Rattle.board_ranks.proofs.CallerLemmas.{get-same}
 use Rattle.board_runouts.proofs.sides.add_rank.Goals as goal
 
 pub loop-hand-preserved : goal.loop-hand-preserved

@@ -2,7 +2,8 @@ use Rattle.std.proofs.Common.{◌≡◌, ◌<◌, ℕ, List, [], Some, length}
 use Rattle.std.specs.Prelude.{slice_get, slice_index_or}
 use Rattle.card_sets.specs.State.{state_of}
 use Rattle.card_sets.specs.declared.sets.ByRank.{ByRank}
-use Rattle.board_runouts.specs.BoardWith.{AreHandRanks, AreRanksAnd}
+use Rattle.board_ranks.specs.BoardWith.{AreRanksAnd}
+use Rattle.board_runouts.specs.HandRanks.{AreHandRanks}
 use Rattle.board_runouts.proofs.sides.add_rank.Given as goal
 
 abbrev pub invariant-loop-hand : goal.invariant-loop-hand

@@ -6,10 +6,9 @@ use Rattle.card_sets.specs.Cards.{union}
 use Rattle.card_sets.specs.State.{State, state_of}
 use Rattle.card_sets.specs.declared.sets.ByRank.{ByRank}
 use Rattle.showdown_tally.proofs.CallerLemmas.{index_default, hand_of}
-use Rattle.board_runouts.specs.BoardWith.{AreRanksWith}
-use Rattle.board_runouts.proofs.FullBoards.{ranks_of_both}
+use Rattle.board_ranks.specs.BoardWith.{AreRanksWith}
 use Rattle.runout_walk.proofs.CallerLemmas.{get-other}
-use Rattle.board_runouts.proofs.RowSets.{get-same}
+use Rattle.board_ranks.proofs.CallerLemmas.{get-same, ranks_of_both}
 use Rattle.board_runouts.proofs.sides.hand_ranks.Goals as goal
 
 pub loop-hand-preserved : goal.loop-hand-preserved

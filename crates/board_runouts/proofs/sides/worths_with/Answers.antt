@@ -9,7 +9,7 @@ use Rattle.card_sets.specs.Disjoint.{apart}
 use Rattle.card_sets.specs.State.{State, state_of}
 use Rattle.card_sets.specs.declared.sets.ByRank.{ByRank}
 use Rattle.showdown_tally.proofs.CallerLemmas.{index_default, hand_of, known_sound, Sound}
-use Rattle.board_runouts.specs.BoardWith.{AreRanksAnd, AreWorthWith, IsBoardWith}
+use Rattle.board_ranks.specs.BoardWith.{AreRanksAnd, AreWorthWith, IsBoardWith}
 use Rattle.board_runouts.proofs.BoardDealt.{first_board, first_apart}
 use Rattle.board_runouts.proofs.sides.worths_with.Goals as goal
 

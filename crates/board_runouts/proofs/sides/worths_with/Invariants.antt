@@ -2,9 +2,9 @@ use Rattle.std.proofs.Common.{◌≡◌, ℕ, ◌<◌, [], List, length, get_or}
 use Rattle.std.specs.Prelude.{slice_index_or}
 use Rattle.card_sets.specs.Cards.{union}
 use Rattle.card_sets.specs.State.{state_of}
-use Rattle.board_runouts.specs.HighParts.{plain_number}
+use Rattle.board_ranks.specs.HighParts.{plain_number}
 use Rattle.showdown_tally.specs.Settling.{number_of}
-use Rattle.board_runouts.specs.BoardWith.{IsBoardWith, low_number}
+use Rattle.board_ranks.specs.BoardWith.{IsBoardWith, low_number}
 use Rattle.board_runouts.proofs.sides.worths_with.Given as goal
 
 abbrev pub invariant-loop-hand : goal.invariant-loop-hand

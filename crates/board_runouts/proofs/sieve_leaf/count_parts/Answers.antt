@@ -2,8 +2,8 @@ use Rattle.std.proofs.Common.{◌+◌, ◌≤◌, List, length, ap, arith, subst
 use Rattle.runout_ranges.specs.Runouts.{HasMember}
 use Rattle.showdown_tally.specs.Deals.{deal_of}
 use Rattle.board_runouts.specs.KeptRows.{PairsGrow}
-use Rattle.board_runouts.specs.Sieves.{plain_pairs}
-use Rattle.board_runouts.specs.declared.pair.Pair.{Pair}
+use Rattle.board_ranks.specs.Sieves.{plain_pairs}
+use Rattle.board_ranks.specs.declared.pair.Pair.{Pair}
 use Rattle.runout_walk.proofs.CallerLemmas.{room_less}
 use Rattle.board_runouts.proofs.PlainPairs.{flush_member, parts_grow, parts_size, plain_size, room_after}
 use Rattle.board_runouts.proofs.sieve_leaf.count_parts.Goals as goal
@@ -31,3 +31,30 @@ returns-clause-counts g c =
 pub returns-clause-steps : goal.returns-clause-steps
 returns-clause-steps g c =
     omega (arith, c.count_plain.ensures.steps, c.count_each.ensures.steps, ap length c.requires.plain, ap length c.requires.flush, parts_size c.args.front.now.suits c.args.pairs.now)
+
+pub count_plain-requires-clause-suits : goal.count_plain-requires-clause-suits
+count_plain-requires-clause-suits g c = c.requires.suits
+
+pub count_plain-requires-clause-rows : goal.count_plain-requires-clause-rows
+count_plain-requires-clause-rows g c = c.requires.rows
+
+pub count_plain-requires-clause-pairs : goal.count_plain-requires-clause-pairs
+count_plain-requires-clause-pairs g c = c.requires.pairs
+
+pub count_plain-requires-clause-codes : goal.count_plain-requires-clause-codes
+count_plain-requires-clause-codes g c = c.requires.codes
+
+pub count_plain-requires-clause-ranks : goal.count_plain-requires-clause-ranks
+count_plain-requires-clause-ranks g c = c.requires.plain
+
+pub count_each-requires-clause-suits : goal.count_each-requires-clause-suits
+count_each-requires-clause-suits g c = c.requires.suits
+
+pub count_each-requires-clause-rows : goal.count_each-requires-clause-rows
+count_each-requires-clause-rows g c = c.requires.rows
+
+pub count_each-requires-clause-flushes : goal.count_each-requires-clause-flushes
+count_each-requires-clause-flushes g c = c.requires.flushes
+
+pub returns-clause-flushes : goal.returns-clause-flushes
+returns-clause-flushes g c = c.count_each.ensures.flushes

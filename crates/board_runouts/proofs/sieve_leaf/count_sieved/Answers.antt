@@ -11,10 +11,10 @@ use Rattle.board_runouts.specs.Codes.{AreCodesFor}
 use Rattle.board_runouts.specs.KeptRows.{AreRowsOf, PairsGrow}
 use Rattle.board_runouts.specs.Pairs.{cards_of_pair}
 use Rattle.runout_walk.specs.Listing.{IsEndOf}
-use Rattle.board_runouts.specs.Sieves.{IsParted, flush_pairs, plain_ranks}
-use Rattle.board_runouts.specs.Suits.{AreFivesWith}
-use Rattle.board_runouts.specs.declared.pair.Pair.{Pair}
-use Rattle.board_runouts.specs.declared.sieve.Sieve.{Sieve}
+use Rattle.board_ranks.specs.Sieves.{IsParted, flush_pairs, plain_ranks}
+use Rattle.board_ranks.specs.Suits.{AreFivesWith}
+use Rattle.board_ranks.specs.declared.pair.Pair.{Pair}
+use Rattle.board_ranks.specs.declared.sieve.Sieve.{Sieve}
 use Rattle.board_runouts.proofs.BoardRunouts.{stretch-length, stretch-member}
 use Rattle.board_runouts.proofs.PairCounts.{grow_of}
 use Rattle.board_runouts.proofs.sieve_leaf.count_sieved.Goals as goal
@@ -102,3 +102,9 @@ pub count_parts-requires-clause-flush : goal.count_parts-requires-clause-flush
 count_parts-requires-clause-flush g c =
     let some : List Pair = slice_range c.listed-all.result.now c.stretch-span.result.start c.stretch-span.result.end in
     c.flush-flush.ensures ∙ ap (λ suits. flush_pairs suits some) (sym c.with-front.ensures.suits)
+
+pub count_parts-requires-clause-flushes : goal.count_parts-requires-clause-flushes
+count_parts-requires-clause-flushes g c = c.requires.flushes
+
+pub returns-clause-flushes : goal.returns-clause-flushes
+returns-clause-flushes g c = c.count_parts.ensures.flushes

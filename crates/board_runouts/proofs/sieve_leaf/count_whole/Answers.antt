@@ -9,7 +9,7 @@ use Rattle.showdown_tally.specs.Tallies.{runouts_after}
 use Rattle.board_runouts.specs.Codes.{AreCodesFor}
 use Rattle.board_runouts.specs.KeptRows.{AreRowsOf, PairsGrow}
 use Rattle.board_runouts.specs.Pairs.{cards_of_pair}
-use Rattle.board_runouts.specs.declared.pair.Pair.{Pair}
+use Rattle.board_ranks.specs.declared.pair.Pair.{Pair}
 use Rattle.board_runouts.proofs.BoardRunouts.{stretch-length, stretch-member}
 use Rattle.board_runouts.proofs.PairCounts.{grow_of}
 use Rattle.board_runouts.proofs.sieve_leaf.count_whole.Goals as goal
@@ -52,3 +52,15 @@ returns-clause-steps g c =
     let is : map cards_of_pair some ≡ slice_range (choose 2 c.args.tail.now.rest) c.args.lo c.args.hi = ap (λ l. map cards_of_pair (slice_range l c.stretch-span.result.start c.stretch-span.result.end)) c.listed-all.ensures.pairs ∙ c.stretch-span.ensures.pairs in
     let size : length some ≡ c.args.hi - c.args.lo = stretch-length some c.args.tail.now.rest c.args.lo c.args.hi is c.requires.order c.requires.inside in
     omega (arith, c.count_front.ensures.steps, size)
+
+pub count_front-requires-clause-suits : goal.count_front-requires-clause-suits
+count_front-requires-clause-suits g c = c.of-first.ensures.suits
+
+pub count_front-requires-clause-plain : goal.count_front-requires-clause-plain
+count_front-requires-clause-plain g c = c.of-first.ensures.plain
+
+pub count_front-requires-clause-flushes : goal.count_front-requires-clause-flushes
+count_front-requires-clause-flushes g c = c.requires.flushes
+
+pub returns-clause-flushes : goal.returns-clause-flushes
+returns-clause-flushes g c = c.count_front.ensures.flushes

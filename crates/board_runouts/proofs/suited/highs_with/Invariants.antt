@@ -1,7 +1,7 @@
 use Rattle.std.proofs.Common.{◌≡◌, ℕ, ◌<◌, [], length, get_or}
 use Rattle.std.specs.Prelude.{slice_index_or}
 use Rattle.card_sets.specs.State.{state_of}
-use Rattle.board_runouts.specs.HighParts.{high_number}
+use Rattle.board_ranks.specs.HighParts.{high_number}
 use Rattle.board_runouts.proofs.suited.highs_with.Given as goal
 
 abbrev pub invariant-loop-hand : goal.invariant-loop-hand

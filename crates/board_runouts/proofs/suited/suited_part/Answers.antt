@@ -4,7 +4,7 @@ use Rattle.std.proofs.lemmas.Option.{slice_get-get_or}
 use Rattle.card_sets.specs.Cards.{suit_of}
 use Rattle.card_sets.specs.State.{State, state_of}
 use Rattle.board_runouts.specs.Pairs.{cards_of_pair}
-use Rattle.board_runouts.specs.Suits.{IsShortWith}
+use Rattle.board_ranks.specs.Suits.{IsShortWith}
 use Rattle.board_runouts.proofs.BoardDealt.{IsScene, scene_of, unflagged}
 use Rattle.board_runouts.proofs.BoardRunouts.{pair_rises}
 use Rattle.board_runouts.proofs.suited.suited_part.Goals as goal
@@ -22,3 +22,6 @@ returns-then-first-gt3 c =
     let short : IsShortWith c.args.spot.now.most c.args.front.now.taken (suit_of c.args.pair.now.low) (suit_of c.args.pair.now.high) = c.requires.suits (suit_of c.args.pair.now.low) (suit_of c.args.pair.now.high) _ (omega arith) (omega arith)
     (ap (slice_get c.args.front.now.suits) (sym k) ∙ slice_get-get_or c.args.front.now.suits c.from.result _ inside) c.if-first-gt3.true in
     unflagged st c.args.front.now.taken c.args.spot.now.most c.args.pair.now.low c.args.pair.now.high scene c.args.spot.now.greatest short
+
+pub board_part-requires-clause-member : goal.board_part-requires-clause-member
+board_part-requires-clause-member c = c.requires.member

@@ -3,7 +3,7 @@ use Rattle.card_sets.specs.State.{state_of}
 use Rattle.showdown_tally.specs.Deals.{deal_of}
 use Rattle.showdown_tally.specs.SideCounts.{AreSideCounts}
 use Rattle.showdown_tally.specs.Tallies.{runouts_after}
-use Rattle.equity_job.specs.Blocks.{block_of}
+use Rattle.job_blocks.specs.Blocks.{block_of}
 use Rattle.equity_job.proofs.blocks.fill_in.Goals as goal
 
 pub returns-clause-counts : goal.returns-clause-counts

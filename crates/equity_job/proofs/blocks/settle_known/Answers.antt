@@ -4,7 +4,7 @@ use Rattle.runout_ranges.specs.Runouts.{Begins}
 use Rattle.showdown_tally.specs.CountLaws.{Counts-none, Counts-more, Fits-few}
 use Rattle.showdown_tally.specs.Deals.{deal_of}
 use Rattle.showdown_tally.specs.Tallies.{Counts, runouts_after}
-use Rattle.equity_job.proofs.OnlyRunout.{of_state, none_lacking, first_member, only_runout, only_block}
+use Rattle.job_blocks.proofs.CallerLemmas.{of_state, none_lacking, first_member, only_runout, only_block}
 use Rattle.equity_job.proofs.blocks.settle_known.Goals as goal
 
 pub settle_runout-requires-clause-runout : goal.settle_runout-requires-clause-runout

@@ -3,8 +3,8 @@ use Rattle.std.specs.Prelude.{min}
 use Rattle.std.specs.List.{slice_range}
 use Rattle.card_sets.specs.State.{state_of}
 use Rattle.showdown_tally.specs.Tallies.{runouts_after}
-use Rattle.equity_job.proofs.BlockLists.{block_to, length-block_to}
-use Rattle.equity_job.specs.declared.limits.TheConstants.{BLOCK}
+use Rattle.job_blocks.proofs.CallerLemmas.{block_to, length-block_to}
+use Rattle.job_blocks.specs.declared.limits.TheConstants.{BLOCK}
 use Rattle.equity_job.proofs.blocks.span_of.Goals as goal
 
 pub returns-clause-block : goal.returns-clause-block

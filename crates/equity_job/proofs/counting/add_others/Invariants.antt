@@ -2,7 +2,7 @@ use Rattle.std.proofs.Common.{◌≡◌, ◌+◌, length}
 use Rattle.card_sets.specs.State.{state_of}
 use Rattle.showdown_tally.specs.Deals.{deal_of}
 use Rattle.showdown_tally.specs.Tallies.{Counts, runouts_after}
-use Rattle.equity_job.specs.Blocks.{blocks_below}
+use Rattle.job_blocks.specs.Blocks.{blocks_below}
 use Rattle.equity_job.proofs.counting.add_others.Given as goal
 
 abbrev pub invariant-loop-block : goal.invariant-loop-block

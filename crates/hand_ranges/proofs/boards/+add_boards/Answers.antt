@@ -1,7 +1,7 @@
 use Rattle.std.proofs.Common.{rules, ◌≡◌, ◌<◌, ◌+◌, ◌-◌, ◌*◌, ◌∙◌, length, sym, ap, true, arith}
 use Rattle.card_sets.specs.Disjoint.{apart}
 use Rattle.hand_ranges.specs.Boards.{boards_add, worth}
-use Rattle.hand_ranges.specs.Choices.{most_choices}
+use Rattle.range_lines.specs.Choices.{most_choices}
 use Rattle.runout_ranges.specs.Ways.{binomial}
 use Rattle.runout_ranges.proofs.CallerLemmas.{nothing}
 use Rattle.hand_ranges.proofs.BoardSums.{FirstCard, boards_empty, boards_none, boards_split, first_card, ways_split}

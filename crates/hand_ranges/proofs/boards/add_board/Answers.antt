@@ -1,7 +1,7 @@
 use Rattle.std.proofs.Common.{◌≡◌, ◌+◌, ◌∙◌, map, filter, take, sym, ap, subst, arith}
 use Rattle.hand_ranges.specs.Boards.{AllShown, adds_beside, is_off, ranges_shown, shown_of, worth}
-use Rattle.hand_ranges.specs.Choices.{most_choices, walked}
-use Rattle.hand_ranges.specs.RangeSpot.{ranges_in}
+use Rattle.range_lines.specs.Choices.{most_choices, walked}
+use Rattle.range_lines.specs.RangeSpot.{ranges_in}
 use Rattle.hand_ranges.proofs.ShownChoices.{all_of_front, all_shown, most_off, ranges_again}
 use Rattle.hand_ranges.proofs.boards.add_board.Goals as goal
 

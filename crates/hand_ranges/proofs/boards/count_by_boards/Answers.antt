@@ -2,10 +2,10 @@ use Rattle.std.proofs.Common.{◌≡◌, ◌+◌, ◌-◌, ◌∙◌, length, ap
 use Rattle.card_sets.specs.Cards.{minus}
 use Rattle.card_sets.specs.Disjoint.{apart}
 use Rattle.hand_ranges.specs.Boards.{boards_add, open_cards}
-use Rattle.hand_ranges.specs.RangeSpot.{ranges_in}
+use Rattle.range_lines.specs.RangeSpot.{ranges_in}
 use Rattle.hand_ranges.proofs.BoardSums.{open_apart, open_unseen}
 use Rattle.hand_ranges.proofs.BoardTallies.{AreOverBoards, boards_tally, few_choices, few_ways}
-use Rattle.hand_ranges.proofs.RangeWalks.{most_few, runouts_some}
+use Rattle.range_lines.proofs.CallerLemmas.{most_few, runouts_some}
 use Rattle.hand_ranges.proofs.boards.count_by_boards.Goals as goal
 
 pub add_boards-requires-clause-apart : goal.add_boards-requires-clause-apart

@@ -2,12 +2,12 @@ use Rattle.std.proofs.Common.{rules, ◌≡◌, ◌≤◌, ◌+◌, ◌-◌, ◌
 use Rattle.std.specs.List.{list_all}
 use Rattle.card_sets.specs.Disjoint.{apart}
 use Rattle.runout_ranges.specs.declared.limits.TheConstants.{RUNOUT_MAX}
-use Rattle.hand_ranges.specs.Choices.{is_disjoint, most_choices, walked}
-use Rattle.hand_ranges.specs.RangeSpot.{ranges_in}
+use Rattle.range_lines.specs.Choices.{is_disjoint, most_choices, walked}
+use Rattle.range_lines.specs.RangeSpot.{ranges_in}
 use Rattle.hand_ranges.specs.Taken.{chosen}
-use Rattle.hand_ranges.specs.Walks.{Choices, IsWalk, number_in, added_by}
-use Rattle.hand_ranges.proofs.RangeWalks.{split_first, walk_step, most_none}
-use Rattle.hand_ranges.proofs.TakenHands.{disjoint_push, and_true}
+use Rattle.range_lines.specs.Walks.{Choices, IsWalk, number_in, added_by}
+use Rattle.range_lines.proofs.CallerLemmas.{split_first, walk_step, most_none}
+use Rattle.range_lines.proofs.CallerLemmas.{disjoint_push, and_true}
 use Rattle.hand_ranges.proofs.WalkSums.{first_all, room_left, few_next, few_skip, walk_more, walk_skip}
 use Rattle.hand_ranges.proofs.counts.+add_choices.Goals as goal
 use Rattle.hand_ranges.proofs.counts.+add_choices.Goals.{then-is_apart, else-is_apart}

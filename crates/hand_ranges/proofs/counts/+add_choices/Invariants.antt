@@ -1,8 +1,8 @@
 use Rattle.std.proofs.Common.{◌≤◌, ◌+◌, ◌*◌, length}
-use Rattle.hand_ranges.specs.Choices.{most_choices}
-use Rattle.hand_ranges.specs.RangeSpot.{ranges_in}
+use Rattle.range_lines.specs.Choices.{most_choices}
+use Rattle.range_lines.specs.RangeSpot.{ranges_in}
 use Rattle.hand_ranges.specs.Taken.{chosen}
-use Rattle.hand_ranges.specs.Walks.{GrowsBy, IsWithin, added_by}
+use Rattle.range_lines.specs.Walks.{GrowsBy, IsWithin, added_by}
 use Rattle.hand_ranges.proofs.WalkSums.{first_of}
 use Rattle.hand_ranges.proofs.counts.+add_choices.Given as goal
 

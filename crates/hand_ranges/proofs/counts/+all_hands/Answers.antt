@@ -1,5 +1,5 @@
 use Rattle.std.proofs.Common.{◌≡◌, ap, length, arith}
-use Rattle.hand_ranges.proofs.RangeWalks.{few_first}
+use Rattle.range_lines.proofs.CallerLemmas.{few_first}
 use Rattle.hand_ranges.proofs.counts.+all_hands.Goals as goal
 
 pub overflow_add-result : goal.overflow_add-result

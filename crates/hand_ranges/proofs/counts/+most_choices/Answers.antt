@@ -1,6 +1,6 @@
 use Rattle.std.proofs.Common.{rules, ◌≡◌, ◌*◌, ◌≤◌, ◌^◌, ap, length, arith}
 use Rattle.std.proofs.lemmas.Nat.{mul-le}
-use Rattle.hand_ranges.proofs.RangeWalks.{few_first, most_fits}
+use Rattle.range_lines.proofs.CallerLemmas.{few_first, most_fits}
 use Rattle.hand_ranges.proofs.counts.+most_choices.Goals as goal
 
 pub overflow_mul-result : goal.overflow_mul-result

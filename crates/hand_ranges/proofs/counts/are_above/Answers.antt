@@ -1,6 +1,6 @@
 use Rattle.std.proofs.Common.{sym, subst}
-use Rattle.hand_ranges.specs.Walks.{AreFew}
-use Rattle.hand_ranges.proofs.RangeWalks.{ranges_few}
+use Rattle.range_lines.specs.Walks.{AreFew}
+use Rattle.range_lines.proofs.CallerLemmas.{ranges_few}
 use Rattle.hand_ranges.proofs.counts.are_above.Goals as goal
 
 pub most_choices-choices-requires-clause-few : goal.most_choices-choices-requires-clause-few

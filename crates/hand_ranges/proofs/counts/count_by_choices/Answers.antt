@@ -1,9 +1,9 @@
 use Rattle.std.proofs.Common.{◌≡◌, ap, subst, arith}
-use Rattle.hand_ranges.specs.Choices.{most_choices}
-use Rattle.hand_ranges.specs.RangeSpot.{ranges_in}
+use Rattle.range_lines.specs.Choices.{most_choices}
+use Rattle.range_lines.specs.RangeSpot.{ranges_in}
 use Rattle.hand_ranges.specs.Taken.{chosen}
-use Rattle.hand_ranges.specs.Walks.{Choices, GrowsBy, all_added}
-use Rattle.hand_ranges.proofs.RangeWalks.{most_few}
+use Rattle.range_lines.specs.Walks.{Choices, GrowsBy, all_added}
+use Rattle.range_lines.proofs.CallerLemmas.{most_few}
 use Rattle.hand_ranges.proofs.WalkSums.{all_walked}
 use Rattle.hand_ranges.proofs.counts.count_by_choices.Goals as goal
 

@@ -3,10 +3,10 @@ use Rattle.card_sets.specs.State.{state_of}
 use Rattle.runout_ranges.specs.Jobs.{IsDeckShort}
 use Rattle.runout_ranges.specs.declared.limits.TheConstants.{RUNOUT_MAX}
 use Rattle.showdown_tally.specs.Tallies.{runouts_after}
-use Rattle.hand_ranges.specs.Choices.{deal_of_choice}
-use Rattle.hand_ranges.specs.RangeSpot.{ranges_in}
+use Rattle.range_lines.specs.Choices.{deal_of_choice}
+use Rattle.range_lines.specs.RangeSpot.{ranges_in}
 use Rattle.hand_ranges.specs.Taken.{chosen}
-use Rattle.hand_ranges.proofs.RangeWalks.{board_small, refused, choice_enough, walk_few}
+use Rattle.range_lines.proofs.CallerLemmas.{board_small, refused, choice_enough, walk_few}
 use Rattle.hand_ranges.proofs.counts.count_choice.Goals as goal
 
 pub table-table-requires-clause-size : goal.table-table-requires-clause-size

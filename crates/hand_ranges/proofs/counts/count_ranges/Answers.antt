@@ -1,5 +1,5 @@
 use Rattle.std.proofs.Common.{◌∙◌, sym, eq-eqb, ne_eqb}
-use Rattle.hand_ranges.specs.RangeSpot.{ranges_in}
+use Rattle.range_lines.specs.RangeSpot.{ranges_in}
 use Rattle.hand_ranges.proofs.WalkSums.{no_choice, none_beyond, tally_of}
 use Rattle.hand_ranges.proofs.counts.count_ranges.Goals as goal
 

@@ -1,4 +1,4 @@
-use Rattle.hand_ranges.specs.RangeSpot.{ranges_in}
+use Rattle.range_lines.specs.RangeSpot.{ranges_in}
 use Rattle.hand_ranges.proofs.GivenOut.{ends_one_way, units_given}
 use Rattle.hand_ranges.proofs.laws.law_choices_are_given_out.Goals as goal
 

@@ -1,5 +1,5 @@
-use Rattle.hand_ranges.specs.RangeSpot.{ranges_in}
-use Rattle.hand_ranges.proofs.RangeWalks.{equal_runouts}
+use Rattle.range_lines.specs.RangeSpot.{ranges_in}
+use Rattle.range_lines.proofs.CallerLemmas.{equal_runouts}
 use Rattle.hand_ranges.proofs.laws.law_choices_have_equal_runouts.Goals as goal
 
 pub returns : goal.returns

@@ -1,4 +1,4 @@
-use Rattle.hand_ranges.specs.Choices.{full_cell, full_units}
+use Rattle.range_lines.specs.Choices.{full_cell, full_units}
 use Rattle.hand_ranges.proofs.GivenOut.{over_one}
 use Rattle.hand_ranges.proofs.laws.law_one_hand_each_is_a_spot.Goals as goal
 

@@ -3,11 +3,11 @@ use Rattle.std.specs.Prelude.{Some}
 use Rattle.std.specs.List.{list_all}
 use Rattle.card_sets.specs.Disjoint.{apart}
 use Rattle.hand_ranges.specs.Boards.{AllShown, AreEndsWithin, IsShown, adds_beside, ranges_shown, weighted_in, worth}
-use Rattle.hand_ranges.specs.Choices.{is_disjoint, most_choices, walked}
+use Rattle.range_lines.specs.Choices.{is_disjoint, most_choices, walked}
 use Rattle.hand_ranges.specs.Taken.{AreValues, chosen}
 use Rattle.hand_ranges.proofs.FullBoards.{values_push}
 use Rattle.hand_ranges.proofs.ShownChoices.{length_shown, most_shown, shown_at, shown_more, shown_skip, split_shown}
-use Rattle.hand_ranges.proofs.TakenHands.{disjoint_push, and_true}
+use Rattle.range_lines.proofs.CallerLemmas.{disjoint_push, and_true}
 use Rattle.hand_ranges.proofs.WalkSums.{first_all, room_left, few_next, few_skip}
 use Rattle.hand_ranges.proofs.showdowns.+add_shown.Goals as goal
 use Rattle.hand_ranges.proofs.showdowns.+add_shown.Goals.{then-is_apart, else-is_apart}

@@ -1,6 +1,6 @@
 use Rattle.std.proofs.Common.{◌≤◌, ◌+◌, ◌*◌, length, map}
 use Rattle.hand_ranges.specs.Boards.{AreEndsWithin, EndsGrow, adds_beside, ranges_shown, weighted_in}
-use Rattle.hand_ranges.specs.Choices.{most_choices}
+use Rattle.range_lines.specs.Choices.{most_choices}
 use Rattle.hand_ranges.specs.Taken.{chosen}
 use Rattle.hand_ranges.proofs.WalkSums.{first_of}
 use Rattle.hand_ranges.proofs.showdowns.+add_shown.Given as goal

@@ -2,7 +2,7 @@ use Rattle.std.proofs.Common.{ℕ, sym, subst, arith}
 use Rattle.card_sets.specs.declared.games.Side.TheVariants.{High}
 use Rattle.showdown_tally.specs.Cells.{cell_at, units_at}
 use Rattle.showdown_tally.specs.declared.cells.Cell.{Cell}
-use Rattle.hand_ranges.specs.Walks.{Choices, Weight, GrowsBy, count_adds}
+use Rattle.range_lines.specs.Walks.{Choices, Weight, GrowsBy, count_adds}
 use Rattle.hand_ranges.proofs.TallySums.{choice_grows, choice_within}
 use Rattle.hand_ranges.proofs.sums.add_count.Goals as goal
 

@@ -2,7 +2,7 @@ use Rattle.std.proofs.Common.{◌≡◌, ℕ, ◌+◌, ◌≤◌, ◌^◌, subst
 use Rattle.card_sets.specs.declared.games.Side.TheVariants.{High}
 use Rattle.showdown_tally.specs.Cells.{cell_at, units_at}
 use Rattle.showdown_tally.specs.declared.cells.Cell.{Cell}
-use Rattle.hand_ranges.specs.Walks.{Column, hand_adds, hands_add}
+use Rattle.range_lines.specs.Walks.{Column, hand_adds, hands_add}
 use Rattle.hand_ranges.proofs.TallySums.{grows_more, hands_next, small_next, Narrow}
 use Rattle.hand_ranges.proofs.sums.add_hands.Goals as goal
 

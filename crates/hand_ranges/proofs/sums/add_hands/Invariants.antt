@@ -1,7 +1,7 @@
 use Rattle.std.proofs.Common.{◌≤◌, ◌^◌}
 use Rattle.card_sets.specs.declared.games.Side.TheVariants.{High}
 use Rattle.showdown_tally.specs.Cells.{cell_at, units_at}
-use Rattle.hand_ranges.specs.Walks.{Column, GrowsBy, hands_add}
+use Rattle.range_lines.specs.Walks.{Column, GrowsBy, hands_add}
 use Rattle.hand_ranges.proofs.sums.add_hands.Given as goal
 
 abbrev pub invariant-loop-hand : goal.invariant-loop-hand

@@ -1,6 +1,6 @@
 use Rattle.std.proofs.Common.{◌≡◌, ◌<◌, ℕ, true, length}
 use Rattle.showdown_tally.specs.Tallies.{runouts_after}
-use Rattle.equity_job.specs.Blocks.{blocks_of}
+use Rattle.job_blocks.specs.Blocks.{blocks_of}
 use Rattle.tally_book.specs.Pages.{is_marked}
 use Rattle.steal_pool.proofs.alone.count_alone.Given as goal
 

@@ -3,7 +3,7 @@ use Rattle.tally_book.specs.Parts.{is_handed}
 use Rattle.steal_pool.specs.Lanes.{is_in, IsALane, StaysLane}
 use Rattle.showdown_tally.specs.Showdown.{Showdown}
 use Rattle.showdown_tally.specs.Tallies.{runouts_after}
-use Rattle.equity_job.specs.Blocks.{blocks_of}
+use Rattle.job_blocks.specs.Blocks.{blocks_of}
 use Rattle.steal_pool.proofs.LaneFacts.{handed_more, stays_on}
 use Rattle.steal_pool.proofs.lanes.drain.Goals as goal
 

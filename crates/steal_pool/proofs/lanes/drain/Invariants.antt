@@ -1,6 +1,6 @@
 use Rattle.std.proofs.Common.{◌≡◌, ℕ, ◌-◌, ◌<◌, false, ◌||◌, length}
 use Rattle.showdown_tally.specs.Tallies.{runouts_after}
-use Rattle.equity_job.specs.Blocks.{blocks_of}
+use Rattle.job_blocks.specs.Blocks.{blocks_of}
 use Rattle.tally_book.specs.Parts.{is_handed}
 use Rattle.tally_book.specs.declared.limits.TheConstants.{BLOCKS_MAX}
 use Rattle.steal_pool.specs.Reaches.{StaysOf}

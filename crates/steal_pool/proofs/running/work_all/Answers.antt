@@ -1,7 +1,7 @@
 use Rattle.std.proofs.Common.{◌-◌, ap, subst, sym, ◌∙◌, length}
 use Rattle.showdown_tally.specs.Showdown.{Showdown}
 use Rattle.showdown_tally.specs.Tallies.{runouts_after}
-use Rattle.equity_job.specs.Blocks.{blocks_of}
+use Rattle.job_blocks.specs.Blocks.{blocks_of}
 use Rattle.steal_pool.specs.Joined.{IsJoinable, HasAll, HasTold}
 use Rattle.steal_pool.proofs.JoinedPasses.{worked_joinable, shared}
 use Rattle.steal_pool.proofs.running.work_all.Goals as goal

@@ -7,7 +7,7 @@ use Rattle.runout_ranges.specs.Shapes.{IsShapeOf, runouts_of}
 use Rattle.runout_ranges.specs.declared.shapes.Shape.{Shape}
 use Rattle.showdown_tally.specs.Tallies.{runouts_after}
 use Rattle.runout_ranges.specs.declared.limits.TheConstants.{RUNOUT_MAX}
-use Rattle.equity_job.proofs.CallerLemmas.{of_state}
+use Rattle.job_blocks.proofs.CallerLemmas.{of_state}
 use Rattle.street_walk.specs.Streets.{divisions}
 use Rattle.street_walk.proofs.EnoughAfter.{above_all}
 use Rattle.street_walk.proofs.sums.are_too_many.Goals as goal

@@ -102,3 +102,24 @@ returns-clause-counts g c =
     let leaf : IsLeafOf c.args.self.now.spot c.args.front.now c.args.tail.taken c.args.tail.rest =
     leaf_of c.args.self.now.spot c.args.self.now.table c.args.front.now c.args.tail.taken c.args.tail.rest c.args.tail.left c.args.lo c.args.hi c.args.self.now.same c.requires.last c.requires.deep c.requires.members c.requires.order c.requires.inside in
     leaf_grow c.args.self.now.spot c.args.self.now.table c.args.front.now c.args.tail.taken c.args.tail.rest c.args.tail.left c.args.lo c.args.hi c.args.counts.now c.count_sieved.new.counts c.args.self.now.same leaf.none c.requires.deep c.count_sieved.ensures.counts
+
+pub ready-base-requires-clause-right : goal.ready-base-requires-clause-right
+ready-base-requires-clause-right g c = c.args.self.now.right
+
+pub ready-base-requires-clause-ranks : goal.ready-base-requires-clause-ranks
+ready-base-requires-clause-ranks g c = c.ranks_of-ranks.ensures.ranks
+
+pub ready-base-requires-clause-second : goal.ready-base-requires-clause-second
+ready-base-requires-clause-second g c = c.ranks_of-ranks.ensures.bounds
+
+pub ready-base-requires-clause-least : goal.ready-base-requires-clause-least
+ready-base-requires-clause-least g c = c.last_rank-least.ensures
+
+pub ready-place-requires-clause-right : goal.ready-place-requires-clause-right
+ready-place-requires-clause-right g c = c.args.self.now.coded
+
+pub count_whole-requires-clause-flushes : goal.count_whole-requires-clause-flushes
+count_whole-requires-clause-flushes g c = c.args.self.now.best
+
+pub count_sieved-requires-clause-flushes : goal.count_sieved-requires-clause-flushes
+count_sieved-requires-clause-flushes g c = c.args.self.now.best

@@ -2,7 +2,7 @@ use Rattle.std.proofs.Common.{sym, ap, ◌∙◌}
 use Rattle.std.specs.Prelude.{slice_get}
 use mathlib.Core.Bool.{true≢false}
 use Rattle.board_runouts.specs.Codes.{AreCodes}
-use Rattle.board_runouts.proofs.CodeSets.{all_push}
+use Rattle.board_ranks.proofs.CallerLemmas.{all_push}
 use Rattle.board_runouts.proofs.coded_rows.CodedRows.place_for.Goals as goal
 
 pub returns-clause-right : goal.returns-clause-right

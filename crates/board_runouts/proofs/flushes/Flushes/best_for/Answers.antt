@@ -16,3 +16,24 @@ returns-then-is_of-clause-flush c =
     same_best (deal_of c.args.table.now) kept.pot c.args.pot kept.cards c.args.part.now.cards kept.suit c.args.part.now.suit kept.top c.best.result.top kept.set c.best.result.set
     (e.pot c.if-is_of.true) (e.cards c.if-is_of.true) (e.suit c.if-is_of.true) (sym c.best.ensures.top) (sym c.best.ensures.set)
     (c.requires.right.best place kept there (e.stamp c.if-is_of.true))
+
+pub make-requires-clause-dealt : goal.make-requires-clause-dealt
+make-requires-clause-dealt c = c.requires.dealt
+
+pub make-requires-clause-own : goal.make-requires-clause-own
+make-requires-clause-own c = c.requires.own
+
+pub make-requires-clause-apart : goal.make-requires-clause-apart
+make-requires-clause-apart c = c.requires.apart
+
+pub make-requires-clause-right : goal.make-requires-clause-right
+make-requires-clause-right c = c.requires.right
+
+pub returns-clause-flush : goal.returns-clause-flush
+returns-clause-flush c = c.make.ensures.flush
+
+pub returns-clause-right : goal.returns-clause-right
+returns-clause-right c = c.make.ensures.right
+
+pub returns-then-is_of-clause-right : goal.returns-then-is_of-clause-right
+returns-then-is_of-clause-right c = c.requires.right

@@ -25,3 +25,15 @@ returns-clause-right c =
       best = all_set (λ (f : Flush). f.stamp ≡ c.work_out.new.self.stamp → IsBestFlush (deal_of c.args.table.now) f.pot f.cards f.suit f.top f.set) c.work_out.new.self.list.items c.args.place _ was.best (λ same. record { greatest = best.0; winners = λ some. best.1 });
       of_hands = was.of_hands;
     }
+
+pub work_out-requires-clause-dealt : goal.work_out-requires-clause-dealt
+work_out-requires-clause-dealt c = c.requires.dealt
+
+pub work_out-requires-clause-own : goal.work_out-requires-clause-own
+work_out-requires-clause-own c = c.requires.own
+
+pub work_out-requires-clause-apart : goal.work_out-requires-clause-apart
+work_out-requires-clause-apart c = c.requires.apart
+
+pub work_out-requires-clause-right : goal.work_out-requires-clause-right
+work_out-requires-clause-right c = c.requires.right

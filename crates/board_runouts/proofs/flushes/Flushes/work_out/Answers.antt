@@ -19,3 +19,12 @@ returns-clause-right c =
       best = was.best;
       of_hands = λ same. c.hand_flushes.ensures;
     }
+
+pub hand_flushes-requires-clause-dealt : goal.hand_flushes-requires-clause-dealt
+hand_flushes-requires-clause-dealt c = c.requires.dealt
+
+pub hand_flushes-requires-clause-own : goal.hand_flushes-requires-clause-own
+hand_flushes-requires-clause-own c = c.requires.own
+
+pub hand_flushes-requires-clause-apart : goal.hand_flushes-requires-clause-apart
+hand_flushes-requires-clause-apart c = c.requires.apart

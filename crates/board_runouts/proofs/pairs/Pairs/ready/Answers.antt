@@ -1,6 +1,6 @@
 use Rattle.std.proofs.Common.{List, take, sym, subst}
-use Rattle.board_runouts.specs.KeptSieves.{AreSieves}
-use Rattle.board_runouts.specs.declared.pair.Pair.{Pair}
+use Rattle.board_ranks.specs.KeptSieves.{AreSieves}
+use Rattle.board_ranks.specs.declared.pair.Pair.{Pair}
 use Rattle.board_runouts.proofs.pairs.Pairs.ready.Goals as goal
 
 pub ready-requires-clause-right : goal.ready-requires-clause-right

@@ -38,3 +38,15 @@ returns-clause-right c =
           row_right deal pot c.args.ranks c.args.least row named.pot_is named.ranks_are named.least_is (c.fill_rows.ensures.rows pot row here.1 there)
       | inr away ↦ c.requires.right i row (c.place_for-base.ensures.others i row away (ap (λ rows. slice_get rows i) (sym c.as_mut_slice-rows.ensures.value) ∙ sym (c.fill_rows.ensures.away i away) ∙ at))
     ])
+
+pub fill_rows-requires-clause-dealt : goal.fill_rows-requires-clause-dealt
+fill_rows-requires-clause-dealt c = c.requires.dealt
+
+pub fill_rows-requires-clause-first : goal.fill_rows-requires-clause-first
+fill_rows-requires-clause-first c = c.requires.first
+
+pub fill_rows-requires-clause-own : goal.fill_rows-requires-clause-own
+fill_rows-requires-clause-own c = c.requires.own
+
+pub fill_rows-requires-clause-ranks : goal.fill_rows-requires-clause-ranks
+fill_rows-requires-clause-ranks c = c.requires.ranks

@@ -15,3 +15,33 @@ returns-then-has_all-clause-names c = λ pot row lt at. record {
   ranks_are = c.has_all.ensures.ranks pot row c.if-has_all.true lt at;
   least_is = c.has_all.ensures.least pot row c.if-has_all.true lt at;
 }
+
+pub put-requires-clause-dealt : goal.put-requires-clause-dealt
+put-requires-clause-dealt c = c.requires.dealt
+
+pub put-requires-clause-right : goal.put-requires-clause-right
+put-requires-clause-right c = c.requires.right
+
+pub put-requires-clause-first : goal.put-requires-clause-first
+put-requires-clause-first c = c.requires.first
+
+pub put-requires-clause-own : goal.put-requires-clause-own
+put-requires-clause-own c = c.requires.own
+
+pub put-requires-clause-ranks : goal.put-requires-clause-ranks
+put-requires-clause-ranks c = c.requires.ranks
+
+pub put-requires-clause-least : goal.put-requires-clause-least
+put-requires-clause-least c = c.requires.least
+
+pub returns-clause-rows : goal.returns-clause-rows
+returns-clause-rows c = c.put.ensures.rows
+
+pub returns-clause-names : goal.returns-clause-names
+returns-clause-names c = c.put.ensures.names
+
+pub returns-clause-right : goal.returns-clause-right
+returns-clause-right c = c.put.ensures.right
+
+pub returns-then-has_all-clause-right : goal.returns-then-has_all-clause-right
+returns-then-has_all-clause-right c = c.requires.right

@@ -1,7 +1,7 @@
 use Rattle.std.proofs.Common.{◌<◌, ◌∙◌, length, take, get_or, ap, arith}
 use Rattle.std.proofs.lemmas.List.{length-take}
 use Rattle.hand_ranges.proofs.ShownChoices.{length_shown_of}
-use Rattle.hand_ranges.proofs.TakenHands.{hand_at}
+use Rattle.range_lines.proofs.CallerLemmas.{hand_at}
 use Rattle.hand_ranges.proofs.beside.ShownRange.fill.Goals as goal
 
 pub value_beside-requires-clause-two : goal.value_beside-requires-clause-two

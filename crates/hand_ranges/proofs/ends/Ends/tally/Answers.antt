@@ -1,5 +1,5 @@
 use Rattle.std.proofs.Common.{◌/◌, ◌∙◌, ap, set, arith}
-use Rattle.hand_ranges.specs.Walks.{number_in}
+use Rattle.range_lines.specs.Walks.{number_in}
 use Rattle.hand_ranges.proofs.EndSums.{tally_begins, tally_more}
 use Rattle.hand_ranges.proofs.ends.Ends.tally.Goals as goal
 

@@ -1,6 +1,6 @@
 use Rattle.std.proofs.Common.{◌≡◌}
 use Rattle.hand_ranges.specs.Boards.{ends_number_below}
-use Rattle.hand_ranges.specs.Walks.{Column, number_in}
+use Rattle.range_lines.specs.Walks.{Column, number_in}
 use Rattle.hand_ranges.proofs.ends.Ends.tally.Given as goal
 
 abbrev pub invariant-loop-hand : goal.invariant-loop-hand

@@ -1,7 +1,7 @@
 use Rattle.std.proofs.Common.{ap, ◌∙◌}
 use Rattle.card_sets.specs.Disjoint.{apart}
 use Rattle.hand_ranges.proofs.BoardSums.{cards_more}
-use Rattle.hand_ranges.proofs.TakenHands.{none_apart}
+use Rattle.range_lines.proofs.CallerLemmas.{none_apart}
 use Rattle.hand_ranges.proofs.taken.Taken.cards.Goals as goal
 
 pub loop-w-init : goal.loop-w-init

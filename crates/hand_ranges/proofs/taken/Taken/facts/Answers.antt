@@ -1,4 +1,4 @@
-use Rattle.hand_ranges.proofs.TakenHands.{light_all, light_three}
+use Rattle.range_lines.proofs.CallerLemmas.{light_all, light_three}
 use Rattle.hand_ranges.proofs.taken.Taken.facts.Goals as goal
 
 pub returns-clause-light : goal.returns-clause-light

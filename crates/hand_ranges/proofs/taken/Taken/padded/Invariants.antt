@@ -1,5 +1,5 @@
 use Rattle.std.proofs.Common.{◌≡◌, ◌-◌, [], take, drop, replicate, length}
-use Rattle.hand_ranges.specs.Choices.{hands_in}
+use Rattle.range_lines.specs.Choices.{hands_in}
 use Rattle.hand_ranges.proofs.taken.Taken.padded.Given as goal
 
 abbrev pub invariant-loop-place : goal.invariant-loop-place

@@ -1,6 +1,6 @@
 use Rattle.std.proofs.Common.{◌-◌, take, ap, ◌∙◌}
 use Rattle.card_sets.specs.Disjoint.{all_empty}
-use Rattle.hand_ranges.proofs.TakenHands.{known_apart, known_fit, nones_empty}
+use Rattle.range_lines.proofs.CallerLemmas.{known_apart, known_fit, nones_empty}
 use Rattle.hand_ranges.proofs.taken.Taken.table.Goals as goal
 
 pub invariant_of-known-clause-disjoint : goal.invariant_of-known-clause-disjoint

@@ -1,7 +1,7 @@
 use Rattle.std.proofs.Common.{◌+◌, ◌*◌, ◌^◌, ◌≤◌, ◌<◌, ◌∙◌, ap, sym, length, take, set, arith}
 use Rattle.std.proofs.lemmas.List.{take_more_set}
-use Rattle.hand_ranges.specs.Choices.{is_disjoint, weight_of}
-use Rattle.hand_ranges.proofs.TakenHands.{taken_disjoint, taken_weight, taken_light}
+use Rattle.range_lines.specs.Choices.{is_disjoint, weight_of}
+use Rattle.range_lines.proofs.CallerLemmas.{taken_disjoint, taken_weight, taken_light}
 use Rattle.hand_ranges.proofs.taken.Taken.with.Goals as goal
 
 pub invariant_of-more-clause-disjoint : goal.invariant_of-more-clause-disjoint

@@ -1,6 +1,6 @@
 use Rattle.std.proofs.Common.{◌≡◌, ◌-◌, ◌+◌, ◌<◌, ap, sym, subst, ◌∙◌, rules, arith, length}
 use Rattle.showdown_tally.specs.Tallies.{runouts_after}
-use Rattle.equity_job.specs.Blocks.{blocks_of}
+use Rattle.job_blocks.specs.Blocks.{blocks_of}
 use Rattle.steal_pool.proofs.WorkerWalk.{IsWorking, working_starts, working_same, working_on, has_worked, turn, all_seen, from_own, and_below, none_from_own, not_yet_from_own, now_from_own, others_from_own, others_and_below, not_yet_and_below, now_and_below}
 use Rattle.steal_pool.specs.Lanes.{IsLane}
 use Rattle.steal_pool.specs.declared.lanes.Lane.{Lane}

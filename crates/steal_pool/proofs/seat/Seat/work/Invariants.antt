@@ -1,6 +1,6 @@
 use Rattle.std.proofs.Common.{◌-◌, length}
 use Rattle.showdown_tally.specs.Tallies.{runouts_after}
-use Rattle.equity_job.specs.Blocks.{blocks_of}
+use Rattle.job_blocks.specs.Blocks.{blocks_of}
 use Rattle.steal_pool.proofs.WorkerWalk.{IsWorking, from_own, and_below}
 use Rattle.steal_pool.proofs.seat.Seat.work.Given as goal
 

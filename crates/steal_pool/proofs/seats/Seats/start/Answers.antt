@@ -1,6 +1,6 @@
 use Rattle.std.proofs.Common.{◌≡◌, ◌-◌, rules, arith, ap, subst, ◌∙◌, length, false}
 use Rattle.showdown_tally.specs.Tallies.{runouts_after}
-use Rattle.equity_job.specs.Blocks.{blocks_of}
+use Rattle.job_blocks.specs.Blocks.{blocks_of}
 use Rattle.tally_book.specs.Parts.{Hand}
 use Rattle.steal_pool.specs.Starting.{IsSeating}
 use Rattle.steal_pool.specs.Sittings.{IsSitting}

@@ -2,7 +2,7 @@ use Rattle.std.proofs.Common.{◌≤◌, length, arith, ap, subst, ◌∙◌}
 use Rattle.showdown_tally.specs.CountLaws.{Counts-none}
 use Rattle.showdown_tally.specs.Showdown.{Showdown}
 use Rattle.showdown_tally.specs.Tallies.{runouts_after}
-use Rattle.equity_job.specs.Blocks.{blocks_of}
+use Rattle.job_blocks.specs.Blocks.{blocks_of}
 use Rattle.runout_ranges.specs.declared.limits.TheConstants.{RUNOUT_MAX}
 use Rattle.tally_book.proofs.PageFacts.{blank_page}
 use Rattle.tally_book.proofs.book.Book.start.Goals as goal

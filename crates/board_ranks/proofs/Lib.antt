@@ -1,0 +1,9 @@
+pub mod CallerLemmas
+pub mod ListPlaces
+pub mod SuitParts
+pub mod HighLaws
+pub mod HighCalls
+pub mod RankCounts
+pub mod FullBoards
+pub mod ThreeCards
+pub mod SieveLists

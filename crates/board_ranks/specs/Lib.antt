@@ -1,0 +1,14 @@
+pub use Rattle.card_sets.specs.Cards
+pub use Rattle.card_sets.specs.Disjoint
+pub use Rattle.card_sets.specs.Games
+pub use Rattle.card_sets.specs.State
+pub use Rattle.rank_high.specs.High
+pub use Rattle.rank_high.specs.Parts
+pub use Rattle.omaha_ranks.specs.Omaha
+pub mod Values
+pub mod HighParts
+pub mod BoardWith
+pub mod Suits
+pub mod Threes
+pub mod Sieves
+pub mod KeptSieves

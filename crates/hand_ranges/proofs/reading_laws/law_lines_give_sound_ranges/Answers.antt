@@ -1,5 +1,0 @@
-use Rattle.hand_ranges.proofs.SoundLines.{line_sound}
-use Rattle.hand_ranges.proofs.reading_laws.law_lines_give_sound_ranges.Goals as goal
-
-pub returns : goal.returns
-returns c = line_sound

@@ -1,0 +1,15 @@
+pub use Rattle.card_sets.specs.Cards
+pub use Rattle.card_sets.specs.Disjoint
+pub use Rattle.spot_text.specs.Words
+pub use Rattle.spot_text.specs.Parts
+pub mod Texts
+pub mod Items
+pub mod Hands
+pub mod Weights
+pub mod ItemHands
+pub mod RangeSpot
+pub mod Sound
+pub mod Choices
+pub mod Walks
+pub mod Counted
+pub mod Blocks

@@ -1,7 +1,0 @@
-use Rattle.std.proofs.Common.{refl, inl}
-use Rattle.run_engine.proofs.JoinedWrites.{gathers_written}
-use Rattle.run_engine.proofs.gathering.gather.Goals as goal
-
-pub returns : goal.returns
-returns g c =
-    gathers_written g.K.Sink.writes _ _ c.args.block.now c.args.ready.now.items _ c.write_ready.result c.write_ready.ensures.none (rw c.in-Ok.ensures.items at c.write_ready.ensures.order)

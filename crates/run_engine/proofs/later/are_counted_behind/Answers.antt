@@ -1,7 +1,0 @@
-use Rattle.std.proofs.Common.{sym, ap, ◌∙◌}
-use Rattle.hand_audit.specs.Streets.{table_in}
-use Rattle.run_engine.proofs.LaterFacts.{of_that_table}
-use Rattle.run_engine.proofs.later.are_counted_behind.Goals as goal
-
-pub returns-in-Known : goal.returns-in-Known
-returns-in-Known c table at = of_that_table c.in-Known.table table (sym (ap table_in c.in-Known.is) ∙ at) c.args.states.now c.are_counted_streets.ensures

@@ -1,0 +1,20 @@
+use Rattle.std.proofs.Common.{◌++◌, sym, ap, ◌∙◌}
+use Rattle.hand_cuts.specs.Units.{UnitLines}
+use Rattle.line_text.specs.Lines.{lines}
+use Rattle.report_table.specs.Results.{results_block}
+use Rattle.run_loop.specs.Histories.{hand_results, is_rejected_by, is_rejected_hand, number_text, results_by, verdict_of}
+use Rattle.run_loop.proofs.hands.write_result_lines.Goals as goal
+
+pub returns-clause-block : goal.returns-clause-block
+unfolding hand_results verdict_of
+returns-clause-block g c =
+    let unit : UnitLines = record { first = c.args.first; lines = lines c.args.bytes.now } in
+    let items = c.args.block.now.items in
+    c.in_ok-write_results.ensures.block
+    ∙ ap (λ n. items ++ results_block c.args.form n c.in_ok-hand.hand.audit c.in_ok-hand.hand.chips) c.number_text-number.ensures
+    ∙ ap (λ chips. items ++ results_block c.args.form (number_text unit.lines) c.in_ok-hand.hand.audit chips) c.in_ok-hand.ensures.chips
+    ∙ ap (λ v. items ++ results_by c.args.form unit v) (sym c.in_ok-hand.ensures.verdict)
+
+pub returns-clause-rejected : goal.returns-clause-rejected
+unfolding is_rejected_hand verdict_of
+returns-clause-rejected g c = c.is_rejection.ensures ∙ ap is_rejected_by (sym c.in_ok-hand.ensures.verdict)

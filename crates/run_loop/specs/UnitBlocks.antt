@@ -1,0 +1,91 @@
+-- The blocks of the units of an input.
+use Rattle.std.specs.Prelude.{◌≡◌, ℕ, ◌+◌, Bool, false, if◌then◌else◌, List, [], ◌∷◌, count_by, Option, Some, None}
+use Rattle.hand_cuts.specs.Units.{UnitLines}
+use Rattle.hand_cuts.specs.declared.units.CutKind.{CutKind}
+use Rattle.hand_cuts.specs.declared.units.CutKind.TheVariants as cut
+use Rattle.report_sheet.specs.declared.form.Form.{Form}
+use Rattle.run_loop.specs.Histories.{hand_block, hand_results, hand_settlement, is_rejected_hand}
+use Rattle.run_loop.specs.Report.{is_rejected_spot, line_block}
+use Rattle.run_loop.specs.declared.command.Mode.{Mode}
+use Rattle.run_loop.specs.declared.command.Mode.TheVariants.{Check, Audit, Streets, Totals, Balance, Made}
+use Rattle.run_loop.specs.declared.command.Mode.TheVariants as mode
+use Rattle.run_loop.specs.declared.block_kinds.SpotKind.{SpotKind}
+use Rattle.run_loop.specs.declared.block_kinds.SpotKind.TheVariants.{Cards, Ranges}
+use Rattle.run_loop.specs.declared.block_kinds.Detail.TheVariants.{Verdict, AllIn, LaterStreets}
+use Rattle.run_loop.specs.declared.block_kinds.BlockKind.{BlockKind}
+use Rattle.run_loop.specs.declared.block_kinds.BlockKind.TheVariants.{Spots, Hands, Results, Settle}
+use Rattle.spot_text.specs.Words.{is_blank}
+
+-- what has a block each in the report of a mode
+abbrev pub block_kind_in : Mode → Option BlockKind
+block_kind_in mode.Spots = Some (Spots Cards)
+block_kind_in mode.Ranges = Some (Spots Ranges)
+block_kind_in Check = Some (Hands Verdict)
+block_kind_in Audit = Some (Hands AllIn)
+block_kind_in Streets = Some (Hands LaterStreets)
+block_kind_in mode.Results = Some Results
+block_kind_in mode.Settle = Some Settle
+block_kind_in Totals = None
+block_kind_in Balance = None
+block_kind_in Made = None
+
+-- what it is cut from the input as
+abbrev pub listed_kind : BlockKind → CutKind
+listed_kind (Spots holding) = cut.Lines
+listed_kind (Hands told) = cut.Hands
+listed_kind Results = cut.Hands
+listed_kind Settle = cut.Hands
+
+-- the block of a line, the first of some; a line with no word has none
+abbrev pub first_block : Form → SpotKind → ℕ → ℕ → List (List ℕ) → Option (List ℕ)
+first_block form holding place number [] = None
+first_block form holding place number (line ∷ later) =
+    if is_blank line then None else Some (line_block form holding place number line)
+
+abbrev pub is_rejected_first : SpotKind → List (List ℕ) → Bool
+is_rejected_first holding [] = false
+is_rejected_first holding (line ∷ later) = is_rejected_spot holding line
+
+-- the block of a unit, if it has one; given is the place that a spot has
+abbrev pub unit_block : Form → BlockKind → ℕ → UnitLines → Option (List ℕ)
+unit_block form (Spots holding) place unit = first_block form holding place unit.first unit.lines
+unit_block form (Hands told) place unit = Some (hand_block form told unit)
+unit_block form Results place unit = Some (hand_results form unit)
+unit_block form Settle place unit = Some (hand_settlement form unit)
+
+abbrev pub is_rejected_unit : BlockKind → UnitLines → Bool
+is_rejected_unit (Spots holding) unit = is_rejected_first holding unit.lines
+is_rejected_unit (Hands told) unit = is_rejected_hand unit
+is_rejected_unit Results unit = is_rejected_hand unit
+is_rejected_unit Settle unit = is_rejected_hand unit
+
+-- the place after a unit by its block, and the block before others
+abbrev pub place_behind : ℕ → Option (List ℕ) → ℕ
+place_behind place None = place
+place_behind place (Some block) = place + 1
+
+abbrev pub before : Option (List ℕ) → List (List ℕ) → List (List ℕ)
+before None blocks = blocks
+before (Some block) blocks = block ∷ blocks
+
+-- the place after some units, and their blocks
+abbrev pub place_after : Form → BlockKind → ℕ → List UnitLines → ℕ
+place_after form listed place [] = place
+place_after form listed place (unit ∷ later) =
+    place_after form listed (place_behind place (unit_block form listed place unit)) later
+
+abbrev pub unit_blocks : Form → BlockKind → ℕ → List UnitLines → List (List ℕ)
+unit_blocks form listed place [] = []
+unit_blocks form listed place (unit ∷ later) =
+    before (unit_block form listed place unit)
+    (unit_blocks form listed (place_behind place (unit_block form listed place unit)) later)
+
+abbrev pub rejected_units : BlockKind → List UnitLines → ℕ
+rejected_units listed units = count_by (is_rejected_unit listed) units
+
+-- the outcome of making the block of a unit: none, or a block and whether it is rejected
+abbrev pub MakesBlock : Form → BlockKind → ℕ → UnitLines → List ℕ → Option Bool → Type 0
+MakesBlock form listed place unit block None =
+    (unit_block form listed place unit ≡ None) × (is_rejected_unit listed unit ≡ false)
+MakesBlock form listed place unit block (Some rejected) =
+    (unit_block form listed place unit ≡ Some block) × (is_rejected_unit listed unit ≡ rejected)

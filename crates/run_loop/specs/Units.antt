@@ -1,0 +1,47 @@
+-- The units of the input, as they are read.
+use Rattle.std.specs.Prelude.{◌≡◌, ℕ, ◌+◌, ◌-◌, ◌≤◌, Bool, true, false, List, length}
+use Rattle.hand_audit.specs.Departs.{begins_hand}
+use Rattle.hand_cuts.specs.Cutters.{new_cutter, seen}
+use Rattle.hand_cuts.specs.declared.units.CutKind.{CutKind}
+use Rattle.hand_cuts.specs.declared.units.CutKind.TheVariants.{Hands, Lines}
+use Rattle.hand_cuts.specs.declared.units.Unit.{Unit as UnitPlace}
+use Rattle.run_loop.specs.declared.command.Mode.{Mode}
+use Rattle.run_loop.specs.declared.command.Mode.TheVariants.{Spots, Ranges, Check, Audit, Streets, Results, Settle, Totals, Balance, Made}
+use Rattle.run_loop.specs.declared.reading.Ending.{Ending}
+use Rattle.run_loop.specs.declared.reading.Ending.TheVariants.{Whole, Failed, TooLong, Open}
+use Rattle.run_loop.specs.declared.reading.Input.{Input}
+
+-- what the input of a mode is cut into
+abbrev pub unit_kind : Mode → CutKind
+unit_kind Spots = Lines
+unit_kind Ranges = Lines
+unit_kind Check = Hands
+unit_kind Audit = Hands
+unit_kind Streets = Hands
+unit_kind Results = Hands
+unit_kind Settle = Hands
+unit_kind Totals = Hands
+unit_kind Balance = Hands
+unit_kind Made = Hands
+
+-- whether the reading came to the end of the input
+abbrev pub is_whole : Ending → Bool
+is_whole Whole = true
+is_whole Failed = false
+is_whole TooLong = false
+is_whole Open = false
+
+-- nothing was read
+abbrev pub started : CutKind → Input
+started kind = record { cutter = new_cutter kind; ending = Open }
+
+-- how many bytes may still be handed out: those that are held and weren't, and those that may still be read
+abbrev pub left_over : ℕ → Input → ℕ
+left_over limit input = limit - input.cutter.given + (length input.cutter.held - input.cutter.at)
+
+-- a unit at its places in the bytes that are held; a hand begins with its header line
+pub record IsUnit (limit : ℕ) (kind : CutKind) (held : List ℕ) (unit : UnitPlace) : Type 0 where
+  pub begins : kind ≡ Hands → begins_hand (seen held unit).lines ≡ true
+  pub ordered : unit.first ≤ unit.end
+  pub within : unit.end ≤ length held
+  pub numbers : unit.first_line + length (seen held unit).lines ≤ limit + 1
