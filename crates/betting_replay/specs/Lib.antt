@@ -18,10 +18,5 @@ pub mod Faults
 pub mod Later
 pub mod Accepted
 pub mod CardLaws
-pub mod PlaceLaws
-pub mod PointLaws
 pub mod KnownLaws
-pub mod LastDrawLaws
-pub mod TurnLaws
-pub mod TwiceLaws
 pub mod Counting

@@ -19,6 +19,8 @@
 //! is defined over the list of these events alone, the latest first, with no running sums. `table_of` puts
 //! them together, and a replay stands for a hand so far where it is that table (`StandsFor`). The rules are
 //! questions to the table; `legal` asks them of the table of a list.
+//!
+//! The laws here are those that the audit calls. More that a replay keeps is said by laws in `hand_laws`.
 #![tactic(auto)]
 
 mod accessors;
@@ -42,9 +44,7 @@ mod turns;
 
 pub use hand_events::BetFault;
 pub use laws::{
-    law_a_point_has_contenders, law_a_table_shows_dead_cards, law_a_table_shows_each_seat,
-    law_cards_belong, law_chips_stay, law_kept_cards_are_held, law_nobody_is_passed_over,
-    law_places_are_apart, law_places_of_cards, law_stud_cards_are_all_that_were_dealt,
-    law_the_last_draw, law_turns_are_taken, law_two_boards, law_whole_boards,
+    law_a_table_shows_dead_cards, law_a_table_shows_each_seat, law_cards_belong,
+    law_places_are_apart, law_stud_cards_are_all_that_were_dealt, law_whole_boards,
 };
 pub use replay::Replay;

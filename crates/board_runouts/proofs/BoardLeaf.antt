@@ -61,22 +61,6 @@ end_of_all front rest cards all none same end =
     let F : List (List ℕ) → Type 0 = λ f. IsEndOf rest (left_after all f) in
     subst (IsEndOf rest) (sym same) (subst F none end)
 
--- where the runouts of a table are boards there is one slot, which takes two cards or more
-one_slot : (some : List Slot) → 2 ≤ board_lacks some → (0 < length some) × (2 ≤ last_count some)
-one_slot [] two = absurd (omega arith)
-one_slot (slot ∷ []) two = (omega arith, taken (same_receiver slot.receiver Board) two)
-  where
-    taken : (b : Bool) → 2 ≤ cond b slot.count 0 → 2 ≤ slot.count
-    taken true two = two
-    taken false two = absurd (omega arith)
-one_slot (slot ∷ next ∷ more) two = absurd (omega arith)
-
-pub boards_slots : (table : Table) (shape : Shape) (st : State) → are_boards table shape ≡ true → slots_of shape ≡ slots st → (0 < length (slots st)) × (2 ≤ last_count (slots st))
-boards_slots table shape st boards same =
-    let two : nat_le 2 (board_lacks (slots_of shape)) ≡ true = (and_parts (has_board table.known.game) (nat_le 2 (board_lacks (slots_of shape))) boards).1 in
-    let P : List Slot → Type 0 = λ some. (0 < length some) × (2 ≤ last_count some) in
-    subst P same (one_slot (slots_of shape) (grind (arith, two)))
-
 -- what a leaf is to count, as first cards with a pair
 pub leaf_grow : (spot : BoardSpot) (table : Table) (front : List (List ℕ)) (taken rest : List ℕ) (left lo hi : ℕ) (old new : List (List ℕ)) → spot.table ≡ table → front ≡ [] → left ≡ 2 → CountsGrow (deal_of spot.table) (map (λ more. (taken ++ more) ∷ []) (slice_range (choose 2 rest) lo hi)) old new
     → CountsGrow (deal_of table) (map (λ more. front ++ (taken ++ more) ∷ []) (slice_range (choose left rest) lo hi)) old new

@@ -63,16 +63,6 @@ board_apart st set w = λ k x y. (unseen_free st k (w k y)).0 x
 pub hand_apart : (st : State) (set : List ℕ) (h : ℕ) → Within set (unseen st) → Apart (hand_of st h) set
 hand_apart st set h w = λ k x y. (unseen_free st k (w k y)).1 (any-index k st.hands h x)
 
--- a range of all members is the whole
-pub take_itself : {X : Type 0} (xs : List X) → take (length xs) xs ≡ xs
-take_itself [] = refl
-take_itself (x ∷ xs) = ap (λ l. x ∷ l) (take_itself xs)
-
-pub whole_range : {X : Type 0} (xs : List X) (lo hi : ℕ) → lo < hi → hi ≤ length xs → hi - lo ≡ length xs → slice_range xs lo hi ≡ xs
-whole_range xs zero hi l h e = ap (λ n. take n xs) e ∙ take_itself xs
-whole_range [] (suc lo) hi l h e = absurd (omega arith)
-whole_range (x ∷ xs) (suc lo) hi l h e = absurd (omega arith)
-
 -- a pair of a stretch is a choice of two
 pub stretch-member : (stretch : List Pair) (rest : List ℕ) (lo hi : ℕ) (pair : Pair) → map cards_of_pair stretch ≡ slice_range (choose 2 rest) lo hi → HasMember stretch pair → HasMember (choose 2 rest) (cards_of_pair pair)
 stretch-member stretch rest lo hi pair e m =
@@ -117,14 +107,6 @@ last_two from (x ∷ taken) low high r = last_two (x + 1) taken low high r.2
 -- the last two cards rise
 pub pair_rises : (st : State) (taken : List ℕ) (low high : ℕ) → IsBoardAlone st → HasMember (runouts_after st) ((taken ++ low ∷ high ∷ []) ∷ []) → (low < high) × (high < 52)
 pair_rises st taken low high alone member = last_two 0 taken low high (set_of_member st (taken ++ low ∷ high ∷ []) alone member).1
-
-singles : (xs : List (List ℕ)) → flat_map (λ first. map (λ rest. first ∷ rest) ([] ∷ [])) xs ≡ map (λ set. set ∷ []) xs
-singles [] = refl
-singles (x ∷ xs) = ap (λ l. (x ∷ []) ∷ l) (singles xs)
-
--- the runouts are the choices of the cards that the board lacks, in order
-pub board_runouts : (st : State) → IsBoardAlone st → runouts_after st ≡ map (λ set. set ∷ []) (choose (board_lacks (slots st)) (unseen st))
-board_runouts st alone = ap (λ some. runouts (unseen st) (counts_of some)) alone ∙ singles (choose (board_lacks (slots st)) (unseen st))
 
 pub front-has : (front back : List ℕ) (k : ℕ) → has_card front k ≡ true → has_card (front ++ back) k ≡ true
 front-has front back k h = list_any-append (λ c. c == k) front back ∙ go (has_card front k) (has_card back k) h

@@ -214,10 +214,6 @@ grow_on deal taken pairs at end old mid new l was more pot place side p has k =
     let e : count_by test (take end pairs) ≡ count_by test (take at pairs) + count_by test (slice_range pairs at end) = ap (count_by test) (take_range pairs at end l) ∙ sum_by-append (λ y. cond (test y) 1 0) (take at pairs) (slice_range pairs at end) in
     omega (arith, was pot place side p has k, more pot place side p has k, e)
 
-pub fits_on : (deal : Showdown) (taken : List ℕ) (pairs : List Pair) (at size : ℕ) (old mid : List (List ℕ)) → CountsFit deal old (length pairs) → at + size ≤ length pairs → PairsGrow deal taken (take at pairs) old mid → CountsFit deal mid size
-fits_on deal taken pairs at size old mid fits l was pot place side p has k =
-    omega (arith, fits pot place side p has k, was pot place side p has k, count_few (λ q. pair_place deal taken pot side q == place) pairs at)
-
 pub right_as : (deal : Showdown) (pot : ℕ) (ranks : List ℕ) (least : ℕ) (row : Row) → IsNamed row pot ranks least → IsSideRow deal pot row.ranks row.least row.mains row.lows row.tops → IsSideRow deal pot ranks least row.mains row.lows row.tops
 right_as deal pot ranks least row named right =
     let R : List ℕ → Type 0 = λ r. IsSideRow deal pot r row.least row.mains row.lows row.tops in

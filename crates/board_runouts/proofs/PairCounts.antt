@@ -164,14 +164,6 @@ some_row [] i l = absurd (omega arith)
 some_row (row ∷ rows) zero l = (row, refl)
 some_row (row ∷ rows) (suc i) l = some_row rows i (omega arith)
 
--- the same of the counts of the only pot
-pub cells_next : (deal : Showdown) (taken : List ℕ) (pairs : List Pair) (i next : ℕ) (pair : Pair) (old mid new : List ℕ) → next ≡ suc i → slice_get pairs i ≡ Some pair → CellsGrow deal taken 0 High (take i pairs) old mid
-    → ((place : ℕ) → place < 2048 → slice_index new place ≡ slice_index mid place + cond (pair_place deal taken 0 High pair == place) 1 0) → CellsGrow deal taken 0 High (take next pairs) old new
-cells_next deal taken pairs i next pair old mid new n at was more place l =
-    let e : count_by (λ q. pair_place deal taken 0 High q == place) (take next pairs) ≡ count_by (λ q. pair_place deal taken 0 High q == place) (take i pairs) + count_by (λ q. pair_place deal taken 0 High q == place) (pair ∷ []) =
-    ap (λ k. count_by (λ q. pair_place deal taken 0 High q == place) (take k pairs)) n ∙ count_next (λ q. pair_place deal taken 0 High q == place) pairs i pair at in
-    omega (arith, was place l, more place l, e, count_one (λ q. pair_place deal taken 0 High q == place) pair)
-
 pub only_pot : (deal : Showdown) (taken : List ℕ) (pairs : List Pair) (old new : List (List ℕ)) → length deal.pots ≡ 1 → has_side Low deal.state.game ≡ false → CellsGrow deal taken 0 High pairs (slice_index_or old 0 []) (slice_index_or new 0 []) → PairsGrow deal taken pairs old new
 only_pot deal taken pairs old new one no_low cells pot place High p has l =
     let zero_pot : pot ≡ 0 = omega arith in

@@ -90,10 +90,3 @@ stretch_fits listed cards front rest split all =
     let is : map cards_of_pair listed ≡ ends.0 ++ choose 2 rest = all ∙ ap (choose 2) split ∙ ends.1 in
     let long : length listed ≡ length ends.0 + length (choose 2 rest) = sym (length-map listed cards_of_pair) ∙ ap length is ∙ length-append ends.0 (choose 2 rest) in
     omega arith
-
-rising_few : (low : ℕ) (xs : List ℕ) → low ≤ 52 → RisingFrom low xs → length xs + low ≤ 52
-rising_few low [] h r = omega arith
-rising_few low (x ∷ xs) h r = let ih : length xs + (x + 1) ≤ 52 = rising_few (x + 1) xs (let b = r.1 in omega arith) r.2 in let a = r.0 in omega arith
-
-pub few_of_set : (cards : List ℕ) → IsRising cards → length (choose 2 cards) ≤ 1326
-few_of_set cards r = few_pairs cards (let h : length cards + 0 ≤ 52 = rising_few 0 cards (omega arith) r in omega arith)

@@ -12,9 +12,6 @@ use Rattle.board_runouts.specs.KeptRows.{IsAway, IsBestAt, IsButAt, IsRowFor}
 use Rattle.board_runouts.specs.SideRows.{AreRanksOf, IsSideRow}
 use Rattle.board_runouts.specs.declared.row.Row.{Row}
 
-pub some_same : {X : Type 0} (a b : X) → Some a ≡ Some b → a ≡ b
-some_same a b e = cc
-
 -- what holds of all holds with one more of which it holds
 pub all_set : {X : Type 0} (P : X → Type 0) (xs : List X) (place : ℕ) (v : X) → ((i : ℕ) (x : X) → slice_get xs i ≡ Some x → P x) → P v → (i : ℕ) (x : X) → slice_get (set xs place v) i ≡ Some x → P x
 all_set P xs place v all is i x at = elim (cases_eq i place) [
@@ -149,11 +146,3 @@ get-drop (suc n) (y ∷ xs) i x e = let s : suc n + i ≡ suc (n + i) = omega ar
 
 pub range-get : {X : Type 0} (xs : List X) (lo hi i : ℕ) (x : X) → slice_get (slice_range xs lo hi) i ≡ Some x → (i < hi - lo) × (slice_get xs (lo + i) ≡ Some x)
 range-get xs lo hi i x e = let r = get-take (hi - lo) (drop lo xs) i x e in (r.0, get-drop lo xs i x r.1)
-
--- a small number in a place of small ones
-pub set_few : (most : ℕ) (xs : List ℕ) (place v : ℕ) → ((k : ℕ) → get_or xs k 0 < most) → v < most → (k : ℕ) → get_or (set xs place v) k 0 < most
-set_few most [] place v few l k = few k
-set_few most (x ∷ xs) zero v few l zero = l
-set_few most (x ∷ xs) zero v few l (suc k) = few (suc k)
-set_few most (x ∷ xs) (suc place) v few l zero = few zero
-set_few most (x ∷ xs) (suc place) v few l (suc k) = set_few most xs place v (λ n. few (suc n)) l k

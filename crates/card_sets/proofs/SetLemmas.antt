@@ -234,19 +234,6 @@ has_past low (x ∷ xs) k rising past =
 abbrev pub NoneIn : List ℕ → List ℕ → Type 0
 NoneIn a b = (k : ℕ) → has_card a k ≡ true → has_card b k ≡ false
 
-pub NoneIn-apart : (a b : List ℕ) → apart a b ≡ true → NoneIn a b
-NoneIn-apart [] b h k held = absurd (true≢false (sym held))
-NoneIn-apart (x ∷ a) b h k held = elim (or_either (x == k) (has_card a k) held) [
-  | inl same ↦
-      let e : x ≡ k = grind arith in
-      subst (λ j. has_card b j ≡ false) e (out (has_card b x) (and_first (not (has_card b x)) (apart a b) h))
-  | inr rest ↦ NoneIn-apart a b (and_second (not (has_card b x)) (apart a b) h) k rest
-]
-  where
-    out : (v : Bool) → not v ≡ true → v ≡ false
-    out true h' = absurd (true≢false (sym h'))
-    out false h' = refl
-
 pub apart-NoneIn : (a b : List ℕ) → NoneIn a b → apart a b ≡ true
 apart-NoneIn [] b h = refl
 apart-NoneIn (x ∷ a) b h =

@@ -121,12 +121,6 @@ two_next most least pot place under over old mid new at one other put was = reco
   at_least = stepped_more least pot place over old.at_least mid.at_least new.at_least at other put.at_least put.same_least was.at_least;
 }
 
-two_end : (most least : ℕ → Bool) (pot pots : ℕ) (old new : PotSums) → pot ≡ pots → AreTwoStepped most least pot old new → AreTwoStepped most least pots old new
-two_end most least pot pots old new e was = record {
-  at_most = stepped_all most pot pots old.at_most new.at_most e was.at_most;
-  at_least = stepped_all least pot pots old.at_least new.at_least e was.at_least;
-}
-
 pub pairs_none : (highs lows : List Winners) (value low : ℕ) (sums : PairSums) → ArePairsStepped highs lows value low 0 sums sums
 pairs_none highs lows value low sums = record {
   of_highs = two_none (on_high (is_most highs) value low) (on_high (is_least highs) value low) sums.highs;

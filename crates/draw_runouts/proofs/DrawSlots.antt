@@ -42,14 +42,6 @@ no_board_slots st e =
     let none : board_size st.game - length st.board ≡ 0 = omega arith in
     ap (λ n. slot_of Board n ++ hand_slots (own_size st.game) 0 st.hands) none
 
--- where there are no hands there are no slots
-pub nobody_slots : (st : State) → board_size st.game ≡ 0 → length st.hands ≡ 0 → slots st ≡ []
-nobody_slots st e n = no_board_slots st e ∙ none st.hands n
-  where
-    none : (hands : List (List ℕ)) → length hands ≡ 0 → hand_slots (own_size st.game) 0 hands ≡ []
-    none [] n = refl
-    none (hand ∷ hands) n = absurd (omega arith)
-
 dealt_none : (some : List Slot) (r : Receiver) → dealt some [] r ≡ []
 dealt_none [] r = refl
 dealt_none (slot ∷ some) r = refl

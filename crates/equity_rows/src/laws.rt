@@ -3,30 +3,31 @@
 #[test]
 fn the_laws_of_cards_and_pots_can_be_called() {
     card_sets::law_text_is_read();
-    pot_layers::law_two_halves_add_up();
-    pot_layers::law_two_sides_share_a_pot();
-    pot_layers::law_winners_of_a_side_get_the_same_or_one_more();
+    hand_laws::law_no_two_pots_have_the_same_players();
+    hand_laws::law_two_halves_add_up();
+    hand_laws::law_two_sides_share_a_pot();
+    hand_laws::law_winners_of_a_side_get_the_same_or_one_more();
 }
 
 #[test]
 fn the_laws_of_a_replay_can_be_called() {
-    betting_replay::law_chips_stay();
-    betting_replay::law_two_boards();
-    betting_replay::law_nobody_is_passed_over();
-    betting_replay::law_places_of_cards();
-    betting_replay::law_the_last_draw();
+    hand_laws::law_chips_stay();
+    hand_laws::law_two_boards();
+    hand_laws::law_nobody_is_passed_over();
+    hand_laws::law_places_of_cards();
+    hand_laws::law_the_last_draw();
     betting_replay::law_stud_cards_are_all_that_were_dealt();
-    betting_replay::law_kept_cards_are_held();
+    hand_laws::law_kept_cards_are_held();
 }
 
 #[test]
 fn the_laws_of_a_verdict_can_be_called() {
-    hand_audit::law_chips_are_kept();
-    hand_audit::law_pots_add_up();
-    hand_audit::law_pots_go_by_boards();
-    hand_audit::law_a_lone_player_wins_a_side_of_each_part();
-    hand_audit::law_a_table_has_the_pots_of_the_hand();
-    hand_audit::law_a_mark_is_a_card_of_its_player();
-    hand_audit::law_later_streets_know_cards();
-    hand_audit::law_later_streets_come_in_order();
+    hand_laws::law_chips_are_kept();
+    hand_laws::law_pots_add_up();
+    hand_laws::law_pots_go_by_boards();
+    hand_laws::law_a_lone_player_wins_a_side_of_each_part();
+    hand_laws::law_a_table_has_the_pots_of_the_hand();
+    hand_laws::law_a_mark_is_a_card_of_its_player();
+    hand_laws::law_later_streets_know_cards();
+    hand_laws::law_later_streets_come_in_order();
 }

@@ -1,8 +1,5 @@
 -- What is known at the all-in of an accepted hand.
-use Rattle.std.specs.Prelude.{◌≡◌, ◌<◌, ℕ, Bool, true, false, List, [], Option, Some, None, is_some, slice_index_or}
-use Rattle.std.specs.List.{list_all}
-use Rattle.card_sets.specs.PlayerSets.{seats_in}
-use Rattle.betting_replay.specs.declared.points.Point.{Point}
+use Rattle.std.specs.Prelude.{◌≡◌, ◌<◌, ℕ, true, false, List, [], Some, slice_index_or}
 use Rattle.card_sets.specs.Cards.{has_card}
 use Rattle.hand_events.specs.declared.events.Header.{Header}
 use Rattle.hand_events.specs.declared.events.Event.{Event}
@@ -32,8 +29,3 @@ pub record KnowsCards (g : Header) (players : ℕ) (h : List Event) (street : St
   pub dead : table.known.dead ≡ dead_cards g players h
   pub later : (card : ℕ) → has_card (owned g.game h 0) card ≡ true → has_card (board_up_to h street) card ≡ false → IsStillHidden table card
   pub second : (second : List ℕ) → second_board h ≡ Some second → (card : ℕ) → has_card second card ≡ true → IsStillHidden table card
-
--- whether the cards of each contender at an all-in point are known there
-abbrev pub all_known_at : Header → List Event → Option Point → Bool
-all_known_at g h None = true
-all_known_at g h (Some found) = list_all (λ p. is_some (cards_at g h p found.street)) (seats_in found.contenders)

@@ -18,15 +18,8 @@ pub mod Parts
 pub mod SplitHands
 pub mod Keeping
 pub mod Chips
-pub mod Splits
-pub mod PotSums
-pub mod Nets
-pub mod Dues
-pub mod Before
 pub mod Passing
 pub mod CardsKnown
-pub mod TablePots
-pub mod MarkLaws
 pub mod Streets
 pub mod LaterCards
 pub mod LaterOrder

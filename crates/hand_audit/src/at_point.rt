@@ -5,17 +5,17 @@ use history_text::Street;
 
 /// What is known at an all-in point.
 #[derive(Clone, Copy)]
-pub(crate) struct AtPoint {
+pub struct AtPoint {
     /// The game.
-    pub(crate) game: Game,
+    pub game: Game,
     /// The street on which it lies.
-    pub(crate) street: Street,
+    pub street: Street,
     /// The contenders there.
-    pub(crate) contenders: PlayerSet,
+    pub contenders: PlayerSet,
     /// The cards of each seat, where they are known.
-    pub(crate) cards: [Option<CardSet>; 11],
+    pub cards: [Option<CardSet>; 11],
     /// The cards of the board.
-    pub(crate) board: CardSet,
+    pub board: CardSet,
     /// The cards that are known not to come.
-    pub(crate) dead: CardSet,
+    pub dead: CardSet,
 }

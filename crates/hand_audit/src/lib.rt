@@ -19,8 +19,7 @@
 //! Clauses see no passes and no state: `audit_of` is a definition over the list of the lines. What the code has kept so far stands for the
 //! lines so far (`Keeps`).
 //!
-//! What holds of every hand is said by the calls `law_..`. The proof of each lies in a folder of `proofs/lemmas/`, whose first line
-//! names it.
+//! What holds of every hand is said by the laws of `hand_laws`; `law_later_streets_know_no_less`, which a run calls, stands here.
 //!
 //! It knows no other hand and prints nothing. Each call that takes memory takes the allocator, and answers `Memory` where it is refused.
 #![tactic(auto)]
@@ -53,13 +52,5 @@ pub use hand_verdict::{
     AllIn, AuditedChips, AuditedShares, AuditedStreets, Cause, HandAudit, PartShare, PartShares,
     Payment, Payments, PotLine, PotLines, SeatChips, Settlement, SplitHand, StreetState,
 };
-pub use laws::{
-    law_a_lone_player_wins_a_side_of_each_part, law_a_mark_is_a_card_of_its_player,
-    law_a_table_has_the_pots_of_the_hand, law_all_in_cards, law_checked_pots_are_won,
-    law_chips_are_kept, law_dues_add_up_to_what_was_paid, law_later_streets_come_in_order,
-    law_later_streets_know_cards, law_later_streets_know_no_less, law_lines_before_stand,
-    law_nets_add_up_to_the_rake, law_parts_give_what_is_due, law_players_are_due_what_they_got,
-    law_pots_add_up, law_pots_are_split_by_the_rules, law_pots_go_by_boards,
-    law_unknown_all_ins_have_unknown_cards,
-};
+pub use laws::law_later_streets_know_no_less;
 pub use streets::later_streets;

@@ -40,7 +40,7 @@ fn names_pot(count: usize, k: usize, pot: PotName) -> bool
 
 /// Which collections count.
 #[derive(Clone, Copy)]
-pub(crate) enum Source {
+pub enum Source {
     /// All.
     Any,
     /// Those from one of so many pots, numbered from 0.

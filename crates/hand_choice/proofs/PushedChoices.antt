@@ -125,15 +125,3 @@ take-next [] n x e = absurd (differ x (sym e))
     differ x e = cc
 take-next (y ∷ ys) zero x e = (let h : y ≡ x = cc in ap (λ k. k ∷ []) h, omega arith)
 take-next (y ∷ ys) (suc n) x e = let rest = take-next ys n x e in (ap (λ l. y ∷ l) rest.0, omega (arith, rest.1))
-
-pub take-end : (xs : List (List ℕ)) (n : ℕ) → slice_get xs n ≡ None → take n xs ≡ xs
-take-end [] zero e = refl
-take-end [] (suc n) e = refl
-take-end (y ∷ ys) zero e = cc
-take-end (y ∷ ys) (suc n) e = ap (λ l. y ∷ l) (take-end ys n e)
-
-pub take-whole : (xs : List (List ℕ)) (n : ℕ) → length xs ≤ n → take n xs ≡ xs
-take-whole [] zero h = refl
-take-whole [] (suc n) h = refl
-take-whole (y ∷ ys) zero h = absurd (omega arith)
-take-whole (y ∷ ys) (suc n) h = ap (λ l. y ∷ l) (take-whole ys n (omega arith))

@@ -149,11 +149,3 @@ hands_out_found closed_now bytes old s new h head at line is f =
     (hands_out_later closed_now bytes b (begun head new) f.text h _ scan.counted (let a = scan.ahead in let w = scan.within in omega arith) i
     (begins_by_line closed_now bytes b.looked f.next f.text f.found) f.header (ap (λ (x : Head). x.at) f.here) (ap (λ (x : Head). x.line) f.here)
     (ap (λ (x : Head). (let u : UnitPlace = record { first = h.at; end = x.at; first_line = h.line } in u)) f.here))
-
--- none depends on the place and the number of its line alone
-pub none_from : (closed_now : Bool) (bytes : List ℕ) (old s new : Scan) → s.at ≡ old.at → s.line ≡ old.line → NoUnit Hands closed_now bytes s new → NoUnit Hands closed_now bytes old new
-none_from closed_now bytes old s new at line none = record {
-  none = sym (ap (λ n. units_in Hands closed_now n (drop s.at bytes)) line ∙ ap (λ n. units_in Hands closed_now old.line (drop n bytes)) at) ∙ none.none;
-  at = none.at ∙ at;
-  line = none.line ∙ line;
-}

@@ -66,9 +66,6 @@ pub ends-append : (a b : List ℕ) → EndsInNewline a → EndsInNewline b → E
 ends-append a b ends (inl none) = rw none (rw append-nil ends)
 ends-append a b ends (inr some) = inr (a ++ some.0, ap (λ x. a ++ x) some.1 ∙ sym (append_assoc a some.0 (10 ∷ [])))
 
-pub ends-none : (a : List ℕ) → a ≡ [] → EndsInNewline a
-ends-none a none = inl none
-
 -- the first newline, where it is the first byte or there is none
 pub newline_first : (bytes rest : List ℕ) (byte : ℕ) → bytes ≡ byte ∷ rest → byte ≡ 10 → IsFirstByte (is_byte 10) bytes (Some 0)
 newline_first bytes rest byte whole newline =

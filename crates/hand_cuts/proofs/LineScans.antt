@@ -18,18 +18,6 @@ same_number bytes s scan same =
     let c = scan.counted in
     omega arith
 
--- a line is passed and handed out
-pub line_passes : (bytes : List ℕ) (s : Scan) (next : ℕ) (text : List ℕ) → IsScan bytes s → LineAt bytes s.looked next text → IsScan bytes (gone_on (passed next s))
-line_passes bytes s next text scan l = record {
-  onward = omega arith;
-  ahead = omega arith;
-  within = l.within;
-  searched = nothing_searched bytes next;
-  whole = inl (no_slice bytes next);
-  counted = (let n = ap length (empty_slice bytes next) in omega arith);
-  head = nothing_passed bytes next (s.number + 1);
-}
-
 pub line_out : (closed_now : Bool) (bytes : List ℕ) (s : Scan) (next : ℕ) (text : List ℕ) → IsScan bytes s → s.looked ≡ s.at → LineAt bytes s.looked next text
     → HandsOut Lines closed_now bytes s (gone_on (passed next s)) (record { first = s.looked; end = next; first_line = s.number })
 unfolding units_in

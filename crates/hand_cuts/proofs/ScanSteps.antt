@@ -121,18 +121,6 @@ pass_later bytes s next text scan l header =
       };
     }
 
--- all was searched
-pub searched_all : (bytes : List ℕ) (s : Scan) → IsScan bytes s → has_newline (drop s.looked bytes) ≡ false → IsScan bytes (record s { searched = length bytes })
-searched_all bytes s scan none = record {
-  onward = scan.onward;
-  ahead = (let a = scan.ahead in let w = scan.within in omega arith);
-  within = omega arith;
-  searched = ap has_newline (slice-all bytes s.looked) ∙ none;
-  whole = scan.whole;
-  counted = scan.counted;
-  head = scan.head;
-}
-
 pub none_left : (bytes : List ℕ) (s : Scan) → IsScan bytes s → s.searched ≡ length bytes → has_newline (drop s.looked bytes) ≡ false
 none_left bytes s scan all = ap has_newline (sym (slice-all bytes s.looked) ∙ ap (slice_range bytes s.looked) (sym all)) ∙ scan.searched
 
@@ -152,18 +140,6 @@ scan_goes_on bytes s scan = record {
   whole = inl (no_slice bytes s.looked);
   counted = (let n = ap length (empty_slice bytes s.looked) in omega arith);
   head = nothing_passed bytes s.looked s.number;
-}
-
--- all was handed out
-pub scan_finishes : (bytes : List ℕ) (s : Scan) → IsScan bytes s → IsScan bytes (finished (length bytes) s)
-scan_finishes bytes s scan = record {
-  onward = omega arith;
-  ahead = omega arith;
-  within = omega arith;
-  searched = nothing_searched bytes (length bytes);
-  whole = inl (no_slice bytes (length bytes));
-  counted = (let n = ap length (empty_slice bytes (length bytes)) in omega arith);
-  head = nothing_passed bytes (length bytes) (number_at_end (length bytes) s);
 }
 
 -- what the code reads of a line
@@ -188,13 +164,6 @@ begin_head bytes old new head f = rw (f.after, f.here) (pass_later bytes f.betwe
 -- no number of a line to come is above the bound, and no step raises it
 pub fewer_passed : (bytes : List ℕ) (s : Scan) (next : ℕ) (text : List ℕ) → LineAt bytes s.looked next text → number_bound bytes (passed next s) ≤ number_bound bytes s
 fewer_passed bytes s next text l = let a = l.some in let b = l.within in omega arith
-
-fewer_step : (n end looked : ℕ) (v : Bool) → nat_lt looked end ≡ v → cond v (n + 1) n + (end - end) ≤ n + (end - looked)
-fewer_step n end looked true e = let l : looked < end = ltb-true looked end e in omega arith
-fewer_step n end looked false e = omega arith
-
-pub fewer_finished : (bytes : List ℕ) (s : Scan) → number_bound bytes (finished (length bytes) s) ≤ number_bound bytes s
-fewer_finished bytes s = fewer_step s.number (length bytes) s.looked (nat_lt s.looked (length bytes)) refl
 
 -- a head that is looked for where there is none
 pub no_head : (head : Option Head) → false ≡ is_some head → head ≡ None

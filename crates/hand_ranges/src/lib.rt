@@ -36,5 +36,5 @@ pub use laws::{
 };
 pub use range_lines::{
     Range, RangeCell, RangeFault, RangeJobFault, RangeSpot, RangeTally, Weighted,
-    law_items_name_their_hands, law_lines_give_sound_ranges, read_ranges, write_ranges,
+    law_lines_give_sound_ranges, read_ranges, write_ranges,
 };

@@ -4,15 +4,8 @@ pub mod CardCounts
 pub mod HeaderPlaces
 pub mod OpeningLists
 pub mod VerbFronts
-pub mod LongestNames
 pub mod ShownPlaces
 pub mod BlankLines
 pub mod Within
 pub mod MarkerCards
-pub mod ExampleHands
-pub mod ExampleLines
-pub mod ExampleHeaders
-pub mod WrittenLines
-pub mod WrittenMoves
-pub mod WrittenSeats
 pub mod CallerLemmas

@@ -3,7 +3,6 @@
 ghost use Rattle.std.specs.Prelude.{◌≡◌, map, option_map};
 ghost use Rattle.hand_events.specs.Seated.{pair};
 ghost use Rattle.history_text.specs.NameFits.{seen};
-ghost use Rattle.history_text.specs.NameLaws.{AllAreLongest};
 ghost use Rattle.history_text.specs.Names.{fit, front_name, longer};
 
 use crate::texts::behind;
@@ -74,9 +73,3 @@ pub(crate) fn front<'a>(names: &Names, text: &'a [u8], mark: &[u8]) -> Option<Na
 {
     longest(names.seats(), text, mark)
 }
-
-/// A law: the name that is found at the front of a text fits there, and no name that fits is
-/// longer. None is found only where none fits.
-pub fn law_the_longest_name_counts()
-    ensures { AllAreLongest }
-{}

@@ -3,5 +3,4 @@ pub mod TextFacts
 pub mod PlaceFacts
 pub mod LawFacts
 pub mod Digits
-pub mod WrittenFacts
 pub mod CallerLemmas

@@ -3,4 +3,3 @@ pub mod Places
 pub mod Laws
 pub mod Amounts
 pub mod Capped
-pub mod Written

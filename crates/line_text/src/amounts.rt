@@ -4,7 +4,6 @@ ghost use Rattle.std.specs.Prelude.{◌≡◌, ◌+◌, ◌-◌, ◌*◌, ◌^�
 ghost use Rattle.std.specs.Char.{is_ascii_digit};
 ghost use Rattle.line_text.specs.Amounts.{digit_count, number_of, sign_length, has_point, written, amount_at};
 ghost use Rattle.line_text.specs.Capped.{capped, kept_units};
-ghost use Rattle.line_text.specs.Written.{ChipsAreRead, HundredthsAreRead, WholeMoneyIsRead};
 
 /// The greatest amount, in units.
 pub const GREATEST: u64 = 999_999_999_999_999;
@@ -172,13 +171,3 @@ pub fn read_amount(bytes: &[u8], at: usize, hundredths: bool) -> Result<Amount, 
         marked: amount.marked,
     })
 }
-
-/// A law: an amount up to the greatest that is written after the sign of a currency or none is read
-/// as itself, wherever it stands: chips in plain digits, hundredths with a point and two digits, and
-/// money without hundredths in plain digits. A digit mustn't follow, nor a point where there is none
-/// in the amount.
-pub fn law_written_amounts_are_read()
-    ensures chips { ChipsAreRead }
-    ensures hundredths { HundredthsAreRead }
-    ensures whole_money { WholeMoneyIsRead }
-{}

@@ -14,7 +14,6 @@ mod amounts;
 mod lines;
 
 pub use amounts::{
-    Amount, AmountFault, GREATEST, WrittenAmount, digit_count, law_written_amounts_are_read,
-    number_of, read_amount, written,
+    Amount, AmountFault, GREATEST, WrittenAmount, digit_count, number_of, read_amount, written,
 };
-pub use lines::{Line, law_closed_lines, law_lines_read_back, next_line, text_of};
+pub use lines::{Line, law_closed_lines, next_line, text_of};

@@ -7,7 +7,7 @@
 ghost use Rattle.std.specs.Prelude.{◌≡◌, ◌≤◌, ◌↔◌, [], ◌∷◌, length, drop, slice_range, IsNone, IfSome, MatchOption};
 ghost use Rattle.line_text.specs.Lines.{front_line, is_blank, lines, text_of, without_blanks};
 ghost use Rattle.line_text.specs.Places.{IsWithin, line_at, mark_length};
-ghost use Rattle.line_text.specs.Laws.{TextsHoldNoNewline, PlainTextsReadBack, AllCloseLines};
+ghost use Rattle.line_text.specs.Laws.{AllCloseLines};
 
 use memchr::memchr;
 
@@ -99,13 +99,6 @@ fn is_blank(byte: u8) -> bool
 {
     byte == b' ' || byte == b'\r'
 }
-
-/// A law: no text of a line holds a newline, and a text without one, without a mark at its start
-/// and without a blank at its end is read back from a line as it is.
-pub fn law_lines_read_back()
-    ensures no_newline { TextsHoldNoNewline }
-    ensures read_back { PlainTextsReadBack }
-{}
 
 /// A law: the lines of the bytes up to the last newline are the first lines of all the bytes, and
 /// what stands after that newline is at most one line more.

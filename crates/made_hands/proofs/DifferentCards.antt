@@ -110,10 +110,6 @@ length-without cards card set h =
     let again : length (cards_where (has_card rest)) ≡ length rest = ap length (IsCardSet-cards_where (λ j. not (j == card) && has_card cards j)) in
     omega (arith, ap length set, ap length whole, length-more card rest inside out, again)
 
--- the set of some cards, and of one more
-pub no_cards : union [] [] ≡ []
-no_cards = rising-IsCardSet [] tt
-
 pub with_next : (cards : List ℕ) (place card : ℕ) → place < length cards → card ≡ get_or cards place card →
     with_card (union [] (take place cards)) card ≡ union [] (take (place + 1) cards)
 with_next cards place card inside is =

@@ -48,40 +48,12 @@ plain_numbers (five ∷ fives) = ap (λ ns. plain_number five ∷ ns) (plain_num
 pub plain_high_number-greatest : (fives : List (List ℕ)) → AreFives fives → plain_high_number fives ≡ greatest (map plain_number fives)
 plain_high_number-greatest fives are = value_of-greatest_of (map plain_high fives) (plain_highs fives are) ∙ ap greatest (plain_numbers fives)
 
-pub plain_five : (five : List ℕ) → length five ≡ 5 → value_of (best_plain five) ≡ plain_number five
-plain_five five e =
-    let only : choose 5 five ≡ five ∷ [] = ap (λ k. choose k five) (sym e) ∙ choose-all five in
-    best_plain-number five ∙ ap (λ ls. greatest (map plain_number ls)) only ∙ omega arith
-
 pub greatest-push : (f : List ℕ → ℕ) (fives : List (List ℕ)) (five : List ℕ) → greatest (map f (fives ++ five ∷ [])) ≡ max (greatest (map f fives)) (f five)
 greatest-push f fives five = omega (arith, ap greatest (map-append f fives (five ∷ [])), greatest-append (map f fives) (map f (five ∷ [])))
 
 pub aces : (fives : List (List ℕ)) → AreFives fives → AreAceLists (map low_a5 fives)
 aces [] are = tt
 aces (five ∷ fives) are = (low_a5-IsAceList five are.1 (set-FewOfEach five are.0), aces fives are.2)
-
--- a five that qualifies, and what it is worth
-pub eight-five : (five : List ℕ) (low : ℕ) → length five ≡ 5 → Some low ≡ option_map ace_number (best_eight five) → eight_turned five ≡ turned low
-unfolding best_eight
-eight-five five low e h = one (qualifies five) (h ∙ ap (λ ls. option_map ace_number (least_of (map low_a5 (filter qualifies ls)))) only)
-  where
-    only : choose 5 five ≡ five ∷ []
-    only = ap (λ k. choose k five) (sym e) ∙ choose-all five
-
-    one : (b : Bool) → Some low ≡ option_map ace_number (least_of (map low_a5 (cond b (five ∷ []) []))) → cond b (five_turned five) 0 ≡ turned low
-    one true f = let same : low ≡ ace_number (low_a5 five) = cc in ap turned (sym same)
-    one false f = cc
-
-pub no-eight-five : (five : List ℕ) → length five ≡ 5 → None ≡ option_map ace_number (best_eight five) → eight_turned five ≡ 0
-unfolding best_eight
-no-eight-five five e h = one (qualifies five) (h ∙ ap (λ ls. option_map ace_number (least_of (map low_a5 (filter qualifies ls)))) only)
-  where
-    only : choose 5 five ≡ five ∷ []
-    only = ap (λ k. choose k five) (sym e) ∙ choose-all five
-
-    one : (b : Bool) → None ≡ option_map ace_number (least_of (map low_a5 (cond b (five ∷ []) []))) → cond b (five_turned five) 0 ≡ 0
-    one true f = cc
-    one false f = refl
 
 -- the number of the best low, where the greatest number turned round is known
 pub some-eight : (fives : List (List ℕ)) (v : ℕ) → AreFives fives → v < 4294967295 → turned v ≡ greatest (map eight_turned fives) → Some v ≡ eight_number fives

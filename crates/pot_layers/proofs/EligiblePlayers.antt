@@ -6,35 +6,11 @@ use Rattle.card_sets.specs.PlayerSetLaws.{players_where-small, has_player-where,
 use Rattle.pot_layers.specs.declared.paid.Paid.{Paid}
 use Rattle.pot_layers.specs.declared.paid.Pot.{Pot}
 use Rattle.pot_layers.specs.Pots.{reaches, reaching, pots_from, pots, or_one, more_first, more_last, levels, all_dead, above, highest, any_contender}
-use Rattle.pot_layers.specs.Eligible.{is_contender, EligibleBy}
+use Rattle.pot_layers.specs.Eligible.{is_contender}
 
 -- a seat is eligible exactly where it is of a contender who reaches the level
 pub eligible : (ps : List Paid) (level seat : ℕ) → seat < 11 → has_player (reaching ps level) seat ≡ reaches ps level seat
 eligible ps level seat h = has_player-where (reaches ps level) 11 seat h
-
-by_levels : (ps : List Paid) (low : ℕ) (ls : List ℕ) → EligibleBy ps ls (pots_from ps low ls)
-by_levels ps low [] = tt
-by_levels ps low (level ∷ ls) = ((λ seat h. eligible ps level seat h), by_levels ps level ls)
-
-by_first : (ps : List Paid) (ls : List ℕ) (units : ℕ) (all : List Pot) → EligibleBy ps ls all → EligibleBy ps ls (more_first units all)
-by_first ps [] units all h = tt
-by_first ps (level ∷ ls) units [] h = h
-by_first ps (level ∷ ls) units (pot ∷ all) h = h
-
-by_last : (ps : List Paid) (ls : List ℕ) (units : ℕ) (all : List Pot) → EligibleBy ps ls all → EligibleBy ps ls (more_last units all)
-by_last ps [] units all h = tt
-by_last ps (level ∷ ls) units [] h = h
-by_last ps (level ∷ ls) units (pot ∷ []) h = h
-by_last ps (level ∷ ls) units (pot ∷ next ∷ all) h = (h.0, by_last ps ls units (next ∷ all) h.1)
-
-by_one : (ps : List Paid) (ls : List ℕ) (all : List Pot) → EligibleBy ps ls all → EligibleBy ps ls (or_one ps all)
-by_one ps [] all h = tt
-by_one ps (level ∷ ls) [] h = absurd h
-by_one ps (level ∷ ls) (pot ∷ all) h = h
-
-pub reaches_levels : (ps : List Paid) → EligibleBy ps (levels ps) (pots ps)
-unfolding pots
-reaches_levels ps = by_first ps (levels ps) (all_dead ps) _ (by_last ps (levels ps) (above ps (highest ps)) _ (by_one ps (levels ps) _ (by_levels ps 0 (levels ps))))
 
 -- a seat without a contender reaches no level
 reaches_none : (ps : List Paid) (level seat : ℕ) → is_contender ps seat ≡ false → reaches ps level seat ≡ false

@@ -5,6 +5,3 @@ pub mod WinnerWalk
 pub mod WholeSides
 pub mod EligiblePlayers
 pub mod SeatOrders
-pub mod TwoSides
-pub mod SharedEvenly
-pub mod DifferentPots

@@ -8,6 +8,8 @@
 //! that was run twice, and `split` the parts of a pot's winners.
 //!
 //! Clauses see pots, parts and orders as lists. Sets of seats have bit s for seat s.
+//!
+//! More that holds of pots and of their parts is said by laws in `hand_laws`.
 #![tactic(auto)]
 
 mod by_level;
@@ -18,12 +20,7 @@ mod returns;
 mod splits;
 
 pub use by_level::{Pots, layers};
-pub use laws::{
-    law_a_folded_player_is_eligible_nowhere, law_a_list_orders_its_seats,
-    law_eligible_players_reach_the_level, law_no_two_pots_have_the_same_players,
-    law_two_halves_add_up, law_two_sides_share_a_pot,
-    law_winners_of_a_side_get_the_same_or_one_more,
-};
+pub use laws::{law_a_folded_player_is_eligible_nowhere, law_a_list_orders_its_seats};
 pub use orders::OddOrder;
 pub use paid::{Paid, Pot, Share, SideWinners};
 pub use returns::uncalled;

@@ -16,4 +16,3 @@ pub mod TakenHands
 pub mod RangeWalks
 pub mod SmallTallies
 pub mod BlockFacts
-pub mod NamedHands

@@ -9,7 +9,7 @@ use Rattle.card_sets.specs.Disjoint.{apart}
 use Rattle.card_sets.specs.Rising.{IsRising-cards_where}
 use Rattle.card_sets.proofs.CallerLemmas.{and_first, and_second, false_unless, or_either, or_first, or_second, has_past, NoneIn, apart-NoneIn}
 use Rattle.spot_text.specs.Parts.{set_of}
-use Rattle.spot_text.specs.Written.{all_differ}
+use Rattle.spot_text.specs.Spot.{all_differ}
 
 -- cards that differ, in two lists
 pub differ_append : (xs ys : List ℕ) → all_differ (xs ++ ys) ≡ true → (all_differ xs ≡ true) × NoneIn xs ys

@@ -15,9 +15,8 @@ use Rattle.card_sets.proofs.CallerLemmas.{and_first, and_second}
 use Rattle.spot_text.proofs.CallerLemmas.{length-set_whole, cards_named, none_repeated}
 use Rattle.spot_text.specs.Games.{board_fits}
 use Rattle.spot_text.specs.Parts.{hand_words, board_words, dead_words, all_cards, cards_of, set_of}
-use Rattle.spot_text.specs.Spot.{repeated_after}
+use Rattle.spot_text.specs.Spot.{all_differ, repeated_after}
 use Rattle.spot_text.specs.Words.{words}
-use Rattle.spot_text.specs.Written.{all_differ}
 use Rattle.range_lines.specs.declared.faults.RangeFault.TheVariants.{UnknownWord, BadCard, BadRange, BoardSize, PlayerCount, DeckShort}
 use Rattle.range_lines.specs.declared.items.Entry.{Entry}
 use Rattle.range_lines.specs.declared.pairs.Pair.{Pair}

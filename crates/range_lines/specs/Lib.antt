@@ -6,7 +6,6 @@ pub mod Texts
 pub mod Items
 pub mod Hands
 pub mod Weights
-pub mod ItemHands
 pub mod RangeSpot
 pub mod Sound
 pub mod Choices

@@ -35,8 +35,7 @@ pub fn write_ranges(
 {
     let mut sheet = Sheet::new(*out.allocator(), form);
     spot_lines(&mut sheet, place, line, spot, tally)?;
-    out.extend_from_slice(sheet.bytes())?;
-    Ok(())
+    sheet.append_to(out)
 }
 
 /// Appends the line of a spot that is rejected, or the block of one that is well written.

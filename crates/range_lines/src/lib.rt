@@ -23,7 +23,6 @@
 
 mod blocks;
 mod faults;
-mod item_laws;
 mod items;
 mod lines;
 mod pairs;
@@ -37,7 +36,6 @@ mod weights;
 
 pub use blocks::write_ranges;
 pub use faults::RangeFault;
-pub use item_laws::law_items_name_their_hands;
 pub use read::read_ranges;
 pub use reading_laws::law_lines_give_sound_ranges;
 pub use spot::{Range, RangeSpot, Weighted};

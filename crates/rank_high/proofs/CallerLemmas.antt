@@ -2,19 +2,17 @@
 
 -- Ranks by how often they are counted.
 pub use Rattle.rank_high.proofs.CountedRanks.{ranks_counted-same, groups_counted-same, total, total-same, count_of_rank-cons, total-cards, group_sizes}
-pub use Rattle.rank_high.proofs.CountedRanks.{length-groups_counted, length-groups, AreBelow, AreBelow-groups_counted, one_more}
+pub use Rattle.rank_high.proofs.CountedRanks.{length-groups_counted, length-groups, AreBelow, AreBelow-groups_counted, one_more, none_counted}
 -- The number of a high hand's list keeps the order of the lists.
 pub use Rattle.rank_high.proofs.ValueOrder.{AreDigits, digits_from-lt, first_less, digits_order, IsHighList, value_of-order, AreDigits-map, length-map_two}
 pub use Rattle.rank_high.proofs.ValueOrder.{category_of-le, high-IsHighList}
 -- The best of some fives, chosen card by card.
 pub use Rattle.rank_high.proofs.BestByChoice.{AreHighLists, value_of-none, greatest_of-IsHighList, value_of-greatest_of, max-not_less, max-less}
-pub use Rattle.rank_high.proofs.BestByChoice.{best_high-five, not_less}
--- Which category some cards have, and what beats what.
-pub use Rattle.rank_high.proofs.HandCategories.{one_suit}
+pub use Rattle.rank_high.proofs.BestByChoice.{best_high-five, AreHighLists-map, HaveLength-choose, alone, fives, best_high-IsHighList}
+-- Cards of one suit, and what a category goes by.
+pub use Rattle.rank_high.proofs.HandCategories.{one_suit, next_falls, pips_plain, pips_wheel}
 -- The groups of some cards are the ranks of the cards, in order.
 pub use Rattle.rank_high.proofs.GroupsInOrder.{count-most, contains_counted, grouped}
--- What makes a straight.
-pub use Rattle.rank_high.proofs.Straights.{squeezed, row_groups, low_row, low_row_of, low_row_within, low_row_groups}
 -- The best five of some cards are the best by their ranks alone, or the best of one suit.
 pub use Rattle.rank_high.proofs.RanksOrSuit.{plain_high-IsHighList, number, plain_number, best_high-number, best_plain-number, plain-small, plain-less}
 pub use Rattle.rank_high.proofs.RanksOrSuit.{plain-same, flush_suit, one_of_four, best_high-IsByRanksOrSuit, suited-short}
@@ -26,6 +24,6 @@ pub use Rattle.rank_high.proofs.FallingRanks.{Falls, Falls-wider, Falls-falling,
 pub use Rattle.rank_high.proofs.ReachedShapes.{InDeck, InDeck-rising, InDeck-part, total-all, count-part, sizes-all, falls_counted, pick, pick-part, weights}
 pub use Rattle.rank_high.proofs.ReachedShapes.{Allowed, weights-which, weights-total, weights-listed, picked}
 -- The best five of cards of one suit, from what they would be worth if there were no flushes.
-pub use Rattle.rank_high.proofs.OneSuit.{no_group, flush_category, as_flush-low, as_flush-high}
+pub use Rattle.rank_high.proofs.OneSuit.{no_group, flush_category, as_flush-low, as_flush-high, best_of_suit}
 -- The ranks of a union are those of both together.
 pub use Rattle.rank_high.proofs.UnionRanks.{count-union}

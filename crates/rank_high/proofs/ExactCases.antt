@@ -56,9 +56,6 @@ total-falling p (suc n) =
 not_held : (f : ℕ → ℕ) (n r : ℕ) → (held f n r ≡ true → ⊥) → f r ≤ n
 not_held f n r h = grind arith
 
-is_held : (f : ℕ → ℕ) (n r : ℕ) → n < f r → held f n r ≡ true
-is_held f n r h = grind arith
-
 -- a count, by whether the rank is the one, and whether another has cards
 by_one : (f : ℕ → ℕ) (x c r : ℕ) → f x ≤ c → ((x == r) ≡ false → held f 0 r ≡ true → f r ≤ 1) → f r ≤ cond (x == r) c 0 + cond (except x (held f 0) r) 1 0
 by_one f x c r top rest = elim (cases_eq x r) [

@@ -4,8 +4,6 @@ pub mod ValueOrder
 pub mod BestByChoice
 pub mod HandCategories
 pub mod GroupsInOrder
-pub mod Categories
-pub mod Straights
 pub mod RanksOrSuit
 pub mod RankLists
 pub mod FallingRanks

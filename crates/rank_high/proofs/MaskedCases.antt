@@ -86,10 +86,6 @@ last_none p (suc n) e = one (last_none p n) (p n) refl (e ∙ ap last_of (rank_m
     one ih true t e = absurd (some (cards_below (on_first p) (4 * n)) (4 * n) e)
     one ih false t e = ih (e ∙ ap last_of (append-nil (cards_below (on_first p) (4 * n))))
 
-pub where_falling : (p : ℕ → Bool) → ranks_where p ≡ falling p 13
-unfolding ranks_where
-where_falling p = refl
-
 pub greatest_some : (ranks : List ℕ) (card : ℕ) → Some card ≡ slice_get ranks (length ranks - 1) → (test : ℕ → Bool) → ranks ≡ first_suit test → HasFirst test card
 unfolding cards_where ranks_where
 greatest_some ranks card e test same = last_first test 13 card (e ∙ ap last_of same)
@@ -156,10 +152,6 @@ without_first p (suc n) x more e = one (λ e. without_first p n x more e) (p n) 
 pub where_without_first : (p : ℕ → Bool) (x : ℕ) (more : List ℕ) → ranks_where p ≡ x ∷ more → ranks_where (except x p) ≡ more
 unfolding ranks_where
 where_without_first p x more e = without_first p 13 x more e
-
-pub first_small : (p : ℕ → Bool) (x : ℕ) (more : List ℕ) → ranks_where p ≡ x ∷ more → x < 13
-unfolding ranks_where
-first_small p x more e = (let P : List ℕ → Type 0 = λ l. Falls p 13 l in subst P e (Falls-falling p 13)).0
 
 -- where a straight of ranks that pass begins
 abbrev pub runs : (ℕ → Bool) → ℕ → Bool

@@ -11,7 +11,7 @@ use Rattle.rank_high.specs.Parts.{plain_high, best_plain, as_flush, of_suit, sui
 use Rattle.rank_high.proofs.CountedRanks.{AreBelow-groups_counted}
 use Rattle.rank_high.proofs.ValueOrder.{AreDigits-pips, digits_from-lt}
 use Rattle.rank_high.proofs.HandCategories.{one_suit}
-use Rattle.rank_high.proofs.Categories.{none_counted}
+use Rattle.rank_high.proofs.CountedRanks.{none_counted}
 use Rattle.card_sets.proofs.CallerLemmas.{greatest, choose-short, IsPart, none_part, greatest_step, greatest_most, greatest_least}
 use Rattle.rank_high.proofs.RanksOrSuit.{number, plain_number, best_high-number, best_plain-number}
 

@@ -149,10 +149,6 @@ pick-count g (c ∷ cards) rank = one (pick-count (less g (rank_of c)) cards ran
           omega arith
     ]
 
-total-same-below : (f g : ℕ → ℕ) (n : ℕ) → ((k : ℕ) → k < n → f k ≡ g k) → total f n ≡ total g n
-total-same-below f g zero h = refl
-total-same-below f g (suc n) h = let ih : total f n ≡ total g n = total-same-below f g n (λ k l. h k (omega arith)) in omega (arith, h n (omega arith))
-
 -- how often a rank is counted, by the lists of the ranks of groups
 abbrev weight : Bool → Bool → Bool → Bool → ℕ
 weight q t p o = 4 * cond q 1 0 + 3 * cond t 1 0 + 2 * cond p 1 0 + cond o 1 0

@@ -25,9 +25,6 @@ same_but p a x e r h = let P : ℕ → Type 0 = λ y. except y p r ≡ true in s
 one_digit : (p : ℕ → Bool) (b : ℕ) → b < 13 → p b ≡ true → digits_of 1 (b ∷ []) ≤ digits_of 1 (falling p 13)
 one_digit p b h t = falling-most p 13 1 (b ∷ []) (omega arith) (h, t, tt)
 
-digits-small : (p : ℕ → Bool) (k : ℕ) → digits_of k (falling p 13) < 16 ^ k
-digits-small p k = digits_of-lt p 13 k (falling p 13) (omega arith) (Falls-falling p 13)
-
 -- four of a kind: the rank, and the greatest other one
 pub bound_four : (f : ℕ → ℕ) (x : ℕ) (more : List ℕ) → falling (held f 3) 13 ≡ x ∷ more
     → Bounds f (7 * 16 ^ 5 + (x + 2) * 16 ^ 4 + digits_of 1 (falling (except x (held f 0)) 13) * 16 ^ 3)

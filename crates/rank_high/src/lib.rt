@@ -21,7 +21,8 @@
 //! [`high_by_ranks`] and [`high_of_suit`] are the two parts, for a caller who knows of which suit a flush
 //! may be, and [`high_of_ranks`] is the first of them for a caller who knows the ranks and not the cards.
 //! [`high_of_five`] counts ranks and looks at suits as the rules say, five cards at a time: a
-//! plain body. No call takes memory, and none knows a game or a board.
+//! plain body. No call takes memory, and none knows a game or a board. What players would say of the
+//! values, as that a flush beats a straight, is a law of `rank_laws`.
 #![tactic(auto)]
 
 mod best_five;
@@ -33,11 +34,6 @@ mod values;
 
 pub use best_five::{high_by_ranks, high_of_ranks, high_of_set, high_of_suit};
 pub use five_cards::{category, high_of_five, is_flush};
-pub use laws::{
-    law_best_is_unbeaten, law_best_numbers_keep_order, law_best_of_five, law_categories_are_usual,
-    law_flush_beats_straight, law_flushes_by_ranks, law_groups_are_in_order,
-    law_numbers_keep_order, law_ranks_decide, law_ranks_or_a_suit, law_straights_are_usual,
-    law_suits_dont_matter, law_three_beats_two_pair, law_wheel_is_lowest,
-};
+pub use laws::{law_best_numbers_keep_order, law_ranks_or_a_suit};
 pub use rank_groups::{Groups, falls_by_one, group_ranks, rank_counts};
 pub use values::{FLUSH, HighValue, ONE_PAIR, STRAIGHT_TO_FLUSH, value};

@@ -189,11 +189,3 @@ least-IsAceList (l ∷ ls) x p e =
     let least = least_of-IsLeast l ls p in
     let P : List ℕ → Type 0 = λ m. IsAceList m in
     subst P (some_is least.list x (sym least.is ∙ e)) least.ace
-
-pub best_low-IsAceList : (cards x : List ℕ) → IsCardSet cards → best_low cards ≡ Some x → IsAceList x
-unfolding best_low
-best_low-IsAceList cards x set e = least-IsAceList (map low_a5 (choose 5 cards)) x (with_taken-AreAceLists [] 5 cards (IsCardSet-rising cards set) refl) e
-
-pub best_eight-IsAceList : (cards x : List ℕ) → IsCardSet cards → best_eight cards ≡ Some x → IsAceList x
-unfolding best_eight
-best_eight-IsAceList cards x set e = least-IsAceList (map low_a5 (filter qualifies (choose 5 cards))) x (eight-AreAceLists cards set) e

@@ -7,6 +7,5 @@ pub mod LowestFive
 pub mod BestLow
 pub mod CountsAndGroups
 pub mod BestFive
-pub mod PlayerLaws
 pub mod DeuceRanks
 pub mod LowestPair

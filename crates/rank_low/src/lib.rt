@@ -14,21 +14,15 @@
 //! or better is the first case with no rank above eight. Of deuce-to-seven there are just five cards: what
 //! they are worth by ranks, and as a flush.
 //!
-//! No call takes memory, and none knows a game or a board.
+//! No call takes memory, and none knows a game or a board. What players would say of the values, as that
+//! any five different ranks beat a pair, is a law of `rank_laws`.
 #![tactic(auto)]
 
 mod best_five;
 mod five_cards;
-mod laws;
 mod low_ranks;
 mod values;
 
 pub use best_five::{ace_five, deuce_seven, eight_or_better};
 pub use five_cards::{ace_of_five, deuce_of_five};
-pub use laws::{
-    law_ace_numbers_keep_order, law_best_ace_numbers_keep_order, law_best_eight_numbers_keep_order,
-    law_deuce_numbers_keep_order, law_five_to_ace_is_ace_high, law_five_to_ace_is_best,
-    law_no_pair_beats_pair, law_qualify_by_ranks, law_ranks_alone_count, law_seven_low_is_best,
-    law_straights_and_flushes_lose, law_straights_dont_count,
-};
 pub use values::LowValue;

@@ -16,7 +16,7 @@ use Rattle.hand_events.specs.Names.{seat_named}
 use Rattle.hand_events.specs.declared.events.Header.{Header}
 use Rattle.hand_events.specs.declared.events.TextFault.{TextFault}
 use Rattle.hand_audit.specs.Departs.{departs}
-use Rattle.hand_audit.specs.Nets.{NetsAddUp}
+use Rattle.hand_laws.specs.Nets.{NetsAddUp}
 use Rattle.hand_verdict.specs.SeatSums.{chips_at, got_of}
 use Rattle.hand_audit.specs.SeatChips.{chips_of}
 use Rattle.hand_audit.specs.Verdict.{audit_behind, audit_of, events_of}
@@ -27,14 +27,14 @@ use Rattle.hand_verdict.specs.declared.settlement.Settlement.{Settlement}
 use Rattle.hand_verdict.specs.declared.verdicts.AllIn.{AllIn}
 use Rattle.hand_verdict.specs.declared.verdicts.HandAudit.{HandAudit}
 use Rattle.hand_verdict.specs.declared.verdicts.HandAudit.TheVariants.{Rejected, Accepted}
-use Rattle.report_table.specs.Balance.{audits_of, balance_by, balance_in, balance_of, balance_over, no_balance, seat_balance}
-use Rattle.report_laws.specs.BalanceLaws.{AreNamed, HasNames, IsAudited, LosesRakes, rake_of, rakes_in, rows_have}
-use Rattle.report_table.specs.BalanceLaws.{counts_in}
-use Rattle.report_table.specs.Hands.{Seated}
-use Rattle.report_table.specs.Totals.{Player, all_players, each_once, players_in, playing, same_player}
-use Rattle.report_table.specs.TotalsSeen.{named_player}
-use Rattle.report_table.specs.declared.balance_sums.BalanceSums.{BalanceSums}
-use Rattle.report_table.proofs.CallerLemmas.{any_once, distinct_once, same_congr, same_name}
+use Rattle.player_totals.specs.Balance.{audits_of, balance_by, balance_in, balance_of, balance_over, no_balance, seat_balance}
+use Rattle.report_laws.specs.BalanceLaws.{AreNamed, HasNames, IsAudited, LosesRakes, counts_in, rake_of, rakes_in, rows_have}
+use Rattle.report_laws.proofs.TotalLaws.{distinct_once}
+use Rattle.even_luck.specs.Seats.{Seated}
+use Rattle.player_totals.specs.Totals.{Player, all_players, each_once, players_in, playing, same_player}
+use Rattle.player_totals.specs.TotalsSeen.{named_player}
+use Rattle.player_totals.specs.declared.balance_sums.BalanceSums.{BalanceSums}
+use Rattle.player_totals.proofs.CallerLemmas.{any_once, same_congr, same_name}
 
 -- sums over players and over hands
 no_sum : {A : Type 0} (f : A → ℕ) (xs : List A) → ((x : A) → f x ≡ 0) → sum_by f xs ≡ 0

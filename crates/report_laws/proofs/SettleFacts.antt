@@ -6,10 +6,10 @@ use Rattle.std.proofs.lemmas.List.Sums.{sum_by-cons}
 use Rattle.card_sets.specs.PlayerSets.{seats_in}
 use Rattle.hand_verdict.specs.SeatSums.{PlayersAreDue, due_of, got_of}
 use Rattle.hand_verdict.specs.declared.settlement.Settlement.{Settlement}
-use Rattle.report_table.specs.Hands.{Seated}
+use Rattle.even_luck.specs.Seats.{Seated}
 use Rattle.report_sheet.specs.Lines.{line_in}
 use Rattle.report_laws.specs.SettleLaws.{SettlesUp, is_one_of, to_settle}
-use Rattle.report_table.specs.Settles.{are_checked, settle_line, settle_lines, settle_lines_of}
+use Rattle.hand_blocks.specs.Settles.{are_checked, settle_line, settle_lines, settle_lines_of}
 use Rattle.report_sheet.specs.declared.form.Form.{Form}
 
 -- who is among those of some seats that pass a test

@@ -1,5 +1,5 @@
--- What the balance of a run comes to, of hands that are those of some lines.
-use Rattle.std.specs.Prelude.{◌≡◌, ℕ, ◌+◌, ◌==◌, Bool, if◌then◌else◌, List, Some, count_by}
+-- What the balance of a run says of its hands, and what it comes to, of hands that are those of some lines.
+use Rattle.std.specs.Prelude.{◌≡◌, ℕ, ◌+◌, ◌==◌, Bool, false, if◌then◌else◌, List, Some, count_by, filter}
 use Rattle.std.specs.Bool.{beq}
 use Rattle.std.specs.List.{IsDistinct, sum_by}
 use Rattle.std.specs.Str.{bytes_eq}
@@ -9,11 +9,19 @@ use Rattle.hand_audit.specs.Verdict.{audit_of}
 use Rattle.hand_verdict.specs.declared.seat_chips.AuditedChips.{AuditedChips}
 use Rattle.hand_verdict.specs.declared.verdicts.HandAudit.{HandAudit}
 use Rattle.hand_verdict.specs.declared.verdicts.HandAudit.TheVariants.{Rejected, Accepted}
-use Rattle.report_table.specs.Balance.{balance_of}
-use Rattle.report_table.specs.BalanceLaws.{counts_in}
-use Rattle.report_table.specs.Hands.{Seated}
-use Rattle.report_table.specs.Totals.{Player, playing}
-use Rattle.report_table.specs.declared.balance_sums.BalanceSums.{BalanceSums}
+use Rattle.player_totals.specs.Balance.{balance_of}
+use Rattle.even_luck.specs.Seats.{Seated}
+use Rattle.player_totals.specs.Totals.{Player, playing}
+use Rattle.player_totals.specs.declared.balance_sums.BalanceSums.{BalanceSums}
+
+-- a hand in which no line departs and that counts in a unit: hundredths, or else chips
+abbrev pub counts_in : Bool → HandAudit → Bool
+counts_in hundredths (Rejected line cause unit) = false
+counts_in hundredths (Accepted s all_in names players) = beq hundredths s.hundredths
+
+-- the hands that count in a unit
+abbrev pub hands_of_unit : Bool → List AuditedChips → List AuditedChips
+hands_of_unit hundredths hands = filter (λ hand. counts_in hundredths hand.audit) hands
 
 -- the stated rake of a hand; one with a line that departs has none
 abbrev pub rake_of : HandAudit → ℕ

@@ -1,2 +1,4 @@
 pub mod BalanceLaws
+pub mod ExpectLaws
+pub mod ReadBack
 pub mod SettleLaws

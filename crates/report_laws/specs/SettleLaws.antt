@@ -4,9 +4,9 @@ use Rattle.std.specs.List.{flat_map, list_any}
 use Rattle.card_sets.specs.PlayerSets.{seats_in}
 use Rattle.hand_verdict.specs.SeatSums.{due_of, got_of}
 use Rattle.hand_verdict.specs.declared.settlement.Settlement.{Settlement}
-use Rattle.report_table.specs.Hands.{Seated}
+use Rattle.even_luck.specs.Seats.{Seated}
 use Rattle.report_sheet.specs.Lines.{line_in}
-use Rattle.report_table.specs.Settles.{are_checked, settle_line, settle_lines}
+use Rattle.hand_blocks.specs.Settles.{are_checked, settle_line, settle_lines}
 use Rattle.report_sheet.specs.declared.form.Form.{Form}
 
 -- the players who are still to get something, or to give it back, by rising seat: where it is known who wins each pot, those

@@ -1,10 +1,27 @@
-//! What the balance of a run comes to, of hands that are those of some lines.
+//! What the balance of a run says of its hands, and what it comes to, of hands that are those of some lines.
 
-ghost use Rattle.std.specs.Prelude.{All, List};
+ghost use Rattle.std.specs.Prelude.{◌≡◌, All, List};
+ghost use Rattle.std.specs.List.{IsDistinct};
+ghost use Rattle.std.specs.Map.{keys_of};
 ghost use Rattle.hand_verdict.specs.declared.seat_chips.AuditedChips.{AuditedChips};
-ghost use Rattle.report_laws.specs.BalanceLaws.{IsAudited, LosesRakes};
+ghost use Rattle.report_laws.specs.BalanceLaws.{IsAudited, LosesRakes, hands_of_unit};
+ghost use Rattle.player_totals.specs.Balance.{balance_of, balance_over};
+ghost use Rattle.player_totals.specs.Totals.{Player, same_player};
 
-use hand_audit::law_nets_add_up_to_the_rake;
+use hand_laws::law_nets_add_up_to_the_rake;
+
+/// A law: no two lines of the balance have one name and one unit.
+pub fn law_nobody_is_balanced_twice()
+    ensures { (hands : List AuditedChips)
+        → IsDistinct same_player (keys_of (balance_of hands).players) }
+{}
+
+/// A law: what a name has in a unit is what the hands of that unit give it alone.
+pub fn law_no_name_is_balanced_over_two_units()
+    ensures { (hands : List AuditedChips) (player : Player)
+        → balance_over hands player
+        ≡ balance_over (hands_of_unit player.hundredths hands) player }
+{}
 
 /// A law: what all names of a unit netted is together what was taken from them as rake, before anything is
 /// written: they put in what they got and the rakes of the accepted hands of the unit. It is so of hands that are

@@ -1,13 +1,24 @@
-//! Laws on the report of hands that were audited: what the verdict says of a hand's lines, together with what the report
-//! makes of the verdict.
+//! Laws on the report: what its lines, its totals and its balance come to, said in other words than their definitions.
 //!
-//! The report knows the verdict alone, and `hand_audit` knows no report, so what needs both stands here: that the nets of a
-//! balance add up to minus the rakes, and that the lines of a settlement add up to nothing. Each is a call that does nothing,
-//! and nothing of the program stands on it.
+//! Most speak of the report alone: that no name is summed twice or over two units, that money is written whole, that a record
+//! is read back, and that what hands could expect, or would have got with even luck, adds up. Others speak of hands that were
+//! audited. The report knows the verdict alone, and `hand_audit` knows no report, so what needs both can stand nowhere else:
+//! that the nets of a balance add up to minus the rakes, and that the lines of a settlement add up to nothing.
+//!
+//! Each is a call that does nothing, and nothing of the program stands on it.
 #![tactic(auto)]
 
 mod balance_laws;
+mod expect_laws;
+mod line_laws;
 mod settle_laws;
+mod total_laws;
 
-pub use balance_laws::law_balances_add_up_to_the_rakes;
+pub use balance_laws::{
+    law_balances_add_up_to_the_rakes, law_no_name_is_balanced_over_two_units,
+    law_nobody_is_balanced_twice,
+};
+pub use expect_laws::{law_even_luck_adds_up_to_what_was_got, law_expectations_add_up_to_the_pots};
+pub use line_laws::{law_a_record_is_read_back, law_money_is_written_whole};
 pub use settle_laws::law_settle_lines_add_up;
+pub use total_laws::{law_hands_are_those_that_are_played, law_no_player_is_listed_twice};

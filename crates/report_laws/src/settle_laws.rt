@@ -12,7 +12,7 @@ ghost use Rattle.hand_verdict.specs.declared.verdicts.HandAudit.{HandAudit};
 ghost use Rattle.hand_verdict.specs.declared.verdicts.HandAudit.TheVariants.{Accepted};
 ghost use Rattle.report_laws.specs.SettleLaws.{SettlesUp};
 
-use hand_audit::law_players_are_due_what_they_got;
+use hand_laws::law_players_are_due_what_they_got;
 
 /// A law: the lines of what each player is still to get, or to give back, add up to nothing, and where it is known
 /// who wins each pot a player has one exactly where his dues of all pots aren't what he got. It is so of a hand that

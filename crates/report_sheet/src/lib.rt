@@ -5,9 +5,9 @@
 //! or as a number; `end` ends the line, `end_with` ends it with a name. In which `Form` the words stand is known to these
 //! three alone, so that no line is written twice in the code. A number is rounded once.
 //!
-//! Which lines there are and in what order is said in the crates above: of hands, spots and sums in `report_table`, of
-//! ranges in `hand_ranges`. Out of memory a part of a line may have been appended; who lends bytes appends a sheet when it is
-//! whole.
+//! Which lines there are and in what order is said in the crates above: of hands and spots in `hand_blocks`, of sums in
+//! `player_totals`, of ranges in `range_lines`. Out of memory a part of a line may have been appended to a sheet; `append_to`
+//! appends it to the bytes of the report when it is whole.
 #![tactic(auto)]
 
 mod form;

@@ -2,13 +2,14 @@
 //! straight into the bytes; the fields of a record are gathered until it ends, since a record has
 //! thirteen of them and the name is the last. Where memory is refused, a part may have been appended.
 
-ghost use Rattle.std.specs.Prelude.{◌≡◌, ◌-◌, [], ◌∷◌, ◌++◌, false, codes, length, replicate, OnOk};
+ghost use Rattle.std.specs.Prelude.{◌≡◌, ◌-◌, [], ◌∷◌, ◌++◌, false, codes, length, replicate, OnOk, OnErr};
 ghost use Rattle.csv.specs.Writing.{default_writer, row_text};
 ghost use Rattle.report_sheet.specs.Lines.{thirteen};
 ghost use Rattle.report_sheet.specs.Sheets.{nothing_in, with_end, with_name, with_words};
 
 use crate::form::Form;
 use crate::records::put_record;
+use card_sets::Memory;
 use csv::ByteRecord;
 use std::alloc::{AllocError, Global};
 use std::marker::Model;
@@ -131,6 +132,15 @@ impl Sheet {
         ensures { result.now ≡ self.now.bytes }
     {
         &self.bytes
+    }
+
+    /// Appends its lines. Out of memory it leaves `out` as it was.
+    pub fn append_to(&self, out: &mut Vec<u8>) -> Result<(), Memory>
+        ensures block { OnOk result (out.new.items ≡ out.old.items ++ self.now.bytes) }
+        ensures memory { OnErr result (out.new.items ≡ out.old.items) }
+    {
+        out.extend_from_slice(self.bytes())?;
+        Ok(())
     }
 
     /// One word more.

@@ -1,6 +1,6 @@
 pub use Rattle.byte_ends.specs.Ends
-pub use Rattle.run_loop.specs.Command
-pub use Rattle.run_loop.specs.CommandLine
+pub use Rattle.command_words.specs.Command
+pub use Rattle.command_words.specs.CommandLine
 pub use Rattle.run_loop.specs.Closed
 pub use Rattle.run_loop.specs.Report
 pub use Rattle.run_loop.specs.Laws

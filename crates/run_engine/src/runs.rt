@@ -4,7 +4,7 @@ ghost use Rattle.std.specs.Prelude.{◌≡◌, IfOk, map, string_bytes};
 ghost use Rattle.card_sets.specs.State.{state_of};
 ghost use Rattle.showdown_tally.specs.Deals.{deal_of};
 ghost use Rattle.showdown_tally.specs.Tallies.{Counts, runouts_after};
-ghost use Rattle.run_loop.specs.Command.{command};
+ghost use Rattle.command_words.specs.Command.{command};
 ghost use Rattle.run_loop.specs.Headline.{IsRun};
 ghost use Rattle.run_loop.specs.Order.{IsInOrder};
 

@@ -19,7 +19,7 @@ use Rattle.run_loop.specs.Reporting.{told_status}
 use Rattle.run_loop.specs.UnitBlocks.{before, is_rejected_unit, block_kind_in, listed_kind, place_after, place_behind, rejected_units, unit_block, unit_blocks}
 use Rattle.run_loop.specs.Units.{IsUnit, left_over, started}
 use Rattle.run_loop.specs.Writing.{one_if}
-use Rattle.run_loop.specs.declared.command.Command.{Command}
+use Rattle.command_words.specs.declared.command.Command.{Command}
 use Rattle.run_loop.specs.declared.block_kinds.BlockKind.{BlockKind}
 use Rattle.run_loop.specs.declared.reading.Ending.{Ending}
 use Rattle.run_loop.specs.declared.reading.Ending.TheVariants.{Open}

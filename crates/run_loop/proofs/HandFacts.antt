@@ -6,8 +6,8 @@ use Rattle.hand_verdict.specs.declared.streets.StreetState.{StreetState}
 use Rattle.hand_verdict.specs.declared.verdicts.HandAudit.TheVariants.{Rejected, Accepted}
 use Rattle.hand_verdict.specs.declared.verdicts.HandAudit.{HandAudit}
 use Rattle.hand_cuts.specs.Units.{UnitLines}
-use Rattle.report_table.specs.HandEquities.{hand_block as audit_block}
-use Rattle.report_table.specs.Streets.{has_counted, street_block, street_blocks}
+use Rattle.hand_blocks.specs.HandEquities.{hand_block as audit_block}
+use Rattle.hand_blocks.specs.Streets.{has_counted, street_block, street_blocks}
 use Rattle.report_sheet.specs.declared.form.Form.{Form}
 use Rattle.run_loop.specs.Histories.{block_by, hand_block, number_text, streets_told, tells_all_in, verdict_of}
 use Rattle.run_loop.specs.declared.block_kinds.Detail.{Detail}

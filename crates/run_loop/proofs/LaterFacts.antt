@@ -14,11 +14,11 @@ use Rattle.hand_verdict.specs.declared.verdicts.AllIn.{AllIn}
 use Rattle.hand_verdict.specs.declared.verdicts.AllIn.TheVariants.{None as NoAllIn, Unknown, Known}
 use Rattle.hand_verdict.specs.declared.verdicts.HandAudit.{HandAudit}
 use Rattle.hand_verdict.specs.declared.verdicts.HandAudit.TheVariants.{Accepted}
-use Rattle.report_table.specs.Equities.{IsEquityOf}
-use Rattle.report_table.specs.Streets.{IsCountedStreet, IsOfStreet, IsOfTable, has_counted, is_counted_all_in}
-use Rattle.report_table.specs.Totals.{is_counted}
-use Rattle.report_table.specs.declared.equity.Equity.{Equity}
-use Rattle.report_table.proofs.CallerLemmas.{count_of}
+use Rattle.even_luck.specs.Equities.{IsEquityOf}
+use Rattle.hand_blocks.specs.Streets.{IsCountedStreet, IsOfStreet, IsOfTable, has_counted, is_counted_all_in}
+use Rattle.even_luck.specs.Figures.{is_counted}
+use Rattle.even_luck.specs.declared.equity.Equity.{Equity}
+use Rattle.even_luck.proofs.CallerLemmas.{count_of}
 use Rattle.runout_ranges.specs.MoreKnown.{HasNoMoreRunouts, IsEnough}
 use Rattle.runout_ranges.specs.Slots.{counts_of, slots, unseen}
 use Rattle.runout_ranges.specs.declared.limits.TheConstants.{RUNOUT_MAX}

@@ -18,9 +18,3 @@ pub mod OrderTells
 pub mod SumOrder
 pub mod TotalsFacts
 pub mod HandNumbers
-mod LineRows
-mod WordSteps
-mod WordKinds
-mod WordWalks
-mod LineFaults
-mod LineWords

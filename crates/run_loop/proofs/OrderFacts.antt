@@ -25,8 +25,8 @@ use Rattle.run_loop.specs.Report.{blocks, report, rejects}
 use Rattle.run_loop.specs.UnitBlocks.{before, is_rejected_unit, block_kind_in, listed_kind, place_after, place_behind, rejected_units, unit_block, unit_blocks}
 use Rattle.run_loop.specs.Units.{is_whole, left_over, started}
 use Rattle.run_loop.specs.Writing.{one_if}
-use Rattle.run_loop.specs.Command.{reads_input}
-use Rattle.run_loop.specs.declared.command.Command.{Command}
+use Rattle.command_words.specs.Command.{reads_input}
+use Rattle.command_words.specs.declared.command.Command.{Command}
 use Rattle.run_loop.specs.declared.block_kinds.BlockKind.{BlockKind}
 use Rattle.run_loop.specs.declared.reading.Ending.{Ending}
 use Rattle.run_loop.specs.declared.reading.Ending.TheVariants.{Whole, Failed, TooLong, Open}

@@ -5,14 +5,14 @@ use Rattle.std.specs.List.{concat}
 use Rattle.std.proofs.lemmas.List.{take_all}
 use Rattle.std.proofs.Math.Seq.{take-append_seam}
 use Rattle.byte_ends.specs.Ends.{CountsFault, GivesFirst, Rises, TakesMore, WritesAll, WritesFront}
-use Rattle.run_loop.specs.Command.{reads_input}
+use Rattle.command_words.specs.Command.{reads_input}
 use Rattle.run_loop.specs.Headline.{Ends, IsMemoryShort, IsRun, written_status}
 use Rattle.run_loop.specs.Laws.{has_blocks}
 use Rattle.run_loop.specs.Order.{Comes, Event, Follows, FollowsUsage, IsBefore, IsInOrder, Went, begun, due, with_read}
 use Rattle.run_loop.specs.Order.Event.{Reading, Writing}
 use Rattle.run_loop.specs.Reading.{Counted, EndsSo, ReadWhole, Takes, piece, reported}
 use Rattle.run_loop.specs.Report.{blocks, report, rejects}
-use Rattle.run_loop.specs.declared.command.Command.{Command}
+use Rattle.command_words.specs.declared.command.Command.{Command}
 use Rattle.run_loop.specs.declared.reading.Ending.{Ending}
 use Rattle.run_loop.specs.declared.reading.Ending.TheVariants.{Whole, Failed, TooLong, Open}
 use Rattle.run_loop.proofs.RunEnds.{run_finished, run_memory, run_usage, run_usage_fault, run_usage_short, run_write_fault}

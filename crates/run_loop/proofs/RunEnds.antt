@@ -3,8 +3,8 @@ use Rattle.std.proofs.Common.{◌≡◌, ℕ, ◌<◌, ◌≤◌, List, length, 
 use mathlib.Core.Bool.{true≢false}
 use Rattle.std.specs.Prelude.{IfSome}
 use Rattle.byte_ends.specs.Ends.{Rises, WritesAll, WritesFront}
-use Rattle.run_loop.specs.Command.{reads_input, usage_line}
-use Rattle.run_loop.specs.declared.command.Command.{Command}
+use Rattle.command_words.specs.Command.{reads_input, usage_line}
+use Rattle.command_words.specs.declared.command.Command.{Command}
 use Rattle.run_loop.specs.Reading.{ReadWhole, ReadTooMuch}
 use Rattle.run_loop.specs.Headline.{IsRun, Ends, IsFinished, IsReadFault, IsWriteFault, IsTooLong, IsMemoryShort}
 

@@ -6,9 +6,9 @@ use Rattle.std.proofs.Math.Seq.{take-nil}
 use Rattle.byte_ends.specs.Ends.{WritesAll}
 use Rattle.hand_cuts.specs.Units.{units_in}
 use Rattle.hand_cuts.proofs.CallerLemmas.{closed_units_stay}
-use Rattle.run_loop.specs.declared.command.Command.{Command}
-use Rattle.run_loop.specs.declared.command.Mode.{Mode}
-use Rattle.run_loop.specs.declared.command.Mode.TheVariants.{Spots, Ranges, Check, Audit, Streets, Results, Settle, Totals, Balance, Made}
+use Rattle.command_words.specs.declared.command.Command.{Command}
+use Rattle.command_words.specs.declared.command.Mode.{Mode}
+use Rattle.command_words.specs.declared.command.Mode.TheVariants.{Spots, Ranges, Check, Audit, Streets, Results, Settle, Totals, Balance, Made}
 use Rattle.run_loop.specs.declared.block_kinds.SpotKind.TheVariants as held
 use Rattle.run_loop.specs.declared.block_kinds.Detail.TheVariants.{Verdict, AllIn, LaterStreets}
 use Rattle.run_loop.specs.declared.block_kinds.BlockKind.{BlockKind}
@@ -17,7 +17,7 @@ use Rattle.run_loop.specs.declared.reading.Ending.{Ending}
 use Rattle.run_loop.specs.declared.reading.Ending.TheVariants.{Whole, Failed, TooLong, Open}
 use Rattle.run_loop.specs.Closed.{closed}
 use Rattle.run_loop.specs.Reading.{Counted, EndsSo, Takes, reported}
-use Rattle.run_loop.specs.Command.{reads_input}
+use Rattle.command_words.specs.Command.{reads_input}
 use Rattle.run_loop.specs.Laws.{ClosedBlocksStay, has_blocks}
 use Rattle.run_loop.specs.Report.{blocks, blocks_in, report, rejects, rejects_in}
 use Rattle.run_loop.specs.Reporting.{WritesMade}

@@ -2,13 +2,13 @@
 use Rattle.std.proofs.Common.{◌≡◌, ◌∷◌, [], refl, sym, ap, subst}
 use Rattle.std.specs.Prelude.{count_by, not}
 use Rattle.std.specs.List.{filter_map}
-use Rattle.report_table.specs.Balance.{balance_block, balance_lines, balance_of}
-use Rattle.report_table.specs.Totals.{is_accepted, run_block, totals_block, totals_of}
+use Rattle.player_totals.specs.Balance.{balance_block, balance_lines, balance_of}
+use Rattle.player_totals.specs.Totals.{is_accepted, run_block, totals_block, totals_of}
 use Rattle.run_loop.specs.Histories.{chips_hand, verdict_of}
 use Rattle.run_loop.specs.UnitSums.{IsOneBlock}
-use Rattle.run_loop.specs.declared.command.Command.{Command}
-use Rattle.run_loop.specs.declared.command.Mode.{Mode}
-use Rattle.run_loop.specs.declared.command.Mode.TheVariants as mode
+use Rattle.command_words.specs.declared.command.Command.{Command}
+use Rattle.command_words.specs.declared.command.Mode.{Mode}
+use Rattle.command_words.specs.declared.command.Mode.TheVariants as mode
 use Rattle.run_loop.specs.Laws.{has_blocks}
 use Rattle.run_loop.specs.Reading.{reported}
 use Rattle.run_loop.specs.Report.{blocks_in, rejects_in}

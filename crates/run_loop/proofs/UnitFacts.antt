@@ -16,9 +16,9 @@ use Rattle.run_loop.specs.Report.{blocks_in, is_rejected_spot, line_block, rejec
 use Rattle.run_loop.specs.UnitBlocks.{before, is_rejected_unit, block_kind_in, listed_kind, place_after, place_behind, rejected_units, unit_block, unit_blocks}
 use Rattle.run_loop.specs.Units.{is_whole, unit_kind}
 use Rattle.run_loop.specs.Writing.{one_if}
-use Rattle.run_loop.specs.declared.command.Command.{Command}
-use Rattle.run_loop.specs.declared.command.Mode.{Mode}
-use Rattle.run_loop.specs.declared.command.Mode.TheVariants as mode
+use Rattle.command_words.specs.declared.command.Command.{Command}
+use Rattle.command_words.specs.declared.command.Mode.{Mode}
+use Rattle.command_words.specs.declared.command.Mode.TheVariants as mode
 use Rattle.run_loop.specs.declared.block_kinds.SpotKind.{SpotKind}
 use Rattle.run_loop.specs.declared.block_kinds.SpotKind.TheVariants.{Cards, Ranges}
 use Rattle.run_loop.specs.declared.block_kinds.Detail.{Detail}

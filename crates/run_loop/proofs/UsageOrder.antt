@@ -2,11 +2,11 @@
 use Rattle.std.proofs.Common.{◌≡◌, ℕ, List, [], ◌∷◌, ◌++◌, Option, Some, None, inl, inr, refl, sym, ap, subst, ◌∙◌, append_assoc, append-nil}
 use Rattle.std.specs.List.{concat}
 use Rattle.byte_ends.specs.Ends.{WritesOn}
-use Rattle.run_loop.specs.Command.{usage_line}
+use Rattle.command_words.specs.Command.{usage_line}
 use Rattle.run_loop.specs.Order.{Event, FollowsUsage, IsFront, IsInOrder, Went}
 use Rattle.run_loop.specs.Order.Event.{Writing}
 use Rattle.run_loop.specs.Reporting.{WritesUsage}
-use Rattle.run_loop.specs.declared.command.Command.{Command}
+use Rattle.command_words.specs.declared.command.Command.{Command}
 
 -- some events lead to where such a run ends, and are what is left to do
 abbrev pub SaysUsage : {S K : Type 0} → (S → S → Option (List ℕ) → Type 0) → (K → K → Option (List ℕ) → Type 0) → List ℕ → S → K → ℕ → S → K → Type 0

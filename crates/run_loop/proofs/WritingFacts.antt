@@ -6,7 +6,7 @@ use Rattle.run_loop.specs.Reading.{reported}
 use Rattle.run_loop.specs.Report.{blocks}
 use Rattle.run_loop.specs.UnitBlocks.{before, block_kind_in, listed_kind, place_after, unit_block, unit_blocks}
 use Rattle.run_loop.specs.Units.{is_whole}
-use Rattle.run_loop.specs.declared.command.Command.{Command}
+use Rattle.command_words.specs.declared.command.Command.{Command}
 use Rattle.run_loop.specs.declared.block_kinds.BlockKind.{BlockKind}
 use Rattle.run_loop.specs.declared.reading.Ending.{Ending}
 use Rattle.run_loop.proofs.UnitFacts.{blocks-append, blocks_by_units}

@@ -2,8 +2,8 @@
 use Rattle.std.specs.Prelude.{ℕ, List, []}
 use Rattle.hand_cuts.specs.ClosedBytes.{closed_hands}
 use Rattle.line_text.specs.Lines.{closed as closed_lines}
-use Rattle.run_loop.specs.declared.command.Mode.{Mode}
-use Rattle.run_loop.specs.declared.command.Mode.TheVariants.{Spots, Ranges, Check, Audit, Streets, Results, Settle, Totals, Balance, Made}
+use Rattle.command_words.specs.declared.command.Mode.{Mode}
+use Rattle.command_words.specs.declared.command.Mode.TheVariants.{Spots, Ranges, Check, Audit, Streets, Results, Settle, Totals, Balance, Made}
 
 -- a spot is closed where its newline stands in the bytes, and a hand where a later header line stands in them with its newline;
 -- of input that isn't read nothing is

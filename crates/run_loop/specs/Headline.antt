@@ -4,8 +4,8 @@ use Rattle.std.specs.Prelude.{◌≡◌, ℕ, ◌<◌, ◌≤◌, ◌==◌, true
 use Rattle.std.specs.List.{concat}
 use Rattle.byte_ends.specs.Ends.{Rises, WritesAll, WritesFront}
 use Rattle.run_loop.specs.Closed.{closed}
-use Rattle.run_loop.specs.Command.{makes, reads, reads_input, usage_line}
-use Rattle.run_loop.specs.declared.command.Command.{Command}
+use Rattle.command_words.specs.Command.{makes, reads, reads_input, usage_line}
+use Rattle.command_words.specs.declared.command.Command.{Command}
 use Rattle.run_loop.specs.Reading.{Counted, EndsSo, ReadWhole, ReadToFault, ReadTooMuch, reported}
 use Rattle.run_loop.specs.declared.reading.Ending.{Ending}
 use Rattle.run_loop.specs.declared.reading.Ending.TheVariants.{Whole, Failed, TooLong, Open}

@@ -11,10 +11,10 @@ use Rattle.hand_verdict.specs.declared.streets.StreetState.{StreetState}
 use Rattle.hand_audit.specs.Verdict.{audit_of}
 use Rattle.hand_verdict.specs.declared.verdicts.HandAudit.{HandAudit}
 use Rattle.hand_verdict.specs.declared.verdicts.HandAudit.TheVariants.{Rejected, Accepted}
-use Rattle.report_table.specs.HandEquities.{hand_block as audit_block}
-use Rattle.report_table.specs.Results.{results_block}
-use Rattle.report_table.specs.Settles.{settle_block}
-use Rattle.report_table.specs.Streets.{street_blocks}
+use Rattle.hand_blocks.specs.HandEquities.{hand_block as audit_block}
+use Rattle.hand_blocks.specs.Results.{results_block}
+use Rattle.hand_blocks.specs.Settles.{settle_block}
+use Rattle.hand_blocks.specs.Streets.{street_blocks}
 use Rattle.report_sheet.specs.declared.form.Form.{Form}
 use Rattle.run_loop.specs.declared.block_kinds.Detail.{Detail}
 use Rattle.run_loop.specs.declared.block_kinds.Detail.TheVariants.{Verdict, AllIn, LaterStreets}

@@ -2,9 +2,9 @@
 use Rattle.std.specs.Prelude.{◌≡◌, ℕ, Bool, true, false, List, ◌++◌}
 use Rattle.run_loop.specs.Closed.{closed}
 use Rattle.run_loop.specs.Report.{report}
-use Rattle.run_loop.specs.declared.command.Command.{Command}
-use Rattle.run_loop.specs.declared.command.Mode.{Mode}
-use Rattle.run_loop.specs.declared.command.Mode.TheVariants.{Audit, Streets, Check, Results, Settle, Spots, Ranges, Totals, Balance, Made}
+use Rattle.command_words.specs.declared.command.Command.{Command}
+use Rattle.command_words.specs.declared.command.Mode.{Mode}
+use Rattle.command_words.specs.declared.command.Mode.TheVariants.{Audit, Streets, Check, Results, Settle, Spots, Ranges, Totals, Balance, Made}
 
 -- whether each spot or hand has a block of its own; totals and the balance have one block for all
 abbrev pub has_blocks : Mode → Bool

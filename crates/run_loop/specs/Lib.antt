@@ -11,19 +11,19 @@ pub use Rattle.hand_audit.specs.SplitHands
 pub use Rattle.hand_audit.specs.Streets
 pub use Rattle.spot_text.specs.Words
 pub use Rattle.spot_text.specs.Spot
-pub use Rattle.report_table.specs.Spots
-pub use Rattle.report_table.specs.Hands
-pub use Rattle.report_table.specs.HandEquities
-pub use Rattle.report_table.specs.Results
-pub use Rattle.report_table.specs.Settles
-pub use Rattle.report_table.specs.Streets as StreetLines
-pub use Rattle.report_table.specs.Totals
-pub use Rattle.report_table.specs.Balance
-pub use Rattle.report_table.specs.Made
+pub use Rattle.hand_blocks.specs.Spots
+pub use Rattle.hand_blocks.specs.Hands
+pub use Rattle.hand_blocks.specs.HandEquities
+pub use Rattle.hand_blocks.specs.Results
+pub use Rattle.hand_blocks.specs.Settles
+pub use Rattle.hand_blocks.specs.Streets as StreetLines
+pub use Rattle.player_totals.specs.Totals
+pub use Rattle.player_totals.specs.Balance
+pub use Rattle.player_totals.specs.Made
 pub use Rattle.made_hands.specs.Made as MadeText
 pub use Rattle.line_text.specs.Amounts
-pub mod Command
-pub mod CommandLine
+pub use Rattle.command_words.specs.Command
+pub use Rattle.command_words.specs.CommandLine
 pub mod Closed
 pub mod Histories
 pub mod RangeLines

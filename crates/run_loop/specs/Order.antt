@@ -1,13 +1,13 @@
 -- The order in which a run reads and writes: what is due is written before anything is read.
 use Rattle.std.specs.Prelude.{◌≡◌, ℕ, ◌<◌, ◌≤◌, if◌then◌else◌, List, [], ◌∷◌, ◌++◌, length, take, Option, Some, None, ◌⊎◌}
 use Rattle.std.specs.List.{concat}
-use Rattle.run_loop.specs.Command.{reads_input, usage_line}
+use Rattle.command_words.specs.Command.{reads_input, usage_line}
 use Rattle.run_loop.specs.Headline.{written_status}
 use Rattle.run_loop.specs.Laws.{has_blocks}
 use Rattle.run_loop.specs.Reading.{piece, reported}
 use Rattle.run_loop.specs.Report.{blocks, report, rejects}
-use Rattle.run_loop.specs.declared.command.Command.{Command}
-use Rattle.run_loop.specs.declared.command.Mode.{Mode}
+use Rattle.command_words.specs.declared.command.Command.{Command}
+use Rattle.command_words.specs.declared.command.Mode.{Mode}
 use Rattle.run_loop.specs.declared.reading.Ending.{Ending}
 use Rattle.run_loop.specs.declared.reading.Ending.TheVariants.{Whole, Failed, TooLong, Open}
 

@@ -2,7 +2,7 @@
 use Rattle.std.specs.Prelude.{◌≡◌, ℕ, ◌+◌, ◌<◌, ◌≤◌, List, [], ◌++◌, length, take, Option, Some, None}
 use Rattle.byte_ends.specs.Ends.{Rises}
 use Rattle.run_loop.specs.Closed.{closed}
-use Rattle.run_loop.specs.declared.command.Mode.{Mode}
+use Rattle.command_words.specs.declared.command.Mode.{Mode}
 use Rattle.run_loop.specs.declared.reading.Ending.{Ending}
 use Rattle.run_loop.specs.declared.reading.Ending.TheVariants.{Whole, Failed, TooLong, Open}
 

@@ -9,16 +9,16 @@ use Rattle.range_lines.specs.Blocks.{ranges_block}
 use Rattle.range_lines.specs.RangeSpot.{ranges_of}
 use Rattle.line_text.specs.Lines.{lines}
 use Rattle.made_hands.specs.Made.{made_text}
-use Rattle.report_table.specs.Balance.{balance_block}
-use Rattle.report_table.specs.Made.{made_block}
-use Rattle.report_table.specs.Spots.{spot_block}
-use Rattle.report_table.specs.Totals.{is_accepted, totals_block}
+use Rattle.player_totals.specs.Balance.{balance_block}
+use Rattle.player_totals.specs.Made.{made_block}
+use Rattle.hand_blocks.specs.Spots.{spot_block}
+use Rattle.player_totals.specs.Totals.{is_accepted, totals_block}
 use Rattle.report_sheet.specs.declared.form.Form.{Form}
 use Rattle.run_loop.specs.Histories.{chips_hand, hand_block, hand_results, hand_settlement, is_rejected_hand, verdict_of}
 use Rattle.run_loop.specs.RangeLines.{is_rejected_range}
-use Rattle.run_loop.specs.declared.command.Command.{Command}
-use Rattle.run_loop.specs.declared.command.Mode.{Mode}
-use Rattle.run_loop.specs.declared.command.Mode.TheVariants.{Spots, Ranges, Check, Audit, Streets, Results, Settle, Totals, Balance, Made}
+use Rattle.command_words.specs.declared.command.Command.{Command}
+use Rattle.command_words.specs.declared.command.Mode.{Mode}
+use Rattle.command_words.specs.declared.command.Mode.TheVariants.{Spots, Ranges, Check, Audit, Streets, Results, Settle, Totals, Balance, Made}
 use Rattle.run_loop.specs.declared.block_kinds.SpotKind.{SpotKind}
 use Rattle.run_loop.specs.declared.block_kinds.SpotKind.TheVariants as held
 use Rattle.run_loop.specs.declared.block_kinds.Detail.{Detail}

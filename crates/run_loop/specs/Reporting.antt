@@ -2,7 +2,7 @@
 use Rattle.std.specs.Prelude.{◌≡◌, ℕ, List, Option, Result, Ok, Err, ◌⊎◌}
 use Rattle.byte_ends.specs.Ends.{WritesOut}
 use Rattle.byte_ends.specs.declared.Failed.{Failed as Fault}
-use Rattle.run_loop.specs.Command.{usage_line}
+use Rattle.command_words.specs.Command.{usage_line}
 use Rattle.run_loop.specs.Headline.{written_status}
 use Rattle.run_loop.specs.declared.reading.Ending.{Ending}
 use Rattle.run_loop.specs.declared.write_fault.WriteFault.{WriteFault}

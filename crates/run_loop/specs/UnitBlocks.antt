@@ -6,9 +6,9 @@ use Rattle.hand_cuts.specs.declared.units.CutKind.TheVariants as cut
 use Rattle.report_sheet.specs.declared.form.Form.{Form}
 use Rattle.run_loop.specs.Histories.{hand_block, hand_results, hand_settlement, is_rejected_hand}
 use Rattle.run_loop.specs.Report.{is_rejected_spot, line_block}
-use Rattle.run_loop.specs.declared.command.Mode.{Mode}
-use Rattle.run_loop.specs.declared.command.Mode.TheVariants.{Check, Audit, Streets, Totals, Balance, Made}
-use Rattle.run_loop.specs.declared.command.Mode.TheVariants as mode
+use Rattle.command_words.specs.declared.command.Mode.{Mode}
+use Rattle.command_words.specs.declared.command.Mode.TheVariants.{Check, Audit, Streets, Totals, Balance, Made}
+use Rattle.command_words.specs.declared.command.Mode.TheVariants as mode
 use Rattle.run_loop.specs.declared.block_kinds.SpotKind.{SpotKind}
 use Rattle.run_loop.specs.declared.block_kinds.SpotKind.TheVariants.{Cards, Ranges}
 use Rattle.run_loop.specs.declared.block_kinds.Detail.TheVariants.{Verdict, AllIn, LaterStreets}

@@ -11,7 +11,7 @@ use Rattle.run_loop.specs.Laws.{has_blocks}
 use Rattle.run_loop.specs.Reading.{reported}
 use Rattle.run_loop.specs.Report.{blocks_in, rejects_in}
 use Rattle.run_loop.specs.Units.{is_whole}
-use Rattle.run_loop.specs.declared.command.Command.{Command}
+use Rattle.command_words.specs.declared.command.Command.{Command}
 use Rattle.run_loop.specs.declared.reading.Ending.{Ending}
 use Rattle.run_loop.specs.declared.reading.Ending.TheVariants.{Open}
 

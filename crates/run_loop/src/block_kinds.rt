@@ -3,7 +3,7 @@
 ghost use Rattle.std.specs.Prelude.{◌≡◌};
 ghost use Rattle.run_loop.specs.UnitBlocks.{block_kind_in};
 
-use crate::command::Mode;
+use command_words::Mode;
 
 /// How much is told of a hand.
 #[derive(Clone, Copy)]

@@ -5,16 +5,16 @@ ghost use Rattle.card_sets.specs.State.{state_of};
 ghost use Rattle.range_lines.specs.Counted.{IsCountOf};
 ghost use Rattle.range_lines.specs.Sound.{IsSound};
 ghost use Rattle.range_lines.specs.RangeSpot.{ranges_in};
-ghost use Rattle.report_table.specs.Equities.{IsEquityOf, IsOfAllIn, IsOfHand, is_asked};
-ghost use Rattle.report_table.specs.Streets.{IsCountedStreet, IsOfStreet};
+ghost use Rattle.even_luck.specs.Equities.{IsEquityOf, IsOfAllIn, IsOfHand, is_asked};
+ghost use Rattle.hand_blocks.specs.Streets.{IsCountedStreet, IsOfStreet};
 ghost use Rattle.showdown_tally.specs.Deals.{deal_of};
 ghost use Rattle.showdown_tally.specs.Tallies.{Counts, runouts_after};
 
 use card_sets::Memory;
+use even_luck::Equity;
 use hand_audit::{AllIn, HandAudit, StreetState};
 use job_blocks::Job;
 use range_lines::{RangeJobFault, RangeSpot, RangeTally};
-use report_table::Equity;
 use showdown_tally::{Table, Tally};
 
 /// Counts jobs, and spots with ranges.

@@ -3,8 +3,8 @@
 ghost use Rattle.std.specs.Prelude.{◌≡◌, ◌<◌, ◌≤◌, ◌+◌, ◌^◌, [], ◌++◌, All, IfOk, OnOk, IsTrue, Some, true, length, drop, slice_range};
 ghost use Rattle.std.specs.List.{flat_map};
 ghost use Rattle.hand_audit.specs.Verdict.{audit_of};
-ghost use Rattle.report_table.specs.Equities.{IsOfHand, is_asked};
-ghost use Rattle.report_table.specs.Streets.{IsCountedStreet, has_counted, street_block, street_blocks};
+ghost use Rattle.even_luck.specs.Equities.{IsOfHand, is_asked};
+ghost use Rattle.hand_blocks.specs.Streets.{IsCountedStreet, has_counted, street_block, street_blocks};
 ghost use Rattle.hand_audit.specs.Departs.{begins_hand};
 ghost use Rattle.line_text.specs.Lines.{lines};
 ghost use Rattle.hand_cuts.specs.Units.{UnitLines};
@@ -19,9 +19,10 @@ use hand_audit::{
     AuditedStreets, HandAudit, StreetState, audit_hand, audit_with_chips, audit_with_shares,
     audit_with_streets,
 };
+use hand_blocks::{has_counted, write_hand, write_results, write_settlement, write_street};
 use history_text::hand_number;
 use line_text::next_line;
-use report_table::{Form, has_counted, write_hand, write_results, write_settlement, write_street};
+use report_sheet::Form;
 use std::alloc::Global;
 
 /// The part of a line between two places.

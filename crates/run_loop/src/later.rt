@@ -4,8 +4,8 @@ ghost use Rattle.std.specs.Prelude.{◌≡◌, ℕ, List, All, Some, true};
 ghost use Rattle.hand_audit.specs.LaterCards.{KnowsNoLessThan};
 ghost use Rattle.hand_audit.specs.Streets.{streets_of, table_in};
 ghost use Rattle.hand_audit.specs.Verdict.{audit_of};
-ghost use Rattle.report_table.specs.Streets.{IsCountedStreet, has_counted};
-ghost use Rattle.report_table.specs.Totals.{is_counted};
+ghost use Rattle.hand_blocks.specs.Streets.{IsCountedStreet, has_counted};
+ghost use Rattle.even_luck.specs.Figures.{is_counted};
 ghost use Rattle.showdown_tally.specs.Deals.{deal_of};
 ghost use Rattle.showdown_tally.specs.declared.table.Table.{Table};
 

@@ -1,9 +1,9 @@
-//! The run of the program, over whoever counts: the words of the command, the reading of the input, the report, the status.
+//! The run of the program, over whoever counts: the reading of the input, the report, the status.
 //!
 //! `run_with` is all that a run does, and its clause `IsRun` is what is proved of it as a whole. It asks a `Counter` for each count and
 //! knows none: `run_engine` has those of the program.
 //!
-//! 1. *Words* (`words`, `command`). `read_words` has `clap` read them, and makes a `Command` of them, or none.
+//! 1. *Words* (`runs`). `read_words` of `command_words` makes a `Command` of them, or none; its items are passed on here.
 //! 2. *Reading* (`reading`). Pieces of 16 kB are given to a `Cutter` until a hand, or a line of spots, is closed. What was handed out is
 //!    forgotten. More than `INPUT_MAX` bytes are too long.
 //! 3. *Blocks* (`report`, `gathering`, `hands`, `spots`). Each hand or spot has a block, which is made whole in memory and then written.
@@ -13,13 +13,12 @@
 //! 5. *Who counts* (`counter`). An `EquityCounter` has a `Counter`, and the last equity that was asked for.
 //! 6. *Status* (`runs`). Which end failed is told by its count of faults, and each status has its clause.
 //!
-//! It owns no poker and no figure: what is written is defined in `report_table`, what a hand is by `hand_audit`. It opens no
-//! file, since the ends are lent to it, and starts no thread.
+//! It owns no poker and no figure: what is written is defined in `hand_blocks` and `player_totals`, what a hand is by
+//! `hand_audit`. It opens no file, since the ends are lent to it, and starts no thread.
 #![tactic(auto)]
 
 mod block_kinds;
 mod closing;
-mod command;
 mod counter;
 mod gathering;
 mod hands;
@@ -33,13 +32,11 @@ mod spots;
 mod sums;
 mod text_source;
 mod totals;
-mod words;
 mod write_fault;
 
 pub use closing::law_closed_blocks_stay;
-pub use command::{Command, Mode};
+pub use command_words::{Command, Mode, WordFault, read_words};
 pub use counter::{Counter, EquityCounter};
 pub use hand_cuts::INPUT_MAX;
 pub use later::law_later_streets_are_counted;
 pub use runs::run_with;
-pub use words::{WordFault, read_words};

@@ -4,15 +4,15 @@ ghost use Rattle.std.specs.Prelude.{◌≤◌, []};
 ghost use Rattle.std.specs.List.{concat};
 ghost use Rattle.run_loop.specs.Report.{blocks_in, rejects_in};
 ghost use Rattle.run_loop.specs.Reporting.{WritesMade};
-ghost use Rattle.run_loop.specs.declared.command.Mode.TheVariants.{Made};
+ghost use Rattle.command_words.specs.declared.command.Mode.TheVariants.{Made};
 
-use crate::command::Command;
 use crate::counter::{Counter, EquityCounter};
 use crate::sums::add_hands;
 use crate::write_fault::WriteFault;
 use byte_ends::{Sink, write_all};
+use command_words::Command;
 use made_hands::{law_made_text_is_short, made_input};
-use report_table::MadeSums;
+use player_totals::MadeSums;
 use std::alloc::Global;
 
 /// Makes the hands that a command asks for, audits them, and writes what they come to as one block. Answers

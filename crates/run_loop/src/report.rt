@@ -4,7 +4,7 @@ ghost use Rattle.std.specs.Prelude.{◌≡◌, ◌<◌, ◌≤◌, ◌+◌, ◌^
 ghost use Rattle.hand_audit.specs.Departs.{begins_hand};
 ghost use Rattle.hand_cuts.specs.declared.units.CutKind.TheVariants.{Hands};
 ghost use Rattle.line_text.specs.Lines.{lines};
-ghost use Rattle.run_loop.specs.Command.{reads_input};
+ghost use Rattle.command_words.specs.Command.{reads_input};
 ghost use Rattle.run_loop.specs.Order.{GoesOn};
 ghost use Rattle.run_loop.specs.Reporting.{told_status};
 ghost use Rattle.run_loop.specs.UnitBlocks.{MakesBlock, block_kind_in, listed_kind};
@@ -12,7 +12,6 @@ ghost use Rattle.run_loop.specs.Units.{started, unit_kind};
 ghost use Rattle.run_loop.specs.declared.reading.Ending.TheVariants.{Open};
 
 use crate::block_kinds::{BlockKind, UnitPosition, block_kind_in};
-use crate::command::{Command, Mode};
 use crate::counter::{Counter, EquityCounter};
 use crate::gathering::{gather, may_wait, next_written, write_rest};
 use crate::hands::{write_lines, write_result_lines, write_settlement_lines};
@@ -22,8 +21,10 @@ use crate::totals::write_sums;
 use crate::write_fault::WriteFault;
 use byte_ends::{Sink, Source};
 use card_sets::Memory;
+use command_words::{Command, Mode};
 use hand_cuts::INPUT_MAX;
-use report_table::{Balance, Form, Totals};
+use player_totals::{Balance, Totals};
+use report_sheet::Form;
 use std::alloc::Global;
 
 /// Appends the block of a hand or a line, and answers whether the hand or the spot is rejected; none where

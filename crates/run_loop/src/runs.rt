@@ -1,7 +1,7 @@
 //! The top call.
 
 ghost use Rattle.std.specs.Prelude.{◌≡◌, ◌≤◌, [], ℕ, Result, Some, false, true, map, string_bytes};
-ghost use Rattle.run_loop.specs.Command.{command, reads_input};
+ghost use Rattle.command_words.specs.Command.{command, reads_input};
 ghost use Rattle.run_loop.specs.Headline.{IsRun, written_status};
 ghost use Rattle.run_loop.specs.Order.{IsInOrder};
 ghost use Rattle.run_loop.specs.Report.{report, rejects};
@@ -9,14 +9,13 @@ ghost use Rattle.run_loop.specs.Reporting.{WritesMade, WritesUsage, told_status}
 ghost use Rattle.run_loop.specs.Units.{unit_kind};
 ghost use Rattle.run_loop.specs.declared.reading.Ending.TheVariants.{Whole};
 
-use crate::command::{Command, Mode};
 use crate::counter::{Counter, EquityCounter};
 use crate::made::write_made;
 use crate::reading::{Ending, Input};
 use crate::report::write_report;
-use crate::words::{WordFault, read_words};
 use crate::write_fault::WriteFault;
 use byte_ends::{Sink, Source, write_all};
+use command_words::{Command, Mode, WordFault, read_words};
 use hand_cuts::{CutKind, INPUT_MAX};
 use std::alloc::Global;
 

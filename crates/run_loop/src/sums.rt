@@ -5,9 +5,9 @@ ghost use Rattle.std.specs.List.{filter_map};
 ghost use Rattle.hand_audit.specs.Departs.{begins_hand};
 ghost use Rattle.hand_cuts.specs.Units.{UnitLines, hands_from};
 ghost use Rattle.line_text.specs.Lines.{lines};
-ghost use Rattle.report_table.specs.Balance.{balance_lines, balance_of};
-ghost use Rattle.report_table.specs.Made.{made_sums};
-ghost use Rattle.report_table.specs.Totals.{run_block, totals_of};
+ghost use Rattle.player_totals.specs.Balance.{balance_lines, balance_of};
+ghost use Rattle.player_totals.specs.Made.{made_sums};
+ghost use Rattle.player_totals.specs.Totals.{run_block, totals_of};
 ghost use Rattle.report_sheet.specs.declared.form.Form.{Form as FormOf};
 ghost use Rattle.run_loop.specs.Histories.{chips_hand, verdict_of};
 ghost use Rattle.hand_cuts.specs.declared.units.CutKind.TheVariants.{Hands as HandUnits};
@@ -21,7 +21,8 @@ use byte_ends::Source;
 use card_sets::Memory;
 use hand_audit::{audit_hand, audit_with_chips};
 use hand_cuts::{CutKind, INPUT_MAX};
-use report_table::{Balance, Form, MadeSums, Totals};
+use player_totals::{Balance, MadeSums, Totals};
+use report_sheet::Form;
 use std::alloc::Global;
 
 /// Sums over some hands, to which one hand after the other is added.

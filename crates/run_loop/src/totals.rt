@@ -8,13 +8,13 @@ ghost use Rattle.run_loop.specs.declared.reading.Ending.TheVariants.{Open};
 ghost use Rattle.run_loop.specs.UnitSums.{IsOneBlock};
 ghost use Rattle.run_loop.specs.Units.{started};
 
-use crate::command::Command;
 use crate::counter::{Counter, EquityCounter};
 use crate::reading::Input;
 use crate::sums::{BlockSums, add_units};
 use crate::write_fault::WriteFault;
 use byte_ends::{Sink, Source, write_all};
 use card_sets::Memory;
+use command_words::Command;
 use hand_cuts::INPUT_MAX;
 use std::alloc::Global;
 

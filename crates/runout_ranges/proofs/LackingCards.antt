@@ -42,10 +42,6 @@ one_slot receiver (suc n) = omega arith
 minus_where : (p : ℕ → Bool) (b : List ℕ) → minus (cards_where p) b ≡ cards_where (λ k. p k && not (has_card b k))
 minus_where p b = cards_where_same _ _ (λ k h. ap (λ t. t && not (has_card b k)) (has-cards_where p k h))
 
--- the cards in no set of a list, and on neither of two others
-in_none : List ℕ → List ℕ → List (List ℕ) → ℕ → Bool
-in_none board dead hands c = not (has_card board c) && not (has_card dead c) && not (list_any (λ hand. has_card hand c) hands)
-
 pub none_dealt : (board dead all left left' : List ℕ) → all ≡ deck → left ≡ minus all board → left' ≡ minus left dead
     → left' ≡ cards_where (λ c. not (has_card board c) && not (has_card dead c) && not (list_any (λ hand. has_card hand c) []))
 none_dealt board dead all left left' a b c =

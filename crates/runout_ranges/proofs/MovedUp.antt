@@ -9,10 +9,6 @@ use Rattle.runout_ranges.specs.Ways.{Within}
 use Rattle.runout_ranges.proofs.NextChoice.{follows_up, ends_top}
 use Rattle.runout_ranges.proofs.CardLists.{has_card-append, rising_front_part, rising_back_part, union_joined, rising_moved, rising_take, last_split, without_last, split_at, above_split, above_last}
 
-false_or : (a b : Bool) → a ≡ false → (a || b) ≡ true → b ≡ true
-false_or true b e h = cc
-false_or false b e h = h
-
 or_false_true : (a b : Bool) → b ≡ false → (a || b) ≡ true → a ≡ true
 or_false_true true b e h = refl
 or_false_true false b e h = cc

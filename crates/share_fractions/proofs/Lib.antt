@@ -1,2 +1,1 @@
 pub mod TextPieces
-pub mod TextLaws

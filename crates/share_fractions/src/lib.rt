@@ -9,9 +9,8 @@
 //! The crate has no floating point, takes no memory, and knows nothing of cards or money.
 #![tactic(auto)]
 
-ghost use Rattle.std.specs.Prelude.{◌≡◌, ℕ, ◌+◌, ◌*◌, ◌/◌, ◌%◌, ◌<◌, ◌≤◌, ◌^◌, ◌++◌, length, take, drop};
+ghost use Rattle.std.specs.Prelude.{◌≡◌, ◌+◌, ◌*◌, ◌/◌, ◌%◌, ◌<◌, ◌≤◌, ◌^◌, ◌++◌, length, take, drop};
 ghost use Rattle.std.specs.Fmt.{decimal};
-ghost use Rattle.std.specs.Str.Parse.{digits_value};
 ghost use Rattle.share_fractions.specs.Round.{round, fixed_text, digit_at, last_digits};
 
 mod put;
@@ -92,24 +91,6 @@ pub fn rounded(numerator: u128, denominator: u128, places: u32) -> Fixed
         places,
     }
 }
-
-/// The rounded number is the nearest, and of two as near the greater:
-/// it is at most the fraction and a half unit, and one unit more would be above that.
-pub fn law_rounds_to_the_nearest_half_up()
-    ensures not_above { (a b places : ℕ) → 0 < b →
-        2 * b * round a b places ≤ 2 * a * 10 ^ places + b }
-    ensures not_below { (a b places : ℕ) → 0 < b →
-        2 * a * 10 ^ places + b < 2 * b * (round a b places + 1) }
-{}
-
-/// The digits before the point and the places after it, put together, are the number,
-/// and the places are as many as are asked for.
-pub fn law_the_text_says_the_number()
-    ensures places { (n places : ℕ) → length (last_digits places n) ≡ places }
-    ensures number { (n places : ℕ) → n < 2 ^ 128 →
-        digits_value 10 (decimal (n / 10 ^ places)) * 10 ^ places
-        + digits_value 10 (last_digits places n) ≡ n }
-{}
 
 /// The glyph of one digit. The last digit has the place 0.
 fn digit(whole: u128, place: u32) -> u8

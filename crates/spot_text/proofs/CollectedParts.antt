@@ -11,8 +11,7 @@ use Rattle.spot_text.specs.declared.faults.SpotFault.TheVariants.{BadCard, HandS
 use Rattle.spot_text.specs.declared.walk.Collected.{Collected}
 use Rattle.spot_text.specs.Parts.{hand_words, board_words, dead_words, all_cards, in_form, cards_of, set_of}
 use Rattle.spot_text.specs.Games.{hand_fits, board_fits}
-use Rattle.spot_text.specs.Spot.{hands_fit, players_fit, repeated_after, state_of_words, is_short, unless_short, spot_of_sizes, unless_repeated, spot_behind}
-use Rattle.spot_text.specs.Written.{all_differ}
+use Rattle.spot_text.specs.Spot.{all_differ, hands_fit, players_fit, repeated_after, state_of_words, is_short, unless_short, spot_of_sizes, unless_repeated, spot_behind}
 use Rattle.spot_text.specs.Collected.{IsCollected}
 use Rattle.spot_text.proofs.SetSizes.{length-set_whole, cards_named}
 use Rattle.spot_text.proofs.RepeatedCard.{none_repeated}

@@ -3,7 +3,7 @@ use Rattle.std.proofs.Common.{◌≡◌, ℕ, zero, suc, ◌+◌, ◌<◌, ◌�
 use Rattle.std.specs.Prelude.{Option, is_none, nat_le, codes}
 use Rattle.std.specs.List.{list_all, onto_first, before_first, after_first, cons_option}
 use Rattle.std.proofs.lemmas.List.Folds.{list_any-append}
-use Rattle.std.proofs.lemmas.Bool.{cases_lt, and_from}
+use Rattle.std.proofs.lemmas.Bool.{cases_lt, and_from, not-true}
 use Rattle.std.specs.Str.{bytes_eq}
 use Rattle.std.proofs.lemmas.Slice.Eq.{bytes_eq-Decides}
 use mathlib.Core.Bool.{true≢false}
@@ -17,8 +17,7 @@ use Rattle.card_sets.specs.Games.{all_fit, own_size, board_size}
 use Rattle.card_sets.specs.State.{State}
 use Rattle.spot_text.specs.Parts.{is_slash, is_dashes, is_dash, hand_words, board_words, dead_words, cards_of, set_of}
 use Rattle.spot_text.specs.Games.{least_own, hand_fits, board_fits}
-use Rattle.spot_text.specs.Spot.{hands_fit, repeated_after, state_of_words}
-use Rattle.spot_text.specs.Written.{all_differ}
+use Rattle.spot_text.specs.Spot.{all_differ, hands_fit, repeated_after, state_of_words}
 use Rattle.card_sets.proofs.CallerLemmas.{and_first, and_second, or_first, or_second, or_either, false_unless, has_past, NoneIn, apart-NoneIn}
 use Rattle.spot_text.proofs.PartsByWord.{before_yes, before_no, after_yes, after_no, slash_first, dashes_first, hand_first, none_first}
 use Rattle.spot_text.proofs.CardsByWord.{set_of-nil}
@@ -84,15 +83,11 @@ sets_apart : (xs ys : List ℕ) → NoneIn xs ys → NoneIn (set_of xs) (set_of 
 sets_apart xs ys h = λ k held. false_unless (has_card (set_of ys) k) (λ now. sym (h k (set_has xs k held)) ∙ set_has ys k now)
 
 -- cards that differ, in two lists
-not_out : (v : Bool) → not v ≡ true → v ≡ false
-not_out true h = absurd (true≢false (sym h))
-not_out false h = refl
-
 pub differ_append : (xs ys : List ℕ) → all_differ (xs ++ ys) ≡ true → (all_differ xs ≡ true) × (all_differ ys ≡ true) × NoneIn xs ys
 differ_append [] ys h = (refl, h, λ k held. absurd (true≢false (sym held)))
 differ_append (x ∷ xs) ys h =
     let rest = differ_append xs ys (and_second (not (has_card (xs ++ ys) x)) (all_differ (xs ++ ys)) h) in
-    let out : has_card (xs ++ ys) x ≡ false = not_out (has_card (xs ++ ys) x) (and_first (not (has_card (xs ++ ys) x)) (all_differ (xs ++ ys)) h) in
+    let out : has_card (xs ++ ys) x ≡ false = not-true (has_card (xs ++ ys) x) (and_first (not (has_card (xs ++ ys) x)) (all_differ (xs ++ ys)) h) in
     let both : (has_card xs x || has_card ys x) ≡ false = sym (list_any-append (λ c. c == x) xs ys) ∙ out in
     let first : has_card xs x ≡ false = or_first (has_card xs x) (has_card ys x) both in
     let second : has_card ys x ≡ false = or_second (has_card xs x) (has_card ys x) both in (

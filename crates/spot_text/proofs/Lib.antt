@@ -10,6 +10,4 @@ pub mod SeenCards
 pub mod CollectedParts
 pub mod FrontsByWord
 pub mod HandsByPart
-pub mod WrittenWords
-pub mod WrittenSpots
 pub mod CallerLemmas

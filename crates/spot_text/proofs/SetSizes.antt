@@ -2,14 +2,13 @@
 use Rattle.std.proofs.Common.{◌≡◌, ℕ, zero, suc, ◌+◌, ◌*◌, ◌<◌, ◌≤◌, Bool, true, false, cond, not, ◌||◌, ◌==◌, List, [], ◌∷◌, length, refl, sym, ap, ◌∙◌, inl, inr, Some, None, length-append, arith}
 use Rattle.std.specs.Prelude.{Option, is_some, nat_lt, position, option_and_then}
 use Rattle.std.specs.List.{cons_option, position_or_len}
-use Rattle.std.proofs.lemmas.Bool.{cases_eq, ltb-true}
+use Rattle.std.proofs.lemmas.Bool.{cases_eq, ltb-true, not-true}
 use mathlib.Core.Bool.{true≢false}
 use Rattle.card_sets.specs.Cards.{cards_where, cards_below, has_card}
 use Rattle.card_sets.specs.CardText.{rank_letters, suit_letters, card_of_letters, card_of_text}
 use Rattle.card_sets.proofs.CallerLemmas.{and_first, and_second}
 use Rattle.spot_text.specs.Parts.{all_cards, cards_of, set_of}
-use Rattle.spot_text.specs.Written.{all_differ, all_in_deck}
-use Rattle.spot_text.proofs.WrittenWords.{not_out}
+use Rattle.spot_text.specs.Spot.{all_differ, all_in_deck}
 
 -- a set has no more cards than it is made of
 below_same : (p : ℕ → Bool) (c n : ℕ) → n ≤ c → cards_below (λ k. (c == k) || p k) n ≡ cards_below p n
@@ -87,7 +86,7 @@ pub length-set_whole : (cards : List ℕ) → all_differ cards ≡ true → all_
 unfolding cards_where
 length-set_whole [] differ inside = refl
 length-set_whole (c ∷ cards) differ inside =
-    let out : has_card cards c ≡ false = not_out (has_card cards c) (and_first (not (has_card cards c)) (all_differ cards) differ) in
+    let out : has_card cards c ≡ false = not-true (has_card cards c) (and_first (not (has_card cards c)) (all_differ cards) differ) in
     let low : c < 52 = ltb-true c 52 (and_first (nat_lt c 52) (all_in_deck cards) inside) in
     let rest = length-set_whole cards (and_second (not (has_card cards c)) (all_differ cards) differ) (and_second (nat_lt c 52) (all_in_deck cards) inside) in
     omega (arith, below_one_more (has_card cards) c 52 out low, rest)

@@ -2,7 +2,6 @@ pub mod Words
 pub mod Parts
 pub mod Games
 pub mod Spot
-pub mod Written
 pub mod Sections
 pub mod Fronts
 pub mod Collected

@@ -1,5 +1,5 @@
 -- What a spot line says.
-use Rattle.std.specs.Prelude.{ℕ, Bool, ◌&&◌, if◌then◌else◌, List, [], ◌∷◌, ◌++◌, length, map, nat_le, nat_lt, Option, Some, None, Result, Ok, Err}
+use Rattle.std.specs.Prelude.{ℕ, Bool, true, ◌&&◌, not, if◌then◌else◌, List, [], ◌∷◌, ◌++◌, length, map, nat_le, nat_lt, Option, Some, None, Result, Ok, Err}
 use Rattle.std.specs.List.{list_all, sum}
 use Rattle.card_sets.specs.declared.games.Game.{Game}
 use Rattle.card_sets.specs.Cards.{has_card}
@@ -16,6 +16,15 @@ abbrev pub repeated_after : List ℕ → List ℕ → Option ℕ
 repeated_after before [] = None
 repeated_after before (card ∷ cards) =
     if has_card before card then Some card else repeated_after (before ++ card ∷ []) cards
+
+-- no card stands twice
+abbrev pub all_differ : List ℕ → Bool
+all_differ [] = true
+all_differ (card ∷ cards) = not (has_card cards card) && all_differ cards
+
+-- cards of the deck
+abbrev pub all_in_deck : List ℕ → Bool
+all_in_deck cards = list_all (λ card. nat_lt card 52) cards
 
 -- each hand has as many cards as the game allows
 abbrev pub hands_fit : Game → List (List (List ℕ)) → Bool

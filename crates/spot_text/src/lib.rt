@@ -21,7 +21,6 @@ mod faults;
 mod form;
 mod games;
 mod gather;
-mod laws;
 mod marks;
 mod spot;
 mod walk;
@@ -31,9 +30,6 @@ pub use counts::{board_fits, player_count};
 pub use faults::SpotFault;
 pub use form::{card_of, in_form};
 pub use gather::{board_cards, dead_cards, repeated_card};
-pub use laws::{
-    law_a_written_spot_is_read, law_the_first_repeated_card, law_written_words_are_read,
-};
 pub use marks::{ends_hands, is_dash, is_dashes, is_slash};
 pub use spot::read_spot;
 pub use words::{Words, has_word};

@@ -1,10 +1,6 @@
 pub use Rattle.tally_book.specs.Pages
 pub use Rattle.tally_book.specs.Parts
 pub use Rattle.job_blocks.specs.Blocks
-pub mod Claims
-pub mod Reaches
-pub mod Lanes
-pub mod Seating
-pub mod Joined
-pub mod Starting
-pub mod Sittings
+pub use Rattle.worker_seats.specs.Claims
+pub use Rattle.worker_seats.specs.Lanes
+pub use Rattle.worker_seats.specs.Sittings

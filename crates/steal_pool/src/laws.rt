@@ -3,24 +3,8 @@
 //! `Seats::start`, `Seats::work` and `Seats::finish`, in this order, are a count by several workers.
 //! The laws are calls that do nothing.
 
-ghost use Rattle.std.specs.Prelude.{◌≡◌, ℕ, ◌<◌, ◌%◌, ◌==◌, if◌then◌else◌};
-ghost use Rattle.steal_pool.specs.Claims.{times};
-ghost use Rattle.steal_pool.specs.Lanes.{pushed_to};
-ghost use Rattle.steal_pool.specs.Sittings.{Sitting, IsFreshSitting, IsShared, times_taken};
+pub use crate::own_scratch::OwnScratch;
+pub use worker_seats::laws::{law_each_block_has_one_deque, law_each_block_is_taken_once};
 
-pub use crate::seats::Seats;
-
-/// Each block stands once in what is pushed to the deque of its number modulo the workers, and in no
-/// other.
-pub fn law_each_block_has_one_deque()
-    ensures { (workers blocks deque block : ℕ) → block < blocks
-        → times block (pushed_to workers blocks deque)
-        ≡ (if block % workers == deque then 1 else 0) }
-{}
-
-/// So each block is taken once, by one worker from one deque.
-pub fn law_each_block_is_taken_once()
-    ensures { (workers blocks block : ℕ) (old new : Sitting) → 0 < workers → block < blocks
-        → IsFreshSitting workers blocks old → IsShared workers blocks old new
-        → times_taken workers block new ≡ 1 }
-{}
+/// The seats of all workers, who count in scratches.
+pub type Seats<N> = worker_seats::Seats<N, OwnScratch>;

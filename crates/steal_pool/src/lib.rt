@@ -1,38 +1,16 @@
-//! The count of a job by several workers.
+//! The count of a job by several workers, or by one.
 //!
-//! The blocks of a job are dealt out to as many deques as there are workers, block b to the deque
-//! of b modulo the workers, and after them an end mark for each worker. A worker takes from its
-//! own deque until it gets an end mark there, then from the others, one after the other. So nobody
-//! stands idle while a deque has blocks, and a worker that has an end mark of each deque knows that
-//! nothing is left anywhere.
-//!
-//! What a worker takes it counts in a room of its own, and posts into the `Book` of the job, under
-//! its lock. The book keeps its total whoever posts what and in which order: so the total is right
-//! by the book alone, and by the caller's look at every mark after the join. That each block was
-//! taken from the deques, by one worker, is a clause of `laws::Seats`, which carries a rule over
-//! each deque: `claims` has it.
-//!
-//! All memory whose refusal is answered is taken before the first worker starts. Where a thread can't be started, the caller
-//! does that worker's work itself.
+//! `count_with_workers` has the workers of `worker_seats` count, each in a scratch of its own. `count_alone` counts a job on the
+//! thread that asks, with no lock, in a scratch that is lent. Both post block after block into a `Book` of `tally_book`, by which
+//! the total is right.
 #![tactic(auto)]
 
 mod alone;
 mod blocks;
-mod claims;
-mod desk;
-mod finishing;
-mod gate;
-mod joins;
-mod lanes;
 pub mod laws;
-mod making;
-mod pushes;
-mod reaches;
-mod running;
-mod seat;
-mod seats;
+mod own_scratch;
 mod workers;
 
 pub use alone::count_alone;
-pub use gate::{Gate, OpenGate};
+pub use worker_seats::{Gate, OpenGate};
 pub use workers::count_with_workers;

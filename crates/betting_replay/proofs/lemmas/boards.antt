@@ -1,4 +1,4 @@
--- For `law_whole_boards` and `law_two_boards`: how far a board has come, and what two boards share.
+-- For `law_whole_boards`: how far a board has come, and what two boards share.
 pub mod BegunStreets
 pub mod BoardGrowth
 pub mod BoardLaws

@@ -1,4 +1,4 @@
--- For `law_chips_stay`, and for the chips that a step moves.
+-- Accepted events keep a seat's chips; and for the chips that a step moves.
 pub mod AffordedChips
 pub mod ChipsStay
 pub mod ClearedChips

@@ -1,3 +1,2 @@
--- For `law_nobody_is_passed_over` and `law_turns_are_taken`, and for `owes`.
+-- For `owes` and whose turn it is.
 pub mod SeatWalk
-pub mod TurnOrder

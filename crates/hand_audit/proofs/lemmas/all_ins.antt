@@ -1,3 +1,2 @@
--- What is known at an all-in: `law_all_in_cards`, `law_unknown_all_ins_have_unknown_cards`.
+-- What is known at an all-in, and on a street after it.
 pub mod KnownCards
-pub mod UnknownCards

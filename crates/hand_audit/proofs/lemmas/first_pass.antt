@@ -1,4 +1,3 @@
 -- The first pass over the lines, by which it is known who plays.
 pub mod PassSteps
 pub mod SeatDigits
-pub mod WholePass

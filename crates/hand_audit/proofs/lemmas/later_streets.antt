@@ -1,5 +1,4 @@
--- The streets after an all-in point: `law_later_streets_know_cards`, `law_later_streets_know_no_less`, `law_later_streets_come_in_order`.
-pub mod LaterCards
+-- The streets after an all-in point: `law_later_streets_know_no_less`.
 pub mod LaterOrder
 pub mod LaterStates
 pub mod LaterTables

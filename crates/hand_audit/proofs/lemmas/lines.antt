@@ -1,4 +1,4 @@
--- The walk over the lines of a hand: what is kept stands for the lines so far, and `law_lines_before_stand`. Each law on accepted hands begins with `AcceptedHand` and `AcceptedLines`.
+-- The walk over the lines of a hand: what is kept stands for the lines so far. Each law on accepted hands begins with `AcceptedHand` and `AcceptedLines`.
 pub mod EventRanges
 pub mod LineSteps
 pub mod KeptInvariant
@@ -7,5 +7,3 @@ pub mod FollowWalk
 pub mod HandVerdict
 pub mod AcceptedLines
 pub mod AcceptedHand
-pub mod LinesBefore
-pub mod SplitLines

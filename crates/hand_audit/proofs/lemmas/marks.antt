@@ -1,3 +1,2 @@
--- The card by which a stud player gets odd units: `law_a_mark_is_a_card_of_its_player`.
+-- The card by which a stud player gets odd units.
 pub mod FiveNumbers
-pub mod MarkCards

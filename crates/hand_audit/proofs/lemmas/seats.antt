@@ -2,5 +2,4 @@
 pub mod SeatSets
 pub mod SeatLists
 pub mod FilteredSeats
-pub mod SeatSums
 pub mod TenPlaces

@@ -1,4 +1,3 @@
--- Pots of which it is known who wins are won: `law_checked_pots_are_won`.
+-- Pots of which it is known who wins: final cards fill hand and board, and somebody wins.
 pub mod SomebodyWins
 pub mod DecidedPots
-pub mod PotsWon

@@ -301,10 +301,3 @@ fn refusals() -> [(&'static [&'static [u8]], BetFault); 16] {
         ),
     ]
 }
-
-#[test]
-fn the_laws_of_pots_can_be_called() {
-    pot_layers::law_no_two_pots_have_the_same_players();
-    pot_layers::law_two_sides_share_a_pot();
-    pot_layers::law_winners_of_a_side_get_the_same_or_one_more();
-}

@@ -17,13 +17,13 @@ use Rattle.betting_replay.specs.AllIn.{funded_count, is_point, point_on, point_n
 use Rattle.betting_replay.specs.Faults.{may_part, next_first, next_second, next_on, street_early}
 use Rattle.betting_replay.specs.Seats.{or_else}
 use Rattle.card_sets.specs.Streets.{next_street}
-use Rattle.betting_replay.specs.Streets.{same_street, is_first, is_end, is_number, begins, begins_on}
+use Rattle.betting_replay.specs.Streets.{same_street, is_first, is_end, begins, begins_on}
 use Rattle.betting_replay.specs.Sums.{street, is_last_of, last_begun, opened, twice_from, second_street, marker_board}
 use Rattle.betting_replay.specs.TableAfter.{table_of, table_with, point}
 use Rattle.betting_replay.specs.Turns.{contender_count, next_to_act}
 use Rattle.std.proofs.lemmas.Bool.{and_parts}
 use Rattle.betting_replay.proofs.lemmas.steps.PassedTests.{passed}
-use Rattle.betting_replay.proofs.lemmas.steps.NextTable.{no_card}
+use Rattle.betting_replay.proofs.lemmas.steps.NextTable.{none_told}
 use Rattle.betting_replay.proofs.lemmas.points.PointByMoment.{same_now}
 use Rattle.betting_replay.proofs.lemmas.places.DeadCards.{marker_of}
 
@@ -47,10 +47,6 @@ stands_on g players ThirdDraw number cards h ok plain = and_parts _ _ (marker_of
 -- no street is the next where there is none
 pub never_none : (s : StreetName) → same_street s None ≡ true → ⊥
 never_none s is = true≢false (sym is)
-
--- what a marker of a board begins
-pub begun_by : (n number : BoardNumber) (s : StreetName) (b c : Bool) → is_number n number ≡ b → is_end s ≡ c → (cards : List ℕ) → begins_on n (Street s number cards) ≡ (if b && not c then Some s else None)
-begun_by n number s b c is over cards = rw (is, over) refl
 
 -- in the second board's first marker, and after it, the hand is run twice
 pub second_needs : (o : Option StreetName) (m : BoardNumber) (last : Bool) (next : Option StreetName) (s : StreetName) → same_street s (next_second o m last next) ≡ true → is_some o ≡ true
@@ -112,10 +108,6 @@ twice_board g players (e ∷ h) ok some = elim (either_some (twice_from h) (begi
   | inr now ↦ first_board g players e h ok now (λ before. twice_board g players h ok.2 before)
 ]
 
-pub not_some : (o : Option StreetName) → (is_some o ≡ true → ⊥) → o ≡ None
-not_some None never = refl
-not_some (Some s) never = absurd (never refl)
-
 -- where the first street has begun the hand is on a street
 pub opened_some : (g : Header) (h : List Event) → opened g h ≡ true → is_some (street g h) ≡ true
 opened_some g [] is = cc
@@ -136,7 +128,7 @@ parted g players h may = ((and_parts _ _ (and_parts _ _ may).0).1, (and_parts _ 
 
 nobody : (g : Header) (players : ℕ) (s : StreetName) (number : BoardNumber) (cards : List ℕ) (h : List Event) → IsAccepted g players (Street s number cards ∷ h) → next_to_act (table_of g players h) ≡ None
 unfolding street_early
-nobody g players s number cards h ok = no_card _ _ (passed (table_of g players h) (Street s number cards) ok.1).early
+nobody g players s number cards h ok = none_told _ _ (passed (table_of g players h) (Street s number cards) ok.1).early
 
 some_either : (a b : Option Point) → is_some b ≡ true → is_some (or_else a b) ≡ true
 some_either None b some = some

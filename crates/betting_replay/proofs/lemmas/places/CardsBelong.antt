@@ -1,5 +1,5 @@
 -- After accepted events the cards that the text gives a seat belong to it, and those that it gives a board belong to the board.
-use Rattle.std.proofs.Common.{◌≡◌, ℕ, ◌<◌, ◌≤◌, List, [], ◌∷◌, refl, sym, ap, ◌∙◌, Bool, true, false, ◌||◌, ◌==◌, ◌⊎◌, inl, inr, arith, length}
+use Rattle.std.proofs.Common.{◌≡◌, ℕ, ◌<◌, ◌≤◌, List, [], ◌∷◌, refl, sym, ap, ◌∙◌, Bool, true, false, ◌||◌, ◌==◌, ◌⊎◌, inl, inr, arith}
 use Rattle.std.specs.Prelude.{Option, Some, None, if◌then◌else◌}
 use mathlib.Core.Bool.{true≢false}
 use Rattle.card_sets.specs.Cards.{has_card, union}
@@ -15,7 +15,7 @@ use Rattle.card_sets.specs.declared.streets.Street.TheVariants.{First, Flop, Tur
 use Rattle.betting_replay.specs.Accepted.{IsAccepted}
 use Rattle.betting_replay.specs.Boards.{is_second, cards_if, named_on, named_second, board_on, second_on, board_up_to, before, board_before, shared_by, shared, second_own}
 use Rattle.betting_replay.specs.CardLaws.{Among}
-use Rattle.betting_replay.specs.Dealing.{counts_on, dealt_on, dealt_then, gathered, up_by, given_by}
+use Rattle.betting_replay.specs.Dealing.{counts_on, dealt_on, dealt_then, gathered, given_by}
 use Rattle.betting_replay.specs.Events.{seat_of, cards_named, SeatFits}
 use Rattle.betting_replay.specs.Hands.{dealt, dealt_by, shown, shown_by}
 use Rattle.betting_replay.specs.Places.{place_of, cards_given, place, is_at, owned, thrown, thrown_by, lost_by, barred, with_given}
@@ -129,13 +129,6 @@ given_named _ k h = absurd (no_card k h)
 
 on_named : (s : StreetName) (now : Option StreetName) (e : Event) (k : ℕ) → has_card (dealt_on s now e) k ≡ true → has_card (cards_given e) k ≡ true
 on_named s now e k h = one (counts_on s now) h
-  where
-    one : (b : Bool) → has_card (if b then dealt_by e else []) k ≡ true → has_card (cards_given e) k ≡ true
-    one true h = dealt_named e k h
-    one false h = absurd (no_card k h)
-
-up_named : (e : Event) (k : ℕ) → has_card (up_by e) k ≡ true → has_card (cards_given e) k ≡ true
-up_named e k h = one (length (dealt_by e) == 1) h
   where
     one : (b : Bool) → has_card (if b then dealt_by e else []) k ≡ true → has_card (cards_given e) k ≡ true
     one true h = dealt_named e k h

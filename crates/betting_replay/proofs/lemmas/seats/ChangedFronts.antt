@@ -19,8 +19,3 @@ map_first-next f xs ys i d is h =
 pub map_first-all : {A : Type 0} (f : A → A) (xs : List A) → map_first f (length xs) xs ≡ map f xs
 map_first-all f [] = refl
 map_first-all f (x ∷ xs) = ap (λ ys. f x ∷ ys) (map_first-all f xs)
-
-pub length-map_first : {A : Type 0} (f : A → A) (n : ℕ) (xs : List A) → length (map_first f n xs) ≡ length xs
-length-map_first f zero xs = refl
-length-map_first f (suc n) [] = refl
-length-map_first f (suc n) (x ∷ xs) = ap suc (length-map_first f n xs)

@@ -4,13 +4,6 @@ use Rattle.std.specs.Prelude.{if◌then◌else◌, nat_le, nat_lt}
 use Rattle.std.proofs.lemmas.Bool.Decides.{nat_tests}
 use Rattle.betting_replay.specs.Seats.{count_below}
 
-pub same_count : (f g : ℕ → Bool) (n : ℕ) → ((p : ℕ) → p < n → f p ≡ g p) → count_below f n ≡ count_below g n
-same_count f g zero h = refl
-same_count f g (suc n) h =
-    let rest : count_below f n ≡ count_below g n = same_count f g n (λ p l. h p (omega arith)) in
-    let here : f n ≡ g n = h n (omega arith) in
-    rw (rest, here) refl
-
 -- one number more that passes, or doesn't
 pub count_past : (f : ℕ → Bool) (p k : ℕ) → count_below f p ≡ k → f p ≡ false → count_below f (p + 1) ≡ k
 count_past f p k so_far fails = rw (add-one, so_far, fails) (omega arith)

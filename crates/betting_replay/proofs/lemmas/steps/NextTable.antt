@@ -88,9 +88,9 @@ set_seat f s change d small =
     at_seat p true e = let is : s ≡ p = grind arith in rw e (ap (λ q. change (f q)) is)
     at_seat p false e = rw e refl
 
-pub no_card : (f : ℕ → BetFault) (o : Option ℕ) → fault_with f o ≡ None → o ≡ None
-no_card f None h = refl
-no_card f (Some n) h = cc
+pub none_told : (f : ℕ → BetFault) (o : Option ℕ) → fault_with f o ≡ None → o ≡ None
+none_told f None h = refl
+none_told f (Some n) h = cc
 
 pub own_case : (game : Game) (e : Event) (h : List Event) (before : List ℕ) → first_twice (is_free (named game h) (owned game h (seat_of e)) (is_board e)) before (cards_named e) ≡ None
     → (p : ℕ) (b : Bool) → (place_of e == p) ≡ b → owned game (e ∷ h) p ≡ (if b then with_given game e (cards_named e) (owned game h p) else owned game h p)
@@ -119,7 +119,7 @@ pub cards_free : (g : Header) (players : ℕ) (h : List Event) (found : Option P
 unfolding card_twice
 cards_free g players h found e small legal =
     let t : ReplayState = table_with g players h found in
-    let free : first_twice (is_free (named g.game h) (own_at t (seat_of e)) (is_board e)) (barred g.game (thrown h)) (cards_named e) ≡ None = no_card _ _ (passed t e legal).card in
+    let free : first_twice (is_free (named g.game h) (own_at t (seat_of e)) (is_board e)) (barred g.game (thrown h)) (cards_named e) ≡ None = none_told _ _ (passed t e legal).card in
     subst (λ (own : List ℕ). first_twice (is_free (named g.game h) own (is_board e)) (barred g.game (thrown h)) (cards_named e) ≡ None) (own_is g players h found (seat_of e) small) free
 
 -- the chips, cards and draws of each seat after an event are told by those before it

@@ -13,11 +13,6 @@ first_from-next test p end fails h =
     let more : end - p ≡ suc (end - (p + 1)) = omega arith in
     rw (more, fails) refl
 
-pub first_from-here : (test : ℕ → Bool) (p end : ℕ) → test p ≡ true → p < end → first_from test p (end - p) ≡ Some p
-first_from-here test p end passes h =
-    let more : end - p ≡ suc (end - (p + 1)) = omega arith in
-    rw (more, passes) refl
-
 -- where none of some seats is the first that passes, none passes
 pub none_from : (test : ℕ → Bool) (p n q : ℕ) → first_from test p n ≡ None → p ≤ q → q < p + n → test q ≡ false
 none_from test p zero q h low high = absurd (omega arith)

@@ -1,6 +1,6 @@
--- What a known all-in of an accepted hand has is known there: `law_all_in_cards`.
+-- What a known all-in has is known there.
 use Rattle.std.proofs.Common.{◌≡◌, ℕ, zero, suc, ◌<◌, ◌≤◌, List, [], ◌∷◌, refl, sym, ap, ◌∙◌, subst, Bool, true, false, ◌==◌, ◌&&◌, length, map, arith}
-use Rattle.std.specs.Prelude.{Option, Some, None, is_some, unwrap_or, slice_index_or, if◌then◌else◌, Ok}
+use Rattle.std.specs.Prelude.{Option, Some, None, is_some, unwrap_or, slice_index_or, if◌then◌else◌}
 use Rattle.std.specs.List.{list_all}
 use Rattle.std.proofs.lemmas.List.{length-map}
 use Rattle.card_sets.specs.PlayerSets.{seats_in}
@@ -9,11 +9,10 @@ use Rattle.card_sets.specs.declared.games.Game.{Game}
 use Rattle.card_sets.specs.declared.streets.Street.{Street}
 use Rattle.hand_events.specs.declared.events.Header.{Header}
 use Rattle.hand_events.specs.declared.events.Event.{Event}
-use Rattle.history_text.specs.Headers.{header_of}
 use Rattle.pot_layers.specs.Split.{InRange}
 use Rattle.pot_layers.specs.Pots.{pots}
 use Rattle.betting_replay.specs.Accepted.{IsAccepted, ShowsSeats, ShowsDead}
-use Rattle.betting_replay.specs.AllIn.{point_street, point_contenders}
+use Rattle.betting_replay.specs.AllIn.{point_contenders}
 use Rattle.betting_replay.specs.Boards.{board_up_to, second_board}
 use Rattle.betting_replay.specs.CardLaws.{PlacesAreApart, CardsBelongAfter}
 use Rattle.betting_replay.specs.Known.{cards_at}
@@ -24,21 +23,16 @@ use Rattle.betting_replay.specs.TableAfter.{table_of, dead_cards}
 use Rattle.betting_replay.proofs.CallerLemmas.{at_by_seat}
 use Rattle.card_sets.proofs.CallerLemmas.{from_apart}
 use Rattle.showdown_tally.specs.declared.table.Table.{Table}
-use Rattle.hand_audit.specs.AllIns.{cards_or_none, bare_of, all_in_at, known_with, known_there, eligible_in, all_in_on, all_in_by, all_in_of}
+use Rattle.hand_audit.specs.AllIns.{cards_or_none, bare_of, all_in_at, known_with, known_there, eligible_in, all_in_on}
 use Rattle.hand_audit.specs.CardsKnown.{IsHandOf, IsStillHidden, KnowsCards}
 use Rattle.hand_audit.specs.KnownTables.{Bare, ten, holds, with_facts, table_if, table_from, all_hold}
 use Rattle.hand_audit.specs.Showings.{paid_in}
+use Rattle.hand_audit.specs.Streets.{table_in}
 use Rattle.hand_audit.specs.declared.at_point.AtPoint.{AtPoint}
 use Rattle.hand_verdict.specs.declared.verdicts.AllIn.TheVariants.{Unknown, Known}
-use Rattle.hand_verdict.specs.declared.verdicts.HandAudit.TheVariants.{Accepted}
-use Rattle.hand_verdict.specs.declared.settlement.Settlement.{Settlement}
-use Rattle.hand_audit.specs.Lines.{nothing}
-use Rattle.hand_audit.specs.Verdict.{audit_of, events_of}
 use Rattle.hand_audit.proofs.lemmas.seats.SeatLists.{range_from}
 use Rattle.hand_audit.proofs.lemmas.tables.TableFacts.{bare}
 use Rattle.hand_audit.proofs.lemmas.seats.TenPlaces.{in_ten, in_map}
-use Rattle.hand_audit.proofs.lemmas.lines.AcceptedLines.{sound_all, start}
-use Rattle.hand_audit.proofs.lemmas.lines.AcceptedHand.{accepted_is}
 
 -- what a known all-in is made of
 pub record IsMade (point : AtPoint) (all : List ℕ) (street : Street) (seats : List ℕ) (table : Table) : Type 0 where
@@ -75,6 +69,20 @@ made_of point all street seats table is = by (list_all (λ p. is_some (slice_ind
         → (if b then known_with point.street (seats_in point.contenders) (table_from (bare_of point all)) else Unknown) ≡ Known street seats table → IsMade point all street seats table
     by true k h = from (table_from (bare_of point all)) refl k h
     by false k h = cc
+
+-- where there is a table at a point the all-in there is known
+pub known_is : (p : AtPoint) (all : List ℕ) (table : Table) → table_in (all_in_at p all) ≡ Some table → all_in_at p all ≡ Known p.street (ten 0 (seats_in p.contenders)) table
+unfolding all_in_at
+known_is p all table is = by (list_all (λ q. is_some (slice_index_or p.cards q None)) (seats_in p.contenders)) is
+  where
+    from : (o : Option Table) → table_in (known_with p.street (seats_in p.contenders) o) ≡ Some table → known_with p.street (seats_in p.contenders) o ≡ Known p.street (ten 0 (seats_in p.contenders)) table
+    from None h = cc
+    from (Some t) h = ap (λ x. Known p.street (ten 0 (seats_in p.contenders)) x) (one_table t table h)
+
+    by : (b : Bool) → table_in (if b then known_with p.street (seats_in p.contenders) (table_from (bare_of p all)) else Unknown) ≡ Some table
+        → (if b then known_with p.street (seats_in p.contenders) (table_from (bare_of p all)) else Unknown) ≡ Known p.street (ten 0 (seats_in p.contenders)) table
+    by true h = from (table_from (bare_of p all)) h
+    by false h = cc
 
 street_there : (game : Game) (t : ReplayState) (found street : Street) → (known_there game t found).street ≡ street → found ≡ street
 unfolding known_there
@@ -184,18 +192,3 @@ known_made apart belong shows shows_dead g players h street seats table ok made 
       dead = hidden (has_card table.known.dead card) table.known.dead card refl
           (λ has. from_apart (dead_cards g players h) second card ((belong g players h ok).dead_and_second second come) (subst (λ (cards : List ℕ). has_card cards card ≡ true) dead_is has) here);
     }
-
-pub known_cards : PlacesAreApart → CardsBelongAfter → ShowsSeats → ShowsDead → (g : Header) (players : ℕ) (h : List Event) (street : Street) (seats : List ℕ) (table : Table) → IsAccepted g players h → all_in_of g players h ≡ Known street seats table
-    → KnowsCards g players h street seats table
-unfolding all_in_by
-known_cards apart belong shows shows_dead g players h street seats table ok is =
-    known_made apart belong shows shows_dead g players h street seats table ok (made_at g.game (table_of g players h) (point_street (table_of g players h).point) street seats table is)
-
--- of a hand that is accepted
-pub accepted_knows : PlacesAreApart → CardsBelongAfter → ShowsSeats → ShowsDead → (number : ℕ) (line : List ℕ) (lines : List (List ℕ)) (g : Header) → header_of line ≡ Ok g
-    → (settlement : Settlement) (street : Street) (seats : List ℕ) (table : Table) (names : List (ℕ × List ℕ)) (players : ℕ)
-    → audit_of number (line ∷ lines) ≡ Some (Accepted settlement (Known street seats table) names players) → KnowsCards g players (events_of g lines) street seats table
-accepted_knows apart belong shows shows_dead number line lines g read settlement street seats table names players is =
-    let a = accepted_is number line lines g settlement (Known street seats table) names players read is in
-    let end = sound_all g players number lines nothing (start g players) a.none in
-    known_cards apart belong shows shows_dead g players (events_of g lines) street seats table end.0.accepted a.found

@@ -52,10 +52,6 @@ text_first x xs all other =
     let some : 0 < 0 * 10 + (x - 48) = omega (arith, first.0, other) in
     sym (text_after xs (0 * 10 + (x - 48)) some first.2 ∙ ap (λ t. t ++ xs) (text_more 0 x first.0 first.1 some))
 
--- a zero at the front changes no number
-number_past : (xs : List ℕ) → number_of (48 ∷ xs) ≡ number_of xs
-number_past xs = refl
-
 -- what is left of some digits from a place on
 pub record Zeros (digits : List ℕ) (first : ℕ) : Type 0 where
   pub within : first ≤ length digits

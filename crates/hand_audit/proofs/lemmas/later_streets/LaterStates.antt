@@ -1,9 +1,8 @@
 -- What is known on the later streets of a hand, by what is kept of its lines.
 use Rattle.std.proofs.Common.{◌≡◌, ℕ, List, ◌∷◌, sym, ap, ◌∙◌, true, false, map}
-use Rattle.std.specs.Prelude.{Some, Ok, Err}
+use Rattle.std.specs.Prelude.{Some, Ok}
 use Rattle.history_text.specs.Headers.{header_of}
 use Rattle.hand_events.specs.declared.events.Header.{Header}
-use Rattle.hand_events.specs.declared.events.TextFault.{TextFault}
 use Rattle.pot_layers.specs.declared.paid.Paid.{Paid}
 use Rattle.pot_layers.specs.Pots.{pots}
 use Rattle.betting_replay.specs.Table.{ReplayState}
@@ -22,14 +21,10 @@ use Rattle.hand_audit.specs.Showings.{paid_in, showing_of}
 use Rattle.hand_audit.specs.Streets.{state_on, states_of, states_behind, states_in, has_known_all_in}
 use Rattle.hand_audit.specs.Verdict.{audit_of, events_of}
 use Rattle.hand_audit.proofs.lemmas.tables.SettlementPots.{settled_same, paid_shown}
-use Rattle.hand_audit.proofs.lemmas.lines.HandVerdict.{audit_fault, audit_departs}
+use Rattle.hand_audit.proofs.lemmas.lines.HandVerdict.{audit_departs}
 
 unlike : true ≡ false → ⊥
 unlike e = cc
-
--- a hand that is accepted with a known all-in: its header line can be read, and no line after it departs
-pub header_known : (n : ℕ) (all : List (List ℕ)) (line : List ℕ) (rest : List (List ℕ)) (fault : TextFault) → all ≡ line ∷ rest → header_of line ≡ Err fault → has_known_all_in (audit_of n all) ≡ true → ⊥
-header_known n all line rest fault is read known = unlike (sym known ∙ ap has_known_all_in (audit_fault n all line rest fault is read))
 
 pub none_departs : (n : ℕ) (all : List (List ℕ)) (line : List ℕ) (rest : List (List ℕ)) (g : Header) (players number : ℕ) (c : Cause) → all ≡ line ∷ rest → header_of line ≡ Ok g → players ≡ players_of g rest
     → has_known_all_in (audit_of n all) ≡ true → departs_from g players n nothing rest ≡ Some (number, c) → ⊥

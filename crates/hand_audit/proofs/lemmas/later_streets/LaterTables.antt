@@ -43,8 +43,7 @@ use Rattle.hand_audit.specs.Verdict.{audit_of, events_of}
 use Rattle.hand_verdict.specs.declared.settlement.Settlement.{Settlement}
 use Rattle.hand_verdict.specs.declared.verdicts.AllIn.TheVariants.{Known}
 use Rattle.hand_verdict.specs.declared.verdicts.HandAudit.TheVariants.{Accepted}
-use Rattle.hand_audit.proofs.lemmas.all_ins.KnownCards.{IsMade, known_made, made_at, made_of}
-use Rattle.hand_audit.proofs.lemmas.later_streets.LaterCards.{some_is}
+use Rattle.hand_audit.proofs.lemmas.all_ins.KnownCards.{IsMade, known_is, known_made, made_at, made_of}
 use Rattle.hand_audit.proofs.lemmas.later_streets.LaterOrder.{in_order}
 use Rattle.hand_audit.proofs.lemmas.lines.AcceptedHand.{accepted_is}
 use Rattle.hand_audit.proofs.lemmas.lines.AcceptedLines.{sound_all, start}
@@ -269,7 +268,7 @@ more_on : PlacesAreApart → CardsBelongAfter → ShowsSeats → ShowsDead → K
 unfolding known_there
 more_on apart belong shows shows_dead dealt g players h ok all is s t seats table less made later at =
     let r = table_of g players h in
-    let made' = made_of (known_there g.game r t) all t (ten 0 (seats_in (known_there g.game r t).contenders)) later (some_is (known_there g.game r t) all later at) in
+    let made' = made_of (known_there g.game r t) all t (ten 0 (seats_in (known_there g.game r t).contenders)) later (known_is (known_there g.game r t) all later at) in
     let knows = known_made apart belong shows shows_dead g players h s seats table ok (subst (λ (e : List ℕ). IsMade (known_there g.game r s) e s seats table) is made) in
     let knows' = known_made apart belong shows shows_dead g players h t (ten 0 (seats_in (known_there g.game r t).contenders)) later ok
     (subst (λ (e : List ℕ). IsMade (known_there g.game r t) e t (ten 0 (seats_in (known_there g.game r t).contenders)) later) is made') in

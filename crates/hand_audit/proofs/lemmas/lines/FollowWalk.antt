@@ -10,11 +10,10 @@ use Rattle.hand_verdict.specs.declared.cause.Cause.{Cause}
 use Rattle.hand_verdict.specs.declared.cause.Cause.TheVariants.{Text}
 use Rattle.hand_audit.specs.declared.hand.AuditState.{AuditState}
 use Rattle.hand_audit.specs.Lines.{SoFar, nothing, read_at, with_event, with_line, with_line_by}
-use Rattle.hand_audit.specs.Departs.{departs_from, at_line}
+use Rattle.hand_audit.specs.Departs.{departs_from}
 use Rattle.hand_audit.specs.Verdict.{read_all}
-use Rattle.hand_audit.specs.Keeping.{Keeps, Goes, EndsAs, IsEnded, IsFound, IsRead, AreReads, Follows, names_by, names_after}
-use Rattle.hand_audit.specs.declared.follow.Followed.TheVariants.{Departs, Ends}
-use Rattle.hand_audit.specs.declared.settling.HandSettled.{HandSettled}
+use Rattle.hand_audit.specs.Keeping.{Keeps, Goes, IsFound, IsRead, AreReads, Follows, names_by, names_after}
+use Rattle.hand_audit.specs.declared.follow.Followed.TheVariants.{Departs}
 use Rattle.hand_audit.proofs.lemmas.lines.LineSteps.{goes_no_split}
 use Rattle.hand_audit.proofs.lemmas.lines.ReadOnce.{first_said, goes_by, others_left, names_left}
 
@@ -72,26 +71,6 @@ going_departs state new g players all line left left' count c r is counted goes 
     by_read : (number : ℕ) (o : Result Event TextFault) → read_at g r.so_far line ≡ o → Goes new g players r.so_far line o (Some c) → departs_from g players (number + count) r.so_far (line ∷ left) ≡ Some ((number + count) + 1, c)
     by_read number (Err f) e h = let same : c ≡ Text f = cc in rw (e, same) refl
     by_read number (Ok ev) e h = rw (e, h) refl
-
--- the end of the lines: the last departs, or what is kept stands for all
-pub going_stops : (state : AuditState) (g : Header) (players : ℕ) (all left : List (List ℕ)) (count : ℕ) (c : Cause) (r : Going state g players all left count) → left ≡ []
-    → count + length left ≡ length all → EndsAs g players r.so_far.events (Err c) → Follows g players all (Departs count c)
-going_stops state g players all left count c r is counted ends = (
-  omega (arith, counted),
-  λ number. r.same number ∙ ap (departs_from g players (number + count) r.so_far) is ∙ ap (at_line (number + count)) ends.0,
-  ends.1,
-)
-
-pub going_ends : (state : AuditState) (g : Header) (players : ℕ) (all left : List (List ℕ)) (count : ℕ) (names : List (ℕ × List ℕ)) (settled : HandSettled) (r : Going state g players all left count) → left ≡ []
-    → count + length left ≡ length all → names ≡ r.so_far.names → EndsAs g players r.so_far.events (Ok settled) → Follows g players all (Ends count state names settled)
-going_ends state g players all left count names settled r is counted named ends =
-    let read : r.so_far ≡ read_all g nothing all = sym (r.read ∙ ap (read_all g r.so_far) is) in (
-      omega (arith, counted),
-      λ number. r.same number ∙ ap (departs_from g players (number + count) r.so_far) is ∙ ap (at_line (number + count)) ends.cause,
-      subst (Keeps state g players) read r.keeps,
-      subst (λ (t : SoFar). IsEnded g players t.events settled) read ends,
-      named ∙ ap (λ (t : SoFar). t.names) read,
-    )
 
 -- over the lines that were read: what is left was said by the first of the lines that are left, these are the names after them, and the
 -- lines after those begin at a place

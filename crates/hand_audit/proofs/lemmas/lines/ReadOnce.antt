@@ -14,7 +14,7 @@ use Rattle.history_text.specs.Lines.{line_event}
 use Rattle.hand_audit.specs.declared.first_pass.PlayerScan.{PlayerScan}
 use Rattle.hand_audit.specs.declared.hand.AuditState.{AuditState}
 use Rattle.hand_audit.specs.Lines.{SoFar, part_of, read_at, with_line, with_line_by}
-use Rattle.hand_audit.specs.Keeping.{Keeps, Goes, IsRead, AreReads, IsFound, names_by, names_after, part_by, parts_after}
+use Rattle.hand_audit.specs.Keeping.{Keeps, Goes, IsRead, AreReads, names_by, names_after, part_by, parts_after}
 use Rattle.hand_audit.specs.Passing.{HasReads, Notes, READS_MAX, with_read}
 
 pub ok_of : (r : Result Event TextFault) (P : Event → Type 0) (e : Event) → r ≡ Ok e → IfOk r P → P e
@@ -119,7 +119,3 @@ pass_end old new g bytes start at line has same = record {
   found = rw (same.0, same.1) has.found;
   part = rw (same.0, same.2) has.part;
 }
-
--- nothing is known of the lines
-pub none_found : (g : Header) (bytes : List ℕ) (start : ℕ) → start ≤ length bytes → IsFound g bytes start [] [] start
-none_found g bytes start within = record { are = _; named = refl; left = refl; within = within; few = omega arith }

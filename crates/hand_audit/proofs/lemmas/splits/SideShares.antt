@@ -1,13 +1,12 @@
 -- What the winners of the sides of a pot's parts get, by what is kept of the final cards.
-use Rattle.std.proofs.Common.{◌≡◌, ℕ, zero, suc, ◌-◌, ◌/◌, ◌<◌, ◌≤◌, List, [], ◌∷◌, ◌++◌, refl, sym, ap, ◌∙◌, subst, true, ◌&&◌, map, length, take, drop, append-nil, append_assoc, arith}
+use Rattle.std.proofs.Common.{◌≡◌, ℕ, zero, suc, ◌-◌, ◌/◌, ◌≤◌, List, [], ◌∷◌, ◌++◌, refl, sym, ap, ◌∙◌, subst, true, ◌&&◌, map, length, take, drop, append-nil, append_assoc, arith}
 use Rattle.std.specs.Prelude.{Option, Some, None, All, slice_index_or}
 use Rattle.std.proofs.lemmas.List.{take_all}
 use Rattle.card_sets.specs.PlayerSets.{seats_in}
 use Rattle.card_sets.specs.declared.games.Side.{Side}
 use Rattle.pot_layers.specs.declared.paid.Pot.{Pot}
-use Rattle.pot_layers.specs.declared.paid.Share.{Share}
 use Rattle.pot_layers.specs.Pots.{pots}
-use Rattle.pot_layers.specs.Split.{IsOrder, shares, first_half, second_half, high_half, low_half}
+use Rattle.pot_layers.specs.Split.{shares, first_half, second_half, high_half, low_half}
 use Rattle.hand_verdict.specs.declared.parts.PartShare.{PartShare}
 use Rattle.hand_verdict.specs.declared.settlement.PotLine.{PotLine}
 use Rattle.hand_audit.specs.declared.worths.OnBoard.{OnBoard}
@@ -26,18 +25,6 @@ none_win board winners units None order all none = sym (append-nil all)
 none_win board winners units (Some side) order all none =
     let no : shares units winners 0 order [] ≡ [] = ap (λ w. shares units w 0 order []) none ∙ nobody_shares units order [] in
     sym (append-nil all) ∙ ap (λ xs. all ++ map (part_share board side (units / length order)) xs) (sym no)
-
--- where somebody wins his seat is in the order
-pub some_listed : (winners : ℕ) (order : List ℕ) → IsOrder winners order → 0 < winners → 0 < length order
-some_listed winners [] o some = let none : winners ≡ 0 = o.none refl in omega (arith, none, some)
-some_listed winners (p ∷ order) o some = omega arith
-
--- the shares of a side are those of a pot that is played for it alone
-pub side_is : (board winners units each bits : ℕ) (side : Side) (order listed other : List ℕ) (all new : List PartShare) (made : List Share) → bits ≡ winners → listed ≡ order → other ≡ [] → each ≡ units / length order
-    → made ≡ shares units bits 0 listed other → new ≡ all ++ map (part_share board side each) made → new ≡ all ++ side_parts board (Some side) winners order units
-side_is board winners units each bits side order listed other all new made b l o e is grown =
-    let given : made ≡ shares units winners 0 order [] = is ∙ ap (λ w. shares units w 0 listed other) b ∙ ap (λ xs. shares units winners 0 xs other) l ∙ ap (shares units winners 0 order) o in
-    grown ∙ ap (λ n. all ++ map (part_share board side n) made) e ∙ ap (λ xs. all ++ map (part_share board side (units / length order)) xs) given
 
 -- who wins the two sides by what is kept of a board
 pub first_wins : (w : OnBoard) (s : Showing) (board : List ℕ) (eligible : ℕ) → Decides w s board eligible → 2 ≤ length (seats_in eligible) → winners_by w.first.values eligible ≡ first_winners s board eligible
@@ -63,13 +50,7 @@ part_is s eligible board units cards first second high low side other order othe
     ∙ ap (λ xs. all ++ (side_parts board (first_side s.game) first (order_of (first_side s.game) s cards first) (high_half units second) ++ xs)) two
     ∙ ap (λ n. all ++ both_sides s board part n second) f ∙ ap (λ n. all ++ both_sides s board part (first_winners s cards eligible) n) g
 
--- those of a pot of a hand that was run once, and twice
-pub once_is : (s : Showing) (eligible units : ℕ) (all new : List PartShare) → s.second ≡ None → new ≡ all ++ shares_on s eligible 1 (record { units = units; board = s.board })
-    → new ≡ all ++ shares_on_boards s eligible 1 (parts_of s units)
-once_is s eligible units all new once is =
-    is ∙ ap (λ xs. all ++ xs) (sym (append-nil (shares_on s eligible 1 (record { units = units; board = s.board }))))
-    ∙ ap (λ (o : Option (List ℕ)). all ++ shares_on_boards s eligible 1 (parts_by o s.board units)) (sym once)
-
+-- those of a pot of a hand that was run twice
 pub twice_is : (s : Showing) (eligible units up down : ℕ) (board : List ℕ) (all mid new : List PartShare) → s.second ≡ Some board → up ≡ first_half units → down ≡ second_half units
     → mid ≡ all ++ shares_on s eligible 1 (record { units = up; board = s.board }) → new ≡ mid ++ shares_on s eligible 2 (record { units = down; board = board })
     → new ≡ all ++ shares_on_boards s eligible 1 (parts_of s units)

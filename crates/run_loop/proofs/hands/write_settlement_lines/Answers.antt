@@ -2,7 +2,7 @@ use Rattle.std.proofs.Common.{◌++◌, sym, ap, ◌∙◌}
 use Rattle.hand_audit.specs.SplitHands.{split_of}
 use Rattle.hand_cuts.specs.Units.{UnitLines}
 use Rattle.line_text.specs.Lines.{lines}
-use Rattle.report_table.specs.Settles.{settle_block}
+use Rattle.hand_blocks.specs.Settles.{settle_block}
 use Rattle.run_loop.specs.Histories.{hand_settlement, is_rejected_by, is_rejected_hand, number_text, settlement_by, verdict_of}
 use Rattle.run_loop.proofs.hands.write_settlement_lines.Goals as goal
 

@@ -1,6 +1,6 @@
 use Rattle.std.proofs.Common.{◌≡◌, ◌++◌, take}
 use Rattle.std.specs.List.{flat_map}
-use Rattle.report_table.specs.Streets.{street_block}
+use Rattle.hand_blocks.specs.Streets.{street_block}
 use Rattle.run_loop.proofs.hands.write_states.Given as goal
 
 abbrev pub invariant-loop-state : goal.invariant-loop-state

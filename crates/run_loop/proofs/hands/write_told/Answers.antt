@@ -1,5 +1,5 @@
 use Rattle.std.proofs.Common.{ap, ◌∙◌}
-use Rattle.report_table.specs.Streets.{street_blocks}
+use Rattle.hand_blocks.specs.Streets.{street_blocks}
 use Rattle.run_loop.proofs.HandFacts.{streets_by_lines}
 use Rattle.run_loop.proofs.hands.write_told.Goals as goal
 

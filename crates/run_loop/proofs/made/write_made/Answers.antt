@@ -1,7 +1,7 @@
 use Rattle.std.proofs.Common.{◌≡◌, [], rules, length, ap, arith}
 use Rattle.std.specs.List.{concat}
 use Rattle.run_loop.specs.Report.{blocks_in}
-use Rattle.run_loop.specs.declared.command.Mode.TheVariants.{Made}
+use Rattle.command_words.specs.declared.command.Mode.TheVariants.{Made}
 use Rattle.run_loop.proofs.made.write_made.Goals as goal
 
 pub add_hands-requires-clause-small : goal.add_hands-requires-clause-small

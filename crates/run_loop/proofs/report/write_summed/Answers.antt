@@ -1,6 +1,6 @@
 use Rattle.std.proofs.Common.{ap, ◌∙◌}
 use Rattle.run_loop.specs.Units.{started, unit_kind}
-use Rattle.run_loop.specs.declared.command.Mode.{Mode}
+use Rattle.command_words.specs.declared.command.Mode.{Mode}
 use Rattle.run_loop.proofs.TotalsFacts.{balance_block_alone, totals_block_alone}
 use Rattle.run_loop.proofs.report.write_summed.Goals as goal
 

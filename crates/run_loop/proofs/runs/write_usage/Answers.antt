@@ -1,5 +1,5 @@
 use Rattle.std.proofs.Common.{inl, inr, refl}
-use Rattle.run_loop.specs.Command.{usage_line}
+use Rattle.command_words.specs.Command.{usage_line}
 use Rattle.run_loop.proofs.runs.write_usage.Goals as goal
 
 pub returns-in-Ok : goal.returns-in-Ok

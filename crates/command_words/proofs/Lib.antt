@@ -1,0 +1,6 @@
+mod LineRows
+mod WordSteps
+mod WordKinds
+mod WordWalks
+mod LineFaults
+mod LineWords

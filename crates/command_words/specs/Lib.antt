@@ -1,0 +1,3 @@
+pub use Rattle.line_text.specs.Amounts
+pub mod Command
+pub mod CommandLine

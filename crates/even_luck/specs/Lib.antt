@@ -1,0 +1,10 @@
+pub use Rattle.card_sets.specs.State
+pub use Rattle.hand_verdict.specs.SeatSums
+pub use Rattle.runout_ranges.specs.Jobs
+pub use Rattle.showdown_tally.specs.Deals
+pub use Rattle.showdown_tally.specs.Showdown
+pub use Rattle.showdown_tally.specs.Tallies
+pub mod Equities
+pub mod Figures
+pub mod Seats
+pub mod EvenLuck

@@ -1,5 +1,0 @@
-use Rattle.hand_audit.proofs.lemmas.all_ins.KnownCards.{accepted_knows}
-use Rattle.hand_audit.proofs.laws.law_all_in_cards.Goals as goal
-
-pub returns : goal.returns
-returns c = accepted_knows c.law_places_are_apart.ensures c.law_cards_belong.ensures c.law_a_table_shows_each_seat.ensures c.law_a_table_shows_dead_cards.ensures

@@ -1,5 +1,0 @@
-use Rattle.hand_audit.proofs.lemmas.nets.PlayerNets.{accepted_nets}
-use Rattle.hand_audit.proofs.laws.law_nets_add_up_to_the_rake.Goals as goal
-
-pub returns : goal.returns
-returns c = accepted_nets

@@ -1,5 +1,0 @@
-use Rattle.hand_audit.proofs.lemmas.dues.PartDues.{give_dues}
-use Rattle.hand_audit.proofs.laws.law_parts_give_what_is_due.Goals as goal
-
-pub returns : goal.returns
-returns c = give_dues

@@ -1,5 +1,0 @@
-use Rattle.hand_audit.proofs.lemmas.splits.RightSplits.{accepted_split}
-use Rattle.hand_audit.proofs.laws.law_pots_are_split_by_the_rules.Goals as goal
-
-pub returns : goal.returns
-returns c = accepted_split

@@ -1,0 +1,5 @@
+pub mod AloneFacts
+pub mod SpotFacts
+pub mod EquityFacts
+pub mod StreetFacts
+pub mod ResultFacts

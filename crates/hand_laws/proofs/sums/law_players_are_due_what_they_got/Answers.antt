@@ -1,0 +1,8 @@
+use Rattle.hand_laws.proofs.lemmas.dues.PlayerDues.{accepted_players, split_adds}
+use Rattle.hand_laws.proofs.sums.law_players_are_due_what_they_got.Goals as goal
+
+pub returns : goal.returns
+returns c = record {
+  accepted = accepted_players c.law_a_list_orders_its_seats.ensures c.law_values_keep_order.ensures c.law_fives_have_five_cards.ensures c.law_places_are_apart.ensures c.law_cards_belong.ensures c.law_whole_boards.ensures c.law_a_table_shows_each_seat.ensures c.law_a_folded_player_is_eligible_nowhere.ensures;
+  split = split_adds c.law_a_list_orders_its_seats.ensures c.law_values_keep_order.ensures c.law_fives_have_five_cards.ensures c.law_places_are_apart.ensures c.law_cards_belong.ensures c.law_whole_boards.ensures c.law_a_table_shows_each_seat.ensures c.law_a_folded_player_is_eligible_nowhere.ensures;
+}

@@ -1,5 +1,0 @@
-use Rattle.line_text.proofs.LawFacts.{texts_hold_no_newline, plain_texts_read_back}
-use Rattle.line_text.proofs.lines.law_lines_read_back.Goals as goal
-
-pub returns : goal.returns
-returns c = record { no_newline = texts_hold_no_newline; read_back = plain_texts_read_back }

@@ -1,0 +1,9 @@
+pub mod SumFacts
+pub mod PlayerFacts
+pub mod NameFacts
+pub mod IndexFacts
+pub mod LineupFacts
+pub mod MadeFacts
+pub mod RunFacts
+pub mod BalanceFacts
+pub mod CallerLemmas

@@ -1,0 +1,15 @@
+pub use Rattle.showdown_tally.specs.Showdown
+pub use Rattle.showdown_tally.specs.Tallies
+pub use Rattle.hand_events.specs.Names
+pub use Rattle.report_sheet.specs.Lines
+pub use Rattle.even_luck.specs.Equities
+pub use Rattle.even_luck.specs.EvenLuck
+pub use Rattle.even_luck.specs.Figures
+pub use Rattle.even_luck.specs.Seats
+pub mod Totals
+pub mod SumsSeen
+pub mod TotalsSeen
+pub mod Made
+pub mod MadeSeen
+pub mod Balance
+pub mod BalanceSeen

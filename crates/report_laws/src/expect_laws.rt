@@ -1,0 +1,45 @@
+//! What the hands of an all-in could expect, and what they would have got with even luck, adds up.
+
+ghost use Rattle.std.specs.Prelude.{◌≡◌, ℕ, List, length, true, false};
+ghost use Rattle.card_sets.specs.Games.{has_side};
+ghost use Rattle.card_sets.specs.declared.games.Side.{Side};
+ghost use Rattle.hand_verdict.specs.declared.settlement.PotLine.{PotLine};
+ghost use Rattle.report_laws.specs.ExpectLaws.{EvenAddsUp, GivesAll, HasLows, HasPlayers};
+ghost use Rattle.showdown_tally.specs.Deals.{deal_of};
+
+use card_sets::{CardSet, Known};
+use showdown_tally::{Table, law_pots_are_given_out};
+
+/// There are ten places for hands.
+fn ten_hands(known: &Known)
+    ensures { length known.now.hands ≡ 10 }
+{
+    let _hands: &[CardSet] = &known.hands;
+}
+
+/// A law: what the hands of a counted all-in could expect adds up, before anything is rounded, to what the
+/// pots hold. Over all runouts, and in 1/5040 of a unit of money, so it is in a game with a high where
+/// each pot has a hand that may win it, and in a game with a low alone where somebody wins each.
+pub fn law_expectations_add_up_to_the_pots(table: &Table)
+    ensures high { (pots : List PotLine) → has_side Side.High table.now.known.game ≡ true
+        → HasPlayers (deal_of table.now) → GivesAll pots (deal_of table.now) }
+    ensures low { (pots : List PotLine) → has_side Side.High table.now.known.game ≡ false
+        → HasLows (deal_of table.now) → GivesAll pots (deal_of table.now) }
+{
+    ten_hands(&table.known);
+    law_pots_are_given_out();
+}
+
+/// A law: what the contenders of a counted all-in would have got with even luck adds up, before anything is
+/// rounded, to what they got out of the pots: luck moves units between them alone. It is so where each pot has
+/// a hand that may win it, or, in a game with a low alone, where somebody wins each.
+pub fn law_even_luck_adds_up_to_what_was_got(table: &Table)
+    ensures high { (pots : List PotLine) (seats : List ℕ)
+        → has_side Side.High table.now.known.game ≡ true → HasPlayers (deal_of table.now)
+        → EvenAddsUp pots seats (deal_of table.now) }
+    ensures low { (pots : List PotLine) (seats : List ℕ)
+        → has_side Side.High table.now.known.game ≡ false → HasLows (deal_of table.now)
+        → EvenAddsUp pots seats (deal_of table.now) }
+{
+    law_expectations_add_up_to_the_pots(table);
+}

@@ -1,5 +1,0 @@
-use Rattle.report_table.proofs.BalanceLaws.{balanced_distinct}
-use Rattle.report_table.proofs.balance_laws.law_nobody_is_balanced_twice.Goals as goal
-
-pub returns : goal.returns
-returns c = balanced_distinct

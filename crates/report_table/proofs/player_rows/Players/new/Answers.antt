@@ -1,5 +1,0 @@
-use Rattle.report_table.proofs.IndexFacts.{index_none, none_distinct}
-use Rattle.report_table.proofs.player_rows.Players.new.Goals as goal
-
-pub invariant_of-result : goal.invariant_of-result
-invariant_of-result g c = rw c.new.ensures.items (index_none c.new-2.result c.new-2.ensures.empty, none_distinct)

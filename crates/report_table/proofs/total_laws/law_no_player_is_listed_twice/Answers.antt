@@ -1,5 +1,0 @@
-use Rattle.report_table.proofs.TotalLaws.{listed_distinct}
-use Rattle.report_table.proofs.total_laws.law_no_player_is_listed_twice.Goals as goal
-
-pub returns : goal.returns
-returns c = listed_distinct

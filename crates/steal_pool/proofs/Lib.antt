@@ -1,9 +1,0 @@
-pub mod DequeRule
-pub mod LaneFacts
-pub mod WorkerWalk
-pub mod EmptyDeques
-pub mod JoinedPasses
-pub mod MadeSeats
-pub mod ToldPasses
-pub mod SeenSeats
-pub mod DealtBlocks

@@ -1,6 +1,0 @@
-use Rattle.std.proofs.Common.{◌≡◌, ◌≤◌, length}
-use Rattle.steal_pool.specs.Lanes.{blocks_to}
-use Rattle.steal_pool.proofs.pushes.share_of.Given as goal
-
-abbrev pub invariant-loop-block : goal.invariant-loop-block
-invariant-loop-block l = (l.share ≡ length (blocks_to l.workers l.block l.deque)) × (l.share ≤ l.block)

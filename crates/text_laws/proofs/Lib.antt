@@ -1,0 +1,14 @@
+pub mod PlainLines
+pub mod WrittenAmounts
+pub mod TextDigits
+pub mod LongestNames
+pub mod WrittenLines
+pub mod WrittenMoves
+pub mod WrittenSeats
+pub mod ExampleLines
+pub mod ExampleHeaders
+pub mod ExampleHands
+pub mod WrittenWords
+pub mod FirstRepeated
+pub mod WrittenSpots
+pub mod NamedHands

@@ -1,0 +1,6 @@
+pub mod PlainLines
+pub mod WrittenAmounts
+pub mod WrittenLines
+pub mod NameLaws
+pub mod WrittenSpots
+pub mod ItemHands

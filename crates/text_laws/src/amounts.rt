@@ -1,0 +1,13 @@
+//! Laws of the amounts in a text: the function is empty, and its clauses are the laws.
+
+ghost use Rattle.text_laws.specs.WrittenAmounts.{ChipsAreRead, HundredthsAreRead, WholeMoneyIsRead};
+
+/// A law: an amount up to the greatest that is written after the sign of a currency or none is read
+/// as itself, wherever it stands: chips in plain digits, hundredths with a point and two digits, and
+/// money without hundredths in plain digits. A digit mustn't follow, nor a point where there is none
+/// in the amount.
+pub fn law_written_amounts_are_read()
+    ensures chips { ChipsAreRead }
+    ensures hundredths { HundredthsAreRead }
+    ensures whole_money { WholeMoneyIsRead }
+{}

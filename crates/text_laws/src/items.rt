@@ -1,0 +1,31 @@
+//! What the items of a range name. The function is empty, and its clauses are the law.
+
+ghost use Rattle.std.specs.Prelude.{◌≡◌, [], ◌∷◌, codes};
+ghost use Rattle.text_laws.specs.ItemHands.{IsRangeOf, range_of};
+
+/// Which hands each item names, and how many. `AsKh` is one hand. A pair is six, `AKs` four of one suit, `AKo`
+/// twelve of two suits, and `AK` both. `TT+` goes up to the aces, and `A9s+` up to the king beside the ace.
+pub fn law_items_name_their_hands()
+    // One hand, by its cards in either order.
+    ensures hand { range_of (codes "AsKh") ≡ record { hand = 46 ∷ 51 ∷ []; weight = 1 } ∷ [] }
+    ensures turned { IsRangeOf (codes "KhAs") 1 (codes "AsKh") }
+
+    // A pair, and the pairs from one on.
+    ensures pair { IsRangeOf (codes "TT") 6 (codes "TcTd,TcTh,TcTs,TdTh,TdTs,ThTs") }
+    ensures pairs { IsRangeOf (codes "TT+") 30 (codes "TT,JJ,QQ,KK,AA") }
+
+    // Two ranks: of one suit, of two, or of any.
+    ensures suited { IsRangeOf (codes "AKs") 4 (codes "AcKc,AdKd,AhKh,AsKs") }
+    ensures offsuit { IsRangeOf (codes "AKo") 12
+        (codes "AcKd,AcKh,AcKs,AdKc,AdKh,AdKs,AhKc,AhKd,AhKs,AsKc,AsKd,AsKh") }
+    ensures any { IsRangeOf (codes "AK") 16 (codes "AKs,AKo") }
+
+    // Each second rank from one on, below the first.
+    ensures suited_from { IsRangeOf (codes "A9s+") 20 (codes "A9s,ATs,AJs,AQs,AKs") }
+    ensures offsuit_from { IsRangeOf (codes "A9o+") 60 (codes "A9o,ATo,AJo,AQo,AKo") }
+    ensures any_from { IsRangeOf (codes "A9+") 80 (codes "A9s+,A9o+") }
+    ensures next { IsRangeOf (codes "JTs+") 4 (codes "JTs") }
+
+    // A weight counts for each hand, and the weights of a hand add up.
+    ensures weights { IsRangeOf (codes "AKs:3,AK:2") 16 (codes "AKs:5,AKo:2") }
+{}

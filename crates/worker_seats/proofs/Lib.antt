@@ -1,0 +1,10 @@
+pub mod DequeRule
+pub mod LentSlices
+pub mod LaneFacts
+pub mod WorkerWalk
+pub mod EmptyDeques
+pub mod JoinedPasses
+pub mod MadeSeats
+pub mod ToldPasses
+pub mod SeenSeats
+pub mod DealtBlocks
