@@ -27,7 +27,7 @@ pub use repeat::RepeatSource;
 pub use standard::{StdSink, StdSource};
 
 /// A read or a write that failed.
-#[derive(Clone, Copy, Debug, PartialEq, Eq)]
+#[derive(Clone, Copy, PartialEq, Eq)]
 pub struct Failed;
 
 /// What bytes are read from.

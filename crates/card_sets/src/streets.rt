@@ -8,7 +8,7 @@ ghost use Rattle.card_sets.specs.declared.games.Game.{Game};
 use crate::{Family, Game};
 
 /// A street, the showdown or the summary.
-#[derive(Clone, Copy, Debug, PartialEq, Eq)]
+#[derive(Clone, Copy, PartialEq, Eq)]
 pub enum Street {
     /// The first street: hole cards, 3rd street, or the deal of a draw game.
     First,

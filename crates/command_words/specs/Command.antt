@@ -124,16 +124,8 @@ command words = option_and_then command_of (given_from None words [])
 
 -- whether a mode reads the input: hands that are made need none
 abbrev pub reads_input : Mode → Bool
-reads_input Audit = true
-reads_input Streets = true
-reads_input Check = true
-reads_input Results = true
-reads_input Settle = true
-reads_input Spots = true
-reads_input Ranges = true
-reads_input Totals = true
-reads_input Balance = true
 reads_input Made = false
+reads_input _ = true
 
 -- whether words ask for a mode that reads the input
 abbrev pub reads : Option Command → Bool

@@ -27,6 +27,21 @@ pub enum Mode {
     Made,
 }
 
+/// What the words of a command line ask for.
+#[derive(Clone, Copy)]
+pub struct Command {
+    /// What is read and reported.
+    pub mode: Mode,
+    /// How many workers count: 1 to 16.
+    pub workers: u32,
+    /// The form of the report.
+    pub form: Form,
+    /// The seed of made input.
+    pub seed: u64,
+    /// How many hands are made: at most 10,000.
+    pub hands: u32,
+}
+
 impl Mode {
     ghost use Rattle.std.specs.Prelude.{◌≡◌};
     ghost use Rattle.command_words.specs.Command.{reads_input};
@@ -48,19 +63,4 @@ impl Mode {
             Mode::Made => false,
         }
     }
-}
-
-/// What the words of a command line ask for.
-#[derive(Clone, Copy)]
-pub struct Command {
-    /// What is read and reported.
-    pub mode: Mode,
-    /// How many workers count: 1 to 16.
-    pub workers: u32,
-    /// The form of the report.
-    pub form: Form,
-    /// The seed of made input.
-    pub seed: u64,
-    /// How many hands are made: at most 10,000.
-    pub hands: u32,
 }

@@ -5,7 +5,7 @@ ghost use Rattle.std.specs.Prelude.{ℕ, List, codes, option_and_then};
 ghost use Rattle.clap.specs.Matches.{first_value, found_of};
 ghost use Rattle.std.specs.Prelude.{false};
 ghost use Rattle.clap.specs.Walk.{rule_of};
-ghost use Rattle.clap.specs.Simple.{app_of};
+ghost use Rattle.clap.specs.Simple.{App, app_of, with_rule};
 ghost use Rattle.command_words.specs.CommandLine.{line_app, option_rule};
 ghost use Rattle.command_words.specs.Command.{Given, command, command_of, form_named, mode_name, mode_named, number_in, or_default, value_in};
 ghost use Rattle.report_sheet.specs.declared.form.Form.TheVariants.{Text};
@@ -146,6 +146,21 @@ fn option<'a>(alloc: Global, name: &'a str) -> Arg<'a>
     Arg::new(alloc, name).long(name).action(ArgAction::Set)
 }
 
+/// A command line, where there is one, with an option more.
+fn with_option<'a>(
+    alloc: Global,
+    line: Result<Line<'a>, AllocError>,
+    name: &'a str,
+) -> Result<Line<'a>, AllocError>
+    ensures { (app : App) → IfOk line.entry (λ line. app_of line ≡ app)
+        → IfOk result (λ line. app_of line ≡ with_rule app (option_rule name.now)) }
+{
+    match line {
+        Ok(line) => line.arg(option(alloc, name)),
+        Err(fault) => Err(fault),
+    }
+}
+
 /// The command line as its parser knows it: a mode, and four options with a value each.
 fn line<'a>(alloc: Global) -> Result<Line<'a>, AllocError>
     ensures { IfOk result (λ line. app_of line ≡ line_app) }
@@ -156,19 +171,11 @@ fn line<'a>(alloc: Global) -> Result<Line<'a>, AllocError>
     let bare = Line::new(alloc, "equity")
         .no_binary_name(true)
         .disable_help_flag(true);
-    let Ok(line) = bare.arg(mode) else {
-        return Err(AllocError);
-    };
-    let Ok(line) = line.arg(option(alloc, "workers")) else {
-        return Err(AllocError);
-    };
-    let Ok(line) = line.arg(option(alloc, "format")) else {
-        return Err(AllocError);
-    };
-    let Ok(line) = line.arg(option(alloc, "seed")) else {
-        return Err(AllocError);
-    };
-    line.arg(option(alloc, "hands"))
+    let line = bare.arg(mode);
+    let line = with_option(alloc, line, "workers");
+    let line = with_option(alloc, line, "format");
+    let line = with_option(alloc, line, "seed");
+    with_option(alloc, line, "hands")
 }
 
 /// Why words that the parser refuses ask for no command.

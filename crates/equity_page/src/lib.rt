@@ -26,5 +26,5 @@ pub extern "C" fn equity_page_run(
     ensures ran { result ≤ 6 →
         IsPageRun INPUT_MAX mode.now form.now input.now room.new written.new result }
 {
-    run_page(alloc, mode, form, input, room, written)
+    run_page(alloc, mode, form, input, written, room)
 }

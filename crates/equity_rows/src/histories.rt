@@ -1,7 +1,7 @@
 //! Histories of hands.
 
-use crate::more_games::{DRAW5, TRIPLE};
-use crate::other_games::{DRAW, LONG_SEATS, RAZZ};
+use crate::reports::more_games::{DRAW5, TRIPLE};
+use crate::reports::other_games::{DRAW, LONG_SEATS, RAZZ};
 use crate::runs::{LAST, Part};
 
 /// The hands of which inputs are made.

@@ -89,9 +89,12 @@ pub(crate) fn source_of(
 }
 
 /// A sink.
-pub(crate) fn sink_of(alloc: Global, edges: Edges) -> Result<MemorySink, Memory> {
+pub(crate) fn sink_of(alloc: Global, edges: Edges) -> Result<MemorySink, AllocError> {
     let calls = listed(alloc, edges.write_fault)?;
-    MemorySink::new(alloc, edges.room, edges.taken.max(1), calls)
+    match MemorySink::new(alloc, edges.room, edges.taken.max(1), calls) {
+        Ok(sink) => Ok(sink),
+        Err(Memory) => Err(AllocError),
+    }
 }
 
 /// What a run did that ended with this status.

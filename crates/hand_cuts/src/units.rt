@@ -1,7 +1,7 @@
 //! What a stream is cut into.
 
 /// What a stream is cut into.
-#[derive(Clone, Copy, Debug, PartialEq, Eq)]
+#[derive(Clone, Copy, PartialEq, Eq)]
 pub enum CutKind {
     /// Hands: a header line and the lines up to the next one.
     Hands,
@@ -11,7 +11,7 @@ pub enum CutKind {
 
 /// A hand or a line, by its places in the bytes that are held: it is `first..end`, the newline of
 /// its last line with it.
-#[derive(Clone, Copy, Debug, PartialEq, Eq)]
+#[derive(Clone, Copy)]
 pub struct Unit {
     /// Where it begins.
     pub first: usize,

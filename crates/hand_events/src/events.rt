@@ -4,7 +4,7 @@ use crate::Cards;
 use card_sets::{Game, Street};
 
 /// The limit of the bets.
-#[derive(Clone, Copy, Debug, PartialEq, Eq)]
+#[derive(Clone, Copy, PartialEq, Eq)]
 pub enum Limit {
     /// `No Limit`.
     NoLimit,
@@ -15,7 +15,7 @@ pub enum Limit {
 }
 
 /// What a header line says.
-#[derive(Clone, Copy, Debug, PartialEq, Eq)]
+#[derive(Clone, Copy, PartialEq, Eq)]
 pub struct Header {
     /// The game.
     pub game: Game,
@@ -28,7 +28,7 @@ pub struct Header {
 }
 
 /// The part of a hand that a line stands in.
-#[derive(Clone, Copy, Debug, PartialEq, Eq)]
+#[derive(Clone, Copy)]
 pub enum Part {
     /// Up to and with the first street marker.
     Preamble,
@@ -39,7 +39,7 @@ pub enum Part {
 }
 
 /// What a post is for.
-#[derive(Clone, Copy, Debug, PartialEq, Eq)]
+#[derive(Clone, Copy, PartialEq, Eq)]
 pub enum PostKind {
     /// The small blind.
     Small,
@@ -54,7 +54,7 @@ pub enum PostKind {
 }
 
 /// An act in turn. Amounts are in units, and not 0.
-#[derive(Clone, Copy, Debug, PartialEq, Eq)]
+#[derive(Clone, Copy, PartialEq, Eq)]
 pub enum Act {
     /// The hand is given up.
     Fold,
@@ -74,7 +74,7 @@ pub enum Act {
 }
 
 /// The pot that a collection names.
-#[derive(Clone, Copy, Debug, PartialEq, Eq)]
+#[derive(Clone, Copy)]
 pub enum PotName {
     /// `pot`.
     Only,
@@ -87,7 +87,7 @@ pub enum PotName {
 }
 
 /// The board of a marker.
-#[derive(Clone, Copy, Debug, PartialEq, Eq)]
+#[derive(Clone, Copy, PartialEq, Eq)]
 pub enum BoardNumber {
     /// The only board, or the cards that two boards share.
     Only,
@@ -229,7 +229,7 @@ pub enum Event {
 }
 
 /// Why a line is refused.
-#[derive(Clone, Copy, Debug, PartialEq, Eq, Drop)]
+#[derive(Clone, Copy, PartialEq, Eq, Drop)]
 pub enum TextFault {
     /// A header whose game and limit aren't found, or whose name stands after a word that makes it
     /// another game's.

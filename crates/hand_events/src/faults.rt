@@ -3,7 +3,7 @@
 use card_sets::Card;
 
 /// Why an event may not follow those before it: the first rule that it breaks, in this order.
-#[derive(Clone, Copy, Debug, PartialEq, Eq)]
+#[derive(Clone, Copy, PartialEq, Eq)]
 pub enum BetFault {
     /// A post, an act or a collection by one who has folded, a post or an act by one with no chips
     /// left, or a collection by one who is no player.

@@ -4,7 +4,7 @@ use card_sets::Game;
 use std::marker::Model;
 
 /// What a seat got, and what the rules give it.
-#[derive(Clone, Copy, Debug, PartialEq, Eq)]
+#[derive(Clone, Copy)]
 pub struct Payment {
     /// The seat.
     pub seat: u8,

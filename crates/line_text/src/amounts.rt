@@ -16,7 +16,7 @@ const EURO: [u8; 3] = [0xe2, 0x82, 0xac];
 const POUND: [u8; 2] = [0xc2, 0xa3];
 
 /// An amount that was read at a place of a text.
-#[derive(Clone, Copy, Debug, PartialEq, Eq)]
+#[derive(Clone, Copy)]
 pub struct Amount {
     /// How much it is.
     pub units: u64,
@@ -27,7 +27,7 @@ pub struct Amount {
 }
 
 /// Why a text is no amount.
-#[derive(Clone, Copy, Debug, PartialEq, Eq, Drop)]
+#[derive(Clone, Copy, PartialEq, Eq, Drop)]
 pub enum AmountFault {
     /// It isn't in the form of one.
     NotAmount,
@@ -37,7 +37,7 @@ pub enum AmountFault {
 
 /// An amount as it is written, before it is known how the hand counts. A number past the greatest
 /// of `u64` stands as that.
-#[derive(Clone, Copy, Debug, PartialEq, Eq)]
+#[derive(Clone, Copy)]
 pub struct WrittenAmount {
     /// Whether it has a sign or a point.
     pub marked: bool,

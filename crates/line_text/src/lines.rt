@@ -16,7 +16,7 @@ const MARK: [u8; 3] = [0xef, 0xbb, 0xbf];
 
 /// A line by its places in the bytes: its text is `first..end`, and the next line begins at
 /// `next`.
-#[derive(Clone, Copy, Debug, PartialEq, Eq)]
+#[derive(Clone, Copy)]
 pub struct Line {
     /// Where its text begins.
     pub first: usize,

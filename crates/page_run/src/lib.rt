@@ -94,8 +94,8 @@ pub fn run_page(
     mode: &[u8],
     form: &[u8],
     input: &[u8],
-    room: &mut [u8],
     written: &mut usize,
+    room: &mut [u8],
 ) -> u8
     ensures ran { result ≤ 6 →
         IsPageRun INPUT_MAX mode.now form.now input.now room.new written.new result }

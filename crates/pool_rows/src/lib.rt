@@ -4,8 +4,6 @@
 #[cfg(test)]
 mod book;
 #[cfg(test)]
-mod gates;
-#[cfg(test)]
 mod machine;
 #[cfg(test)]
 mod runs;

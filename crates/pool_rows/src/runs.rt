@@ -3,8 +3,8 @@
 ghost use Rattle.std.specs.Prelude.{◌<◌};
 ghost use Rattle.std.specs.List.Sorted.{IsStrictlyIncreasing};
 
-use crate::gates::{HoldsTheFirst, HoldsUntilFour, Notes};
 use crate::spots::FIFTH_STREET;
+use crate::workers::gates::{HoldsTheFirst, HoldsUntilFour, Notes};
 use byte_ends::{MemorySink, MemorySource};
 use run_engine::{run, run_alone};
 use std::alloc::Global;

@@ -2,8 +2,10 @@
 
 ghost use Rattle.std.specs.Prelude.{◌≤◌};
 
-use crate::gates::{HoldsTheFirst, HoldsUntilFour};
+pub(crate) mod gates;
+
 use crate::spots::{ACES_AND_KINGS, FIFTH_STREET, has_all_blocks, job_of};
+use crate::workers::gates::{HoldsTheFirst, HoldsUntilFour};
 use card_sets::Side;
 use equity_job::{Job, Scratch, count_job};
 use showdown_tally::Tally;

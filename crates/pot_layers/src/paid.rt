@@ -1,7 +1,7 @@
 //! What a player put in, what a pot holds, and what a winner gets of it.
 
 /// What the player of a seat put in.
-#[derive(Clone, Copy, Debug, PartialEq, Eq)]
+#[derive(Clone, Copy)]
 pub struct Paid {
     /// The seat, 1 to 10.
     pub seat: u8,
@@ -14,7 +14,7 @@ pub struct Paid {
 }
 
 /// A pot.
-#[derive(Clone, Copy, Debug, PartialEq, Eq)]
+#[derive(Clone, Copy, PartialEq, Eq)]
 pub struct Pot {
     /// What it holds, in units.
     pub units: u64,
@@ -23,7 +23,7 @@ pub struct Pot {
 }
 
 /// Who wins the sides of a pot: bit s for seat s, and no bit where a side has no winner.
-#[derive(Clone, Copy, Debug, PartialEq, Eq)]
+#[derive(Clone, Copy)]
 pub struct SideWinners {
     /// The winners of the high, or of the one side that there is.
     pub high: u16,
@@ -32,7 +32,7 @@ pub struct SideWinners {
 }
 
 /// What a winner gets of a pot.
-#[derive(Clone, Copy, Debug, PartialEq, Eq)]
+#[derive(Clone, Copy, PartialEq, Eq)]
 pub struct Share {
     /// The seat.
     pub seat: u8,

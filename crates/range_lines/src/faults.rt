@@ -5,7 +5,7 @@ use report_sheet::Sheet;
 use std::alloc::AllocError;
 
 /// Why a line with ranges is refused. They are tested in this order over the whole line.
-#[derive(Clone, Copy, Debug, PartialEq, Eq, Drop)]
+#[derive(Clone, Copy, Drop)]
 pub enum RangeFault {
     /// The first word isn't `holdem`, or there is no word.
     UnknownWord,

@@ -2,7 +2,7 @@
 
 /// How the runouts of all choices of one hand from each range end for a player, each as often as its
 /// choice counts.
-#[derive(Clone, Copy, Debug, PartialEq, Eq)]
+#[derive(Clone, Copy)]
 pub struct RangeCell {
     /// Those in which his hand alone is best.
     pub win: u128,
@@ -14,7 +14,7 @@ pub struct RangeCell {
 
 /// What all choices of one hand from each range add up to. A choice counts as often as the product of
 /// its hands' weights says.
-#[derive(Clone, Copy, Debug, PartialEq, Eq)]
+#[derive(Clone, Copy)]
 pub struct RangeTally {
     /// The choices in which no card is in two hands.
     pub choices: u64,
@@ -29,7 +29,7 @@ pub struct RangeTally {
 }
 
 /// Why the choices aren't counted.
-#[derive(Clone, Copy, Debug, PartialEq, Eq)]
+#[derive(Clone, Copy)]
 pub enum RangeJobFault {
     /// Their runouts are more than may be counted.
     AboveLimit,

@@ -54,7 +54,7 @@ fn add_beside(cells: &mut [u8], low: Card, entry: &Entry) -> bool
         let Some(high) = Card::new(rank, suit) else {
             continue;
         };
-        if low < high && !add_to(cells, low, high, entry.amount(low, high)) {
+        if low.number() < high.number() && !add_to(cells, low, high, entry.amount(low, high)) {
             return false;
         }
     }

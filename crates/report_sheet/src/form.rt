@@ -1,7 +1,7 @@
 //! The forms of the report.
 
 /// The form of a block.
-#[derive(Clone, Copy, Debug, PartialEq, Eq)]
+#[derive(Clone, Copy)]
 pub enum Form {
     /// Lines of words.
     Text,

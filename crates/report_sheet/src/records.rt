@@ -1,11 +1,9 @@
-//! The text of a record, by the usual rules of CSV, after the bytes of a sheet.
+//! The text of a field of a record, by the usual rules of CSV, after the bytes of a sheet.
 
-ghost use Rattle.std.specs.Prelude.{◌≡◌, ◌<◌, [], ◌∷◌, ◌++◌, length, OnOk};
+ghost use Rattle.std.specs.Prelude.{◌≡◌, [], ◌∷◌, ◌++◌, OnOk};
 ghost use Rattle.csv.specs.Quoting.{needs_byte};
-ghost use Rattle.csv.specs.Records.{fields_of};
-ghost use Rattle.csv.specs.Writing.{default_writer, escaped, field_text, needs_quotes, next_sep, quoted, row_text};
+ghost use Rattle.csv.specs.Writing.{default_writer, escaped, field_text, needs_quotes, quoted};
 
-use csv::ByteRecord;
 use std::alloc::AllocError;
 
 /// Whether a byte calls for quotes around its field.
@@ -48,7 +46,7 @@ fn put_quoted(bytes: &mut Vec<u8>, field: &[u8]) -> Result<(), AllocError>
 }
 
 /// Appends a field.
-fn put_field(bytes: &mut Vec<u8>, field: &[u8]) -> Result<(), AllocError>
+pub(crate) fn put_field(bytes: &mut Vec<u8>, field: &[u8]) -> Result<(), AllocError>
     ensures { OnOk result (bytes.new.items
         ≡ bytes.old.items ++ field_text default_writer field.now) }
 {
@@ -56,32 +54,4 @@ fn put_field(bytes: &mut Vec<u8>, field: &[u8]) -> Result<(), AllocError>
         return put_quoted(bytes, field);
     }
     bytes.extend_from_slice(field)
-}
-
-/// Appends what stands before the field at this place.
-fn put_separator(bytes: &mut Vec<u8>, at: usize) -> Result<(), AllocError>
-    ensures { OnOk result (bytes.new.items ≡ bytes.old.items ++ next_sep default_writer at) }
-{
-    if at == 0 {
-        return Ok(());
-    }
-    bytes.push(b',')?;
-    Ok(())
-}
-
-/// Appends the text of a record of two fields or more.
-pub(crate) fn put_record(bytes: &mut Vec<u8>, row: &ByteRecord) -> Result<(), AllocError>
-    requires { 1 < length (fields_of row.now) }
-    ensures { OnOk result (bytes.new.items
-        ≡ bytes.old.items ++ row_text default_writer (fields_of row.now)) }
-{
-    'fields: for at in 0..row.len() {
-        let Some(field) = row.get(at) else {
-            unreachable!();
-        };
-        put_separator(bytes, at)?;
-        put_field(bytes, field)?;
-    }
-    bytes.push(b'\n')?;
-    Ok(())
 }

@@ -1,29 +1,29 @@
-//! A part of the report that is being written, line by line and word by word, in its form. Text goes
-//! straight into the bytes; the fields of a record are gathered until it ends, since a record has
-//! thirteen of them and the name is the last. Where memory is refused, a part may have been appended.
+//! A part of the report that is being written, line by line and word by word, in its form. Each word goes straight into the
+//! bytes. Of a record it is counted how many words more it takes before its name, so that the name of each is its thirteenth
+//! field. Where memory is refused, a part may have been appended.
 
-ghost use Rattle.std.specs.Prelude.{◌≡◌, ◌-◌, [], ◌∷◌, ◌++◌, false, codes, length, replicate, OnOk, OnErr};
-ghost use Rattle.csv.specs.Writing.{default_writer, row_text};
-ghost use Rattle.report_sheet.specs.Lines.{thirteen};
-ghost use Rattle.report_sheet.specs.Sheets.{nothing_in, with_end, with_name, with_words};
+ghost use Rattle.std.specs.Prelude.{◌≡◌, ◌-◌, [], ◌∷◌, ◌++◌, replicate, OnOk, OnErr};
+ghost use Rattle.report_sheet.specs.Sheets.{before_word, nothing_in, separator, with_end, with_name, with_newline, with_words, word_text};
 
 use crate::form::Form;
-use crate::records::put_record;
+use crate::records::put_field;
 use card_sets::Memory;
-use csv::ByteRecord;
 use std::alloc::{AllocError, Global};
 use std::marker::Model;
 
-/// The fields of a record.
-const FIELDS: usize = 13;
+/// How many words a record takes before its name.
+const WORDS: usize = 12;
 
 /// Lines of the report, and the words so far of the next one.
 #[derive(Drop)]
 pub struct Sheet {
     form: Form,
+    /// The bytes of the lines so far, and of the next line's words so far.
     bytes: Vec<u8>,
+    /// Whether the next line has a word.
     begun: bool,
-    fields: Fields,
+    /// How many words more a record takes before its name.
+    left: usize,
 }
 
 impl Model for Sheet {
@@ -35,82 +35,37 @@ impl Model for Sheet {
       form = s.form;
       bytes = s.bytes.items;
       begun = s.begun;
-      fields = s.fields;
+      left = s.left;
     } };
 }
 
-/// The fields of a record so far. Clauses see the list of them.
-#[derive(Drop)]
-struct Fields {
-    row: ByteRecord,
+/// What stands between two words.
+fn separator(form: Form) -> u8
+    ensures { result ∷ [] ≡ separator form }
+{
+    match form {
+        Form::Text => b' ',
+        Form::Csv => b',',
+    }
 }
 
-impl Model for Fields {
-    ghost use Rattle.std.specs.Prelude.{◌≡◌, ℕ, List, []};
-    ghost use Rattle.csv.specs.Records.{fields_of, partial_of};
-
-    ghost Value = { List (List ℕ) };
-
-    ghost view = { λ f. fields_of f.row };
-
-    ghost invariant = { λ f. partial_of f.row ≡ [] };
+/// Appends what stands before a word.
+fn put_separator(bytes: &mut Vec<u8>, form: Form, begun: bool) -> Result<(), AllocError>
+    ensures { OnOk result (bytes.new.items ≡ bytes.old.items ++ before_word form begun) }
+{
+    if begun {
+        bytes.push(separator(form))?;
+    }
+    Ok(())
 }
 
-impl Fields {
-    /// No field.
-    fn none(alloc: Global) -> Fields
-        ensures { result ≡ [] }
-    {
-        Fields {
-            row: ByteRecord::new(alloc),
-        }
-    }
-
-    /// No field any more.
-    fn clear(&mut self)
-        ensures { self.new ≡ [] }
-    {
-        self.row.clear();
-    }
-
-    /// One field more. Out of memory there is no field left.
-    fn push(&mut self, field: &[u8]) -> Result<(), AllocError>
-        ensures { OnOk result (self.new ≡ self.old ++ field.now ∷ []) }
-    {
-        match self.row.push_field(field) {
-            Ok(()) => Ok(()),
-            Err(error) => {
-                self.row.clear();
-                Err(error)
-            }
-        }
-    }
-
-    /// How many fields there are.
-    fn count(&self) -> usize
-        ensures { result ≡ length self.now }
-    {
-        self.row.len()
-    }
-
-    /// Empty fields up to the last of a record.
-    fn pad(&mut self) -> Result<(), AllocError>
-        ensures { OnOk result (self.new ≡ self.old ++ replicate (12 - length self.old) []) }
-    {
-        'padding: while self.count() < FIELDS - 1 {
-            self.push(b"")?;
-        }
-        Ok(())
-    }
-
-    /// Appends the text of a record of thirteen fields, the last of which is a name.
-    fn put_with_name(&mut self, bytes: &mut Vec<u8>, name: &[u8]) -> Result<(), AllocError>
-        ensures { OnOk result (bytes.new.items
-            ≡ bytes.old.items ++ row_text default_writer (thirteen self.old name.now)) }
-    {
-        self.pad()?;
-        self.push(name)?;
-        put_record(bytes, &self.row)
+/// Appends a word.
+fn put_word(bytes: &mut Vec<u8>, form: Form, word: &[u8]) -> Result<(), AllocError>
+    ensures { OnOk result (bytes.new.items ≡ bytes.old.items ++ word_text form word.now) }
+{
+    match form {
+        Form::Text => bytes.extend_from_slice(word),
+        Form::Csv => put_field(bytes, word),
     }
 }
 
@@ -123,18 +78,18 @@ impl Sheet {
             form,
             bytes: Vec::new(alloc),
             begun: false,
-            fields: Fields::none(alloc),
+            left: WORDS,
         }
     }
 
-    /// The bytes of its lines.
+    /// The bytes of its lines, and of the words so far of the next.
     pub fn bytes(&self) -> &[u8]
         ensures { result.now ≡ self.now.bytes }
     {
         &self.bytes
     }
 
-    /// Appends its lines. Out of memory it leaves `out` as it was.
+    /// Appends its bytes. Out of memory it leaves `out` as it was.
     pub fn append_to(&self, out: &mut Vec<u8>) -> Result<(), Memory>
         ensures block { OnOk result (out.new.items ≡ out.old.items ++ self.now.bytes) }
         ensures memory { OnErr result (out.new.items ≡ out.old.items) }
@@ -148,39 +103,43 @@ impl Sheet {
     pub fn word(&mut self, word: &[u8]) -> Result<(), AllocError>
         ensures { OnOk result (self.new ≡ with_words self.old (word.now ∷ [])) }
     {
-        match self.form {
-            Form::Text => {
-                if self.begun {
-                    self.bytes.extend_from_slice(b" ")?;
-                }
-                self.bytes.extend_from_slice(word)?;
-                self.begun = true;
-                Ok(())
-            }
-            Form::Csv => self.fields.push(word),
-        }
-    }
-
-    /// The fields so far become a record, with a name as the last.
-    fn end_record(&mut self, name: &[u8]) -> Result<(), AllocError>
-        ensures { OnOk result (self.new ≡ record self.old {
-          bytes = self.old.bytes ++ row_text default_writer (thirteen self.old.fields name.now);
-          fields = [];
-        }) }
-    {
-        self.fields.put_with_name(&mut self.bytes, name)?;
-        self.fields.clear();
+        put_separator(&mut self.bytes, self.form, self.begun)?;
+        put_word(&mut self.bytes, self.form, word)?;
+        self.begun = true;
+        self.left = self.left.saturating_sub(1);
         Ok(())
     }
 
-    /// The words so far become a line of text.
-    fn end_text(&mut self) -> Result<(), AllocError>
-        ensures { OnOk result (self.new
-            ≡ record self.old { bytes = self.old.bytes ++ codes "\n"; begun = false }) }
+    /// A newline ends the line.
+    fn newline(&mut self) -> Result<(), AllocError>
+        ensures { OnOk result (self.new ≡ with_newline self.old) }
     {
-        self.bytes.extend_from_slice(b"\n")?;
+        self.bytes.push(b'\n')?;
         self.begun = false;
+        self.left = WORDS;
         Ok(())
+    }
+
+    /// Empty words, as many as a record takes before its name.
+    #[tactic(auto, unfolding(crate::specs::Sheets::with_words))]
+    fn pad(&mut self) -> Result<(), AllocError>
+        ensures { OnOk result (self.new ≡ with_words self.old (replicate self.old.left [])) }
+    {
+        'padding: while self.left > 0 {
+            self.word(b"")?;
+        }
+        Ok(())
+    }
+
+    /// The words so far become a record, with a name as the last.
+    #[tactic(auto, using(crate::proofs::CallerLemmas::word_steps))]
+    fn end_record(&mut self, name: &[u8]) -> Result<(), AllocError>
+        ensures { OnOk result (self.new
+            ≡ with_newline (with_words self.old (replicate self.old.left [] ++ name.now ∷ []))) }
+    {
+        self.pad()?;
+        self.word(name)?;
+        self.newline()
     }
 
     /// The line ends.
@@ -189,21 +148,27 @@ impl Sheet {
         ensures { OnOk result (self.new ≡ with_end self.old) }
     {
         match self.form {
-            Form::Text => self.end_text(),
+            Form::Text => self.newline(),
             Form::Csv => self.end_record(b""),
         }
     }
 
+    /// The words so far become a line of text, with a name as the last.
+    fn end_text(&mut self, name: &[u8]) -> Result<(), AllocError>
+        ensures { OnOk result (self.new
+            ≡ with_newline (with_words self.old (name.now ∷ []))) }
+    {
+        self.word(name)?;
+        self.newline()
+    }
+
     /// A name stands last, and the line ends.
-    #[tactic(auto, unfolding(crate::specs::Sheets::with_name, crate::specs::Sheets::with_words))]
+    #[tactic(auto, unfolding(crate::specs::Sheets::with_name))]
     pub fn end_with(&mut self, name: &[u8]) -> Result<(), AllocError>
         ensures { OnOk result (self.new ≡ with_name self.old name.now) }
     {
         match self.form {
-            Form::Text => {
-                self.word(name)?;
-                self.end_text()
-            }
+            Form::Text => self.end_text(name),
             Form::Csv => self.end_record(name),
         }
     }

@@ -1,9 +1,3 @@
-pub use Rattle.card_sets.specs.State
-pub use Rattle.share_fractions.specs.Round
-pub use Rattle.showdown_tally.specs.Showdown
-pub use Rattle.showdown_tally.specs.Tallies
-pub use Rattle.runout_ranges.specs.Jobs
-pub use Rattle.hand_events.specs.Names
 pub use Rattle.report_sheet.specs.Lines
 pub use Rattle.report_sheet.specs.SpotLines
 pub use Rattle.even_luck.specs.Equities
@@ -25,3 +19,9 @@ pub use Rattle.player_totals.specs.Balance
 pub use Rattle.player_totals.specs.BalanceSeen
 pub use Rattle.player_totals.specs.Made
 pub use Rattle.player_totals.specs.MadeSeen
+pub use Rattle.card_sets.specs.State
+pub use Rattle.hand_events.specs.Names
+pub use Rattle.runout_ranges.specs.Jobs
+pub use Rattle.share_fractions.specs.Round
+pub use Rattle.showdown_tally.specs.Showdown
+pub use Rattle.showdown_tally.specs.Tallies

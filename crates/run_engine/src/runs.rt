@@ -5,7 +5,7 @@ ghost use Rattle.card_sets.specs.State.{state_of};
 ghost use Rattle.showdown_tally.specs.Deals.{deal_of};
 ghost use Rattle.showdown_tally.specs.Tallies.{Counts, runouts_after};
 ghost use Rattle.command_words.specs.Command.{command};
-ghost use Rattle.run_loop.specs.Headline.{IsRun};
+ghost use Rattle.run_loop.specs.Headline.{IsRun, ends_of};
 ghost use Rattle.run_loop.specs.Order.{IsInOrder};
 
 use crate::alone::Alone;
@@ -31,18 +31,8 @@ pub fn run_alone<S: Source, K: Sink>(
     sink: &mut K,
 ) -> u8
     ensures told { IsRun INPUT_MAX (command (map string_bytes words.now)) result
-        (record {
-          left = S.left source.old;
-          read_faults = S.faults source.old;
-          taken = K.taken sink.old;
-          write_faults = K.faults sink.old;
-        })
-        (record {
-          left = S.left source.new;
-          read_faults = S.faults source.new;
-          taken = K.taken sink.new;
-          write_faults = K.faults sink.new;
-        }) }
+        (ends_of S.left S.faults K.taken K.faults source.old sink.old)
+        (ends_of S.left S.faults K.taken K.faults source.new sink.new) }
     ensures order { IsInOrder S.reads K.writes INPUT_MAX (command (map string_bytes words.now)) result
         source.old sink.old source.new sink.new }
 {
@@ -62,18 +52,8 @@ pub fn run<R: Threads + Wait + Sync, S: Source, K: Sink, G: Gate + Sync>(
     gate: &G,
 ) -> u8
     ensures told { IsRun INPUT_MAX (command (map string_bytes words.now)) result
-        (record {
-          left = S.left source.old;
-          read_faults = S.faults source.old;
-          taken = K.taken sink.old;
-          write_faults = K.faults sink.old;
-        })
-        (record {
-          left = S.left source.new;
-          read_faults = S.faults source.new;
-          taken = K.taken sink.new;
-          write_faults = K.faults sink.new;
-        }) }
+        (ends_of S.left S.faults K.taken K.faults source.old sink.old)
+        (ends_of S.left S.faults K.taken K.faults source.new sink.new) }
     ensures order { IsInOrder S.reads K.writes INPUT_MAX (command (map string_bytes words.now)) result
         source.old sink.old source.new sink.new }
 {

@@ -6,7 +6,7 @@ use Rattle.std.proofs.lemmas.List.{take_all}
 use Rattle.std.proofs.Math.Seq.{take-append_seam}
 use Rattle.byte_ends.specs.Ends.{CountsFault, GivesFirst, Rises, TakesMore, WritesAll, WritesFront}
 use Rattle.command_words.specs.Command.{reads_input}
-use Rattle.run_loop.specs.Headline.{Ends, IsMemoryShort, IsRun, written_status}
+use Rattle.run_loop.specs.Headline.{Ends, IsMemoryShort, IsRun, written_status, ends_of}
 use Rattle.run_loop.specs.Laws.{has_blocks}
 use Rattle.run_loop.specs.Order.{Comes, Event, Follows, FollowsUsage, IsBefore, IsInOrder, Went, begun, due, with_read}
 use Rattle.run_loop.specs.Order.Event.{Reading, Writing}
@@ -141,10 +141,6 @@ record StandsSo (limit : ℕ) (asked : Command) (old now : Ends) (ending : Endin
   pub quiet : IsQuiet asked ending wrote
   pub written : WritesAll old.taken now.taken wrote
   pub calm : now.write_faults ≡ old.write_faults
-
--- what the ends of a run tell
-abbrev pub ends_of : {S K : Type 0} → (S → Option (List ℕ)) → (S → ℕ) → (K → Option (List ℕ)) → (K → ℕ) → S → K → Ends
-ends_of left faults taken bad s k = record { left = left s; read_faults = faults s; taken = taken k; write_faults = bad k }
 
 -- one read and one write do to what is told what they do at any end
 abbrev pub ReadsTell : {S : Type 0} → (S → S → Option (List ℕ) → Type 0) → (S → Option (List ℕ)) → (S → ℕ) → Type 0

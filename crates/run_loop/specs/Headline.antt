@@ -19,6 +19,15 @@ pub record Ends : Type 0 where
   pub taken : Option (List ℕ)
   pub write_faults : ℕ
 
+-- what a source and a sink tell of that
+abbrev pub ends_of : {S K : Type 0} → (S → Option (List ℕ)) → (S → ℕ) → (K → Option (List ℕ)) → (K → ℕ) → S → K → Ends
+ends_of left read_faults taken write_faults source sink = record {
+  left = left source;
+  read_faults = read_faults source;
+  taken = taken sink;
+  write_faults = write_faults sink;
+}
+
 -- neither count of faults rose
 pub record IsFaultless (old new : Ends) : Type 0 where
   pub read : ¬ Rises old.read_faults new.read_faults

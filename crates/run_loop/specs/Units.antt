@@ -6,7 +6,7 @@ use Rattle.hand_cuts.specs.declared.units.CutKind.{CutKind}
 use Rattle.hand_cuts.specs.declared.units.CutKind.TheVariants.{Hands, Lines}
 use Rattle.hand_cuts.specs.declared.units.Unit.{Unit as UnitPlace}
 use Rattle.command_words.specs.declared.command.Mode.{Mode}
-use Rattle.command_words.specs.declared.command.Mode.TheVariants.{Spots, Ranges, Check, Audit, Streets, Results, Settle, Totals, Balance, Made}
+use Rattle.command_words.specs.declared.command.Mode.TheVariants.{Spots, Ranges}
 use Rattle.run_loop.specs.declared.reading.Ending.{Ending}
 use Rattle.run_loop.specs.declared.reading.Ending.TheVariants.{Whole, Failed, TooLong, Open}
 use Rattle.run_loop.specs.declared.reading.Input.{Input}
@@ -15,14 +15,7 @@ use Rattle.run_loop.specs.declared.reading.Input.{Input}
 abbrev pub unit_kind : Mode → CutKind
 unit_kind Spots = Lines
 unit_kind Ranges = Lines
-unit_kind Check = Hands
-unit_kind Audit = Hands
-unit_kind Streets = Hands
-unit_kind Results = Hands
-unit_kind Settle = Hands
-unit_kind Totals = Hands
-unit_kind Balance = Hands
-unit_kind Made = Hands
+unit_kind _ = Hands
 
 -- whether the reading came to the end of the input
 abbrev pub is_whole : Ending → Bool

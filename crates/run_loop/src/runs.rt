@@ -2,7 +2,7 @@
 
 ghost use Rattle.std.specs.Prelude.{◌≡◌, ◌≤◌, [], ℕ, Result, Some, false, true, map, string_bytes};
 ghost use Rattle.command_words.specs.Command.{command, reads_input};
-ghost use Rattle.run_loop.specs.Headline.{IsRun, written_status};
+ghost use Rattle.run_loop.specs.Headline.{IsRun, ends_of, written_status};
 ghost use Rattle.run_loop.specs.Order.{IsInOrder};
 ghost use Rattle.run_loop.specs.Report.{report, rejects};
 ghost use Rattle.run_loop.specs.Reporting.{WritesMade, WritesUsage, told_status};
@@ -36,18 +36,8 @@ pub fn run_with<C: Counter, S: Source, K: Sink>(
 ) -> u8
     requires ready { C.ready }
     ensures told { IsRun INPUT_MAX (command (map string_bytes words.now)) result
-        (record {
-          left = S.left source.old;
-          read_faults = S.faults source.old;
-          taken = K.taken sink.old;
-          write_faults = K.faults sink.old;
-        })
-        (record {
-          left = S.left source.new;
-          read_faults = S.faults source.new;
-          taken = K.taken sink.new;
-          write_faults = K.faults sink.new;
-        }) }
+        (ends_of S.left S.faults K.taken K.faults source.old sink.old)
+        (ends_of S.left S.faults K.taken K.faults source.new sink.new) }
     ensures order { IsInOrder S.reads K.writes INPUT_MAX (command (map string_bytes words.now)) result
         source.old sink.old source.new sink.new }
 {

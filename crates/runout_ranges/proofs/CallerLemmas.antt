@@ -5,7 +5,7 @@ pub use Rattle.runout_ranges.proofs.NextChoice.{choose_within, choose_length}
 -- Sets of cards as lists: what is left of one, a place in one, and two joined.
 pub use Rattle.runout_ranges.proofs.CardLists.{minus_left}
 -- The first way to fill slots, and the way after one.
-pub use Rattle.runout_ranges.proofs.FilledSlots.{first_part, left_length}
+pub use Rattle.runout_ranges.proofs.FilledSlots.{first_part, left_length, other_left}
 -- One slot of a shape, then the slots after it.
 pub use Rattle.runout_ranges.proofs.SlotSteps.{as_many}
 -- Binomials, and how long the listing is.

@@ -33,15 +33,16 @@ begins_runouts unseen n counts r enough b =
           ∙ ap (λ l. map (λ rest. take n unseen ∷ rest) l ++ flat_map (λ first. map (λ rest. first ∷ rest) (runouts (left_by unseen first) counts)) f.0) b.1,
     )
 
-same_tests : (c : ℕ) (cs r : List ℕ) → has_card cs c ≡ false → left_by cs (c ∷ r) ≡ left_by cs r
-same_tests c [] r out = refl
-same_tests c (x ∷ cs) r out = elim (cases_eq x c) [
+-- a card that isn't there doesn't matter
+pub other_left : (c : ℕ) (cs r : List ℕ) → has_card cs c ≡ false → left_by cs (c ∷ r) ≡ left_by cs r
+other_left c [] r out = refl
+other_left c (x ∷ cs) r out = elim (cases_eq x c) [
   | inl e ↦ let t : (x == c) ≡ true = grind arith in absurd (true≢false (sym (ap (λ b. b || has_card cs c) t) ∙ out))
   | inr ne ↦
       let f : (x == c) ≡ false = grind arith in
       let g : (c == x) ≡ false = grind arith in
       let later : has_card cs c ≡ false = rw f at out in
-      rw g (ap (λ l. cond (not (has_card r x)) (x ∷ l) l) (same_tests c cs r later))
+      rw g (ap (λ l. cond (not (has_card r x)) (x ∷ l) l) (other_left c cs r later))
 ]
 
 -- a choice leaves the other cards
@@ -60,7 +61,7 @@ left_length low (suc n) (c ∷ cs) at front back r e =
     elim (place_choice n c cs at front back e) [
       | inl p ↦
           let ih : length (left_by cs p.0) + n ≡ length cs = left_length (c + 1) n cs p.0 p.1 p.2 r.2 p.4 in
-          let here : left_by (c ∷ cs) (c ∷ p.0) ≡ left_by cs p.0 = rw is (same_tests c cs p.0 out) in
+          let here : left_by (c ∷ cs) (c ∷ p.0) ≡ left_by cs p.0 = rw is (other_left c cs p.0 out) in
           let whole : length (left_by (c ∷ cs) at) ≡ length (left_by cs p.0) = ap (λ l. length (left_by (c ∷ cs) l)) p.3 ∙ ap length here in
           omega arith
       | inr p ↦

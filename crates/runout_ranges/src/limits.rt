@@ -4,7 +4,7 @@
 pub const RUNOUT_MAX: u64 = 200_000_000;
 
 /// Why an equity isn't counted.
-#[derive(Clone, Copy, Debug, PartialEq, Eq)]
+#[derive(Clone, Copy, PartialEq, Eq)]
 pub enum JobFault {
     /// Fewer cards may come than the board and the hands lack.
     DeckShort,

@@ -6,7 +6,7 @@ ghost use Rattle.runout_ranges.specs.Slots.{counts_of};
 use card_sets::CardSet;
 
 /// Who gets cards: the board, or a hand, from 0.
-#[derive(Clone, Copy, Debug, PartialEq, Eq)]
+#[derive(Clone, Copy, PartialEq, Eq)]
 pub enum Receiver {
     /// The board.
     Board,
@@ -15,7 +15,7 @@ pub enum Receiver {
 }
 
 /// So many cards to come for a receiver.
-#[derive(Clone, Copy, Debug, PartialEq, Eq)]
+#[derive(Clone, Copy, PartialEq, Eq)]
 pub struct Slot {
     /// Whose cards they are.
     pub receiver: Receiver,

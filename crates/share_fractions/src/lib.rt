@@ -22,7 +22,7 @@ use put::{put_byte, put_bytes};
 pub const LONGEST_TEXT: usize = 44;
 
 /// A number as a count of units of its last decimal place: 9545 with 2 places is 95.45.
-#[derive(Clone, Copy, Debug, PartialEq, Eq)]
+#[derive(Clone, Copy)]
 pub struct Fixed {
     /// The number, in units of its last place.
     pub whole: u128,

@@ -3,7 +3,7 @@
 use card_sets::Card;
 
 /// Why a spot line is refused. They are tested in this order over the whole line.
-#[derive(Clone, Copy, Debug, PartialEq, Eq, Drop)]
+#[derive(Clone, Copy, PartialEq, Eq, Drop)]
 pub enum SpotFault {
     /// The first word is no game word, or there is no word.
     UnknownWord,

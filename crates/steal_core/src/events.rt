@@ -1,7 +1,7 @@
 //! What may happen.
 
 /// One move of one worker. Workers and blocks are numbers from 0.
-#[derive(Clone, Copy, Debug, PartialEq, Eq)]
+#[derive(Clone, Copy, PartialEq, Eq)]
 pub enum CoreEvent {
     /// A block goes to the back of the worker's queue.
     Push { worker: u32, block: u32 },
@@ -14,7 +14,7 @@ pub enum CoreEvent {
 }
 
 /// What became of an event.
-#[derive(Clone, Copy, Debug, PartialEq, Eq)]
+#[derive(Clone, Copy, PartialEq, Eq)]
 pub enum Stepped {
     /// It happened.
     Done,

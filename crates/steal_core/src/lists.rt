@@ -21,18 +21,18 @@ impl Model for Blocks {
 }
 
 impl Blocks {
-    /// Of these.
-    pub fn of(items: Vec<u32>) -> Blocks
-        ensures { result ≡ items.items }
-    {
-        Blocks { items }
-    }
-
     /// The blocks.
     pub fn items(&self) -> &[u32]
         ensures { result.now ≡ self.now }
     {
         self.items.as_slice()
+    }
+
+    /// Of these.
+    pub fn of(items: Vec<u32>) -> Blocks
+        ensures { result ≡ items.items }
+    {
+        Blocks { items }
     }
 
     /// Whether there is none.
@@ -88,18 +88,18 @@ impl Model for Queues {
 }
 
 impl Queues {
-    /// Of these.
-    pub fn of(items: Vec<Blocks>) -> Queues
-        ensures { result ≡ items.items }
-    {
-        Queues { items }
-    }
-
     /// The queues.
     pub fn items(&self) -> &[Blocks]
         ensures { result.now ≡ self.now }
     {
         self.items.as_slice()
+    }
+
+    /// Of these.
+    pub fn of(items: Vec<Blocks>) -> Queues
+        ensures { result ≡ items.items }
+    {
+        Queues { items }
     }
 
     /// Whether a worker's queue is empty.
@@ -161,18 +161,18 @@ impl Model for Hands {
 }
 
 impl Hands {
-    /// Of these.
-    pub fn of(items: Vec<Option<u32>>) -> Hands
-        ensures { result ≡ items.items }
-    {
-        Hands { items }
-    }
-
     /// The hands.
     pub fn items(&self) -> &[Option<u32>]
         ensures { result.now ≡ self.now }
     {
         self.items.as_slice()
+    }
+
+    /// Of these.
+    pub fn of(items: Vec<Option<u32>>) -> Hands
+        ensures { result ≡ items.items }
+    {
+        Hands { items }
     }
 
     /// What a worker holds.

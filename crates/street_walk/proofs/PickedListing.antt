@@ -1,14 +1,13 @@
 -- The sums by picked cards are the sums over the listing of runouts.
-use Rattle.std.proofs.Common.{◌≡◌, ℕ, zero, suc, ◌+◌, ◌*◌, List, [], ◌∷◌, ◌++◌, map, refl, sym, ap, ◌∙◌, inl, inr, arith, true, false, cond, ◌||◌, ◌==◌, not}
+use Rattle.std.proofs.Common.{◌≡◌, ℕ, zero, suc, ◌+◌, ◌*◌, List, [], ◌∷◌, ◌++◌, map, refl, sym, ap, ◌∙◌, arith, true, false, ◌==◌}
 use Rattle.std.specs.List.{sum_by, flat_map}
-use Rattle.std.proofs.lemmas.Bool.{cases_eq}
 use Rattle.std.proofs.lemmas.List.Sums.{sum_by-cons, sum_by-append}
 use mathlib.Core.Bool.{true≢false}
 use Rattle.card_sets.specs.Cards.{has_card, IsRising, RisingFrom}
 use Rattle.card_sets.specs.Choose.{choose}
 use Rattle.card_sets.specs.Rising.{has_card-low}
 use Rattle.runout_ranges.specs.Runouts.{runouts, left_by}
-use Rattle.runout_ranges.proofs.CallerLemmas.{choose_within, rising_left}
+use Rattle.runout_ranges.proofs.CallerLemmas.{choose_within, other_left, rising_left}
 use Rattle.street_walk.proofs.Picks.{picks, deals, joined, now_of, later_of, whole_of, divided, ByAllCards, streets}
 
 -- two sums of the same numbers, of members only
@@ -30,18 +29,6 @@ sum_flat g f (x ∷ xs) = sum_by-append f (g x) (flat_map g xs) ∙ ap (λ n. su
 pub left_none : (cards : List ℕ) → left_by cards [] ≡ cards
 left_none [] = refl
 left_none (x ∷ cards) = ap (λ l. x ∷ l) (left_none cards)
-
--- a card that isn't there doesn't matter
-other_left : (x : ℕ) (cards taken : List ℕ) → has_card cards x ≡ false → left_by cards (x ∷ taken) ≡ left_by cards taken
-other_left x [] taken out = refl
-other_left x (y ∷ cards) taken out = elim (cases_eq y x) [
-  | inl e ↦ let t : (y == x) ≡ true = grind arith in absurd (true≢false (sym (ap (λ b. b || has_card cards x) t) ∙ out))
-  | inr ne ↦
-      let f : (y == x) ≡ false = grind arith in
-      let g : (x == y) ≡ false = grind arith in
-      let later : has_card cards x ≡ false = rw f at out in
-      rw g (ap (λ l. cond (not (has_card taken y)) (y ∷ l) l) (other_left x cards taken later))
-]
 
 -- picks are choices
 pub picks_listed : (n low : ℕ) (cards : List ℕ) (f : List ℕ → List ℕ → ℕ) → RisingFrom low cards → picks n cards f ≡ sum_by (λ c. f c (left_by cards c)) (choose n cards)

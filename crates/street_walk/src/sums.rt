@@ -22,7 +22,7 @@ use std::sync::ledger::Ledger;
 use step_count::Steps;
 
 /// Why a street isn't summed up.
-#[derive(Clone, Copy, Debug, PartialEq, Eq)]
+#[derive(Clone, Copy, PartialEq, Eq)]
 pub enum StreetFault {
     /// Fewer cards may come than the board and the hands lack.
     DeckShort,

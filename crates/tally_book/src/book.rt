@@ -38,7 +38,7 @@ impl<N: Naming> Model for Book<N> {
 }
 
 /// What became of a post.
-#[derive(Clone, Copy, Debug, PartialEq, Eq)]
+#[derive(Clone, Copy, PartialEq, Eq)]
 pub enum Posted {
     /// The block wasn't marked, and is now counted.
     Fresh,

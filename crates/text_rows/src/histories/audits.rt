@@ -111,20 +111,23 @@ fn settlement(alloc: Global, bytes: &[u8]) -> Option<Settlement> {
     }
 }
 
+/// Whether a seat alone is paid, and got all that is due to it: so much.
+fn is_all_paid_to(paid: &[Payment], winner: u8, gross: u64) -> bool {
+    match paid {
+        [only] => only.seat == winner && only.got == gross && only.due == gross,
+        _ => false,
+    }
+}
+
 /// Whether a pot holds so much, for these seats, and it is known who wins, and a seat has all of it.
 fn is_pot(settlement: &Settlement, number: usize, gross: u64, eligible: u16, winner: u8) -> bool {
-    let paid = [Payment {
-        seat: winner,
-        got: gross,
-        due: gross,
-    }];
     match settlement.pots.items().get(number) {
         Some(pot) => {
             pot.gross == gross
                 && pot.rake == 0
                 && pot.eligible == eligible
                 && pot.checked
-                && pot.paid.items() == &paid[..]
+                && is_all_paid_to(pot.paid.items(), winner, gross)
         }
         None => false,
     }

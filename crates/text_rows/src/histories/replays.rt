@@ -70,18 +70,16 @@ fn seat_fits(e: &Event) -> bool
     ensures { IsTrue result → SeatFits e.now }
 {
     match *e {
+        Event::Button { seat } | Event::Muck { seat } | Event::Pat { seat } => is_seat(seat),
         Event::Seat { seat, .. }
-        | Event::Button { seat }
         | Event::Post { seat, .. }
         | Event::Deal { seat, .. }
         | Event::Act { seat, .. }
         | Event::Uncalled { seat, .. }
         | Event::Collect { seat, .. }
         | Event::Show { seat, .. }
-        | Event::Muck { seat }
         | Event::SeatCards { seat, .. }
-        | Event::Discard { seat, .. }
-        | Event::Pat { seat } => is_seat(seat),
+        | Event::Discard { seat, .. } => is_seat(seat),
         Event::Street { .. } | Event::Total { .. } | Event::Remark => true,
     }
 }

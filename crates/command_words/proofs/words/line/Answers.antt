@@ -17,8 +17,5 @@ returns c =
     ap app_of_fields (c.disable_help_flag-bare.ensures ∙ ap (λ (f : Command-F Command). record f { disable_help_flag = true }) c.no_binary_name.ensures)
     ∙ ap (on_top (λ s. record s { no_binary_name = true; disable_help_flag = true })) c.new-2.ensures.app in
     let mode_is : rule_of c.action-mode.result ≡ mode_rule = search rules in
-    let first = c.in-Ok.ensures.shape (search rules) ∙ ap₂ with_rule bare_is mode_is in
-    let second = c.in-Ok-arg.ensures.shape c.option.ensures.local ∙ ap₂ with_rule first c.option.ensures.rule in
-    let third = c.in-Ok-arg-2.ensures.shape c.option-2.ensures.local ∙ ap₂ with_rule second c.option-2.ensures.rule in
-    let fourth = c.in-Ok-arg-3.ensures.shape c.option-3.ensures.local ∙ ap₂ with_rule third c.option-3.ensures.rule in
-    IfOk-weaker c.arg-5.result _ _ (λ l h. h.shape c.option-4.ensures.local ∙ ap₂ with_rule fourth c.option-4.ensures.rule) c.arg-5.ensures
+    let first = IfOk-weaker c.arg-line.result _ _ (λ line added. added.shape (search rules) ∙ ap₂ with_rule bare_is mode_is) c.arg-line.ensures in
+    c.with_option.ensures _ (c.with_option-line-3.ensures _ (c.with_option-line-2.ensures _ (c.with_option-line.ensures _ first)))

@@ -1,8 +1,8 @@
 //! Reads that fail at any place, in each mode and form: what was closed by then is reported, and nothing else.
 
-use crate::checks::SIDE_POTS_REPORT;
-use crate::forms::{line_count, told};
 use crate::histories::{CUT_AND_WHOLE, Hand, TWICE_REPORT};
+use crate::reports::checks::SIDE_POTS_REPORT;
+use crate::reports::forms::{line_count, told};
 use crate::runs::{AMPLE, Edges, Part, did, front, input_of, joined, run_by_workers};
 use std::alloc::Global;
 use std::process::Abort;

@@ -1,10 +1,10 @@
 //! Hands, spots and ranges that are cut off at any byte, in each mode and form, at once and in pieces.
 
-use crate::faults::SPOT;
-use crate::forms::{
+use crate::ends::faults::SPOT;
+use crate::histories::{Hand, TWICE_REPORT};
+use crate::reports::forms::{
     ACCEPTED_SUMS, NO_SUMS, REJECTED_SUMS, Verdict, goes_so, line_count, mode_tells,
 };
-use crate::histories::{Hand, TWICE_REPORT};
 use crate::runs::{AMPLE, LAST, Part, Ran, front, holds, input_of, run};
 use std::alloc::{AllocError, Global};
 use std::process::Abort;

@@ -1,7 +1,7 @@
 //! Inputs that come in pieces.
 
-use crate::forms::goes_so;
 use crate::histories::{CUT_AND_WHOLE, Hand};
+use crate::reports::forms::goes_so;
 use crate::runs::{AMPLE, Edges, Part, ends, holds, input_of, run};
 use std::alloc::Global;
 use std::process::Abort;

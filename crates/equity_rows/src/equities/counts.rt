@@ -2,8 +2,8 @@
 
 ghost use Rattle.std.specs.Prelude.{◌≡◌, ◌<◌};
 
-use crate::listed::spots;
-use crate::plain::count_plain;
+use crate::equities::plain::count_plain;
+use crate::reports::listed::spots;
 use card_sets::{Known, Side};
 use equity_job::{Job, Scratch, count_job};
 use report_table::table_alone;

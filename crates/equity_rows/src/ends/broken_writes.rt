@@ -1,10 +1,10 @@
 //! Writes that fail at any place, in each mode and form: what was taken is a front of the report, and nothing is read or
 //! written after it.
 
-use crate::broken_ends::{HANDS, RANGES, SPOTS, TWELVE_REPORT};
-use crate::checks::SIDE_POTS_REPORT;
-use crate::faults::SPOT;
+use crate::ends::broken_ends::{HANDS, RANGES, SPOTS, TWELVE_REPORT};
+use crate::ends::faults::SPOT;
 use crate::histories::{CUT_AND_WHOLE, Hand};
+use crate::reports::checks::SIDE_POTS_REPORT;
 use crate::runs::{
     AMPLE, Case, Edges, Part, Ran, did, each_ends, front, holds, input_of, owned, run, sink_of,
     source_of,

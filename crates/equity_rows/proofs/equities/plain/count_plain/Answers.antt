@@ -4,7 +4,7 @@ use Rattle.runout_ranges.specs.Runouts.{Begins, Follows, Ends}
 use Rattle.showdown_tally.specs.Deals.{deal_of}
 use Rattle.showdown_tally.specs.Tallies.{runouts_after}
 use Rattle.equity_rows.proofs.Walked.{of_state, Counts-none, walk_begins, walk_fits, walk_goes_on, walk_counts_all}
-use Rattle.equity_rows.proofs.plain.count_plain.Goals as goal
+use Rattle.equity_rows.proofs.equities.plain.count_plain.Goals as goal
 
 pub loop-runout-init : goal.loop-runout-init
 loop-runout-init g c =

@@ -1,7 +1,7 @@
 //! The words of the command: options in any place, each once, with values within bounds; and reports as
 //! records of CSV.
 
-use crate::faults::{REPORT, SPOT, USAGE};
+use crate::ends::faults::{REPORT, SPOT, USAGE};
 use crate::runs::{Told, each_told};
 use std::test::Fail;
 

@@ -1,8 +1,8 @@
 //! More of everything than the other tests have, so that no run ends out of memory that there is: ranges, names, digits,
 //! lines, and the bytes of a hand.
 
-use crate::checks::SIDE_POTS_REPORT;
 use crate::histories::Hand;
+use crate::reports::checks::SIDE_POTS_REPORT;
 use crate::runs::{AMPLE, Case, Edges, LAST, Part, each_ends, ends};
 use std::alloc::{AllocError, Global};
 use std::test::Fail;

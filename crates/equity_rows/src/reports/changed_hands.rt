@@ -1,9 +1,11 @@
 //! Hands that somebody changed, in each mode and form: each line dropped, doubled or exchanged with the next, many
 //! seats, odd names. The verdicts are worked out by hand.
 
-use crate::checks::SIDE_POTS_REPORT;
-use crate::forms::{ACCEPTED_SUMS, HAND_MODES, NO_SUMS, REJECTED_SUMS, Verdict, mode_tells};
 use crate::histories::{Hand, TWICE_REPORT};
+use crate::reports::checks::SIDE_POTS_REPORT;
+use crate::reports::forms::{
+    ACCEPTED_SUMS, HAND_MODES, NO_SUMS, REJECTED_SUMS, Verdict, mode_tells,
+};
 use crate::runs::{LAST, Part, input_of};
 use std::alloc::{AllocError, Global};
 use std::process::Abort;

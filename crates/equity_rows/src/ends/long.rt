@@ -3,9 +3,9 @@
 ghost use Rattle.std.specs.Prelude.{◌≤◌, None, length};
 ghost use Rattle.equity_rows.specs.Filled.{ReadsFilled, filled_tells};
 
-use crate::checks::SIDE_POTS_REPORT;
-use crate::faults::{REPORT, SPOT};
+use crate::ends::faults::{REPORT, SPOT};
 use crate::histories::Hand;
+use crate::reports::checks::SIDE_POTS_REPORT;
 use crate::runs::{AMPLE, Part, holds, input_of, owned, sink_of};
 use byte_ends::{Failed, RepeatSource, Source};
 use run_engine::{INPUT_MAX, run_alone};
