@@ -9,7 +9,6 @@ use Rattle.card_sets.specs.Games.{has_board, own_size}
 use Rattle.card_sets.specs.RankCounts.{AreCounted, counted_over, one_more}
 use Rattle.card_sets.specs.Rising.{IsCardSet-rising}
 use Rattle.card_sets.specs.declared.games.Game.{Game}
-use Rattle.card_sets.specs.declared.games.Game.TheVariants.{Holdem, Omaha, Omaha8, Stud, Stud8, Razz, Draw5, Lowball27, Triple27}
 use Rattle.card_sets.specs.declared.sets.ByRank.{ByRank}
 use Rattle.rank_high.specs.ByRanks.{HaveRanks}
 use Rattle.rank_high.specs.High.{count_of_rank, value_of}
@@ -21,7 +20,7 @@ use Rattle.board_ranks.specs.BoardWith.{AreRanksAnd, AreRanksWith, AreWorthWith,
 use Rattle.board_ranks.specs.HighParts.{plain_number}
 use Rattle.board_ranks.specs.Values.{one_of}
 use Rattle.board_ranks.proofs.HighCalls.{any_plain, together, two_own}
-use Rattle.board_ranks.proofs.HighLaws.{is_omaha, same_plain, same_low}
+use Rattle.board_ranks.proofs.HighLaws.{holdem_alone, is_omaha, same_plain, same_low}
 use Rattle.board_ranks.proofs.RankCounts.{few_of_rank, with_of_rank, length-with}
 
 pub same_one : (rank : ℕ) → one_of rank rank ≡ 1
@@ -162,15 +161,7 @@ value_of_ranks game own board full low high value ranks is not p q size three a 
 
 -- there is no low there
 no_low : (game : Game) (own full : List ℕ) → has_board game ≡ true → is_omaha game ≡ false → None ≡ low_number game own full
-no_low Holdem own full is not = refl
-no_low Omaha own full is not = absurd (true≢false not)
-no_low Omaha8 own full is not = absurd (true≢false not)
-no_low Stud own full is not = absurd (true≢false (sym is))
-no_low Stud8 own full is not = absurd (true≢false (sym is))
-no_low Razz own full is not = absurd (true≢false (sym is))
-no_low Draw5 own full is not = absurd (true≢false (sym is))
-no_low Lowball27 own full is not = absurd (true≢false (sym is))
-no_low Triple27 own full is not = absurd (true≢false (sym is))
+no_low game own full = holdem_alone (λ g. None ≡ low_number g own full) refl game
 
 pub worth_of_ranks : (game : Game) (own board : List ℕ) (low high value : ℕ) (one two : ByRank) → has_board game ≡ true → is_omaha game ≡ false → IsCardSet own → IsCardSet board → length own ≡ own_size game → length board ≡ 3 → apart own board ≡ true
     → AreRanksAnd own board low one → ((count : ℕ → ℕ) → AreCounted one count → AreCounted two (one_more high count))

@@ -1,5 +1,5 @@
 -- What the calls of a crate below find, in the words of the games with a board.
-use Rattle.std.proofs.Common.{◌≡◌, ℕ, ◌+◌, ◌<◌, ◌≤◌, List, refl, sym, ap, ◌∙◌, arith, length, inl, inr, true, false, ◌⊎◌}
+use Rattle.std.proofs.Common.{◌≡◌, ℕ, ◌+◌, ◌<◌, ◌≤◌, List, refl, ap, ◌∙◌, arith, length, inl, inr, true, false, ◌⊎◌}
 use Rattle.std.specs.Prelude.{nat_lt}
 use mathlib.Core.Bool.{true≢false}
 use Rattle.card_sets.specs.Cards.{union}
@@ -11,7 +11,7 @@ use Rattle.rank_high.specs.Parts.{best_plain, suited}
 use Rattle.card_sets.proofs.CallerLemmas.{Apart-apart, length-union}
 use Rattle.omaha_ranks.specs.Omaha.{ArePlaced}
 use Rattle.board_ranks.specs.HighParts.{high_number, plain_number, suited_number, flush_part}
-use Rattle.board_ranks.proofs.HighLaws.{is_omaha, holdem_high, holdem_plain, holdem_suited}
+use Rattle.board_ranks.proofs.HighLaws.{is_omaha, holdem_alone, holdem_high, holdem_plain, holdem_suited}
 
 -- the games in which any five make a hand, and those in which two own cards and three of the board do
 abbrev pub IsAnyFive : Game → Type 0
@@ -39,48 +39,16 @@ four_own game (inr e) = ap own_size e
 
 -- in a game with a board that isn't Omaha or Omaha Hi/Lo a player has two cards, and any five of the seven may make a hand
 pub two_own : (game : Game) → has_board game ≡ true → is_omaha game ≡ false → own_size game ≡ 2
-two_own Holdem is not = refl
-two_own Omaha is not = absurd (true≢false not)
-two_own Omaha8 is not = absurd (true≢false not)
-two_own Stud is not = absurd (true≢false (sym is))
-two_own Stud8 is not = absurd (true≢false (sym is))
-two_own Razz is not = absurd (true≢false (sym is))
-two_own Draw5 is not = absurd (true≢false (sym is))
-two_own Lowball27 is not = absurd (true≢false (sym is))
-two_own Triple27 is not = absurd (true≢false (sym is))
+two_own = holdem_alone (λ game. own_size game ≡ 2) refl
 
 pub any_plain : (game : Game) (own board : List ℕ) → has_board game ≡ true → is_omaha game ≡ false → plain_number game own board ≡ value_of (best_plain (union own board))
-any_plain Holdem own board is not = holdem_plain own board
-any_plain Omaha own board is not = absurd (true≢false not)
-any_plain Omaha8 own board is not = absurd (true≢false not)
-any_plain Stud own board is not = absurd (true≢false (sym is))
-any_plain Stud8 own board is not = absurd (true≢false (sym is))
-any_plain Razz own board is not = absurd (true≢false (sym is))
-any_plain Draw5 own board is not = absurd (true≢false (sym is))
-any_plain Lowball27 own board is not = absurd (true≢false (sym is))
-any_plain Triple27 own board is not = absurd (true≢false (sym is))
+any_plain game own board = holdem_alone (λ g. plain_number g own board ≡ value_of (best_plain (union own board))) (holdem_plain own board) game
 
 pub any_suited : (game : Game) (own board : List ℕ) (suit : ℕ) → has_board game ≡ true → is_omaha game ≡ false → ArePlaced own board → suited_number game own board suit ≡ suited (union own board) suit
-any_suited Holdem own board suit is not placed = holdem_suited own board suit placed
-any_suited Omaha own board suit is not placed = absurd (true≢false not)
-any_suited Omaha8 own board suit is not placed = absurd (true≢false not)
-any_suited Stud own board suit is not placed = absurd (true≢false (sym is))
-any_suited Stud8 own board suit is not placed = absurd (true≢false (sym is))
-any_suited Razz own board suit is not placed = absurd (true≢false (sym is))
-any_suited Draw5 own board suit is not placed = absurd (true≢false (sym is))
-any_suited Lowball27 own board suit is not placed = absurd (true≢false (sym is))
-any_suited Triple27 own board suit is not placed = absurd (true≢false (sym is))
+any_suited game own board suit is not placed = holdem_alone (λ g. suited_number g own board suit ≡ suited (union own board) suit) (holdem_suited own board suit placed) game is not
 
 pub any_high : (game : Game) (own board : List ℕ) → has_board game ≡ true → is_omaha game ≡ false → high_number game own board ≡ value_of (best_high (union own board))
-any_high Holdem own board is not = holdem_high own board
-any_high Omaha own board is not = absurd (true≢false not)
-any_high Omaha8 own board is not = absurd (true≢false not)
-any_high Stud own board is not = absurd (true≢false (sym is))
-any_high Stud8 own board is not = absurd (true≢false (sym is))
-any_high Razz own board is not = absurd (true≢false (sym is))
-any_high Draw5 own board is not = absurd (true≢false (sym is))
-any_high Lowball27 own board is not = absurd (true≢false (sym is))
-any_high Triple27 own board is not = absurd (true≢false (sym is))
+any_high game own board = holdem_alone (λ g. high_number g own board ≡ value_of (best_high (union own board))) (holdem_high own board) game
 
 -- how many own cards of a suit a flush may have
 pub any_part : (game : Game) (own : ℕ) → is_omaha game ≡ false → flush_part game own ≡ own

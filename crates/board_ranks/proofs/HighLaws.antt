@@ -11,7 +11,7 @@ use Rattle.card_sets.specs.declared.games.Game.TheVariants.{Holdem, Omaha, Omaha
 use Rattle.rank_high.specs.High.{value_of, best_high}
 use Rattle.rank_high.specs.Parts.{of_suit, count_of_suit, best_plain, suited}
 use Rattle.omaha_ranks.specs.Omaha.{ArePlaced, SameRanks, omaha_high, omaha_plain, omaha_suited}
-use Rattle.card_sets.proofs.CallerLemmas.{greatest, choose-short, union-IsCardSet, Apart-apart}
+use Rattle.card_sets.proofs.CallerLemmas.{board_games, greatest, choose-short, union-IsCardSet, Apart-apart}
 use Rattle.rank_high.proofs.CallerLemmas.{best_high-IsByRanksOrSuit, suited-short, best_high-number, number, ranks_decide as seven_decide, count-union}
 use Rattle.omaha_ranks.proofs.CallerLemmas.{few_own, few_board, low_ranks_decide, ranks_or_a_suit, ranks_decide}
 use Rattle.board_ranks.specs.BoardWith.{low_number, turned}
@@ -20,15 +20,7 @@ use Rattle.board_ranks.proofs.SuitParts.{suit_count, suit_fewer, suit_union, sui
 
 -- a game with a board has five cards on it
 pub board_is_five : (game : Game) → has_board game ≡ true → board_size game ≡ 5
-board_is_five Holdem is = refl
-board_is_five Omaha is = refl
-board_is_five Omaha8 is = refl
-board_is_five Stud is = absurd (true≢false (sym is))
-board_is_five Stud8 is = absurd (true≢false (sym is))
-board_is_five Razz is = absurd (true≢false (sym is))
-board_is_five Draw5 is = absurd (true≢false (sym is))
-board_is_five Lowball27 is = absurd (true≢false (sym is))
-board_is_five Triple27 is = absurd (true≢false (sym is))
+board_is_five = board_games (λ game. board_size game ≡ 5) refl refl refl
 
 -- the games in which two own cards and three of the board make a hand
 abbrev pub is_omaha : Game → Bool
@@ -41,6 +33,22 @@ is_omaha Razz = false
 is_omaha Draw5 = false
 is_omaha Lowball27 = false
 is_omaha Triple27 = false
+
+-- what holds of both of these holds of each of them
+omaha_games : (P : Game → Type 0) → P Omaha → P Omaha8 → (game : Game) → is_omaha game ≡ true → P game
+omaha_games P four eight Holdem is = absurd (true≢false (sym is))
+omaha_games P four eight Omaha is = four
+omaha_games P four eight Omaha8 is = eight
+omaha_games P four eight Stud is = absurd (true≢false (sym is))
+omaha_games P four eight Stud8 is = absurd (true≢false (sym is))
+omaha_games P four eight Razz is = absurd (true≢false (sym is))
+omaha_games P four eight Draw5 is = absurd (true≢false (sym is))
+omaha_games P four eight Lowball27 is = absurd (true≢false (sym is))
+omaha_games P four eight Triple27 is = absurd (true≢false (sym is))
+
+-- what holds of hold'em holds of each other game with a board
+pub holdem_alone : (P : Game → Type 0) → P Holdem → (game : Game) → has_board game ≡ true → is_omaha game ≡ false → P game
+holdem_alone P two = board_games (λ game. is_omaha game ≡ false → P game) (λ _. two) (λ not. absurd (true≢false not)) (λ not. absurd (true≢false not))
 
 -- in hold'em any five of the own cards and the board, in Omaha and Omaha Hi/Lo two and three
 pub holdem_high : (own board : List ℕ) → high_number Holdem own board ≡ value_of (best_high (union own board))
@@ -57,27 +65,11 @@ holdem_suited own board suit placed =
 
 pub omaha_high_is : (game : Game) → is_omaha game ≡ true → (own board : List ℕ) → high_number game own board ≡ value_of (omaha_high own board)
 unfolding high_number omaha_high
-omaha_high_is Omaha is own board = refl
-omaha_high_is Omaha8 is own board = refl
-omaha_high_is Holdem is own board = absurd (true≢false (sym is))
-omaha_high_is Stud is own board = absurd (true≢false (sym is))
-omaha_high_is Stud8 is own board = absurd (true≢false (sym is))
-omaha_high_is Razz is own board = absurd (true≢false (sym is))
-omaha_high_is Draw5 is own board = absurd (true≢false (sym is))
-omaha_high_is Lowball27 is own board = absurd (true≢false (sym is))
-omaha_high_is Triple27 is own board = absurd (true≢false (sym is))
+omaha_high_is game is own board = omaha_games (λ g. high_number g own board ≡ value_of (omaha_high own board)) refl refl game is
 
 pub omaha_plain_is : (game : Game) → is_omaha game ≡ true → (own board : List ℕ) → plain_number game own board ≡ value_of (omaha_plain own board)
 unfolding plain_number omaha_plain
-omaha_plain_is Omaha is own board = refl
-omaha_plain_is Omaha8 is own board = refl
-omaha_plain_is Holdem is own board = absurd (true≢false (sym is))
-omaha_plain_is Stud is own board = absurd (true≢false (sym is))
-omaha_plain_is Stud8 is own board = absurd (true≢false (sym is))
-omaha_plain_is Razz is own board = absurd (true≢false (sym is))
-omaha_plain_is Draw5 is own board = absurd (true≢false (sym is))
-omaha_plain_is Lowball27 is own board = absurd (true≢false (sym is))
-omaha_plain_is Triple27 is own board = absurd (true≢false (sym is))
+omaha_plain_is game is own board = omaha_games (λ g. plain_number g own board ≡ value_of (omaha_plain own board)) refl refl game is
 
 pub omaha_suited_is : (game : Game) → is_omaha game ≡ true → (own board : List ℕ) (suit : ℕ) → suited_number game own board suit ≡ omaha_suited own board suit
 omaha_suited_is game is own board suit = omaha_high_is game is (of_suit own suit) (of_suit board suit)

@@ -1,10 +1,10 @@
 -- The number that a low is kept as, and highs of boards that have three cards of one suit at the most.
-use Rattle.std.proofs.Common.{◌≡◌, ℕ, zero, suc, ◌<◌, List, refl, sym, ap, ◌∙◌, arith, length, max, true, Option, Some, None}
+use Rattle.std.proofs.Common.{◌≡◌, ℕ, zero, suc, ◌<◌, List, refl, ap, ◌∙◌, arith, length, max, true, Option, Some, None}
 use Rattle.std.specs.Option.{option_map}
-use mathlib.Core.Bool.{true≢false}
+use Rattle.card_sets.proofs.CallerLemmas.{board_games}
 use Rattle.card_sets.specs.Games.{has_board, own_size}
 use Rattle.card_sets.specs.declared.games.Game.{Game}
-use Rattle.card_sets.specs.declared.games.Game.TheVariants.{Holdem, Omaha, Omaha8, Stud, Stud8, Razz, Draw5, Lowball27, Triple27}
+use Rattle.card_sets.specs.declared.games.Game.TheVariants.{Omaha8}
 use Rattle.card_sets.specs.declared.games.Side.TheVariants.{Low}
 use Rattle.rank_low.specs.Low.{ace_number}
 use Rattle.omaha_ranks.specs.Omaha.{ArePlaced}
@@ -46,12 +46,4 @@ composed f h (Some x) = refl
 
 -- the number that a low is kept as
 pub low_is : (game : Game) (own board : List ℕ) → has_board game ≡ true → low_number game own board ≡ option_map (side_number Low game) (best Low game own board)
-low_is Holdem own board is = refl
-low_is Omaha own board is = refl
-low_is Omaha8 own board is = composed turned ace_number (best Low Omaha8 own board)
-low_is Stud own board is = absurd (true≢false (sym is))
-low_is Stud8 own board is = absurd (true≢false (sym is))
-low_is Razz own board is = absurd (true≢false (sym is))
-low_is Draw5 own board is = absurd (true≢false (sym is))
-low_is Lowball27 own board is = absurd (true≢false (sym is))
-low_is Triple27 own board is = absurd (true≢false (sym is))
+low_is game own board = board_games (λ g. low_number g own board ≡ option_map (side_number Low g) (best Low g own board)) refl refl (composed turned ace_number (best Low Omaha8 own board)) game

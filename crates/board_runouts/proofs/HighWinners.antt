@@ -1,14 +1,13 @@
 -- Who wins the high of a game with a board: the hands with the greatest number, by ranks alone or as flushes.
-use Rattle.std.proofs.Common.{◌≡◌, ℕ, ◌<◌, ◌==◌, List, [], ◌∷◌, refl, sym, map, ap, ◌∙◌, true, false, cond, max, arith, inl, inr, Some, nat_lt}
+use Rattle.std.proofs.Common.{◌≡◌, ℕ, ◌<◌, ◌==◌, List, [], ◌∷◌, refl, map, ap, ◌∙◌, true, false, cond, max, arith, inl, inr, Some, nat_lt}
 use Rattle.std.specs.Prelude.{filter, is_some}
 use Rattle.std.proofs.lemmas.Bool.{cases_eq}
 use Rattle.card_sets.specs.State.{State}
 use Rattle.card_sets.specs.declared.games.Game.{Game}
-use Rattle.card_sets.specs.declared.games.Game.TheVariants.{Holdem, Omaha, Omaha8, Stud, Stud8, Razz, Draw5, Lowball27, Triple27}
 use Rattle.card_sets.specs.Games.{allowed, has_board}
 use Rattle.card_sets.specs.declared.games.Side.{Side}
 use Rattle.card_sets.specs.declared.games.Side.TheVariants.{High}
-use mathlib.Core.Bool.{true≢false}
+use Rattle.card_sets.proofs.CallerLemmas.{board_games}
 use Rattle.rank_high.specs.High.{greatest_of, high}
 use Rattle.showdown_tally.specs.Laws.{IsFull, KeepOrder}
 use Rattle.card_sets.specs.PlayerSets.{AreBelow, set_of_players}
@@ -42,15 +41,7 @@ abbrev best_five : Game → List ℕ → List ℕ → List ℕ
 best_five game own board = greatest_of (map high (allowed game own board))
 
 best_is : (game : Game) (own board : List ℕ) → has_board game ≡ true → best High game own board ≡ Some (best_five game own board)
-best_is Holdem own board is = refl
-best_is Omaha own board is = refl
-best_is Omaha8 own board is = refl
-best_is Stud own board is = absurd (true≢false (sym is))
-best_is Stud8 own board is = absurd (true≢false (sym is))
-best_is Razz own board is = absurd (true≢false (sym is))
-best_is Draw5 own board is = absurd (true≢false (sym is))
-best_is Lowball27 own board is = absurd (true≢false (sym is))
-best_is Triple27 own board is = absurd (true≢false (sym is))
+best_is game own board = board_games (λ g. best High g own board ≡ Some (best_five g own board)) refl refl refl game
 
 beaten : (st : State) (runout : List (List ℕ)) (n i j : ℕ) → Keeps → has_board st.game ≡ true → ((h : ℕ) → h < n → IsFull st.game (own_after st runout h) (board_after st runout)) → i < n → j < n
     → is_beaten_by High (value_after High st runout i) (value_after High st runout j) ≡ nat_lt (high_of st runout i) (high_of st runout j)

@@ -6,10 +6,10 @@ use Rattle.std.proofs.lemmas.Bool.{cases_eq}
 use Rattle.std.proofs.lemmas.List.{length-take}
 use Rattle.std.proofs.lemmas.List.Sums.{count_by-le-length}
 use mathlib.Core.Bool.{true≢false}
+use Rattle.card_sets.proofs.CallerLemmas.{board_games}
 use Rattle.card_sets.specs.Choose.{choose}
 use Rattle.card_sets.specs.Games.{has_board, has_side}
 use Rattle.card_sets.specs.declared.games.Game.{Game}
-use Rattle.card_sets.specs.declared.games.Game.TheVariants.{Holdem, Omaha, Omaha8, Stud, Stud8, Razz, Draw5, Lowball27, Triple27}
 use Rattle.card_sets.specs.declared.games.Side.{Side}
 use Rattle.card_sets.specs.declared.games.Side.TheVariants.{High, Low}
 use Rattle.showdown_tally.specs.Showdown.{Showdown}
@@ -76,15 +76,7 @@ count_pot deal taken pair pot next main low old mid new n m l adds was = record 
 
 -- a game with a board is played for the high
 pub board_high : (game : Game) → has_board game ≡ true → has_side High game ≡ true
-board_high Holdem is = refl
-board_high Omaha is = refl
-board_high Omaha8 is = refl
-board_high Stud is = refl
-board_high Stud8 is = refl
-board_high Razz is = absurd (true≢false (sym is))
-board_high Draw5 is = refl
-board_high Lowball27 is = absurd (true≢false (sym is))
-board_high Triple27 is = absurd (true≢false (sym is))
+board_high = board_games (λ game. has_side High game ≡ true) refl refl refl
 
 -- there is room for it
 pub room_for : (deal : Showdown) (taken : List ℕ) (pair : Pair) (pot place : ℕ) (side : Side) (old mid : List (List ℕ)) → CountsFit deal old 1 → pot < length deal.pots → has_side side deal.state.game ≡ true → place < 2048 → IsCounted deal taken pair pot old mid → count_at mid pot side place + 1 < 2 ^ 32

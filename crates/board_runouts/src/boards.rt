@@ -20,7 +20,7 @@ use crate::sieve_leaf::{count_sieved, count_whole};
 use crate::spot::BoardSpot;
 use card_sets::{CardSet, Memory};
 use runout_ranges::{Receiver, Shape};
-use runout_walk::{Leaf, OpenSlot};
+use runout_walk::{Leaf, Span};
 use showdown_tally::Table;
 use std::alloc::Global;
 use std::sync::ledger::Ledger;
@@ -78,13 +78,13 @@ impl Boards {
         let codes = CodedRows::none(alloc)?;
         let flushes = Flushes::none(alloc)?;
         Ok(Boards {
-            table: spot.table,
-            spot,
-            cards: CardSet::empty(),
             pairs,
             rows,
             codes,
             flushes,
+            table: spot.table,
+            cards: CardSet::empty(),
+            spot,
         })
     }
 
@@ -115,34 +115,26 @@ impl Leaf for Boards {
         2
     }
 
-    fn count<L: Ledger>(
-        &mut self,
-        counts: &mut [[u32; 2048]],
-        front: &[CardSet],
-        tail: OpenSlot,
-        lo: u64,
-        hi: u64,
-        steps: &mut Steps<L>,
-    ) {
-        tail.rest.rising();
+    fn count<L: Ledger>(&mut self, counts: &mut [[u32; 2048]], span: &Span, steps: &mut Steps<L>) {
+        span.tail.rest.rising();
         let spot = &self.spot;
-        let ranks = ranks_of(tail.taken);
-        let least = last_rank(tail.taken);
-        let base = self.rows.ready(&spot.table, tail.taken, &ranks, least);
+        let ranks = ranks_of(span.tail.taken);
+        let least = last_rank(span.tail.taken);
+        let base = self.rows.ready(&spot.table, span.tail.taken, &ranks, least);
         let rows = self.rows.stretch(base, spot.table.pots);
         let place = self.codes.ready(spot, base, rows, &ranks, least);
         let codes = self.codes.codes_at(place);
         let flushes = &mut self.flushes;
         self.pairs.serve(self.cards);
         let pairs = &mut self.pairs;
-        if tail.taken == CardSet::empty() {
+        if span.tail.taken == CardSet::empty() {
             count_whole(
-                spot, flushes, rows, codes, pairs, &tail, lo, hi, counts, steps,
+                spot, flushes, rows, codes, pairs, &span.tail, span.lo, span.hi, counts, steps,
             );
             return;
         }
         count_sieved(
-            spot, flushes, rows, codes, pairs, &tail, lo, hi, counts, steps,
+            spot, flushes, rows, codes, pairs, &span.tail, span.lo, span.hi, counts, steps,
         );
     }
 }

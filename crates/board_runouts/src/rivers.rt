@@ -29,7 +29,7 @@ use board_ranks::{one_of, plain_value};
 use card_sets::{Card, CardSet, Known, Side};
 use runout_ranges::Shape;
 use runout_walk::{
-    CardList, Leaf, OpenSlot, add_one, all_are_hands, are_hands, pot_best, ten_places, ten_pots,
+    CardList, Leaf, Span, add_one, all_are_hands, are_hands, pot_best, ten_places, ten_pots,
     winners_on,
 };
 use showdown_tally::{Table, law_values_keep_order, side_value};
@@ -284,18 +284,10 @@ impl Leaf for Rivers {
         1
     }
 
-    fn count<L: Ledger>(
-        &mut self,
-        counts: &mut [[u32; 2048]],
-        front: &[CardSet],
-        tail: OpenSlot,
-        lo: u64,
-        hi: u64,
-        steps: &mut Steps<L>,
-    ) {
-        let cards = CardList::of(tail.rest);
+    fn count<L: Ledger>(&mut self, counts: &mut [[u32; 2048]], span: &Span, steps: &mut Steps<L>) {
+        let cards = CardList::of(span.tail.rest);
         let all = cards.as_slice();
-        let some = &all[lo as usize..hi as usize];
+        let some = &all[span.lo as usize..span.hi as usize];
         self.count_cards(some, counts, steps);
     }
 }

@@ -1,11 +1,11 @@
 //! Cards from texts, and known cards of which it is tested that they can be known.
 
-ghost use Rattle.std.specs.Prelude.{◌≡◌, ◌≤◌, ◌∷◌, IfSome, drop, length, nat_le};
+ghost use Rattle.std.specs.Prelude.{◌≡◌, ◌≤◌, IfSome, drop, length, nat_le};
 ghost use Rattle.std.specs.List.{list_all};
-ghost use Rattle.card_sets.specs.Disjoint.{all_apart, all_empty, apart};
+ghost use Rattle.card_sets.specs.Disjoint.{all_empty};
 ghost use Rattle.card_sets.specs.Games.{all_fit};
 
-use card_sets::{Card, CardSet, Game, Known};
+use card_sets::{Card, CardSet, Game, Known, are_disjoint};
 
 /// A game, its hands, the board and the dead cards, each set as a text.
 pub(crate) type Spot = (Game, &'static [&'static [u8]], &'static [u8], &'static [u8]);
@@ -55,26 +55,6 @@ fn hands_of(texts: &[&[u8]]) -> Option<[CardSet; 10]> {
     Some(hands)
 }
 
-/// Whether a set shares no card with any of some others.
-fn is_apart_from(cards: CardSet, sets: &[CardSet]) -> bool
-    ensures { result ≡ list_all (apart cards) sets.now }
-{
-    match sets {
-        [] => true,
-        [first, others @ ..] => cards.is_apart(*first) && is_apart_from(cards, others),
-    }
-}
-
-/// Whether no two of some sets share a card.
-fn are_apart(sets: &[CardSet]) -> bool
-    ensures { result ≡ all_apart sets.now }
-{
-    match sets {
-        [] => true,
-        [first, others @ ..] => is_apart_from(*first, others) && are_apart(others),
-    }
-}
-
 /// Whether no set is larger than so many cards.
 fn are_small(sets: &[CardSet], most: u32) -> bool
     ensures { result ≡ list_all (λ set. nat_le (length set) most) sets.now }
@@ -83,17 +63,6 @@ fn are_small(sets: &[CardSet], most: u32) -> bool
         [] => true,
         [first, others @ ..] => first.count() <= most && are_small(others, most),
     }
-}
-
-/// Whether no card is in two of the places.
-fn are_disjoint(hands: &[CardSet; 10], board: CardSet, dead: CardSet) -> bool
-    ensures { result ≡ all_apart (board ∷ dead ∷ hands.now) }
-{
-    let hands = &hands[..];
-    board.is_apart(dead)
-        && is_apart_from(board, hands)
-        && is_apart_from(dead, hands)
-        && are_apart(hands)
 }
 
 /// Whether no set is larger than its place in the game allows.
@@ -123,7 +92,7 @@ fn known_of(
     if count > 10 {
         return None;
     }
-    if !are_disjoint(&hands, board, dead) {
+    if !are_disjoint(board, dead, &hands[..]) {
         return None;
     }
     if !are_unused(&hands, count) {

@@ -15,3 +15,5 @@ pub use Rattle.card_sets.proofs.ChoiceLemmas.{choose-short, choose-some, choose-
 pub use Rattle.card_sets.proofs.ChoiceLemmas.{greatest_most, greatest_least, AreParts, AreParts-choose}
 -- Sets of cards that a loop over a bracket adds to or takes from, card by card.
 pub use Rattle.card_sets.proofs.BracketLemmas.{union-nil, union_next, union-front, minus-nil, minus_next}
+-- The games with a board, one by one.
+pub use Rattle.card_sets.proofs.GameLemmas.{board_games}

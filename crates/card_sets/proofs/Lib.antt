@@ -4,3 +4,4 @@ pub mod SetLemmas
 pub mod PartLemmas
 pub mod ChoiceLemmas
 pub mod BracketLemmas
+pub mod GameLemmas

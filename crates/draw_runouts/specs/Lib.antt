@@ -1,8 +1,3 @@
-pub use Rattle.card_sets.specs.Cards
-pub use Rattle.card_sets.specs.Choose
-pub use Rattle.card_sets.specs.Games
-pub use Rattle.card_sets.specs.PlayerSets
-pub use Rattle.card_sets.specs.State
 pub use Rattle.runout_ranges.specs.Runouts
 pub use Rattle.runout_ranges.specs.Slots
 pub use Rattle.runout_ranges.specs.Shapes
@@ -15,6 +10,11 @@ pub use Rattle.showdown_tally.specs.Tallies
 pub use Rattle.runout_walk.specs.Bests
 pub use Rattle.runout_walk.specs.Listing
 pub use Rattle.runout_walk.specs.OneMore
+pub use Rattle.card_sets.specs.Cards
+pub use Rattle.card_sets.specs.Choose
+pub use Rattle.card_sets.specs.Games
+pub use Rattle.card_sets.specs.PlayerSets
+pub use Rattle.card_sets.specs.State
 pub mod Worth
 pub mod Draws
 pub mod LastHand

@@ -21,7 +21,7 @@ use crate::numbers::{Numbers, PLANES, full_worth};
 use crate::rivals::{count_pots, count_sides};
 use card_sets::{Card, CardSet, Game, Known, Memory, Side};
 use runout_ranges::{Receiver, Shape, Slot};
-use runout_walk::{CardList, Leaf, OpenSlot, filled, side_row, ten_places};
+use runout_walk::{CardList, Leaf, Span, filled, side_row, ten_places};
 use showdown_tally::Table;
 use std::alloc::Global;
 use std::sync::ledger::Ledger;
@@ -281,28 +281,20 @@ impl Leaf for Draws {
         u32::from(self.numbers.count)
     }
 
-    fn count<L: Ledger>(
-        &mut self,
-        counts: &mut [[u32; 2048]],
-        front: &[CardSet],
-        tail: OpenSlot,
-        lo: u64,
-        hi: u64,
-        steps: &mut Steps<L>,
-    ) {
+    fn count<L: Ledger>(&mut self, counts: &mut [[u32; 2048]], span: &Span, steps: &mut Steps<L>) {
         ten_places(&self.table);
         let game = self.table.known.game;
         let side = game.only_side();
-        let numbers = numbers_with(side, &self.table.known, front);
+        let numbers = numbers_with(side, &self.table.known, span.front);
         let range = Range {
-            lo: lo as usize,
-            hi: hi as usize,
+            lo: span.lo as usize,
+            hi: span.hi as usize,
         };
-        let cards = CardList::of(tail.rest);
+        let cards = CardList::of(span.tail.rest);
         let values = &mut self.values;
         write_draws(&self.numbers, cards.as_slice(), range, values);
         if has_two_sides(game) {
-            let lows = numbers_with(Side::Low, &self.table.known, front);
+            let lows = numbers_with(Side::Low, &self.table.known, span.front);
             let low_values = &mut self.low_values;
             write_draws(&self.lows, cards.as_slice(), range, low_values);
             let all_highs = self.values.as_slice();

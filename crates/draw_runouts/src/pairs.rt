@@ -23,19 +23,6 @@ pub(crate) struct PairSums {
     pub(crate) low_least: PotSums,
 }
 
-/// How often each order of the low to the greatest of the others comes in a pot.
-#[derive(Clone, Copy)]
-pub(crate) struct PairOrders {
-    /// In all draws.
-    pub(crate) all: Orders,
-    /// In the draws whose high is below the greatest of the others.
-    pub(crate) below: Orders,
-    /// In those where it is the same.
-    pub(crate) equal: Orders,
-    /// In those where it is above.
-    pub(crate) above: Orders,
-}
-
 /// Adds to the two sums of a pot.
 #[inline(always)]
 fn add_two(sums: &mut PotSums, pot: u16, under: u32, over: u32)
@@ -48,6 +35,19 @@ fn add_two(sums: &mut PotSums, pot: u16, under: u32, over: u32)
 {
     add_times(&mut sums.at_most, pot, under);
     add_times(&mut sums.at_least, pot, over);
+}
+
+/// How often each order of the low to the greatest of the others comes in a pot.
+#[derive(Clone, Copy)]
+pub(crate) struct PairOrders {
+    /// In all draws.
+    pub(crate) all: Orders,
+    /// In the draws whose high is below the greatest of the others.
+    pub(crate) below: Orders,
+    /// In those where it is the same.
+    pub(crate) equal: Orders,
+    /// In those where it is above.
+    pub(crate) above: Orders,
 }
 
 /// Adds a draw for each of the first pots, by how its high and its low stand to the greatest of the others there. There is no branch in it,

@@ -105,23 +105,23 @@ const HEADS_UP: &str = "\
 PokerStars Hand #2: Hold'em No Limit ($0.50/$1.00 USD)\n\
 Table 'T' 2-max Seat #1 is the button\n\
 Seat 1: x ($50 in chips)\n\
-Seat 2: y ($50 in chips)\n\
+Seat 2: y z ($50 in chips)\n\
 x: posts small blind $0.50\n\
-y: posts big blind $1\n\
+y z: posts big blind $1\n\
 *** HOLE CARDS ***\n\
 x: calls $0.50\n\
-y: checks\n\
+y z: checks\n\
 *** FLOP *** [2c 7d 9h]\n\
-y: bets $2\n\
+y z: bets $2\n\
 x: calls $2\n\
 *** TURN *** [2c 7d 9h] [4s]\n\
-y: checks\n\
+y z: checks\n\
 x: checks\n\
 *** RIVER *** [2c 7d 9h 4s] [Jc]\n\
-y: checks\n\
+y z: checks\n\
 x: checks\n\
 *** SHOW DOWN ***\n\
-y: shows [Ks Kh]\n\
+y z: shows [Ks Kh]\n\
 x: shows [As Ah]\n\
 x collected $6 from pot\n\
 *** SUMMARY ***\n\

@@ -3,13 +3,13 @@
 ghost use Rattle.std.specs.Prelude.{◌≡◌, ◌<◌, ◌≤◌, [], if◌then◌else◌, map, length, nat_le};
 ghost use Rattle.std.specs.List.{list_all};
 ghost use Rattle.card_sets.specs.PlayerSets.{all_within, seats_in, with_player};
-ghost use Rattle.card_sets.specs.Disjoint.{apart, all_apart, all_empty};
+ghost use Rattle.card_sets.specs.Disjoint.{all_empty};
 ghost use Rattle.hand_audit.specs.KnownTables.{ten, places_in, holds, table_from};
 ghost use Rattle.hand_audit.specs.PotSeats.{eligible_of};
 ghost use Rattle.hand_audit.specs.AllIns.{cards_or_none, bare_of};
 
 use crate::at_point::AtPoint;
-use card_sets::{CardSet, Game, Known, PlayerSet};
+use card_sets::{CardSet, Game, Known, PlayerSet, are_disjoint};
 use hand_verdict::PotLine;
 use showdown_tally::Table;
 
@@ -80,26 +80,6 @@ fn eligible_of(pots: &[PotLine], seats: PlayerSet) -> [u16; 10]
     all
 }
 
-/// Whether a set shares no card with any of some others.
-fn apart_from_all(cards: CardSet, sets: &[CardSet]) -> bool
-    ensures { result ≡ list_all (apart cards) sets.now }
-{
-    match sets {
-        [] => true,
-        [first, others @ ..] => cards.is_apart(*first) && apart_from_all(cards, others),
-    }
-}
-
-/// Whether no two of some sets share a card.
-fn all_apart(sets: &[CardSet]) -> bool
-    ensures { result ≡ all_apart sets.now }
-{
-    match sets {
-        [] => true,
-        [first, others @ ..] => apart_from_all(*first, others) && all_apart(others),
-    }
-}
-
 /// Whether no set has a card.
 fn all_empty(sets: &[CardSet]) -> bool
     ensures { result ≡ all_empty sets.now }
@@ -154,10 +134,7 @@ fn holds(
         }) }
 {
     let hands = &hands[..];
-    board.is_apart(dead)
-        && apart_from_all(board, hands)
-        && apart_from_all(dead, hands)
-        && all_apart(hands)
+    are_disjoint(board, dead, hands)
         && all_empty(&hands[usize::from(count)..])
         && board.count() <= game.board_size()
         && all_small(hands, game.own_size())

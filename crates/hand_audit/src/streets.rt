@@ -4,12 +4,12 @@ ghost use Rattle.std.specs.Prelude.{◌≡◌, ℕ, ◌≤◌, ◌∷◌, ◌++�
 ghost use Rattle.line_text.specs.Lines.{lines};
 ghost use Rattle.hand_audit.specs.AllIns.{all_in_at, known_there};
 ghost use Rattle.hand_audit.specs.Departs.{begins_hand};
+ghost use Rattle.hand_audit.specs.Streets.{table_in, state_on, states_of, states_in, has_known_all_in};
 ghost use Rattle.hand_audit.specs.Keeping.{Keeps};
 ghost use Rattle.hand_audit.specs.Lines.{SoFar};
 ghost use Rattle.hand_audit.specs.PotSeats.{eligible_of};
 ghost use Rattle.hand_audit.specs.SettlementAnswers.{IsOfHand};
 ghost use Rattle.hand_audit.specs.Showings.{showing_of};
-ghost use Rattle.hand_audit.specs.Streets.{table_in, state_on, states_of, states_in, has_known_all_in};
 ghost use Rattle.hand_audit.specs.Verdict.{audit_of};
 
 use crate::all_in::all_in_on;

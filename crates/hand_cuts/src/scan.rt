@@ -7,13 +7,6 @@ ghost use Rattle.hand_cuts.specs.Scans.{EndsLine};
 
 use memchr::memchr;
 
-/// Where a header line begins, and its number.
-#[derive(Clone, Copy)]
-pub(crate) struct Head {
-    pub(crate) at: usize,
-    pub(crate) line: u32,
-}
-
 /// How far the bytes have been looked at. What stands before `at`, where line `line` begins, was
 /// handed out. The lines from there up to `looked`, where line `number` begins, were looked at, and
 /// `head` is the one of them that is a header line. No newline stands between `looked` and
@@ -26,6 +19,13 @@ pub(crate) struct Scan {
     pub(crate) number: u32,
     pub(crate) searched: usize,
     pub(crate) head: Option<Head>,
+}
+
+/// Where a header line begins, and its number.
+#[derive(Clone, Copy)]
+pub(crate) struct Head {
+    pub(crate) at: usize,
+    pub(crate) line: u32,
 }
 
 /// The place of the first newline. An empty line's is at the front, and isn't searched for.

@@ -19,3 +19,4 @@ pub mod Dues
 pub mod CardsKnown
 pub mod TablePots
 pub mod LaterCards
+pub mod Fitting

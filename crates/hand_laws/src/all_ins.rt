@@ -3,7 +3,6 @@
 ghost use Rattle.std.specs.Prelude.{◌≡◌, ℕ, ◌∷◌, false, List, Some, Ok, All, map};
 ghost use Rattle.history_text.specs.Headers.{header_of};
 ghost use Rattle.hand_events.specs.declared.events.Header.{Header};
-ghost use Rattle.hand_audit.specs.Verdict.{audit_of, events_of};
 ghost use Rattle.hand_verdict.specs.declared.verdicts.AllIn.{AllIn};
 ghost use Rattle.hand_verdict.specs.declared.verdicts.HandAudit.TheVariants.{Accepted};
 ghost use Rattle.hand_audit.specs.CardsKnown.{KnowsCards};
@@ -15,6 +14,7 @@ ghost use Rattle.hand_verdict.specs.declared.streets.StreetState.{StreetState};
 ghost use Rattle.betting_replay.specs.declared.points.Point.{Point};
 ghost use Rattle.hand_laws.specs.TablePots.{HasPotsOf};
 ghost use Rattle.betting_replay.specs.TableAfter.{point};
+ghost use Rattle.hand_audit.specs.Verdict.{audit_of, events_of};
 ghost use Rattle.hand_verdict.specs.declared.settlement.Settlement.{Settlement};
 ghost use Rattle.card_sets.specs.declared.streets.Street.{Street};
 ghost use Rattle.showdown_tally.specs.declared.table.Table.{Table};

@@ -1,16 +1,14 @@
 //! What the chips, pots, dues and nets of an accepted hand come to.
 
-ghost use Rattle.std.specs.Prelude.{◌≡◌, ℕ, ◌∷◌, true, List, Some, Ok};
+ghost use Rattle.std.specs.Prelude.{◌≡◌, ℕ, ◌∷◌, List, Some, Ok};
 ghost use Rattle.history_text.specs.Headers.{header_of};
 ghost use Rattle.hand_events.specs.declared.events.Header.{Header};
 ghost use Rattle.hand_laws.specs.Chips.{KeepsChips};
 ghost use Rattle.hand_laws.specs.Dues.{DuesAddUp, SplitAddsUp};
+ghost use Rattle.hand_laws.specs.Fitting.{OfFitting, OfSplit};
 ghost use Rattle.hand_verdict.specs.SeatSums.{PlayersAreDue};
-ghost use Rattle.hand_audit.specs.SplitHands.{split_of};
 ghost use Rattle.hand_audit.specs.Verdict.{audit_of, events_of};
-ghost use Rattle.hand_verdict.specs.declared.parts.SplitHand.{SplitHand};
 ghost use Rattle.hand_verdict.specs.declared.verdicts.AllIn.{AllIn};
-ghost use Rattle.hand_verdict.specs.declared.verdicts.HandAudit.{HandAudit};
 ghost use Rattle.hand_verdict.specs.declared.verdicts.HandAudit.TheVariants.{Accepted};
 ghost use Rattle.hand_laws.specs.Nets.{NetsAddUp};
 ghost use Rattle.hand_laws.specs.PotSums.{PotsAddUp};
@@ -52,11 +50,7 @@ pub fn law_nets_add_up_to_the_rake()
 /// rake are what it holds, what is due of it is as much as was collected, and where there is a pot the
 /// rakes of all pots are together the stated rake.
 pub fn law_pots_add_up()
-    ensures { (number : ℕ) (line : List ℕ) (lines : List (List ℕ)) (header : Header)
-        → header_of line ≡ Ok header
-        → (settlement : Settlement) (all_in : AllIn) (names : List (ℕ × List ℕ)) (players : ℕ)
-        → audit_of number (line ∷ lines) ≡ Some (Accepted settlement all_in names players)
-        → settlement.fits ≡ true → PotsAddUp settlement }
+    ensures { OfFitting (λ settlement players. PotsAddUp settlement) }
 {
     law_a_list_orders_its_seats();
     law_values_keep_order();
@@ -71,11 +65,7 @@ pub fn law_pots_add_up()
 /// A law on dues. Of a hand that is accepted and whose pot names fit: over all seats of the table what is due of its
 /// pots is together what was got of them. So what some are still to get is what others are to give back.
 pub fn law_dues_add_up_to_what_was_paid()
-    ensures { (number : ℕ) (line : List ℕ) (lines : List (List ℕ)) (header : Header)
-        → header_of line ≡ Ok header
-        → (settlement : Settlement) (all_in : AllIn) (names : List (ℕ × List ℕ)) (players : ℕ)
-        → audit_of number (line ∷ lines) ≡ Some (Accepted settlement all_in names players)
-        → settlement.fits ≡ true → DuesAddUp settlement }
+    ensures { OfFitting (λ settlement players. DuesAddUp settlement) }
 {
     law_a_list_orders_its_seats();
     law_values_keep_order();
@@ -91,14 +81,8 @@ pub fn law_dues_add_up_to_what_was_paid()
 /// payments alone, whose names always fit: its players are due together what they got together. So what some of
 /// them are still to get is what others are to give back.
 pub fn law_players_are_due_what_they_got()
-    ensures accepted { (number : ℕ) (line : List ℕ) (lines : List (List ℕ)) (header : Header)
-        → header_of line ≡ Ok header
-        → (settlement : Settlement) (all_in : AllIn) (names : List (ℕ × List ℕ)) (players : ℕ)
-        → audit_of number (line ∷ lines) ≡ Some (Accepted settlement all_in names players)
-        → settlement.fits ≡ true → PlayersAreDue settlement players }
-    ensures split { (number : ℕ) (lines : List (List ℕ)) (audit : HandAudit) (split : SplitHand)
-        → audit_of number lines ≡ Some audit → split_of audit lines ≡ Some split
-        → SplitAddsUp split }
+    ensures accepted { OfFitting PlayersAreDue }
+    ensures split { OfSplit SplitAddsUp }
 {
     law_a_list_orders_its_seats();
     law_values_keep_order();

@@ -2,9 +2,8 @@
 
 use crate::settlement::Settlement;
 use crate::verdicts::HandAudit;
-use card_sets::Side;
+use card_sets::{Items, Side};
 use hand_events::Names;
-use std::marker::Model;
 
 /// What a winner gets of a side of a part of a pot.
 #[derive(Clone, Copy)]
@@ -23,37 +22,7 @@ pub struct PartShare {
 
 /// The shares of the parts of a pot: board by board, the first side of each before the second, and the winners of
 /// a side by rising seat. Clauses see the list of them.
-#[derive(Drop)]
-pub struct PartShares {
-    items: Vec<PartShare>,
-}
-
-impl Model for PartShares {
-    ghost use Rattle.std.specs.Prelude.{List};
-    ghost use Rattle.hand_verdict.specs.declared.parts.PartShare.{PartShare};
-
-    ghost Value = { List PartShare };
-
-    ghost view = { λ p. p.items.items };
-}
-
-impl PartShares {
-    ghost use Rattle.std.specs.Prelude.{◌≡◌};
-
-    /// Of these.
-    pub fn of(items: Vec<PartShare>) -> PartShares
-        ensures { result ≡ items.items }
-    {
-        PartShares { items }
-    }
-
-    /// The shares.
-    pub fn items(&self) -> &[PartShare]
-        ensures { result.now ≡ self.now }
-    {
-        self.items.as_slice()
-    }
-}
+pub type PartShares = Items<PartShare>;
 
 /// What became of the chips of a hand that is rejected for its payments alone.
 #[derive(Drop)]

@@ -1,7 +1,6 @@
 //! What each pot holds, and who got what of it.
 
-use card_sets::Game;
-use std::marker::Model;
+use card_sets::{Game, Items};
 
 /// What a seat got, and what the rules give it.
 #[derive(Clone, Copy)]
@@ -15,37 +14,7 @@ pub struct Payment {
 }
 
 /// Some payments, by rising seat. Clauses see the list of them.
-#[derive(Drop)]
-pub struct Payments {
-    items: Vec<Payment>,
-}
-
-impl Model for Payments {
-    ghost use Rattle.std.specs.Prelude.{List};
-    ghost use Rattle.hand_verdict.specs.declared.settlement.Payment.{Payment};
-
-    ghost Value = { List Payment };
-
-    ghost view = { λ p. p.items.items };
-}
-
-impl Payments {
-    ghost use Rattle.std.specs.Prelude.{◌≡◌};
-
-    /// Of these.
-    pub fn of(items: Vec<Payment>) -> Payments
-        ensures { result ≡ items.items }
-    {
-        Payments { items }
-    }
-
-    /// The payments.
-    pub fn items(&self) -> &[Payment]
-        ensures { result.now ≡ self.now }
-    {
-        self.items.as_slice()
-    }
-}
+pub type Payments = Items<Payment>;
 
 /// What a pot holds, and who got what of it.
 #[derive(Drop)]
@@ -63,37 +32,7 @@ pub struct PotLine {
 }
 
 /// The pots of a hand, the main pot first. Clauses see the list of them.
-#[derive(Drop)]
-pub struct PotLines {
-    items: Vec<PotLine>,
-}
-
-impl Model for PotLines {
-    ghost use Rattle.std.specs.Prelude.{List};
-    ghost use Rattle.hand_verdict.specs.declared.settlement.PotLine.{PotLine};
-
-    ghost Value = { List PotLine };
-
-    ghost view = { λ p. p.items.items };
-}
-
-impl PotLines {
-    ghost use Rattle.std.specs.Prelude.{◌≡◌};
-
-    /// Of these.
-    pub fn of(items: Vec<PotLine>) -> PotLines
-        ensures { result ≡ items.items }
-    {
-        PotLines { items }
-    }
-
-    /// The pots.
-    pub fn items(&self) -> &[PotLine]
-        ensures { result.now ≡ self.now }
-    {
-        self.items.as_slice()
-    }
-}
+pub type PotLines = Items<PotLine>;
 
 /// What became of the chips of a hand.
 #[derive(Drop)]

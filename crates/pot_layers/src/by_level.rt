@@ -5,40 +5,11 @@ ghost use Rattle.std.specs.List.{sum_by};
 ghost use Rattle.pot_layers.specs.Pots.{pots, between, above, all_dead, any_contender, reaches, reaching, least_above, lesser, held, put_in_all, more_first, more_last, pots_from, levels, or_one, highest};
 
 use crate::paid::{Paid, Pot};
-use card_sets::{Memory, PlayerSet};
+use card_sets::{Items, Memory, PlayerSet};
 use std::alloc::{AllocError, Global};
-use std::marker::Model;
 
 /// The pots of a hand, the main pot first. Clauses see the list of them.
-#[derive(Drop)]
-pub struct Pots {
-    items: Vec<Pot>,
-}
-
-impl Model for Pots {
-    ghost use Rattle.std.specs.Prelude.{List};
-    ghost use Rattle.pot_layers.specs.declared.paid.Pot.{Pot};
-
-    ghost Value = { List Pot };
-
-    ghost view = { λ p. p.items.items };
-}
-
-impl Pots {
-    /// Of these.
-    pub fn of(items: Vec<Pot>) -> Pots
-        ensures { result ≡ items.items }
-    {
-        Pots { items }
-    }
-
-    /// The pots.
-    pub fn items(&self) -> &[Pot]
-        ensures { result.now ≡ self.now }
-    {
-        self.items.as_slice()
-    }
-}
+pub type Pots = Items<Pot>;
 
 /// What all players paid between two levels.
 fn between(paid: &[Paid], low: u64, high: u64) -> u64
@@ -206,5 +177,5 @@ pub fn layers(alloc: Global, paid: &[Paid]) -> Result<Pots, Memory>
     let above = above(paid, highest(paid));
     let dead = all_dead(paid);
     add_rest(&mut items, above, dead);
-    Ok(Pots { items })
+    Ok(Pots::of(items))
 }

@@ -22,6 +22,14 @@ impl Model for OddOrder {
 }
 
 impl OddOrder {
+    /// The first so many of these ten seats.
+    pub fn of(seats: [u8; 10], count: u8) -> OddOrder
+        requires { count ≤ 10 }
+        ensures { result ≡ take count seats }
+    {
+        OddOrder { seats, count }
+    }
+
     /// No seat.
     pub fn none() -> OddOrder
         ensures { result ≡ [] }
@@ -39,14 +47,6 @@ impl OddOrder {
     {
         self.seats[self.count as usize] = seat;
         self.count += 1;
-    }
-
-    /// The first so many of these ten seats.
-    pub fn of(seats: [u8; 10], count: u8) -> OddOrder
-        requires { count ≤ 10 }
-        ensures { result ≡ take count seats }
-    {
-        OddOrder { seats, count }
     }
 
     /// The seats, in order.

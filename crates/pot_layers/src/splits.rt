@@ -6,40 +6,11 @@ ghost use Rattle.pot_layers.specs.Split.{given, side_share, halves, high_half, l
 
 use crate::orders::OddOrder;
 use crate::paid::{Share, SideWinners};
-use card_sets::{Memory, PlayerSet};
+use card_sets::{Items, Memory, PlayerSet};
 use std::alloc::{AllocError, Global};
-use std::marker::Model;
 
 /// The parts of a pot, by rising seat. Clauses see the list of them.
-#[derive(Drop)]
-pub struct Shares {
-    items: Vec<Share>,
-}
-
-impl Model for Shares {
-    ghost use Rattle.std.specs.Prelude.{List};
-    ghost use Rattle.pot_layers.specs.declared.paid.Share.{Share};
-
-    ghost Value = { List Share };
-
-    ghost view = { λ s. s.items.items };
-}
-
-impl Shares {
-    /// Of these.
-    pub fn of(items: Vec<Share>) -> Shares
-        ensures { result ≡ items.items }
-    {
-        Shares { items }
-    }
-
-    /// The parts.
-    pub fn items(&self) -> &[Share]
-        ensures { result.now ≡ self.now }
-    {
-        self.items.as_slice()
-    }
-}
+pub type Shares = Items<Share>;
 
 /// What a seat gets where each of some seats gets so much, and the first of them one more.
 fn given(each: u64, extra: u64, order: &[u8], seat: u8) -> u64
@@ -163,5 +134,5 @@ pub fn split(
         high_order.as_slice(),
         low_order.as_slice(),
     )?;
-    Ok(Shares { items })
+    Ok(Shares::of(items))
 }

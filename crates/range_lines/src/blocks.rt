@@ -55,7 +55,7 @@ fn spot_lines(
 {
     match spot {
         Ok(spot) => known_spot(sheet, place, line, spot, tally),
-        Err(fault) => rejected_line(sheet, place, u64::from(line), fault),
+        Err(fault) => rejected_line(sheet, fault, place, u64::from(line)),
     }
 }
 

@@ -27,17 +27,6 @@ pub enum RangeFault {
     Memory,
 }
 
-impl From<AllocError> for RangeFault {
-    ghost use Rattle.std.specs.Prelude.{◌≡◌};
-    ghost use Rattle.range_lines.specs.declared.faults.RangeFault.TheVariants.{Memory};
-
-    ghost from_gives = { λ _ fault. fault ≡ Memory };
-
-    fn from(_: AllocError) -> RangeFault {
-        RangeFault::Memory
-    }
-}
-
 impl RangeFault {
     ghost use Rattle.std.specs.Prelude.{◌≡◌, OnOk};
     ghost use Rattle.report_sheet.specs.Sheets.{with_words};
@@ -61,5 +50,16 @@ impl RangeFault {
             RangeFault::DeckShort => sheet.text("DeckShort"),
             RangeFault::Memory => sheet.text("Memory"),
         }
+    }
+}
+
+impl From<AllocError> for RangeFault {
+    ghost use Rattle.std.specs.Prelude.{◌≡◌};
+    ghost use Rattle.range_lines.specs.declared.faults.RangeFault.TheVariants.{Memory};
+
+    ghost from_gives = { λ _ fault. fault ≡ Memory };
+
+    fn from(_: AllocError) -> RangeFault {
+        RangeFault::Memory
     }
 }

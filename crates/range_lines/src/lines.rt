@@ -17,9 +17,9 @@ use std::alloc::AllocError;
 #[tactic(auto, using(report_sheet::proofs::CallerLemmas::sheet_steps), unfolding(crate::specs::Blocks::rejected_line))]
 pub(crate) fn rejected_line(
     sheet: &mut Sheet,
+    why: &RangeFault,
     place: u64,
     number: u64,
-    why: &RangeFault,
 ) -> Result<(), AllocError>
     requires { IsBetweenLines sheet.old }
     ensures { OnOk result (sheet.new

@@ -2,15 +2,16 @@
 
 -- Ranks by how often they are counted.
 pub use Rattle.rank_high.proofs.CountedRanks.{ranks_counted-same, groups_counted-same, total, total-same, count_of_rank-cons, total-cards, group_sizes}
-pub use Rattle.rank_high.proofs.CountedRanks.{length-groups_counted, length-groups, AreBelow, AreBelow-groups_counted, one_more, none_counted}
+pub use Rattle.rank_high.proofs.CountedRanks.{length-groups_counted, length-groups, AreBelow, AreBelow-groups_counted, each_below, each_group}
+pub use Rattle.rank_high.proofs.CountedRanks.{few_groups, few_pairs, one_more, none_counted}
 -- The number of a high hand's list keeps the order of the lists.
 pub use Rattle.rank_high.proofs.ValueOrder.{AreDigits, digits_from-lt, first_less, digits_order, IsHighList, value_of-order, AreDigits-map, length-map_two}
-pub use Rattle.rank_high.proofs.ValueOrder.{category_of-le, high-IsHighList}
+pub use Rattle.rank_high.proofs.ValueOrder.{category_of-le, high-IsHighList, value_of-lt}
 -- The best of some fives, chosen card by card.
 pub use Rattle.rank_high.proofs.BestByChoice.{AreHighLists, value_of-none, greatest_of-IsHighList, value_of-greatest_of, max-not_less, max-less}
 pub use Rattle.rank_high.proofs.BestByChoice.{best_high-five, AreHighLists-map, HaveLength-choose, alone, fives, best_high-IsHighList}
 -- Cards of one suit, and what a category goes by.
-pub use Rattle.rank_high.proofs.HandCategories.{one_suit, next_falls, pips_plain, pips_wheel}
+pub use Rattle.rank_high.proofs.HandCategories.{one_suit, next_falls, pips_plain, pips_wheel, wheel_ranks}
 -- The groups of some cards are the ranks of the cards, in order.
 pub use Rattle.rank_high.proofs.GroupsInOrder.{count-most, contains_counted, grouped}
 -- The best five of some cards are the best by their ranks alone, or the best of one suit.

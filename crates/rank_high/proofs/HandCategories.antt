@@ -51,6 +51,22 @@ one_suit low suit rank (x ∷ cards) r all = elim (cases_eq (suit_of x) suit) [
 pub next_falls : (a b : ℕ) (rest : List ℕ) → falls_by_one (a ∷ b ∷ rest) ≡ true → (a ≡ b + 1) × (falls_by_one (b ∷ rest) ≡ true)
 next_falls a b rest h = let parts = and_parts (a == b + 1) (falls_by_one (b ∷ rest)) h in (eqb-true a (b + 1) parts.0, parts.1)
 
+-- the five ranks of five to ace
+pub record AreWheel (a b c d e : ℕ) : Type 0 where
+  pub ace : a ≡ 12
+  pub five : b ≡ 3
+  pub four : c ≡ 2
+  pub three : d ≡ 1
+  pub two : e ≡ 0
+
+pub wheel_ranks : (a b c d e : ℕ) → is_wheel (a ∷ b ∷ c ∷ d ∷ e ∷ []) ≡ true → AreWheel a b c d e
+wheel_ranks a b c d e w =
+    let four = and_parts ((a == 12) && (b == 3) && (c == 2) && (d == 1)) (e == 0) w in
+    let three = and_parts ((a == 12) && (b == 3) && (c == 2)) (d == 1) four.0 in
+    let two = and_parts ((a == 12) && (b == 3)) (c == 2) three.0 in
+    let one = and_parts (a == 12) (b == 3) two.0 in
+    record { ace = eqb-true a 12 one.0; five = eqb-true b 3 one.1; four = eqb-true c 2 two.1; three = eqb-true d 1 three.1; two = eqb-true e 0 four.1 }
+
 pub pips_plain : (ranks : List ℕ) → is_wheel ranks ≡ false → pips ranks ≡ map (λ r. r + 2) ranks
 unfolding pips
 pips_plain ranks w = rw w refl

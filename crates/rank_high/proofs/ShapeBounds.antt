@@ -6,7 +6,7 @@ use Rattle.std.proofs.lemmas.Bool.{cases_eq, eqb-true, and_parts}
 use mathlib.Core.Bool.{true≢false}
 use Rattle.rank_high.specs.High.{value_of, digits_from, category_of, is_straight, falls_by_one, is_wheel, pips}
 use Rattle.rank_high.proofs.FallingRanks.{Falls, Falls-wider}
-use Rattle.rank_high.proofs.HandCategories.{next_falls, pips_plain, pips_wheel}
+use Rattle.rank_high.proofs.HandCategories.{AreWheel, next_falls, pips_plain, pips_wheel, wheel_ranks}
 
 -- a number is at least that of each five that the counts allow
 pub record Bounds (f : ℕ → ℕ) (v : ℕ) : Type 0 where
@@ -59,17 +59,9 @@ straight_number f v a b c d e bounds falls straight = go (is_wheel (a ∷ b ∷ 
   where
     go : (w : Bool) → is_wheel (a ∷ b ∷ c ∷ d ∷ e ∷ []) ≡ w → digits_from 6 (4 ∷ pips (a ∷ b ∷ c ∷ d ∷ e ∷ [])) ≤ v
     go true w =
-        let four = and_parts ((a == 12) && (b == 3) && (c == 2) && (d == 1)) (e == 0) w in
-        let three = and_parts ((a == 12) && (b == 3) && (c == 2)) (d == 1) four.0 in
-        let two = and_parts ((a == 12) && (b == 3)) (c == 2) three.0 in
-        let one = and_parts (a == 12) (b == 3) two.0 in
-        let ia : a ≡ 12 = eqb-true a 12 one.0 in
-        let ib : b ≡ 3 = eqb-true b 3 one.1 in
-        let ic : c ≡ 2 = eqb-true c 2 two.1 in
-        let id : d ≡ 1 = eqb-true d 1 three.1 in
-        let ie : e ≡ 0 = eqb-true e 0 four.1 in
+        let is : AreWheel a b c d e = wheel_ranks a b c d e w in
         let ends : pips (a ∷ b ∷ c ∷ d ∷ e ∷ []) ≡ 5 ∷ 4 ∷ 3 ∷ 2 ∷ 1 ∷ [] = pips_wheel (a ∷ b ∷ c ∷ d ∷ e ∷ []) w in
-        let h = bounds.run 0 (omega arith) (all (held f 0) 12 3 2 1 0 (ap (held f 0) (sym ia) ∙ falls.1) (ap (held f 0) (sym ib) ∙ falls.2.1) (ap (held f 0) (sym ic) ∙ falls.2.2.1) (ap (held f 0) (sym id) ∙ falls.2.2.2.1) (ap (held f 0) (sym ie) ∙ falls.2.2.2.2.1)) in
+        let h = bounds.run 0 (omega arith) (all (held f 0) 12 3 2 1 0 (ap (held f 0) (sym is.ace) ∙ falls.1) (ap (held f 0) (sym is.five) ∙ falls.2.1) (ap (held f 0) (sym is.four) ∙ falls.2.2.1) (ap (held f 0) (sym is.three) ∙ falls.2.2.2.1) (ap (held f 0) (sym is.two) ∙ falls.2.2.2.2.1)) in
         rw ends (omega arith)
     go false w =
         let falling_by_one : falls_by_one (a ∷ b ∷ c ∷ d ∷ e ∷ []) ≡ true = or_left (falls_by_one (a ∷ b ∷ c ∷ d ∷ e ∷ [])) (is_wheel (a ∷ b ∷ c ∷ d ∷ e ∷ [])) straight w in

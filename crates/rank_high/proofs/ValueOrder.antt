@@ -75,6 +75,12 @@ abbrev pub IsHighList : List ℕ → Type 0
 IsHighList [] = ⊥
 IsHighList (c ∷ ps) = (c < 16) × AreDigits ps × (length ps ≤ 5)
 
+-- the number of such a list has six digits
+pub value_of-lt : (xs : List ℕ) → IsHighList xs → value_of xs < 2 ^ 32
+unfolding value_of
+value_of-lt [] p = absurd p
+value_of-lt (c ∷ ps) p = let rest : digits_from 5 ps < 16 ^ 5 = digits_from-lt 5 ps p.1 in omega arith
+
 pub value_of-order : (xs ys : List ℕ) → IsHighList xs → IsHighList ys → nat_cmp (value_of xs) (value_of ys) ≡ slice_cmp nat_cmp xs ys
 unfolding value_of
 value_of-order [] ys p q = absurd p

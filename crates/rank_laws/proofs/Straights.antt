@@ -6,7 +6,7 @@ use Rattle.std.proofs.lemmas.Bool.{cases_eq, cases_lt, eqb-true, and_parts}
 use Rattle.rank_high.specs.High.{is_straight, is_wheel, falls_by_one, pips, groups, groups_counted, count_of_rank, ranks_counted}
 use Rattle.rank_laws.specs.HighHands.{IsFive, IsUsualStraight, AreInARow, AreFiveToAce, IsStraight}
 use Rattle.rank_laws.proofs.GroupsInOrder.{IsCounted, are_counted}
-use Rattle.rank_high.proofs.CallerLemmas.{next_falls, pips_plain, pips_wheel}
+use Rattle.rank_high.proofs.CallerLemmas.{next_falls, pips_plain, pips_wheel, wheel_ranks}
 use Rattle.rank_laws.proofs.HandCategories.{straight_falls, wheel_straight, straight_groups, straight_length}
 use Rattle.rank_high.proofs.CallerLemmas.{total, total-cards, groups_counted-same}
 
@@ -152,24 +152,16 @@ in_a_row f a b c d e h fa fb fc fd fe falls =
 
 five_to_ace : (f : ℕ → ℕ) (a b c d e : ℕ) → f a ≡ 1 → f b ≡ 1 → f c ≡ 1 → f d ≡ 1 → f e ≡ 1 → is_wheel (a ∷ b ∷ c ∷ d ∷ e ∷ []) ≡ true → IsRun f
 five_to_ace f a b c d e fa fb fc fd fe wheel =
-    let one = and_parts ((a == 12) && (b == 3) && (c == 2) && (d == 1)) (e == 0) wheel in
-    let two = and_parts ((a == 12) && (b == 3) && (c == 2)) (d == 1) one.0 in
-    let three = and_parts ((a == 12) && (b == 3)) (c == 2) two.0 in
-    let four = and_parts (a == 12) (b == 3) three.0 in
-    let at_a : a ≡ 12 = eqb-true a 12 four.0 in
-    let at_b : b ≡ 3 = eqb-true b 3 four.1 in
-    let at_c : c ≡ 2 = eqb-true c 2 three.1 in
-    let at_d : d ≡ 1 = eqb-true d 1 two.1 in
-    let at_e : e ≡ 0 = eqb-true e 0 one.1 in
+    let is = wheel_ranks a b c d e wheel in
     inr (
-      ap f (sym at_a) ∙ fa,
+      ap f (sym is.ace) ∙ fa,
       λ k l. elim (cases_eq k 0) [
-        | inl i ↦ ap f (i ∙ sym at_e) ∙ fe
+        | inl i ↦ ap f (i ∙ sym is.two) ∙ fe
         | inr not_zero ↦ elim (cases_eq k 1) [
-          | inl i ↦ ap f (i ∙ sym at_d) ∙ fd
+          | inl i ↦ ap f (i ∙ sym is.three) ∙ fd
           | inr not_one ↦ elim (cases_eq k 2) [
-            | inl i ↦ ap f (i ∙ sym at_c) ∙ fc
-            | inr not_two ↦ ap f (let at : k ≡ b = omega arith in at) ∙ fb
+            | inl i ↦ ap f (i ∙ sym is.four) ∙ fc
+            | inr not_two ↦ ap f (let at : k ≡ b = omega (arith, is.five) in at) ∙ fb
           ]
         ]
       ],

@@ -12,7 +12,7 @@ pub use Rattle.rank_low.proofs.TurnedNumbers.{turned, ace_turned, AreAceLists, a
 -- The five lowest ranks of some cards are the best ace-to-five low.
 pub use Rattle.rank_low.proofs.LowestFive.{five_turned, groups-fall, low_digits-lt, lowest-least}
 -- What the code makes of counts and groups.
-pub use Rattle.rank_low.proofs.CountsAndGroups.{low_27-IsHighList, value_of-lt}
+pub use Rattle.rank_low.proofs.CountsAndGroups.{low_27-IsHighList}
 -- The numbers of the best lows of five cards or more.
 pub use Rattle.rank_low.proofs.BestFive.{some-choice, eight_turned, greatest-filter, AreAceLists-filter, eight-AreAceLists, qualifies-is, some_of}
 pub use Rattle.rank_low.proofs.BestFive.{least-IsAceList, eight-is, eight-none}

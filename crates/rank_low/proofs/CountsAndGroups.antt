@@ -1,17 +1,12 @@
 -- What the code makes of counts and groups.
 use Rattle.std.proofs.Common.{◌≡◌, ℕ, suc, zero, ◌+◌, ◌*◌, ◌^◌, ◌≤◌, ◌<◌, List, ◌∷◌, [], refl, ap, ◌∙◌, sym, arith, Bool, length, map, subst, slice_index, slice_index_or}
 use Rattle.rank_high.specs.High.{value_of, digits_from, groups, groups_counted, ranks_counted, count_of_rank, category_of, is_flush, group_count}
-use Rattle.rank_high.proofs.CallerLemmas.{AreBelow, AreBelow-groups_counted, groups_counted-same, ranks_counted-same, length-groups, group_sizes, IsHighList, AreDigits-map, length-map_two, category_of-le, digits_from-lt}
+use Rattle.rank_high.proofs.CallerLemmas.{AreBelow, AreBelow-groups_counted, each_below, groups_counted-same, ranks_counted-same, length-groups, group_sizes, IsHighList, AreDigits-map, length-map_two, category_of-le}
 use Rattle.rank_low.specs.Low.{low_a5, low_27, low_groups, count_of_low, ace_number, ace_low, is_run}
 use Rattle.rank_low.proofs.LowCounts.{length-map_low}
 use Rattle.rank_low.proofs.AceLists.{other_sizes}
 use Rattle.rank_low.proofs.AceShapes.{FewOfEach, Sizes, sizes_by, sizes-groups, number-by, low_a5-IsAceList}
 use Rattle.rank_low.proofs.TurnedNumbers.{ace_number-lt}
-
-pub each_below : (n : ℕ) (xs : List ℕ) → AreBelow n xs → (k d : ℕ) → k < length xs → slice_index_or xs k d < n
-each_below n [] b k d h = absurd (omega arith)
-each_below n (x ∷ xs) b zero d h = b.0
-each_below n (x ∷ xs) b (suc k) d h = each_below n xs b.1 k d (omega arith)
 
 pub record FirstTwo (f : ℕ → ℕ) (ranks : List ℕ) (a b : ℕ) : Type 0 where
   pub two : 2 ≤ length ranks
@@ -59,11 +54,6 @@ low_27-IsHighList five h =
     let low : category_of (is_run (groups five)) (is_flush five) (group_count five 4) (group_count five 3) (group_count five 2) ≤ 8 = category_of-le (is_run (groups five)) (is_flush five) (group_count five 4) (group_count five 3) (group_count five 2) few in
     let short : length (groups five) ≤ 5 = omega (arith, length-groups five) in
     (omega arith, AreDigits-map (groups five) (AreBelow-groups_counted _), omega (arith, length-map_two (groups five)))
-
-pub value_of-lt : (xs : List ℕ) → IsHighList xs → value_of xs < 2 ^ 32
-unfolding value_of
-value_of-lt [] p = absurd p
-value_of-lt (c ∷ ps) p = let rest : digits_from 5 ps < 16 ^ 5 = digits_from-lt 5 ps p.1 in omega arith
 
 -- the list of five cards, from the counts of their ranks
 deuce-counted : (f : ℕ → ℕ) (s : List ℕ) → ((k : ℕ) → k < 13 → f k ≡ count_of_rank s k)

@@ -50,6 +50,7 @@ fn separator(form: Form) -> u8
 }
 
 /// Appends what stands before a word.
+#[inline]
 fn put_separator(bytes: &mut Vec<u8>, form: Form, begun: bool) -> Result<(), AllocError>
     ensures { OnOk result (bytes.new.items ≡ bytes.old.items ++ before_word form begun) }
 {
@@ -60,6 +61,7 @@ fn put_separator(bytes: &mut Vec<u8>, form: Form, begun: bool) -> Result<(), All
 }
 
 /// Appends a word.
+#[inline]
 fn put_word(bytes: &mut Vec<u8>, form: Form, word: &[u8]) -> Result<(), AllocError>
     ensures { OnOk result (bytes.new.items ≡ bytes.old.items ++ word_text form word.now) }
 {

@@ -97,28 +97,23 @@ fn write_streets<C: Counter>(
 }
 
 /// The verdict on a hand, with its later streets where they are told: one reading gives both.
-fn read_hand(
-    alloc: Global,
-    told: Detail,
-    bytes: &[u8],
-    first: u32,
-) -> Result<AuditedStreets, Memory>
-    requires header { IsTrue (begins_hand (lines bytes.now)) }
-    requires numbers { first + length (lines bytes.now) < 2 ^ 32 }
+fn read_hand(alloc: Global, told: Detail, text: &[u8], first: u32) -> Result<AuditedStreets, Memory>
+    requires header { IsTrue (begins_hand (lines text.now)) }
+    requires numbers { first + length (lines text.now) < 2 ^ 32 }
     ensures verdict { IfOk result (λ both.
-        audit_of first (lines bytes.now) ≡ Some both.audit) }
+        audit_of first (lines text.now) ≡ Some both.audit) }
     ensures streets { IfOk result (λ both.
-        HasStreets told (lines bytes.now) both.audit both.streets.items) }
+        HasStreets told (lines text.now) both.audit both.streets.items) }
 {
     match told {
         Detail::Verdict | Detail::AllIn => {
-            let audit = audit_hand(alloc, bytes, first)?;
+            let audit = audit_hand(alloc, text, first)?;
             Ok(AuditedStreets {
                 audit,
                 streets: Vec::new(alloc),
             })
         }
-        Detail::LaterStreets => audit_with_streets(alloc, bytes, first),
+        Detail::LaterStreets => audit_with_streets(alloc, text, first),
     }
 }
 

@@ -23,8 +23,8 @@ fn unseen_cards(known: &Known) -> CardSet
 /// Up to eleven slots. Clauses see it as their list.
 #[derive(Drop)]
 struct SlotList {
-    slots: [Slot; 11],
     used: u8,
+    slots: [Slot; 11],
 }
 
 impl Model for SlotList {
@@ -47,8 +47,8 @@ impl SlotList {
             count: 0,
         };
         SlotList {
-            slots: [none; 11],
             used: 0,
+            slots: [none; 11],
         }
     }
 

@@ -26,6 +26,19 @@ pub struct OpenSlot {
     pub left: u32,
 }
 
+/// Some runouts that differ in their last cards alone: those of the listing from one place to another.
+#[derive(Clone, Copy)]
+pub struct Span<'a> {
+    /// The sets of the slots before the last.
+    pub front: &'a [CardSet],
+    /// The last slot.
+    pub tail: OpenSlot,
+    /// The first place, in the listing of the ways to fill the last slot.
+    pub lo: u64,
+    /// The place after the last.
+    pub hi: u64,
+}
+
 /// Counts the runouts that differ in their last cards alone.
 pub trait Leaf {
     /// The deal whose runouts are counted.
@@ -40,41 +53,33 @@ pub trait Leaf {
 
     /// Counts the runouts in which the slots before the last have these sets, and the last one has some cards and gets so many of the
     /// rest, from one place of the listing of these to another: for each pot, on each side. It takes a step a runout.
-    fn count<L: Ledger>(
-        &mut self,
-        counts: &mut [[u32; 2048]],
-        front: &[CardSet],
-        tail: OpenSlot,
-        lo: u64,
-        hi: u64,
-        steps: &mut Steps<L>,
-    )
+    fn count<L: Ledger>(&mut self, counts: &mut [[u32; 2048]], span: &Span, steps: &mut Steps<L>)
         // The front has all slots but the last one, which gets as many cards more as the leaf deals at once.
-        requires last { suc (length front.now) ≡ length (slots (deal self.old).state) }
-        requires deep { tail.left ≡ depth (deal self.old) }
+        requires last { suc (length span.now.front.now) ≡ length (slots (deal self.old).state) }
+        requires deep { span.now.tail.left ≡ depth (deal self.old) }
 
         // What the last slot has lies below the rest, which is the end of what is unseen, and each way to fill it makes a runout.
-        requires above { IsCardSet tail.rest → IsRising (tail.taken ++ tail.rest) }
-        requires end { IsEndOf tail.rest (left_after (unseen (deal self.old).state) front.now) }
-        requires members { (more : List ℕ) → HasMember (choose tail.left tail.rest) more
+        requires above { IsCardSet span.now.tail.rest → IsRising (span.now.tail.taken ++ span.now.tail.rest) }
+        requires end { IsEndOf span.now.tail.rest (left_after (unseen (deal self.old).state) span.now.front.now) }
+        requires members { (more : List ℕ) → HasMember (choose span.now.tail.left span.now.tail.rest) more
             → HasMember (runouts_after (deal self.old).state)
-            (front.now ++ (tail.taken ++ more) ∷ []) }
+            (span.now.front.now ++ (span.now.tail.taken ++ more) ∷ []) }
 
         // There is something between the places, and they lie in the listing of these ways.
-        requires order { lo < hi }
-        requires inside { hi ≤ length (choose tail.left tail.rest) }
+        requires order { span.now.lo < span.now.hi }
+        requires inside { span.now.hi ≤ length (choose span.now.tail.left span.now.tail.rest) }
 
         // Each pot has its two rows, and each of their counts has room for all that are counted.
         requires places { 2 * length (deal self.old).pots ≤ length counts.old }
-        requires fits { CountsFit (deal self.old) counts.old (hi - lo) }
+        requires fits { CountsFit (deal self.old) counts.old (span.now.hi - span.now.lo) }
 
         // The runouts between the places are counted, and no others.
         ensures counts { CountsGrow (deal self.old)
-            (map (λ more. front.now ++ (tail.taken ++ more) ∷ [])
-            (slice_range (choose tail.left tail.rest) lo hi)) counts.old counts.new }
+            (map (λ more. span.now.front.now ++ (span.now.tail.taken ++ more) ∷ [])
+            (slice_range (choose span.now.tail.left span.now.tail.rest) span.now.lo span.now.hi)) counts.old counts.new }
 
         // Sizes and deal stay, and the steps are as many as the runouts, whatever the leaf looks at.
         ensures places { length counts.new ≡ length counts.old }
-        ensures steps { steps.new ≡ steps.old + (hi - lo) }
+        ensures steps { steps.new ≡ steps.old + (span.now.hi - span.now.lo) }
         ensures deal { deal self.new ≡ deal self.old };
 }

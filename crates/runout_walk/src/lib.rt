@@ -33,5 +33,5 @@ pub use bests::{Best, all_are_hands, are_hands, best_of, pot_best, ten_places};
 pub use card_list::{CardList, DECK};
 pub use counts::{add_one, add_times, clear_counts, low_mark, side_row, ten_pots};
 pub use heap::filled;
-pub use leaf::{Leaf, OpenSlot};
+pub use leaf::{Leaf, OpenSlot, Span};
 pub use plain::{Plain, winners_on};

@@ -12,7 +12,7 @@ ghost use Rattle.showdown_tally.specs.Sides.{side_outcome, AreSideNumbersAfter};
 ghost use Rattle.showdown_tally.specs.Tallies.{runouts_after};
 
 use crate::counts::{add_one, ten_pots};
-use crate::leaf::{Leaf, OpenSlot};
+use crate::leaf::{Leaf, Span};
 use card_sets::{CardSet, Side};
 use runout_ranges::Shape;
 use showdown_tally::{Table, side_outcome, values_after};
@@ -121,19 +121,11 @@ impl Leaf for Plain {
         0
     }
 
-    fn count<L: Ledger>(
-        &mut self,
-        counts: &mut [[u32; 2048]],
-        front: &[CardSet],
-        tail: OpenSlot,
-        lo: u64,
-        hi: u64,
-        steps: &mut Steps<L>,
-    ) {
+    fn count<L: Ledger>(&mut self, counts: &mut [[u32; 2048]], span: &Span, steps: &mut Steps<L>) {
         steps.tick();
         let mut sets = [CardSet::empty(); 11];
-        put_sets(&mut sets, front, tail.taken);
-        let runout = &sets[..front.len() + 1];
+        put_sets(&mut sets, span.front, span.tail.taken);
+        let runout = &sets[..span.front.len() + 1];
         count_one(&self.table, &self.shape, runout, counts);
     }
 }

@@ -9,7 +9,7 @@ ghost use Rattle.runout_walk.specs.Branches.{IsAt};
 ghost use Rattle.runout_walk.specs.Listing.{going_on};
 
 use crate::branch::Branch;
-use crate::leaf::{Leaf, OpenSlot};
+use crate::leaf::{Leaf, OpenSlot, Span};
 use card_sets::CardSet;
 use runout_ranges::{Slot, count_choices, count_ways};
 use std::sync::ledger::Ledger;
@@ -99,7 +99,13 @@ pub(crate) fn count_range<F: Leaf, L: Ledger>(
     let tail = branch.tail;
     if is_last(branch.later, tail.left, leaf.depth()) {
         let front = &sets[..branch.slot];
-        leaf.count(counts, front, tail, lo, hi, steps);
+        let span = Span {
+            front,
+            tail,
+            lo,
+            hi,
+        };
+        leaf.count(counts, &span, steps);
         return;
     }
     if tail.left == 0 {

@@ -5,12 +5,12 @@ ghost use Rattle.std.specs.Option.{option_map};
 ghost use Rattle.card_sets.specs.State.{state_of};
 ghost use Rattle.runout_ranges.specs.Runouts.{HasMember};
 ghost use Rattle.runout_ranges.specs.Shapes.{IsShapeOf};
+ghost use Rattle.showdown_tally.specs.Tallies.{Adds, Fits, runouts_after};
 ghost use Rattle.showdown_tally.specs.Showdown.{best};
 ghost use Rattle.showdown_tally.specs.Numbers.{side_number};
 ghost use Rattle.showdown_tally.specs.Deals.{deal_of};
 ghost use Rattle.showdown_tally.specs.Laws.{IsFull};
 ghost use Rattle.showdown_tally.specs.Settling.{number_of};
-ghost use Rattle.showdown_tally.specs.Tallies.{Adds, Fits, runouts_after};
 
 use crate::dealing::{dealt_in, hands_after};
 use crate::laws::law_values_keep_order;

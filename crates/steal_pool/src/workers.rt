@@ -33,5 +33,5 @@ pub fn count_with_workers<R: Threads + Wait + Sync, G: Gate + Sync>(
     ensures by_workers { IfOk result
         (λ c. c.by_workers ≤ blocks_of (length (runouts_after (state_of job.now.table.known)))) }
 {
-    worker_seats::count_with_workers::<OwnScratch, R, G>(rt, alloc, job, workers, gate)
+    worker_seats::count_with_workers::<OwnScratch, R, G>(rt, job, workers, gate, alloc)
 }

@@ -21,10 +21,10 @@ use tally_book::{Closed, Naming};
 /// is answered before the first worker starts; a thread that can't be started is none.
 pub fn count_with_workers<C: BlockCounter + Send, R: Threads + Wait + Sync, G: Gate + Sync>(
     rt: &R,
-    alloc: Global,
     job: &Job,
     workers: u32,
     gate: &G,
+    alloc: Global,
 ) -> Result<Closed, Memory>
     requires workers { (1 ≤ workers) × (workers ≤ 16) }
     ensures total { IfOk result

@@ -94,7 +94,7 @@ const SIDE_POTS_CHANGES: &[Change] = &[
 const HEADS_UP_CHANGES: &[Change] = &[
     (
         11,
-        "y: calls $2\n",
+        "y z: calls $2\n",
         "hand 2 rejected line 11 CallAmount 0.00\n",
     ),
     (12, "", "hand 2 rejected line 12 StreetEarly seat 1\n"),

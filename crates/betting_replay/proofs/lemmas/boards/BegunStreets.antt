@@ -55,34 +55,40 @@ all_size OnFlop = 3
 all_size OnTurn = 4
 all_size OnRiver = 5
 
--- a street before the last has begun
+-- a street before the last
+abbrev goes_on : StreetName → Bool
+goes_on First = true
+goes_on Flop = true
+goes_on Turn = true
+goes_on _ = false
+
+-- such a street has begun
 abbrev pub has_come : Phase → StreetName → Bool
 has_come OnFirst First = true
 has_come OnFlop First = true
 has_come OnFlop Flop = true
-has_come OnTurn First = true
-has_come OnTurn Flop = true
-has_come OnTurn Turn = true
-has_come OnRiver First = true
-has_come OnRiver Flop = true
-has_come OnRiver Turn = true
+has_come OnTurn street = goes_on street
+has_come OnRiver street = goes_on street
 has_come _ _ = false
 
--- a street after the first has begun
+-- a street after the first
+abbrev after_first : StreetName → Bool
+after_first Flop = true
+after_first Turn = true
+after_first River = true
+after_first _ = false
+
+-- such a street has begun
 abbrev pub has_begun : Phase → StreetName → Bool
 has_begun OnFlop Flop = true
 has_begun OnTurn Flop = true
 has_begun OnTurn Turn = true
-has_begun OnRiver Flop = true
-has_begun OnRiver Turn = true
-has_begun OnRiver River = true
+has_begun OnRiver street = after_first street
 has_begun _ _ = false
 
 -- a street of a board comes before another
 abbrev pub is_before : StreetName → StreetName → Bool
-is_before First Flop = true
-is_before First Turn = true
-is_before First River = true
+is_before First street = after_first street
 is_before Flop Turn = true
 is_before Flop River = true
 is_before Turn River = true

@@ -11,15 +11,15 @@ use Rattle.board_runouts.proofs.boards.BoardsLeaf.count.Goals as goal
 
 pub ready-base-requires-clause-first : goal.ready-base-requires-clause-first
 ready-base-requires-clause-first g c =
-    (leaf_of c.args.self.now.spot c.args.self.now.table c.args.front.now c.args.tail.taken c.args.tail.rest c.args.tail.left c.args.lo c.args.hi c.args.self.now.same c.requires.last c.requires.deep c.requires.members c.requires.order c.requires.inside).first
+    (leaf_of c.args.self.now.spot c.args.self.now.table c.args.span.now.front.now c.args.span.now.tail.taken c.args.span.now.tail.rest c.args.span.now.tail.left c.args.span.now.lo c.args.span.now.hi c.args.self.now.same c.requires.last c.requires.deep c.requires.members c.requires.order c.requires.inside).first
 
 pub ready-base-requires-clause-own : goal.ready-base-requires-clause-own
 ready-base-requires-clause-own g c =
-    (leaf_of c.args.self.now.spot c.args.self.now.table c.args.front.now c.args.tail.taken c.args.tail.rest c.args.tail.left c.args.lo c.args.hi c.args.self.now.same c.requires.last c.requires.deep c.requires.members c.requires.order c.requires.inside).own
+    (leaf_of c.args.self.now.spot c.args.self.now.table c.args.span.now.front.now c.args.span.now.tail.taken c.args.span.now.tail.rest c.args.span.now.tail.left c.args.span.now.lo c.args.span.now.hi c.args.self.now.same c.requires.last c.requires.deep c.requires.members c.requires.order c.requires.inside).own
 
 pub ranks_of-ranks-requires : goal.ranks_of-ranks-requires
 ranks_of-ranks-requires g c =
-    let first = (leaf_of c.args.self.now.spot c.args.self.now.table c.args.front.now c.args.tail.taken c.args.tail.rest c.args.tail.left c.args.lo c.args.hi c.args.self.now.same c.requires.last c.requires.deep c.requires.members c.requires.order c.requires.inside).first in
+    let first = (leaf_of c.args.self.now.spot c.args.self.now.table c.args.span.now.front.now c.args.span.now.tail.taken c.args.span.now.tail.rest c.args.span.now.tail.left c.args.span.now.lo c.args.span.now.hi c.args.self.now.same c.requires.last c.requires.deep c.requires.members c.requires.order c.requires.inside).first in
     let size = first.size in
     omega arith
 
@@ -34,30 +34,30 @@ count_whole-requires-clause-rows g c = λ pot row at. let r = c.stretch-rows.ens
 
 pub count_whole-requires-clause-members : goal.count_whole-requires-clause-members
 count_whole-requires-clause-members g c =
-    (leaf_of c.args.self.now.spot c.args.self.now.table c.args.front.now c.args.tail.taken c.args.tail.rest c.args.tail.left c.args.lo c.args.hi c.args.self.now.same c.requires.last c.requires.deep c.requires.members c.requires.order c.requires.inside).members
+    (leaf_of c.args.self.now.spot c.args.self.now.table c.args.span.now.front.now c.args.span.now.tail.taken c.args.span.now.tail.rest c.args.span.now.tail.left c.args.span.now.lo c.args.span.now.hi c.args.self.now.same c.requires.last c.requires.deep c.requires.members c.requires.order c.requires.inside).members
 
 pub count_whole-requires-clause-codes : goal.count_whole-requires-clause-codes
 count_whole-requires-clause-codes g c =
     let at = c.codes_at-codes.ensures in
     let place = c.ready-place.ensures in
-    codes_for (deal_of c.args.self.now.spot.table) c.args.tail.taken c.ranks_of-ranks.result c.last_rank-least.result c.codes_at-codes.result.now (place.right c.ready-place.result c.codes_at-codes.result.now at) (place.ranks c.codes_at-codes.result.now at) (place.least c.codes_at-codes.result.now at)
+    codes_for (deal_of c.args.self.now.spot.table) c.args.span.now.tail.taken c.ranks_of-ranks.result c.last_rank-least.result c.codes_at-codes.result.now (place.right c.ready-place.result c.codes_at-codes.result.now at) (place.ranks c.codes_at-codes.result.now at) (place.least c.codes_at-codes.result.now at)
     c.ranks_of-ranks.ensures.ranks c.last_rank-least.ensures
 
 pub count_whole-requires-clause-end : goal.count_whole-requires-clause-end
 count_whole-requires-clause-end g c =
-    let leaf : IsLeafOf c.args.self.now.spot c.args.front.now c.args.tail.taken c.args.tail.rest =
-    leaf_of c.args.self.now.spot c.args.self.now.table c.args.front.now c.args.tail.taken c.args.tail.rest c.args.tail.left c.args.lo c.args.hi c.args.self.now.same c.requires.last c.requires.deep c.requires.members c.requires.order c.requires.inside in
-    end_of_all c.args.front.now c.args.tail.rest c.serve.new.self.cards (unseen (state_of c.args.self.now.table.known)) leaf.none (c.serve.ensures ∙ c.args.self.now.all) c.requires.end
+    let leaf : IsLeafOf c.args.self.now.spot c.args.span.now.front.now c.args.span.now.tail.taken c.args.span.now.tail.rest =
+    leaf_of c.args.self.now.spot c.args.self.now.table c.args.span.now.front.now c.args.span.now.tail.taken c.args.span.now.tail.rest c.args.span.now.tail.left c.args.span.now.lo c.args.span.now.hi c.args.self.now.same c.requires.last c.requires.deep c.requires.members c.requires.order c.requires.inside in
+    end_of_all c.args.span.now.front.now c.args.span.now.tail.rest c.serve.new.self.cards (unseen (state_of c.args.self.now.table.known)) leaf.none (c.serve.ensures ∙ c.args.self.now.all) c.requires.end
 
 pub count_whole-requires-clause-inside : goal.count_whole-requires-clause-inside
 count_whole-requires-clause-inside g c =
-    let more : length (choose c.args.tail.left c.args.tail.rest) ≡ length (choose 2 c.args.tail.rest) = ap (λ n. length (choose n c.args.tail.rest)) c.requires.deep in
+    let more : length (choose c.args.span.now.tail.left c.args.span.now.tail.rest) ≡ length (choose 2 c.args.span.now.tail.rest) = ap (λ n. length (choose n c.args.span.now.tail.rest)) c.requires.deep in
     let i = c.requires.inside in
     omega arith
 
 pub count_whole-requires-clause-fits : goal.count_whole-requires-clause-fits
 count_whole-requires-clause-fits g c =
-    let P : Table → Type 0 = λ t. CountsFit (deal_of t) c.args.counts.now (c.args.hi - c.args.lo) in
+    let P : Table → Type 0 = λ t. CountsFit (deal_of t) c.args.counts.now (c.args.span.now.hi - c.args.span.now.lo) in
     subst P (sym c.args.self.now.same) c.requires.fits
 
 pub count_sieved-requires-clause-rows : goal.count_sieved-requires-clause-rows
@@ -65,43 +65,43 @@ count_sieved-requires-clause-rows g c = λ pot row at. let r = c.stretch-rows.en
 
 pub count_sieved-requires-clause-members : goal.count_sieved-requires-clause-members
 count_sieved-requires-clause-members g c =
-    (leaf_of c.args.self.now.spot c.args.self.now.table c.args.front.now c.args.tail.taken c.args.tail.rest c.args.tail.left c.args.lo c.args.hi c.args.self.now.same c.requires.last c.requires.deep c.requires.members c.requires.order c.requires.inside).members
+    (leaf_of c.args.self.now.spot c.args.self.now.table c.args.span.now.front.now c.args.span.now.tail.taken c.args.span.now.tail.rest c.args.span.now.tail.left c.args.span.now.lo c.args.span.now.hi c.args.self.now.same c.requires.last c.requires.deep c.requires.members c.requires.order c.requires.inside).members
 
 pub count_sieved-requires-clause-codes : goal.count_sieved-requires-clause-codes
 count_sieved-requires-clause-codes g c =
     let at = c.codes_at-codes.ensures in
     let place = c.ready-place.ensures in
-    codes_for (deal_of c.args.self.now.spot.table) c.args.tail.taken c.ranks_of-ranks.result c.last_rank-least.result c.codes_at-codes.result.now (place.right c.ready-place.result c.codes_at-codes.result.now at) (place.ranks c.codes_at-codes.result.now at) (place.least c.codes_at-codes.result.now at)
+    codes_for (deal_of c.args.self.now.spot.table) c.args.span.now.tail.taken c.ranks_of-ranks.result c.last_rank-least.result c.codes_at-codes.result.now (place.right c.ready-place.result c.codes_at-codes.result.now at) (place.ranks c.codes_at-codes.result.now at) (place.least c.codes_at-codes.result.now at)
     c.ranks_of-ranks.ensures.ranks c.last_rank-least.ensures
 
 pub count_sieved-requires-clause-end : goal.count_sieved-requires-clause-end
 count_sieved-requires-clause-end g c =
-    let leaf : IsLeafOf c.args.self.now.spot c.args.front.now c.args.tail.taken c.args.tail.rest =
-    leaf_of c.args.self.now.spot c.args.self.now.table c.args.front.now c.args.tail.taken c.args.tail.rest c.args.tail.left c.args.lo c.args.hi c.args.self.now.same c.requires.last c.requires.deep c.requires.members c.requires.order c.requires.inside in
-    end_of_all c.args.front.now c.args.tail.rest c.serve.new.self.cards (unseen (state_of c.args.self.now.table.known)) leaf.none (c.serve.ensures ∙ c.args.self.now.all) c.requires.end
+    let leaf : IsLeafOf c.args.self.now.spot c.args.span.now.front.now c.args.span.now.tail.taken c.args.span.now.tail.rest =
+    leaf_of c.args.self.now.spot c.args.self.now.table c.args.span.now.front.now c.args.span.now.tail.taken c.args.span.now.tail.rest c.args.span.now.tail.left c.args.span.now.lo c.args.span.now.hi c.args.self.now.same c.requires.last c.requires.deep c.requires.members c.requires.order c.requires.inside in
+    end_of_all c.args.span.now.front.now c.args.span.now.tail.rest c.serve.new.self.cards (unseen (state_of c.args.self.now.table.known)) leaf.none (c.serve.ensures ∙ c.args.self.now.all) c.requires.end
 
 pub count_sieved-requires-clause-inside : goal.count_sieved-requires-clause-inside
 count_sieved-requires-clause-inside g c =
-    let more : length (choose c.args.tail.left c.args.tail.rest) ≡ length (choose 2 c.args.tail.rest) = ap (λ n. length (choose n c.args.tail.rest)) c.requires.deep in
+    let more : length (choose c.args.span.now.tail.left c.args.span.now.tail.rest) ≡ length (choose 2 c.args.span.now.tail.rest) = ap (λ n. length (choose n c.args.span.now.tail.rest)) c.requires.deep in
     let i = c.requires.inside in
     omega arith
 
 pub count_sieved-requires-clause-fits : goal.count_sieved-requires-clause-fits
 count_sieved-requires-clause-fits g c =
-    let P : Table → Type 0 = λ t. CountsFit (deal_of t) c.args.counts.now (c.args.hi - c.args.lo) in
+    let P : Table → Type 0 = λ t. CountsFit (deal_of t) c.args.counts.now (c.args.span.now.hi - c.args.span.now.lo) in
     subst P (sym c.args.self.now.same) c.requires.fits
 
 pub returns-then-eq-clause-counts : goal.returns-then-eq-clause-counts
 returns-then-eq-clause-counts g c =
-    let leaf : IsLeafOf c.args.self.now.spot c.args.front.now c.args.tail.taken c.args.tail.rest =
-    leaf_of c.args.self.now.spot c.args.self.now.table c.args.front.now c.args.tail.taken c.args.tail.rest c.args.tail.left c.args.lo c.args.hi c.args.self.now.same c.requires.last c.requires.deep c.requires.members c.requires.order c.requires.inside in
-    leaf_grow c.args.self.now.spot c.args.self.now.table c.args.front.now c.args.tail.taken c.args.tail.rest c.args.tail.left c.args.lo c.args.hi c.args.counts.now c.count_whole.new.counts c.args.self.now.same leaf.none c.requires.deep c.count_whole.ensures.counts
+    let leaf : IsLeafOf c.args.self.now.spot c.args.span.now.front.now c.args.span.now.tail.taken c.args.span.now.tail.rest =
+    leaf_of c.args.self.now.spot c.args.self.now.table c.args.span.now.front.now c.args.span.now.tail.taken c.args.span.now.tail.rest c.args.span.now.tail.left c.args.span.now.lo c.args.span.now.hi c.args.self.now.same c.requires.last c.requires.deep c.requires.members c.requires.order c.requires.inside in
+    leaf_grow c.args.self.now.spot c.args.self.now.table c.args.span.now.front.now c.args.span.now.tail.taken c.args.span.now.tail.rest c.args.span.now.tail.left c.args.span.now.lo c.args.span.now.hi c.args.counts.now c.count_whole.new.counts c.args.self.now.same leaf.none c.requires.deep c.count_whole.ensures.counts
 
 pub returns-clause-counts : goal.returns-clause-counts
 returns-clause-counts g c =
-    let leaf : IsLeafOf c.args.self.now.spot c.args.front.now c.args.tail.taken c.args.tail.rest =
-    leaf_of c.args.self.now.spot c.args.self.now.table c.args.front.now c.args.tail.taken c.args.tail.rest c.args.tail.left c.args.lo c.args.hi c.args.self.now.same c.requires.last c.requires.deep c.requires.members c.requires.order c.requires.inside in
-    leaf_grow c.args.self.now.spot c.args.self.now.table c.args.front.now c.args.tail.taken c.args.tail.rest c.args.tail.left c.args.lo c.args.hi c.args.counts.now c.count_sieved.new.counts c.args.self.now.same leaf.none c.requires.deep c.count_sieved.ensures.counts
+    let leaf : IsLeafOf c.args.self.now.spot c.args.span.now.front.now c.args.span.now.tail.taken c.args.span.now.tail.rest =
+    leaf_of c.args.self.now.spot c.args.self.now.table c.args.span.now.front.now c.args.span.now.tail.taken c.args.span.now.tail.rest c.args.span.now.tail.left c.args.span.now.lo c.args.span.now.hi c.args.self.now.same c.requires.last c.requires.deep c.requires.members c.requires.order c.requires.inside in
+    leaf_grow c.args.self.now.spot c.args.self.now.table c.args.span.now.front.now c.args.span.now.tail.taken c.args.span.now.tail.rest c.args.span.now.tail.left c.args.span.now.lo c.args.span.now.hi c.args.counts.now c.count_sieved.new.counts c.args.self.now.same leaf.none c.requires.deep c.count_sieved.ensures.counts
 
 pub ready-base-requires-clause-right : goal.ready-base-requires-clause-right
 ready-base-requires-clause-right g c = c.args.self.now.right

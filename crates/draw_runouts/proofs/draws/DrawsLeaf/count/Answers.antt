@@ -31,7 +31,7 @@ pub write_draws-requires-clause-some : goal.write_draws-requires-clause-some
 write_draws-requires-clause-some g c =
     let leaf = c.args.self.now in
     let st : State = state_of leaf.table.known in
-    let size : suc (length c.args.front.now) ≡ length (slots st) = c.requires.last in
+    let size : suc (length c.args.span.now.front.now) ≡ length (slots st) = c.requires.last in
     let inside = last_inside st leaf.no_board (omega arith) in
     let deep : leaf.numbers.count ≡ last_count (slots st) = leaf.deep in
     omega (arith, inside.1, deep)
@@ -40,13 +40,13 @@ pub write_draws-requires-clause-room : goal.write_draws-requires-clause-room
 write_draws-requires-clause-room g c =
     let leaf = c.args.self.now in
     let st : State = state_of leaf.table.known in
-    let size : suc (length c.args.front.now) ≡ length (slots st) = c.requires.last in
+    let size : suc (length c.args.span.now.front.now) ≡ length (slots st) = c.requires.last in
     let inside = last_inside st leaf.no_board (omega arith) in
     let deep : leaf.numbers.count ≡ last_count (slots st) = leaf.deep in
-    let left : c.args.tail.left ≡ last_count (slots st) = c.requires.deep in
+    let left : c.args.span.now.tail.left ≡ last_count (slots st) = c.requires.deep in
     let few = leaf.few in
-    let short : length c.args.tail.rest ≤ 52 = c.of-cards.ensures.few in
-    let most = few_draws c.args.tail.rest c.args.tail.left short (omega (arith, inside.1, left)) (omega (arith, few, left, deep)) in
+    let short : length c.args.span.now.tail.rest ≤ 52 = c.of-cards.ensures.few in
+    let most = few_draws c.args.span.now.tail.rest c.args.span.now.tail.left short (omega (arith, inside.1, left)) (omega (arith, few, left, deep)) in
     let end = c.requires.inside in
     omega (arith, most, end, leaf.room)
 
@@ -55,7 +55,7 @@ count_pots-requires-clause-last g c =
     let leaf = c.args.self.now in
     let known = leaf.table.known in
     let st : State = state_of known in
-    let size : suc (length c.args.front.now) ≡ length (slots st) = c.requires.last in
+    let size : suc (length c.args.span.now.front.now) ≡ length (slots st) = c.requires.last in
     let inside = last_inside st leaf.no_board (omega arith) in
     let at : leaf.last ≡ last_hand (slots st) = leaf.last_is in
     omega (arith, inside.0, at, length-take known.count known.hands)
@@ -67,12 +67,12 @@ returns-else-has_two_sides-clause-counts g c = λ pot place side p has m.
     let known = table.known in
     let st : State = state_of known in
     let deal = deal_of table in
-    let front : List (List ℕ) = c.args.front.now in
-    let taken : List ℕ = c.args.tail.taken in
-    let rest : List ℕ = c.args.tail.rest in
-    let left : ℕ = c.args.tail.left in
-    let lo : ℕ = c.args.lo in
-    let hi : ℕ = c.args.hi in
+    let front : List (List ℕ) = c.args.span.now.front.now in
+    let taken : List ℕ = c.args.span.now.tail.taken in
+    let rest : List ℕ = c.args.span.now.tail.rest in
+    let left : ℕ = c.args.span.now.tail.left in
+    let lo : ℕ = c.args.span.now.lo in
+    let hi : ℕ = c.args.span.now.hi in
     let last : ℕ = leaf.last in
     let only : Side = only_side known.game in
     let count : ℕ = leaf.numbers.count in
@@ -123,12 +123,12 @@ returns-then-has_two_sides-clause-counts g c = λ pot place side p has m.
     let known = table.known in
     let st : State = state_of known in
     let deal = deal_of table in
-    let front : List (List ℕ) = c.args.front.now in
-    let taken : List ℕ = c.args.tail.taken in
-    let rest : List ℕ = c.args.tail.rest in
-    let left : ℕ = c.args.tail.left in
-    let lo : ℕ = c.args.lo in
-    let hi : ℕ = c.args.hi in
+    let front : List (List ℕ) = c.args.span.now.front.now in
+    let taken : List ℕ = c.args.span.now.tail.taken in
+    let rest : List ℕ = c.args.span.now.tail.rest in
+    let left : ℕ = c.args.span.now.tail.left in
+    let lo : ℕ = c.args.span.now.lo in
+    let hi : ℕ = c.args.span.now.hi in
     let last : ℕ = leaf.last in
     let only : Side = only_side known.game in
     let count : ℕ = leaf.numbers.count in
@@ -193,7 +193,7 @@ pub write_draws-requires-then-has_two_sides-clause-some : goal.write_draws-requi
 write_draws-requires-then-has_two_sides-clause-some g c =
     let leaf = c.args.self.now in
     let st : State = state_of leaf.table.known in
-    let size : suc (length c.args.front.now) ≡ length (slots st) = c.requires.last in
+    let size : suc (length c.args.span.now.front.now) ≡ length (slots st) = c.requires.last in
     let inside = last_inside st leaf.no_board (omega arith) in
     let two : has_two_sides leaf.table.known.game ≡ true = sym c.has_two_sides.ensures ∙ c.if-has_two_sides.true in
     let deep : leaf.numbers.count ≡ last_count (slots st) = leaf.deep in
@@ -204,7 +204,7 @@ count_sides-requires-clause-last g c =
     let leaf = c.args.self.now in
     let known = leaf.table.known in
     let st : State = state_of known in
-    let size : suc (length c.args.front.now) ≡ length (slots st) = c.requires.last in
+    let size : suc (length c.args.span.now.front.now) ≡ length (slots st) = c.requires.last in
     let inside = last_inside st leaf.no_board (omega arith) in
     let at : leaf.last ≡ last_hand (slots st) = leaf.last_is in
     omega (arith, inside.0, at, length-take known.count known.hands)
@@ -214,7 +214,7 @@ count_sides-requires-clause-fits g c = λ pot place side l has m.
     let table = c.args.self.now.table in
     let pots = table.few_pots in
     let among : pot < length (deal_of table).pots = omega (arith, l, pots, length-map (take table.pots table.eligible) hands_of, length-take table.pots table.eligible, c.ten_places.ensures.pots) in
-    omega (arith, c.requires.fits pot place side among has m, length-take (c.args.hi - c.args.lo) c.as_slice-all_highs.result.now)
+    omega (arith, c.requires.fits pot place side among has m, length-take (c.args.span.now.hi - c.args.span.now.lo) c.as_slice-all_highs.result.now)
 
 pub write_draws-requires-then-has_two_sides-clause-few : goal.write_draws-requires-then-has_two_sides-clause-few
 write_draws-requires-then-has_two_sides-clause-few g c =
@@ -227,13 +227,13 @@ write_draws-requires-then-has_two_sides-clause-room g c =
     let leaf = c.args.self.now in
     let st : State = state_of leaf.table.known in
     let two : has_two_sides leaf.table.known.game ≡ true = sym c.has_two_sides.ensures ∙ c.if-has_two_sides.true in
-    let size : suc (length c.args.front.now) ≡ length (slots st) = c.requires.last in
+    let size : suc (length c.args.span.now.front.now) ≡ length (slots st) = c.requires.last in
     let inside = last_inside st leaf.no_board (omega arith) in
     let deep : leaf.numbers.count ≡ last_count (slots st) = leaf.deep in
-    let left : c.args.tail.left ≡ last_count (slots st) = c.requires.deep in
+    let left : c.args.span.now.tail.left ≡ last_count (slots st) = c.requires.deep in
     let few = leaf.low_few two in
-    let short : length c.args.tail.rest ≤ 52 = c.of-cards.ensures.few in
-    let most = few_twos c.args.tail.rest c.args.tail.left short (omega (arith, inside.1, left)) (omega (arith, few, left, deep)) in
+    let short : length c.args.span.now.tail.rest ≤ 52 = c.of-cards.ensures.few in
+    let most = few_twos c.args.span.now.tail.rest c.args.span.now.tail.left short (omega (arith, inside.1, left)) (omega (arith, few, left, deep)) in
     let end = c.requires.inside in
     omega (arith, most, end, leaf.low_room)
 
@@ -242,15 +242,15 @@ slice_bounds-low_values-length g c =
     let leaf = c.args.self.now in
     let st : State = state_of leaf.table.known in
     let two : has_two_sides leaf.table.known.game ≡ true = sym c.has_two_sides.ensures ∙ c.if-has_two_sides.true in
-    let size : suc (length c.args.front.now) ≡ length (slots st) = c.requires.last in
+    let size : suc (length c.args.span.now.front.now) ≡ length (slots st) = c.requires.last in
     let inside = last_inside st leaf.no_board (omega arith) in
     let deep : leaf.numbers.count ≡ last_count (slots st) = leaf.deep in
-    let left : c.args.tail.left ≡ last_count (slots st) = c.requires.deep in
+    let left : c.args.span.now.tail.left ≡ last_count (slots st) = c.requires.deep in
     let few = leaf.low_few two in
-    let short : length c.args.tail.rest ≤ 52 = c.of-cards.ensures.few in
-    let most = few_twos c.args.tail.rest c.args.tail.left short (omega (arith, inside.1, left)) (omega (arith, few, left, deep)) in
+    let short : length c.args.span.now.tail.rest ≤ 52 = c.of-cards.ensures.few in
+    let most = few_twos c.args.span.now.tail.rest c.args.span.now.tail.left short (omega (arith, inside.1, left)) (omega (arith, few, left, deep)) in
     let end = c.requires.inside in
-    let span : ℕ = c.args.hi - c.args.lo in
+    let span : ℕ = c.args.span.now.hi - c.args.span.now.lo in
     let lows : span ≤ length c.as_slice-all_lows.result.now = omega (arith, most, end, leaf.low_room, c.write_draws-then-has_two_sides.ensures.room, ap length c.as_slice-all_lows.ensures.value) in
     omega (arith, lows, length-take span c.as_slice-all_lows.result.now)
 
@@ -259,16 +259,16 @@ count_sides-requires-clause-each g c =
     let leaf = c.args.self.now in
     let st : State = state_of leaf.table.known in
     let two : has_two_sides leaf.table.known.game ≡ true = sym c.has_two_sides.ensures ∙ c.if-has_two_sides.true in
-    let size : suc (length c.args.front.now) ≡ length (slots st) = c.requires.last in
+    let size : suc (length c.args.span.now.front.now) ≡ length (slots st) = c.requires.last in
     let inside = last_inside st leaf.no_board (omega arith) in
     let deep : leaf.numbers.count ≡ last_count (slots st) = leaf.deep in
-    let left : c.args.tail.left ≡ last_count (slots st) = c.requires.deep in
+    let left : c.args.span.now.tail.left ≡ last_count (slots st) = c.requires.deep in
     let few = leaf.low_few two in
-    let short : length c.args.tail.rest ≤ 52 = c.of-cards.ensures.few in
-    let most = few_twos c.args.tail.rest c.args.tail.left short (omega (arith, inside.1, left)) (omega (arith, few, left, deep)) in
+    let short : length c.args.span.now.tail.rest ≤ 52 = c.of-cards.ensures.few in
+    let most = few_twos c.args.span.now.tail.rest c.args.span.now.tail.left short (omega (arith, inside.1, left)) (omega (arith, few, left, deep)) in
     let end = c.requires.inside in
-    let draws = few_draws c.args.tail.rest c.args.tail.left short (omega (arith, inside.1, left)) (omega (arith, leaf.few, left, deep)) in
-    let span : ℕ = c.args.hi - c.args.lo in
+    let draws = few_draws c.args.span.now.tail.rest c.args.span.now.tail.left short (omega (arith, inside.1, left)) (omega (arith, leaf.few, left, deep)) in
+    let span : ℕ = c.args.span.now.hi - c.args.span.now.lo in
     let lows : span ≤ length c.as_slice-all_lows.result.now = omega (arith, most, end, leaf.low_room, c.write_draws-then-has_two_sides.ensures.room, ap length c.as_slice-all_lows.ensures.value) in
     let values : span ≤ length c.as_slice-all_highs.result.now = omega (arith, draws, end, leaf.room, c.write_draws.ensures.room, ap length c.as_slice-all_highs.ensures.value) in
     omega (arith, lows, values, length-take span c.as_slice-all_lows.result.now, length-take span c.as_slice-all_highs.result.now)
@@ -277,15 +277,15 @@ pub returns-else-has_two_sides-clause-steps : goal.returns-else-has_two_sides-cl
 returns-else-has_two_sides-clause-steps g c =
     let leaf = c.args.self.now in
     let st : State = state_of leaf.table.known in
-    let size : suc (length c.args.front.now) ≡ length (slots st) = c.requires.last in
+    let size : suc (length c.args.span.now.front.now) ≡ length (slots st) = c.requires.last in
     let inside = last_inside st leaf.no_board (omega arith) in
     let deep : leaf.numbers.count ≡ last_count (slots st) = leaf.deep in
-    let left : c.args.tail.left ≡ last_count (slots st) = c.requires.deep in
+    let left : c.args.span.now.tail.left ≡ last_count (slots st) = c.requires.deep in
     let few = leaf.few in
-    let short : length c.args.tail.rest ≤ 52 = c.of-cards.ensures.few in
-    let most = few_draws c.args.tail.rest c.args.tail.left short (omega (arith, inside.1, left)) (omega (arith, few, left, deep)) in
+    let short : length c.args.span.now.tail.rest ≤ 52 = c.of-cards.ensures.few in
+    let most = few_draws c.args.span.now.tail.rest c.args.span.now.tail.left short (omega (arith, inside.1, left)) (omega (arith, few, left, deep)) in
     let end = c.requires.inside in
-    let span : ℕ = c.args.hi - c.args.lo in
+    let span : ℕ = c.args.span.now.hi - c.args.span.now.lo in
     let values : span ≤ length c.as_slice-all.result.now = omega (arith, most, end, leaf.room, c.write_draws.ensures.room, ap length c.as_slice-all.ensures.value) in
     omega (arith, c.count_pots.ensures.steps, values, length-take span c.as_slice-all.result.now)
 
@@ -293,14 +293,14 @@ pub returns-then-has_two_sides-clause-steps : goal.returns-then-has_two_sides-cl
 returns-then-has_two_sides-clause-steps g c =
     let leaf = c.args.self.now in
     let st : State = state_of leaf.table.known in
-    let size : suc (length c.args.front.now) ≡ length (slots st) = c.requires.last in
+    let size : suc (length c.args.span.now.front.now) ≡ length (slots st) = c.requires.last in
     let inside = last_inside st leaf.no_board (omega arith) in
     let deep : leaf.numbers.count ≡ last_count (slots st) = leaf.deep in
-    let left : c.args.tail.left ≡ last_count (slots st) = c.requires.deep in
+    let left : c.args.span.now.tail.left ≡ last_count (slots st) = c.requires.deep in
     let few = leaf.few in
-    let short : length c.args.tail.rest ≤ 52 = c.of-cards.ensures.few in
-    let most = few_draws c.args.tail.rest c.args.tail.left short (omega (arith, inside.1, left)) (omega (arith, few, left, deep)) in
+    let short : length c.args.span.now.tail.rest ≤ 52 = c.of-cards.ensures.few in
+    let most = few_draws c.args.span.now.tail.rest c.args.span.now.tail.left short (omega (arith, inside.1, left)) (omega (arith, few, left, deep)) in
     let end = c.requires.inside in
-    let span : ℕ = c.args.hi - c.args.lo in
+    let span : ℕ = c.args.span.now.hi - c.args.span.now.lo in
     let values : span ≤ length c.as_slice-all_highs.result.now = omega (arith, most, end, leaf.room, c.write_draws.ensures.room, ap length c.as_slice-all_highs.ensures.value) in
     omega (arith, c.count_sides.ensures.steps, values, length-take span c.as_slice-all_highs.result.now)

@@ -10,18 +10,18 @@ use Rattle.runout_walk.proofs.plain.PlainLeaf.count.Goals as goal
 pub count_one-requires-clause-runout : goal.count_one-requires-clause-runout
 count_one-requires-clause-runout g c =
     let P : List (List ℕ) → Type 0 = λ r. HasMember (runouts_after (deal_of c.args.self.now.table).state) r in
-    let M : List ℕ → Type 0 = λ cards. HasMember (runouts_after (deal_of c.args.self.now.table).state) (c.args.front.now ++ cards ∷ []) in
-    subst P (sym c.put_sets.ensures.written) (only_member M c.args.tail.taken c.args.tail.rest c.args.tail.left c.requires.deep c.requires.members)
+    let M : List ℕ → Type 0 = λ cards. HasMember (runouts_after (deal_of c.args.self.now.table).state) (c.args.span.now.front.now ++ cards ∷ []) in
+    subst P (sym c.put_sets.ensures.written) (only_member M c.args.span.now.tail.taken c.args.span.now.tail.rest c.args.span.now.tail.left c.requires.deep c.requires.members)
 
 pub returns-clause-counts : goal.returns-clause-counts
 returns-clause-counts g c =
     let P : List (List ℕ) → Type 0 = λ r. CountsGrow (deal_of c.args.self.now.table) (r ∷ []) c.args.counts.now c.count_one.new.counts in
-    only_grown (deal_of c.args.self.now.table) c.args.front.now c.args.tail.taken c.args.tail.rest c.args.tail.left c.args.lo c.args.hi c.args.counts.now c.count_one.new.counts c.requires.deep c.requires.order c.requires.inside (subst P c.put_sets.ensures.written c.count_one.ensures.counts)
+    only_grown (deal_of c.args.self.now.table) c.args.span.now.front.now c.args.span.now.tail.taken c.args.span.now.tail.rest c.args.span.now.tail.left c.args.span.now.lo c.args.span.now.hi c.args.counts.now c.count_one.new.counts c.requires.deep c.requires.order c.requires.inside (subst P c.put_sets.ensures.written c.count_one.ensures.counts)
 
 pub count_one-requires-clause-fits : goal.count_one-requires-clause-fits
 count_one-requires-clause-fits g c =
     let order = c.requires.order in
-    room_less (deal_of c.args.self.now.table) c.args.counts.now (c.args.hi - c.args.lo) 1 (omega arith) c.requires.fits
+    room_less (deal_of c.args.self.now.table) c.args.counts.now (c.args.span.now.hi - c.args.span.now.lo) 1 (omega arith) c.requires.fits
 
 pub returns-clause-steps : goal.returns-clause-steps
-returns-clause-steps g c = omega (arith, only_length c.args.tail.left c.args.tail.rest c.requires.deep, c.requires.order, c.requires.inside, c.tick.ensures)
+returns-clause-steps g c = omega (arith, only_length c.args.span.now.tail.left c.args.span.now.tail.rest c.requires.deep, c.requires.order, c.requires.inside, c.tick.ensures)

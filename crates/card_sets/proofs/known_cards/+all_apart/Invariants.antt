@@ -1,5 +1,5 @@
 use Rattle.std.specs.Prelude.{length}
-use Rattle.hand_audit.proofs.known_tables.+all_apart.Given as goal
+use Rattle.card_sets.proofs.known_cards.+all_apart.Given as goal
 
 abbrev pub decreases-all_apart : goal.decreases-all_apart
 decreases-all_apart l = length l.sets.now
