@@ -2,14 +2,13 @@
 //!
 //! It is a static library, so nothing of Rattle stands above it. The host lends the bytes of the mode, of the form and of the input,
 //! and room for the report and its length, none of which overlap; that it does is the host's to see to. The run is that of
-//! `page_run`: no thread is started, and of C only the heap is called.
+//! `run_page`: no thread is started, and of C only the heap is called.
 #![tactic(auto)]
 
 ghost use Rattle.std.specs.Prelude.{◌≤◌};
-ghost use Rattle.page_run.specs.Page.{IsPageRun};
+ghost use Rattle.run_engine.specs.Page.{IsPageRun};
 
-use page_run::run_page;
-use run_engine::INPUT_MAX;
+use run_engine::{INPUT_MAX, run_page};
 use std::alloc::Global;
 
 /// Runs the command `MODE --format FORM` over the input, puts the report into the front of the room and its length into

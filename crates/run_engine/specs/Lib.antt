@@ -6,3 +6,4 @@ pub use Rattle.run_loop.specs.Report
 pub use Rattle.run_loop.specs.Laws
 pub use Rattle.run_loop.specs.Headline
 pub use Rattle.run_loop.specs.Order
+pub mod Page

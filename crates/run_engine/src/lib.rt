@@ -10,9 +10,11 @@
 #![tactic(auto)]
 
 mod alone;
+mod page;
 mod runs;
 mod shared;
 
+pub use page::run_page;
 pub use run_loop::{
     Command, INPUT_MAX, Mode, WordFault, law_closed_blocks_stay, law_later_streets_are_counted,
     read_words,
