@@ -3,28 +3,28 @@
 #![tactic(auto)]
 
 #[cfg(test)]
-mod bytes;
+pub(crate) mod bytes;
 #[cfg(test)]
-mod cards;
+pub(crate) mod cards;
 #[cfg(test)]
-mod deals;
+pub(crate) mod deals;
 #[cfg(test)]
-mod fractions;
+pub(crate) mod fractions;
 #[cfg(test)]
-mod high_hands;
+pub(crate) mod high_hands;
 #[cfg(test)]
-mod histories;
+pub(crate) mod histories;
 #[cfg(test)]
-mod low_hands;
+pub(crate) mod low_hands;
 #[cfg(test)]
-mod pots;
+pub(crate) mod pots;
 #[cfg(test)]
-mod runouts;
+pub(crate) mod runouts;
 #[cfg(test)]
-mod settling;
+pub(crate) mod settling;
 #[cfg(test)]
-mod spot_lines;
+pub(crate) mod spot_lines;
 #[cfg(test)]
-mod steps;
+pub(crate) mod steps;
 #[cfg(test)]
-mod streets;
+pub(crate) mod streets;
