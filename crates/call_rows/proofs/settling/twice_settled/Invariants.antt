@@ -1,4 +1,0 @@
-use Rattle.call_rows.proofs.settling.twice_settled.Given as goal
-
-abbrev pub ghosts-first_settled : goal.ghosts-first_settled
-ghosts-first_settled a = record { name = a.blank.name; parts = a.blank.parts }

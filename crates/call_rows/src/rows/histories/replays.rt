@@ -1,0 +1,301 @@
+//! Hands in text, judged by hand.
+
+ghost use Rattle.std.specs.Prelude.{◌<◌, ◌≤◌, ◌^◌, IsTrue};
+ghost use Rattle.betting_replay.specs.Events.{SeatFits};
+ghost use Rattle.betting_replay.specs.Limits.{ActFits, AmountsFit};
+
+use crate::rows::histories::names::names_of;
+use betting_replay::{BetFault, Replay};
+use card_sets::{Card, Game};
+use history_text::{Act, Event, Header, Limit, Names, Part, Street, read_line};
+
+mod all_in;
+mod boards;
+mod posts;
+
+/// Stakes of a half and a dollar.
+const DOLLARS: Header = Header {
+    game: Game::Holdem,
+    limit: Limit::NoLimit,
+    hundredths: true,
+    big: 100,
+};
+
+/// The names of three seats.
+const THREE_NAMES: &[(u8, &[u8])] = &[(1, b"ann"), (2, b"bob"), (3, b"cat")];
+
+/// Whether an amount is within the limit.
+fn is_amount(units: u64) -> bool
+    ensures { IsTrue result → units < 10 ^ 15 }
+{
+    units < 1_000_000_000_000_000
+}
+
+/// Whether the amounts of an act are.
+fn act_fits(act: Act) -> bool
+    ensures { IsTrue result → ActFits act }
+{
+    match act {
+        Act::Fold | Act::Check => true,
+        Act::Call(units) | Act::Bet(units) => is_amount(units),
+        Act::Raise { by, to } => is_amount(by) && is_amount(to),
+    }
+}
+
+/// Whether the amounts of an event are.
+fn amounts_fit(e: &Event) -> bool
+    ensures { IsTrue result → AmountsFit e.now }
+{
+    match *e {
+        Event::Seat { units, .. }
+        | Event::Post { units, .. }
+        | Event::Uncalled { units, .. }
+        | Event::Collect { units, .. } => is_amount(units),
+        Event::Act { act, .. } => act_fits(act),
+        Event::Total { units, rake } => is_amount(units) && is_amount(rake),
+        _ => true,
+    }
+}
+
+/// Whether a seat is one of the ten.
+fn is_seat(seat: u8) -> bool
+    ensures first { IsTrue result → 1 ≤ seat }
+    ensures last { IsTrue result → seat ≤ 10 }
+{
+    seat >= 1 && seat <= 10
+}
+
+/// Whether the seat of an event is.
+fn seat_fits(e: &Event) -> bool
+    ensures { IsTrue result → SeatFits e.now }
+{
+    match *e {
+        Event::Button { seat } | Event::Muck { seat } | Event::Pat { seat } => is_seat(seat),
+        Event::Seat { seat, .. }
+        | Event::Post { seat, .. }
+        | Event::Deal { seat, .. }
+        | Event::Act { seat, .. }
+        | Event::Uncalled { seat, .. }
+        | Event::Collect { seat, .. }
+        | Event::Show { seat, .. }
+        | Event::SeatCards { seat, .. }
+        | Event::Discard { seat, .. } => is_seat(seat),
+        Event::Street { .. } | Event::Total { .. } | Event::Remark => true,
+    }
+}
+
+/// Goes on by a line of a part of a hand. None where it can't be read.
+fn step_line(
+    replay: &mut Replay,
+    names: &Names,
+    header: &Header,
+    part: Part,
+    line: &[u8],
+) -> Option<Result<(), BetFault>> {
+    match read_line(names, header, part, line) {
+        Ok(e) => {
+            if seat_fits(&e) && amounts_fit(&e) {
+                Some(replay.step(&e))
+            } else {
+                None
+            }
+        }
+        Err(_) => None,
+    }
+}
+
+/// How many of some lines may stand, and what the first that may not is refused for.
+fn step_lines(
+    replay: &mut Replay,
+    names: &Names,
+    lines: &[&[u8]],
+) -> Option<(usize, Option<BetFault>)> {
+    for (place, line) in lines.iter().enumerate() {
+        if let Err(fault) = step_line(replay, names, &DOLLARS, Part::Preamble, *line)? {
+            return Some((place, Some(fault)));
+        }
+    }
+    Some((lines.len(), None))
+}
+
+/// Whether all of some lines may stand.
+fn all_stand(replay: &mut Replay, names: &Names, lines: &[&[u8]]) -> bool {
+    step_lines(replay, names, lines) == Some((lines.len(), None))
+}
+
+/// Whether all of some lines may stand but the last, which is refused for this.
+fn is_refused(replay: &mut Replay, names: &Names, lines: &[&[u8]], fault: &BetFault) -> bool {
+    step_lines(replay, names, lines) == Some((lines.len().saturating_sub(1), Some(*fault)))
+}
+
+/// The card of a number.
+fn card(number: u8) -> Card
+    requires { number < 52 }
+{
+    Card::new(number / 4, number % 4).unwrap()
+}
+
+/// Two seats, and the cards before the flop.
+const TWO_SEATS: [&[u8]; 8] = [
+    b"Table 'T' 2-max Seat #1 is the button",
+    b"Seat 1: ann ($50 in chips)",
+    b"Seat 2: bob ($50 in chips)",
+    b"ann: posts small blind $0.50",
+    b"bob: posts big blind $1",
+    b"*** HOLE CARDS ***",
+    b"ann: calls $0.50",
+    b"bob: checks",
+];
+
+const FLOP: [&[u8]; 5] = [
+    b"*** FLOP *** [2c 7d 9h]",
+    b"bob: bets $2",
+    b"ann: calls $2",
+    b"*** TURN *** [2c 7d 9h] [4s]",
+    b"bob: checks",
+];
+
+const REST: [&[u8]; 9] = [
+    b"ann: checks",
+    b"*** RIVER *** [2c 7d 9h 4s] [Jc]",
+    b"bob: checks",
+    b"ann: checks",
+    b"*** SHOW DOWN ***",
+    b"bob: shows [Ks Kh]",
+    b"ann: shows [As Ah]",
+    b"ann collected $6 from pot",
+    b"*** SUMMARY ***",
+];
+
+/// Whether this is the state of the hand before its flop.
+fn is_before_the_flop(replay: &Replay) -> bool {
+    replay.owes().is_none() && replay.button() == 1
+}
+
+/// Whether this is the state of the hand after its flop.
+fn is_behind_the_flop(replay: &Replay) -> bool {
+    replay.owes() == Some(1) && replay.street() == Some(Street::Turn) && replay.stack(1) == 4700
+}
+
+/// Whether the board has this many cards on its streets.
+fn has_boards(replay: &Replay) -> bool {
+    replay.board_at(Street::First).count() == 0
+        && replay.board_at(Street::Flop).count() == 3
+        && replay.board_at(Street::Turn).count() == 4
+        && !replay.board_at(Street::Turn).has(card(37))
+        && replay.board_at(Street::River).has(card(36))
+}
+
+/// Whether two have shown, and the first of them aces.
+fn has_shown(replay: &Replay) -> bool {
+    let Some(shown) = replay.final_cards(1) else {
+        return false;
+    };
+    replay.contenders() == 6
+        && replay.paid(2).live == 300
+        && shown.count() == 2
+        && shown.has(card(50))
+}
+
+/// Whether the hand goes on so, and ends so.
+fn is_stepped_through(names: &Option<Names>) -> bool {
+    let Some(names) = names else {
+        return false;
+    };
+    let mut replay = Replay::new(&DOLLARS, 6);
+    all_stand(&mut replay, names, &TWO_SEATS)
+        && is_before_the_flop(&replay)
+        && all_stand(&mut replay, names, &FLOP)
+        && is_behind_the_flop(&replay)
+        && all_stand(&mut replay, names, &REST)
+        && has_shown(&replay)
+        && has_boards(&replay)
+}
+
+#[test]
+fn a_hand_of_two_is_stepped_through(rt: HostRuntime) {
+    assert!(rt; is_stepped_through(&names_of(rt.alloc(), THREE_NAMES)));
+}
+
+/// Three seats, the third with little, and the cards before the flop.
+const THREE_SEATS: [&[u8]; 6] = [
+    b"Seat 1: ann ($50 in chips)",
+    b"Seat 2: bob ($50 in chips)",
+    b"Seat 3: cat ($2.50 in chips)",
+    b"ann: posts small blind $0.50",
+    b"bob: posts big blind $1",
+    b"*** HOLE CARDS ***",
+];
+
+/// Whether lines like these are refused at their last after those of three seats.
+fn all_refused(names: &Option<Names>, table: &[(&[&[u8]], BetFault)]) -> bool {
+    let Some(names) = names else {
+        return false;
+    };
+    for (lines, fault) in table {
+        let mut replay = Replay::new(&DOLLARS, 14);
+        if !all_stand(&mut replay, names, &THREE_SEATS)
+            || !is_refused(&mut replay, names, lines, fault)
+        {
+            return false;
+        }
+    }
+    true
+}
+
+#[test]
+fn each_refusal_comes_with_what_it_carries(rt: HostRuntime) {
+    let names = names_of(rt.alloc(), THREE_NAMES);
+    assert!(rt; all_refused(&names, &refusals()));
+}
+
+/// Each refusal once.
+fn refusals() -> [(&'static [&'static [u8]], BetFault); 16] {
+    [
+        (&[b"cat: folds", b"cat: calls $1"], BetFault::NotInHand),
+        (&[b"cat: calls $1", b"bob: checks"], BetFault::OutOfTurn(1)),
+        (
+            &[
+                b"cat: calls $1",
+                b"ann: calls $0.50",
+                b"bob: checks",
+                b"cat: checks",
+            ],
+            BetFault::NothingOwed,
+        ),
+        (&[b"cat: checks"], BetFault::CheckFacingBet(100)),
+        (&[b"cat: calls $0.50"], BetFault::CallAmount(100)),
+        (&[b"cat: bets $2"], BetFault::BetFacingBet),
+        (&[b"cat: raises $1 to $3"], BetFault::RaiseAmount(100)),
+        (&[b"cat: raises $2 to $3"], BetFault::AboveStack(250)),
+        (&[b"cat: raises $1.50 to $2.50"], BetFault::AllInWord),
+        (&[b"*** FLOP *** [2c 7d 9h]"], BetFault::StreetEarly(1)),
+        (
+            &[
+                b"cat: calls $1",
+                b"ann: calls $0.50",
+                b"bob: checks",
+                b"*** TURN *** [2c 7d 9h] [4s]",
+            ],
+            BetFault::StreetOrder,
+        ),
+        (
+            &[
+                b"cat: folds",
+                b"ann: folds",
+                b"Uncalled bet ($1) returned to bob",
+            ],
+            BetFault::UncalledAmount(50),
+        ),
+        (&[b"bob: posts the ante $1"], BetFault::PostLate),
+        (&[b"Seat 3: dan ($5 in chips)"], BetFault::SeatTwice),
+        (
+            &[b"Dealt to ann [As Ks]", b"ann: shows [Qs Js]"],
+            BetFault::TooManyCards(1),
+        ),
+        (
+            &[b"Dealt to ann [As Ks]", b"Dealt to bob [Qs As]"],
+            BetFault::CardTwice(card(51)),
+        ),
+    ]
+}

@@ -1,0 +1,216 @@
+//! Hands that are run twice.
+
+use super::{DOLLARS, THREE_NAMES, all_stand, card, is_refused};
+use crate::rows::histories::names::names_of;
+use betting_replay::{BetFault, Replay};
+use card_sets::{Card, CardSet};
+use history_text::{Names, Street};
+
+/// Two seats that are all in before the flop.
+const ALL_IN: [&[u8]; 7] = [
+    b"Seat 1: ann ($50 in chips)",
+    b"Seat 2: bob ($50 in chips)",
+    b"ann: posts small blind $0.50",
+    b"bob: posts big blind $1",
+    b"*** HOLE CARDS ***",
+    b"ann: raises $49 to $50 and is all-in",
+    b"bob: calls $49 and is all-in",
+];
+
+/// Two boards, and both showdowns.
+const BOARDS: [&[u8]; 9] = [
+    b"*** FIRST FLOP *** [2c 7d 9h]",
+    b"*** FIRST TURN *** [2c 7d 9h] [4s]",
+    b"*** FIRST RIVER *** [2c 7d 9h 4s] [Jc]",
+    b"*** SECOND FLOP *** [3c 8d Th]",
+    b"*** SECOND TURN *** [3c 8d Th] [5s]",
+    b"*** SECOND RIVER *** [3c 8d Th 5s] [Qc]",
+    b"*** FIRST SHOW DOWN ***",
+    b"*** SECOND SHOW DOWN ***",
+    b"*** SUMMARY ***",
+];
+
+/// Whether a set has five cards, this one and not that.
+fn is_board(board: CardSet, one: Card, other: Card) -> bool {
+    board.count() == 5 && board.has(one) && !board.has(other)
+}
+
+/// Whether there is a second board, of five cards, this one and not that.
+fn is_second_board(replay: &Replay, one: Card, other: Card) -> bool {
+    match replay.second_board() {
+        Some(second) => is_board(second, one, other),
+        None => false,
+    }
+}
+
+/// Whether a hand is run twice from before the flop, with a jack and a queen on the rivers.
+fn has_two_boards(replay: &Replay) -> bool {
+    replay.is_twice()
+        && replay.all_in_point() == Some(Street::First)
+        && is_board(replay.board(), card(36), card(40))
+        && is_second_board(replay, card(40), card(36))
+}
+
+/// Whether a hand isn't run twice before its boards, and is so after them.
+fn deals_two_boards(names: &Option<Names>) -> bool {
+    let Some(names) = names else {
+        return false;
+    };
+    let mut replay = Replay::new(&DOLLARS, 6);
+    all_stand(&mut replay, names, &ALL_IN)
+        && !replay.is_twice()
+        && all_stand(&mut replay, names, &BOARDS)
+        && has_two_boards(&replay)
+}
+
+#[test]
+fn two_whole_boards_are_dealt(rt: HostRuntime) {
+    assert!(rt; deals_two_boards(&names_of(rt.alloc(), THREE_NAMES)));
+}
+
+/// A river that is dealt twice, with one showdown.
+const RIVERS: [&[u8]; 6] = [
+    b"*** FLOP *** [2c 7d 9h]",
+    b"*** TURN *** [2c 7d 9h] [4s]",
+    b"*** FIRST RIVER *** [2c 7d 9h 4s] [Jc]",
+    b"*** SECOND RIVER *** [2c 7d 9h 4s] [Qc]",
+    b"*** SHOW DOWN ***",
+    b"*** SUMMARY ***",
+];
+
+/// Whether the second board has the first card of the flop, and a queen and no jack on the river.
+fn shares_the_flop(replay: &Replay) -> bool {
+    match replay.second_board() {
+        Some(second) => second.has(card(0)) && is_board(second, card(40), card(36)),
+        None => false,
+    }
+}
+
+/// Whether this is so after two rivers.
+fn deals_two_rivers(names: &Option<Names>) -> bool {
+    let Some(names) = names else {
+        return false;
+    };
+    let mut replay = Replay::new(&DOLLARS, 6);
+    all_stand(&mut replay, names, &ALL_IN)
+        && all_stand(&mut replay, names, &RIVERS)
+        && shares_the_flop(&replay)
+}
+
+#[test]
+fn two_boards_share_the_cards_before(rt: HostRuntime) {
+    assert!(rt; deals_two_rivers(&names_of(rt.alloc(), THREE_NAMES)));
+}
+
+/// Whether lines like these are refused at their last after the all-in.
+fn is_refused_behind(names: &Names, lines: &[&[u8]], fault: &BetFault) -> bool {
+    let mut replay = Replay::new(&DOLLARS, 6);
+    all_stand(&mut replay, names, &ALL_IN) && is_refused(&mut replay, names, lines, fault)
+}
+
+/// Whether each of these is for its order.
+fn all_disordered(names: &Names, table: &[&[&[u8]]]) -> bool {
+    for lines in table {
+        if !is_refused_behind(names, lines, &BetFault::StreetOrder) {
+            return false;
+        }
+    }
+    true
+}
+
+/// Lines of which the last is out of order.
+const DISORDERED: &[&[&[u8]]] = &[
+    // a plain street after one of a first board
+    &[
+        b"*** FIRST FLOP *** [2c 7d 9h]",
+        b"*** TURN *** [2c 7d 9h] [4s]",
+    ],
+    // the second board before the first is whole
+    &[
+        b"*** FIRST FLOP *** [2c 7d 9h]",
+        b"*** SECOND FLOP *** [3c 8d Th]",
+    ],
+    // a second board with no first
+    &[b"*** SECOND FLOP *** [3c 8d Th]"],
+    // a showdown before the second board is whole
+    &[
+        b"*** FLOP *** [2c 7d 9h]",
+        b"*** TURN *** [2c 7d 9h] [4s]",
+        b"*** FIRST RIVER *** [2c 7d 9h 4s] [Jc]",
+        b"*** SHOW DOWN ***",
+    ],
+    // a showdown of two boards where there is one
+    &[
+        b"*** FLOP *** [2c 7d 9h]",
+        b"*** TURN *** [2c 7d 9h] [4s]",
+        b"*** RIVER *** [2c 7d 9h 4s] [Jc]",
+        b"*** FIRST SHOW DOWN ***",
+    ],
+    // the second showdown with none before
+    &[
+        b"*** FLOP *** [2c 7d 9h]",
+        b"*** TURN *** [2c 7d 9h] [4s]",
+        b"*** FIRST RIVER *** [2c 7d 9h 4s] [Jc]",
+        b"*** SECOND RIVER *** [2c 7d 9h 4s] [Qc]",
+        b"*** SECOND SHOW DOWN ***",
+    ],
+];
+
+/// A card that both boards share comes again on the second.
+const SHARED: [&[u8]; 4] = [
+    b"*** FLOP *** [2c 7d 9h]",
+    b"*** TURN *** [2c 7d 9h] [4s]",
+    b"*** FIRST RIVER *** [2c 7d 9h 4s] [Jc]",
+    b"*** SECOND RIVER *** [2c 7d 9h 4s] [4s]",
+];
+
+/// And one of the first board alone.
+const OF_THE_FIRST: [&[u8]; 4] = [
+    b"*** FLOP *** [2c 7d 9h]",
+    b"*** TURN *** [2c 7d 9h] [4s]",
+    b"*** FIRST RIVER *** [2c 7d 9h 4s] [Jc]",
+    b"*** SECOND RIVER *** [2c 7d 9h 4s] [Jc]",
+];
+
+/// Whether lines out of order are refused, and a card that comes twice on the second board.
+fn come_in_order(names: &Option<Names>) -> bool {
+    match names {
+        Some(names) => {
+            all_disordered(names, DISORDERED)
+                && is_refused_behind(names, &SHARED, &BetFault::CardTwice(card(11)))
+                && is_refused_behind(names, &OF_THE_FIRST, &BetFault::CardTwice(card(36)))
+        }
+        None => false,
+    }
+}
+
+#[test]
+fn markers_of_two_boards_come_in_their_order(rt: HostRuntime) {
+    assert!(rt; come_in_order(&names_of(rt.alloc(), THREE_NAMES)));
+}
+
+/// Two seats with chips behind them.
+const CALLED: [&[u8]; 8] = [
+    b"Seat 1: ann ($50 in chips)",
+    b"Seat 2: bob ($50 in chips)",
+    b"ann: posts small blind $0.50",
+    b"bob: posts big blind $1",
+    b"*** HOLE CARDS ***",
+    b"ann: calls $0.50",
+    b"bob: checks",
+    b"*** FIRST FLOP *** [2c 7d 9h]",
+];
+
+/// Whether the marker of a first board is refused there.
+fn stays_one_board(names: &Option<Names>) -> bool {
+    let Some(names) = names else {
+        return false;
+    };
+    let mut replay = Replay::new(&DOLLARS, 6);
+    is_refused(&mut replay, names, &CALLED, &BetFault::StreetOrder) && !replay.is_twice()
+}
+
+#[test]
+fn no_hand_is_run_twice_while_two_have_chips(rt: HostRuntime) {
+    assert!(rt; stays_one_board(&names_of(rt.alloc(), THREE_NAMES)));
+}

@@ -1,0 +1,299 @@
+//! Hands and showdowns, settled by hand.
+
+ghost use Rattle.std.specs.Prelude.{◌≡◌, ◌<◌, ◌+◌, ℕ, List, [], ◌∷◌, IfSome, ◌≤◌};
+ghost use Rattle.card_sets.specs.State.{state_of};
+ghost use Rattle.runout_ranges.specs.Shapes.{IsShapeOf};
+ghost use Rattle.showdown_tally.specs.Cells.{units_at};
+ghost use Rattle.showdown_tally.specs.Deals.{deal_of};
+ghost use Rattle.showdown_tally.specs.Tallies.{Counts};
+
+use crate::rows::deals::{Spot, cards, known};
+use card_sets::{CardSet, Game, Known, Side};
+use runout_ranges::{Runout, Shape, advance, first_runout, shape};
+use showdown_tally::{Cell, Table, Tally, settle_runout, side_value};
+use std::marker::Brand;
+use std::sync::ledger::{Blank, Ledger};
+use step_count::Steps;
+
+/// How many runouts of a tally a hand wins, ties and loses on a side of a pot: the pot, the hand, the side, and these.
+pub(crate) type Ends = (u8, u8, Side, [u64; 3]);
+
+/// How many units a hand gets of a pot: the pot, the hand, and these.
+pub(crate) type Units = (u8, u8, u64);
+
+/// Own cards, each worth more with 2c 7h 9h Th Js on the board than those before.
+const RISING: &[&[u8]] = &[
+    b"4dAc", // ace high
+    b"KcAd", // ace and king high
+    b"3dJc", // a pair of jacks
+    b"9cTd", // two pair
+    b"2d2h", // three deuces
+    b"3d8c", // a straight to the jack
+    b"QcKd", // a straight to the king
+    b"2hAh", // a flush
+    b"8hJh", // a straight flush
+];
+
+/// As Ah for the main pot alone, against Qs Jd and Qh Jc, with 3c 7d 9h Ks on the board.
+const TWO_POTS: Spot = (Game::Holdem, &[b"AsAh", b"QsJd", b"QhJc"], b"3c7d9hKs", b"");
+
+/// How the first river ends: the aces win, and aren't in the side pot.
+const FIRST_ENDS: &[Ends] = &[
+    (0, 0, Side::High, [1, 0, 0]),
+    (0, 1, Side::High, [0, 0, 1]),
+    (0, 2, Side::High, [0, 0, 1]),
+    (1, 0, Side::High, [0, 0, 0]),
+    (1, 1, Side::High, [0, 1, 0]),
+    (1, 2, Side::High, [0, 1, 0]),
+    (1, 2, Side::Low, [0, 0, 0]),
+];
+
+/// What the hands get of it.
+const FIRST_UNITS: &[Units] = &[
+    (0, 0, 5040),
+    (0, 1, 0),
+    (1, 1, 2520),
+    (1, 2, 2520),
+    (1, 0, 0),
+];
+
+/// How all 42 rivers end: four tens beat the aces.
+const ALL_ENDS: &[Ends] = &[
+    (0, 0, Side::High, [38, 0, 4]),
+    (0, 1, Side::High, [0, 4, 38]),
+    (0, 2, Side::High, [0, 4, 38]),
+    (1, 1, Side::High, [0, 42, 0]),
+];
+
+/// What the hands get of them.
+const ALL_UNITS: &[Units] = &[(0, 0, 38 * 5040), (0, 2, 4 * 2520), (1, 2, 42 * 2520)];
+
+/// How the first river ends twice.
+const TWICE_ENDS: &[Ends] = &[
+    (0, 0, Side::High, [2, 0, 0]),
+    (0, 2, Side::High, [0, 0, 2]),
+    (1, 1, Side::High, [0, 2, 0]),
+];
+
+/// What the hands get of that.
+const TWICE_UNITS: &[Units] = &[(0, 0, 10080), (1, 2, 5040)];
+
+/// What two cards are worth on a side of hold'em with five on the board; the outer none where these can't be
+/// dealt.
+fn value_on(side: Side, own: CardSet, board: CardSet) -> Option<Option<u32>> {
+    if own.count() != 2 || board.count() != 5 || !own.is_apart(board) {
+        return None;
+    }
+    Some(side_value(side, Game::Holdem, own, board))
+}
+
+/// The same, each set as a text.
+fn value(side: Side, own: &[u8], board: &[u8]) -> Option<Option<u32>> {
+    value_on(side, cards(own)?, cards(board)?)
+}
+
+/// What two cards are worth with 2c 7h 9h Th Js on the board.
+fn worth(own: &[u8]) -> Option<u32> {
+    value(Side::High, own, b"2c7h9hThJs")?
+}
+
+/// Whether each of some hands is worth more than the one before.
+fn are_rising(hands: &[&[u8]]) -> bool {
+    let mut below = None;
+    for own in hands {
+        let value = worth(*own);
+        if value <= below {
+            return false;
+        }
+        below = value;
+    }
+    true
+}
+
+#[test]
+fn better_hands_have_greater_numbers(rt: HostRuntime) {
+    assert!(rt; are_rising(RISING));
+}
+
+/// Whether two hands are worth the same.
+fn is_tie(own: &[u8], other: &[u8]) -> bool {
+    match (worth(own), worth(other)) {
+        (Some(value), Some(same)) => value == same,
+        _ => false,
+    }
+}
+
+#[test]
+fn cards_that_do_not_play_do_not_count(rt: HostRuntime) {
+    assert!(rt; is_tie(b"3dAs", b"4dAc"));
+}
+
+/// Whether two cards can be dealt with these on the board, and have no low.
+fn has_no_low(own: &[u8], board: &[u8]) -> bool {
+    value(Side::Low, own, board) == Some(None)
+}
+
+#[test]
+fn there_is_no_low_in_holdem(rt: HostRuntime) {
+    assert!(rt; has_no_low(b"7cAh", b"2c3c4c5c6c"));
+}
+
+/// Three hands with two pots, of which the first hand has no part in the second.
+fn main_and_side_pot(known: Option<Known>) -> Option<Table> {
+    let known = known?;
+    if known.count != 3 {
+        return None;
+    }
+    Some(Table {
+        known,
+        pots: 2,
+        eligible: [0b111, 0b110, 0, 0, 0, 0, 0, 0, 0, 0],
+    })
+}
+
+/// The table of the spot with two pots.
+fn two_pots() -> Option<Table> {
+    main_and_side_pot(known(&TWO_POTS))
+}
+
+/// The tally of the first runout alone; none where there is none.
+fn first_settled<L: Ledger>(table: &Table, blank: Blank) -> Option<Tally>
+    requires name { blank.name ≡ L.name }
+    requires parts { blank.parts ≡ L.parts }
+    requires some { 0 < blank.parts }
+    ensures counts { IfSome result
+        (λ t. (r : List (List ℕ)) × Counts (deal_of table.now) (r ∷ []) t) }
+    ensures few { IfSome result (λ t. (p h : ℕ) → p < 10 → h < 10 → units_at t p h ≤ 10080) }
+{
+    let shape = shape(&table.known)?;
+    let mut runout = Runout::new();
+    first_runout(&shape, &mut runout);
+    let mut tally = Tally::zero();
+    let mut steps = Steps::<L>::new(blank);
+    settle_runout(table, &shape, &runout, &mut tally, &mut steps);
+    Some(tally)
+}
+
+/// The tally of at most a thousand runouts of a shape, from the first. Each of them takes one step.
+fn settled<L: Ledger>(table: &Table, shape: &Shape, steps: &mut Steps<L>) -> Tally
+    requires shape { IsShapeOf (state_of table.now.known) shape.now }
+    ensures { steps.new ≡ steps.old + result.runouts }
+{
+    let mut tally = Tally::zero();
+    let mut runout = Runout::new();
+    first_runout(shape, &mut runout);
+    for count in 0..1000_u32 {
+        settle_runout(table, shape, &runout, &mut tally, steps);
+        if !advance(shape, &mut runout) {
+            return tally;
+        }
+    }
+    tally
+}
+
+/// The same of all runouts of a table, with a counter of its own.
+fn all_settled<L: Ledger>(table: &Table, blank: Blank) -> Option<Tally>
+    requires name { blank.name ≡ L.name }
+    requires parts { blank.parts ≡ L.parts }
+    requires some { 0 < blank.parts }
+{
+    let shape = shape(&table.known)?;
+    let mut steps = Steps::<L>::new(blank);
+    Some(settled(table, &shape, &mut steps))
+}
+
+/// The tally of a table's runouts, where they are at most a thousand.
+pub(crate) fn own_count(table: &Table) -> Option<Tally> {
+    all_settled::<Brand>(table, Blank::new(1))
+}
+
+/// The tally of the runouts of a table that there is.
+fn whole_count(table: &Option<Table>) -> Option<Tally> {
+    match table {
+        Some(table) => own_count(table),
+        None => None,
+    }
+}
+
+/// The tally of its first runout.
+fn first_count(table: &Option<Table>) -> Option<Tally> {
+    match table {
+        Some(table) => first_settled::<Brand>(table, Blank::new(1)),
+        None => None,
+    }
+}
+
+/// Twice that of its first runout, as a sum.
+fn twice_settled(table: &Table) -> Option<Tally> {
+    let mut both = first_settled::<Brand>(table, Blank::new(1))?;
+    let other = first_settled::<Brand>(table, Blank::new(1))?;
+    both.add(&other);
+    Some(both)
+}
+
+/// The same of a table that there is.
+fn first_twice(table: &Option<Table>) -> Option<Tally> {
+    match table {
+        Some(table) => twice_settled(table),
+        None => None,
+    }
+}
+
+/// Whether so many runouts of a tally end so for a hand on a side of a pot.
+fn has_end(tally: &Tally, end: &Ends) -> bool {
+    let (pot, hand, side, [win, tie, lose]) = *end;
+    pot < 10 && hand < 10 && tally.cell(pot, hand, side) == Cell { win, tie, lose }
+}
+
+/// Whether this is so of each of these.
+fn has_ends(tally: &Tally, ends: &[Ends]) -> bool {
+    for end in ends {
+        if !has_end(tally, end) {
+            return false;
+        }
+    }
+    true
+}
+
+/// Whether some hands have so many units, each of a pot.
+fn has_units(tally: &Tally, units: &[Units]) -> bool {
+    for (pot, hand, wanted) in units {
+        if *pot >= 10 || *hand >= 10 || tally.units(*pot, *hand) != *wanted {
+            return false;
+        }
+    }
+    true
+}
+
+/// Whether there is a tally, with so many runouts, ends and units.
+pub(crate) fn is_tally(
+    tally: &Option<Tally>,
+    runouts: u64,
+    ends: &[Ends],
+    units: &[Units],
+) -> bool {
+    match tally {
+        Some(tally) => {
+            tally.runouts() == runouts && has_ends(tally, ends) && has_units(tally, units)
+        }
+        None => false,
+    }
+}
+
+#[test]
+fn one_river_is_settled_in_each_pot(rt: HostRuntime) {
+    let tally = first_count(&two_pots());
+    assert!(rt; is_tally(&tally, 1, FIRST_ENDS, FIRST_UNITS));
+}
+
+#[test]
+fn four_tens_of_42_rivers_beat_the_aces(rt: HostRuntime) {
+    let tally = whole_count(&two_pots());
+    assert!(rt; is_tally(&tally, 42, ALL_ENDS, ALL_UNITS));
+}
+
+#[test]
+fn two_tallies_add_up(rt: HostRuntime) {
+    let tally = first_twice(&two_pots());
+    assert!(rt; is_tally(&tally, 2, TWICE_ENDS, TWICE_UNITS));
+}
