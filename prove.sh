@@ -1,6 +1,6 @@
 # shellcheck shell=bash
-# What ./equity and page/build have in common: the crates that one crate stands on are copied, without their must-fail edits, into a
-# folder of their own, for one `rt ci` to pass them there. They read this file. By itself it does nothing.
+# Shared by ./equity, page/build, and sums.sh, which source this file. It names the crates below one crate, and copies them without
+# their must-fail edits into a folder of their own, where one `rt ci` passes them.
 
 # A crate and the crates of the repository that it stands on, and of each in crates.txt what follows its name, and the crates below it.
 needed=()
@@ -25,6 +25,28 @@ read_needed() {
             needed+=("$lower")
         done
     done
+}
+
+# Prints the line of the kit, or nothing if there is no kit.
+kit_line() {
+    local rt
+    rt="$(command -v rt)" || return 0
+    cat "$(dirname "$(readlink -f "$rt")")/../KIT-ID" 2>/dev/null
+}
+
+# sum_of FOLDER: prints a checksum of the files in that folder from which the needed crates are built
+sum_of() {
+    local name part parts=()
+    for name in "${needed[@]}"; do
+        for part in "crates/$name"/{src,specs,proofs}; do
+            [ ! -d "$1/$part" ] || parts+=("$part")
+        done
+    done
+    (
+        cd "$1" || exit 1
+        for name in "${needed[@]}"; do printf '%s%s:%s\n' "$name" "${kind[$name]}" "${below[$name]}"; done
+        find HANDLES "${parts[@]}" -type f -print0 | LC_ALL=C sort -z | xargs -0 sha256sum
+    ) | sha256sum | cut -d' ' -f1
 }
 
 # lay_out ROOT TREE: copies what is needed. A folder .git makes the tree the top of a repository
