@@ -8,6 +8,7 @@ mod high_hands;
 mod histories;
 mod low_hands;
 mod pots;
+mod reports;
 mod runouts;
 mod settling;
 mod spot_lines;

@@ -21,6 +21,8 @@
 //!
 //! What holds of every hand is said by the laws of `hand_laws`; `law_later_streets_know_no_less`, which a run calls, stands here.
 //!
+//! `Cutter`, which cuts a stream into hands or lines, is that of `hand_cuts`. Callers who read a stream need no other crate.
+//!
 //! It knows no other hand and prints nothing. Each call that takes memory takes the allocator, and answers `Memory` where it is refused.
 #![tactic(auto)]
 
@@ -48,6 +50,7 @@ mod winners;
 mod worths;
 
 pub use audit::{audit_hand, audit_with_chips, audit_with_shares, audit_with_streets};
+pub use hand_cuts::{CutKind, Cutter, Unit};
 pub use hand_verdict::{
     AllIn, AuditedChips, AuditedShares, AuditedStreets, Cause, HandAudit, PartShare, PartShares,
     Payment, Payments, PotLine, PotLines, SeatChips, Settlement, SplitHand, StreetState,

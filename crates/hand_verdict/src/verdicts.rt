@@ -32,7 +32,7 @@ pub enum HandAudit {
         line: u32,
         /// Why it does.
         cause: Cause,
-        /// Whether a unit is a hundredth, or else a chip; false where the header line itself departs.
+        /// Whether a unit is a hundredth, or else a chip; false if the first line doesn't have the form of a header.
         hundredths: bool,
     },
     /// No line departs.

@@ -1,7 +1,7 @@
 pub mod SumFacts
 pub mod PlayerFacts
 pub mod NameFacts
-pub mod IndexFacts
+pub mod NumberFacts
 pub mod LineupFacts
 pub mod MadeFacts
 pub mod RunFacts

@@ -1,8 +1,11 @@
 -- How clauses see the totals that the code keeps, how a hand changes them, and what keeps their sums small.
-use Rattle.std.specs.Prelude.{ℕ, ◌≡◌, suc, ◌+◌, ◌*◌, ◌^◌, ◌≤◌, ◌==◌, Bool, false, if◌then◌else◌, List, [], ◌∷◌, map, take, Option, None, Some, is_none, option_and_then, option_map, slice_get}
+use Rattle.std.specs.Prelude.{ℕ, ◌≡◌, suc, ◌+◌, ◌*◌, ◌^◌, ◌<◌, ◌≤◌, ◌==◌, ◌&&◌, Bool, true, false, if◌then◌else◌, List, [], ◌∷◌, map, take, Option, None, Some, is_none, option_and_then, option_map, slice_get}
 use Rattle.std.proofs.Common.{arith}
-use Rattle.std.specs.BTreeMap.{BTreeMap, get}
+use Rattle.std.specs.BTreeMap.{BTreeMap, btree_map_len, get}
+use Rattle.std.specs.Bool.{beq}
 use Rattle.std.specs.Int.{bit_at}
+use Rattle.std.specs.List.{AllByRecursion, IsDistinct}
+use Rattle.std.specs.Map.{keys_of}
 use Rattle.std.specs.Option.{option_map_or}
 use Rattle.std.specs.Rc.{rc_slice_items}
 use Rattle.std.specs.Str.{bytes_eq}
@@ -12,32 +15,47 @@ use Rattle.even_luck.specs.Seats.{Seated}
 use Rattle.player_totals.specs.SumsSeen.{AreSums}
 use Rattle.player_totals.specs.Totals.{Player, no_sums, playing, same_player}
 use Rattle.player_totals.specs.declared.player_sums.PlayerSums.{PlayerSums}
+use Rattle.player_totals.specs.declared.player_key.Name.{Name}
 use Rattle.player_totals.specs.declared.player_key.PlayerKey.{PlayerKey}
 use Rattle.player_totals.specs.declared.player_rows.PlayerRow.{PlayerRow}
-use Rattle.player_totals.specs.contracts.player_key.PlayerKeyOrd.TheImpl as key_ord
+use Rattle.player_totals.specs.declared.player_rows.RowKey.{RowKey}
+use Rattle.player_totals.specs.contracts.player_key.NameOrd.TheImpl as name_ord
 
 -- a name with its unit
 abbrev pub player_of : PlayerKey → Player
-player_of key = record { hundredths = key.hundredths; name = rc_slice_items key.name }
+player_of key = record { hundredths = key.hundredths; name = rc_slice_items key.name.bytes }
 
 -- the players with their sums
-abbrev pub seen_rows : {S : Type 0} → List (PlayerRow S) → List (Player × S)
-seen_rows rows = map (λ row. (player_of row.key, row.sums)) rows
+abbrev pub seen_rows : {S : Type 0} → List (RowKey × PlayerRow S) → List (Player × S)
+seen_rows rows = map (λ row. (player_of row.1.key, row.1.sums)) rows
 
--- the order of the keys
-abbrev pub key_cmp : PlayerKey → PlayerKey → Ordering
-key_cmp = (key_ord.ghosts).cmp
+-- the order of the names
+abbrev pub name_cmp : Name → Name → Ordering
+name_cmp = (name_ord.ghosts).cmp
 
--- the place of a player among some
-abbrev pub place_of : Player → List Player → Option ℕ
-place_of player [] = None
-place_of player (first ∷ later) =
-    if same_player player first then Some 0 else option_map suc (place_of player later)
+-- some names have numbers below the count of them, and no two the same
+pub record AreNumbers (numbers : BTreeMap Name ℕ) : Type 0 where
+  pub below : (name : Name) (number : ℕ) → get name_cmp numbers name ≡ Some number → number < btree_map_len numbers
+  pub apart : (a b : Name) (number : ℕ) → get name_cmp numbers a ≡ Some number → get name_cmp numbers b ≡ Some number →
+      bytes_eq (rc_slice_items a.bytes) (rc_slice_items b.bytes) ≡ true
 
--- an index has just these players, each at its place
-abbrev pub IsIndexOf : List Player → BTreeMap PlayerKey ℕ → Type 0
-IsIndexOf players places =
-    (key : PlayerKey) → get key_cmp places key ≡ place_of (player_of key) players
+-- a row stands under the unit and the number of its name
+abbrev pub StandsUnder : {S : Type 0} → BTreeMap Name ℕ → RowKey × PlayerRow S → Type 0
+StandsUnder numbers row = (row.0.hundredths ≡ row.1.key.hundredths) × (get name_cmp numbers row.1.key.name ≡ Some row.0.number)
+
+-- rows under the same key
+abbrev pub same_row : RowKey → RowKey → Bool
+same_row a b = beq a.hundredths b.hundredths && (a.number == b.number)
+
+-- the rows of players whose names have numbers, each under a key of its own
+pub record AreRows {S : Type 0} (numbers : BTreeMap Name ℕ) (rows : List (RowKey × PlayerRow S)) : Type 0 where
+  pub given : AreNumbers numbers
+  pub stand : AllByRecursion (StandsUnder numbers) rows
+  pub distinct : IsDistinct same_row (keys_of rows)
+
+-- the key of a player's row, where his name has a number
+abbrev pub row_key : BTreeMap Name ℕ → PlayerKey → Option RowKey
+row_key numbers key = option_map (λ number. record { hundredths = key.hundredths; number = number }) (get name_cmp numbers key.name)
 
 -- a player of a hand in a unit
 abbrev pub named_player : Bool → List ℕ → Player

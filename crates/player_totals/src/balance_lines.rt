@@ -46,5 +46,5 @@ pub(crate) fn balance_line(
 {
     balance_title(sheet, key.hundredths, sums)?;
     balance_nets(sheet, key.hundredths, sums)?;
-    sheet.end_with(key.name.as_slice())
+    sheet.end_with(key.name.bytes.as_slice())
 }

@@ -4,12 +4,12 @@
 //! A hand is added by its verdict and the equity of its all-in, and the sums are written as one block: all of it, or, out of
 //! memory, nothing. The crate knows of no input and of no output, and it counts nothing.
 //!
-//! One store keeps sums of either kind (`sums`, `player_rows`, `players`): a row for each name and unit of money with its
-//! sums, in the order in which names were added, and beside the rows an ordered map from a name to its place, so that no
-//! choice of names makes a look-up long. For a hand all that takes memory is done first, the keys and then the new names,
-//! which are taken back when out of memory. Then the sums are added, which takes none. That is a few look-ups for each seat
-//! line, however many hands there were. The lines are appended one by one, and taken back when out of memory, so that they
-//! are held once.
+//! One store keeps sums of either kind (`sums`, `player_rows`, `players`): an `IndexMap` with a row for each name and unit of
+//! money, in the order in which they were first seen. An ordered map numbers the names, and the rows are found by number and unit,
+//! so no choice of names makes a look-up slow. A hand is added in two steps. First the new names are inserted with the sums of no
+//! hand. If memory is refused, the map is cut back to its old length. Then the sums are added, which takes no memory. A hand costs a
+//! few look-ups for each seat line, however many hands there were. The lines are appended 64 at a time, so that memory contains
+//! them once. If memory is refused, they are removed again.
 #![tactic(auto)]
 
 mod balance;

@@ -7,19 +7,18 @@ ghost use Rattle.player_totals.specs.SumsSeen.{AllAreOf, seated_share, with_give
 ghost use Rattle.player_totals.specs.Totals.{playing};
 ghost use Rattle.player_totals.specs.TotalsSeen.{first_at, has_name, named_player, player_at, player_of};
 
-use crate::player_key::PlayerKey;
+use crate::player_key::{Name, PlayerKey};
 use crate::player_rows::Players;
 use crate::sums::{Gives, Sums};
 use card_sets::{Memory, PlayerSet};
 use hand_events::Names;
 use std::alloc::{AllocError, Global};
-use std::rc::RcSlice;
 
 /// The key of a name in a unit.
 fn key_of(alloc: Global, hundredths: bool, name: &[u8]) -> Result<PlayerKey, AllocError>
     ensures { IfOk result (λ key. player_of key ≡ named_player hundredths name.now) }
 {
-    let name = RcSlice::from_slice(alloc, name)?;
+    let name = Name::of(alloc, name)?;
     Ok(PlayerKey { hundredths, name })
 }
 

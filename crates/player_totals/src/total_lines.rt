@@ -1,6 +1,6 @@
 //! The lines of the totals. Each call appends whole lines, but for those that add words to one.
 
-ghost use Rattle.std.specs.Prelude.{◌≡◌, ◌+◌, ◌^◌, ◌≤◌, ◌++◌, length, take, OnOk, OnErr};
+ghost use Rattle.std.specs.Prelude.{◌≡◌, ℕ, ◌+◌, ◌^◌, ◌≤◌, List, ◌++◌, length, take, OnOk, OnErr};
 ghost use Rattle.report_sheet.specs.Lines.{line_in};
 ghost use Rattle.report_sheet.specs.Sheets.{IsBetweenLines, with_line, with_words};
 ghost use Rattle.player_totals.specs.SumsSeen.{lines_of};
@@ -8,7 +8,7 @@ ghost use Rattle.player_totals.specs.Totals.{hands_line, total_line, total_title
 ghost use Rattle.player_totals.specs.TotalsSeen.{player_of};
 
 use crate::player_key::PlayerKey;
-use crate::player_rows::{PlayerRow, Players};
+use crate::player_rows::Players;
 use crate::player_sums::PlayerSums;
 use crate::sums::Sums;
 use card_sets::Memory;
@@ -61,31 +61,47 @@ pub(crate) fn total_line(
     total_title(sheet, key.hundredths, sums)?;
     sheet.name_and_money("collected", key.hundredths, sums.collected)?;
     sheet.name_and_money("expected", key.hundredths, sums.expected)?;
-    sheet.end_with(key.name.as_slice())
+    sheet.end_with(key.name.bytes.as_slice())
 }
 
-/// Appends the line of a player. Out of memory leaves `out` as it was.
-fn write_player<S: Sums>(out: &mut Vec<u8>, row: &PlayerRow<S>, form: Form) -> Result<(), Memory>
-    ensures line { OnOk result (out.new.items
-        ≡ out.old.items ++ line_in form (S.line (player_of row.now.key) row.now.sums)) }
+/// The number of players whose lines share a sheet. A sheet of records makes a buffer of 8 kB, too much for a single line.
+const RUN: usize = 64;
+
+/// Appends the lines of the players from one place up to another, by one sheet. If memory is refused, `out` stays as it was.
+fn write_run<S: Sums>(
+    out: &mut Vec<u8>,
+    players: &Players<S>,
+    from: usize,
+    end: usize,
+    form: Form,
+) -> Result<(), Memory>
+    requires { from ≤ end }
+    ensures lines { OnOk result ((before : List ℕ)
+        → out.old.items ≡ before ++ lines_of S.line form (take from players.now)
+        → out.new.items ≡ before ++ lines_of S.line form (take end players.now)) }
     ensures memory { OnErr result (out.new.items ≡ out.old.items) }
 {
     let mut sheet = Sheet::new(*out.allocator(), form);
-    row.sums.write_line(&mut sheet, &row.key)?;
+    for place in from..end {
+        if let Some(row) = players.at(place) {
+            row.sums.write_line(&mut sheet, &row.key)?;
+        }
+    }
     sheet.append_to(out)
 }
 
-/// Appends the lines of all players, one by one, so that no other place holds them too. Out of memory leaves
-/// what stood in `out`, and may leave some first lines.
+/// Appends the lines of all players, a sheet at a time, so that memory contains them once. If memory is refused, the bytes of `out`
+/// stay, and some first lines may follow them.
 fn write_players<S: Sums>(out: &mut Vec<u8>, players: &Players<S>, form: Form) -> Result<(), Memory>
     ensures lines { OnOk result (out.new.items
         ≡ out.old.items ++ lines_of S.line form players.now) }
     ensures kept { take (length out.old.items) out.new.items ≡ out.old.items }
 {
-    for place in 0..players.len() {
-        if let Some(row) = players.at(place) {
-            write_player(out, row, form)?;
-        }
+    let mut from = 0;
+    'runs: while from < players.len() {
+        let end = from.saturating_add(RUN).min(players.len());
+        write_run(out, players, from, end, form)?;
+        from = end;
     }
     Ok(())
 }

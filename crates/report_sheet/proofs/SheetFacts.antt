@@ -1,5 +1,5 @@
 -- A part of the report that is being written: words after words, and whole lines.
-use Rattle.std.proofs.Common.{◌≡◌, ℕ, ◌<◌, ◌-◌, Bool, true, false, List, [], ◌∷◌, ◌++◌, length, refl, sym, ap, ◌∙◌, arith, append_assoc, append-nil}
+use Rattle.std.proofs.Common.{◌≡◌, ℕ, zero, suc, ◌<◌, ◌-◌, Bool, true, false, List, [], ◌∷◌, ◌++◌, length, refl, sym, ap, ◌∙◌, arith, append_assoc, append-nil}
 use Rattle.std.specs.Prelude.{codes, replicate}
 use Rattle.std.specs.List.{flat_map}
 use Rattle.std.proofs.lemmas.Grind.{flat_map-append}
@@ -36,6 +36,17 @@ left_after w [] = omega arith
 left_after w (word ∷ words) =
     let later : (with_words (with_word w word) words).left ≡ (w.left - 1) - length words = left_after (with_word w word) words in
     omega (arith, later)
+
+replicate_length : {A : Type 0} (n : ℕ) (x last : A) → length (replicate n x ++ last ∷ []) ≡ suc n
+replicate_length zero x last = refl
+replicate_length (suc n) x last = ap suc (replicate_length n x last)
+
+-- empty words and a name are as many as a record takes
+pub none_left : (w : Written) (name : List ℕ) → (with_words w (replicate w.left [] ++ name ∷ [])).left ≡ 0
+none_left w name =
+    let after = left_after w (replicate w.left [] ++ name ∷ []) in
+    let long = replicate_length w.left [] name in
+    omega (arith, after, long)
 
 -- what is being written as text, and as records
 abbrev as_text : List ℕ → Bool → ℕ → Written

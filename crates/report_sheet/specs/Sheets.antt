@@ -1,6 +1,7 @@
 -- A part of the report that is being written: its lines so far, and the words so far of the line that comes next.
 use Rattle.std.specs.Prelude.{◌≡◌, ℕ, ◌-◌, Bool, true, false, if◌then◌else◌, List, [], ◌∷◌, ◌++◌, codes, replicate}
 use Rattle.csv.specs.Writing.{default_writer, field_text}
+use Rattle.report_sheet.specs.Progress.{Progress}
 use Rattle.report_sheet.specs.Lines.{Line, line_in}
 use Rattle.report_sheet.specs.declared.form.Form.{Form}
 use Rattle.report_sheet.specs.declared.form.Form.TheVariants.{Text, Csv}
@@ -13,6 +14,10 @@ pub record Written : Type 0 where
   pub begun : Bool
   -- how many words more a record takes before its name
   pub left : ℕ
+
+-- what has been written in a form
+abbrev pub in_form : Form → Progress → Written
+in_form form p = record { form = form; bytes = p.bytes; begun = p.begun; left = p.left }
 
 -- nothing so far
 abbrev pub nothing_in : Form → Written

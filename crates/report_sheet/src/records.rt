@@ -1,57 +1,98 @@
-//! The text of a field of a record, by the usual rules of CSV, after the bytes of a sheet.
+//! Lines of the report as records of CSV.
+//!
+//! A writer contains a buffer of 8 kB. By value, each function that has a sheet would clear this buffer at entry, even for text.
+//! So the writer is on the heap, and a sheet makes it at the first word. A sheet of text has no writer.
 
-ghost use Rattle.std.specs.Prelude.{◌≡◌, [], ◌∷◌, ◌++◌, OnOk};
-ghost use Rattle.csv.specs.Quoting.{needs_byte};
-ghost use Rattle.csv.specs.Writing.{default_writer, escaped, field_text, needs_quotes, quoted};
+ghost use Rattle.std.specs.Prelude.{◌≡◌, ◌<◌, [], ◌∷◌, ◌++◌, length, OnOk, OnErr};
+ghost use Rattle.report_sheet.specs.Progress.{first_of, nothing_yet};
+ghost use Rattle.report_sheet.specs.Sheets.{in_form, name_in, with_words};
+ghost use Rattle.report_sheet.specs.declared.form.Form.TheVariants.{Csv};
 
-use std::alloc::AllocError;
+use crate::record_writer::RecordWriter;
+use std::alloc::{AllocError, Global};
+use std::marker::Model;
 
-/// Whether a byte calls for quotes around its field.
-fn calls_for_quotes(byte: u8) -> bool
-    ensures { result ≡ needs_byte default_writer byte }
-{
-    byte == b',' || byte == b'"' || byte == b'\r' || byte == b'\n'
+/// Whole records, and the fields of the next record so far.
+#[derive(Drop)]
+pub(crate) struct Records {
+    /// The writer, or none before the first word.
+    writers: Vec<RecordWriter>,
 }
 
-/// Whether a field stands between quotes.
-fn has_quotes(field: &[u8]) -> bool
-    ensures { result ≡ needs_quotes default_writer field.now }
-{
-    field.iter().any(|byte| calls_for_quotes(*byte))
+impl Model for Records {
+    ghost use Rattle.report_sheet.specs.Progress.{Progress, first_of};
+
+    ghost Value = { Progress };
+
+    ghost view = { λ r. first_of r.writers.items };
 }
 
-/// Appends a byte of a field between quotes: a quote is doubled.
-fn put_escaped(bytes: &mut Vec<u8>, byte: u8) -> Result<(), AllocError>
-    ensures { OnOk result (bytes.new.items
-        ≡ bytes.old.items ++ escaped default_writer (byte ∷ [])) }
+/// Makes the writer, in a frame of its own because its buffer goes through the stack.
+#[cold]
+#[inline(never)]
+fn make_writer(writers: &mut Vec<RecordWriter>) -> Result<(), AllocError>
+    requires { writers.old.items ≡ [] }
+    ensures nothing { OnOk result (first_of writers.new.items ≡ nothing_yet) }
+    ensures there { OnOk result (0 < length writers.new.items) }
 {
-    if byte == b'"' {
-        bytes.extend_from_slice(b"\"\"")?;
-        return Ok(());
-    }
-    bytes.push(byte)?;
+    writers.reserve_exact(1)?;
+    writers.push_reserved(RecordWriter::new(*writers.allocator()));
     Ok(())
 }
 
-/// Appends a field between quotes.
-fn put_quoted(bytes: &mut Vec<u8>, field: &[u8]) -> Result<(), AllocError>
-    ensures { OnOk result (bytes.new.items ≡ bytes.old.items ++ quoted default_writer field.now) }
+/// Makes the writer if there is none.
+#[inline]
+fn ensure_writer(writers: &mut Vec<RecordWriter>) -> Result<(), AllocError>
+    ensures same { OnOk result (first_of writers.new.items ≡ first_of writers.old.items) }
+    ensures there { OnOk result (0 < length writers.new.items) }
 {
-    bytes.push(b'"')?;
-    'escaping: for at in 0..field.len() {
-        put_escaped(bytes, field[at])?;
+    if writers.is_empty() {
+        return make_writer(writers);
     }
-    bytes.push(b'"')?;
     Ok(())
 }
 
-/// Appends a field.
-pub(crate) fn put_field(bytes: &mut Vec<u8>, field: &[u8]) -> Result<(), AllocError>
-    ensures { OnOk result (bytes.new.items
-        ≡ bytes.old.items ++ field_text default_writer field.now) }
-{
-    if has_quotes(field) {
-        return put_quoted(bytes, field);
+impl Records {
+    /// Creates an empty list of records, without a writer.
+    pub(crate) fn new(alloc: Global) -> Records
+        ensures { result ≡ nothing_yet }
+    {
+        Records {
+            writers: Vec::new(alloc),
+        }
     }
-    bytes.extend_from_slice(field)
+
+    /// Writes a word as the next field of the record.
+    pub(crate) fn word(&mut self, word: &[u8]) -> Result<(), AllocError>
+        ensures { OnOk result (in_form Csv self.new
+            ≡ with_words (in_form Csv self.old) (word.now ∷ [])) }
+    {
+        ensure_writer(&mut self.writers)?;
+        match self.writers.first_mut() {
+            Some(writer) => writer.word(word),
+            None => Err(AllocError),
+        }
+    }
+
+    /// Ends the record with a name as its last field.
+    pub(crate) fn end(&mut self, name: &[u8]) -> Result<(), AllocError>
+        ensures { OnOk result (in_form Csv self.new ≡ name_in Csv (in_form Csv self.old) name.now) }
+    {
+        ensure_writer(&mut self.writers)?;
+        match self.writers.first_mut() {
+            Some(writer) => writer.end(name),
+            None => Err(AllocError),
+        }
+    }
+
+    /// Appends the bytes of the records to `out`. If memory is refused, `out` stays as it was.
+    pub(crate) fn append_to(&mut self, out: &mut Vec<u8>) -> Result<(), AllocError>
+        ensures block { OnOk result (out.new.items ≡ out.old.items ++ self.old.bytes) }
+        ensures memory { OnErr result (out.new.items ≡ out.old.items) }
+    {
+        match self.writers.first_mut() {
+            Some(writer) => writer.append_to(out),
+            None => Ok(()),
+        }
+    }
 }

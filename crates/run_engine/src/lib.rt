@@ -7,6 +7,8 @@
 //! - `Shared` (`shared`) has workers count a job that has many blocks, and `Alone` whatever else.
 //!
 //! What is written and answered is the same by the clauses. What threads there are are started by `steal_pool`.
+//!
+//! `made_input`, the text that the mode `made` reads, is that of `made_hands`.
 #![tactic(auto)]
 
 mod alone;
@@ -14,6 +16,7 @@ mod page;
 mod runs;
 mod shared;
 
+pub use made_hands::made_input;
 pub use page::run_page;
 pub use run_loop::{
     Command, INPUT_MAX, Mode, WordFault, law_closed_blocks_stay, law_later_streets_are_counted,

@@ -20,7 +20,7 @@ use steal_pool::{Gate, count_with_workers};
 const WORKERS_MAX: u32 = 16;
 
 /// A job of fewer blocks is counted on the thread that asks: to start workers would take longer.
-const BLOCKS_MIN: u32 = 25;
+const BLOCKS_MIN: u32 = 8;
 
 /// Counts with several workers where a job has many blocks, and else on the thread that asks.
 ///

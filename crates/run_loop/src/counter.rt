@@ -11,10 +11,10 @@ ghost use Rattle.showdown_tally.specs.Deals.{deal_of};
 ghost use Rattle.showdown_tally.specs.Tallies.{Counts, runouts_after};
 
 use card_sets::Memory;
-use even_luck::Equity;
 use hand_audit::{AllIn, HandAudit, StreetState};
 use job_blocks::Job;
 use range_lines::{RangeJobFault, RangeSpot, RangeTally};
+use report_table::Equity;
 use showdown_tally::{Table, Tally};
 
 /// Counts jobs, and spots with ranges.

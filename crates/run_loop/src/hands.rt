@@ -19,10 +19,9 @@ use hand_audit::{
     AuditedStreets, HandAudit, StreetState, audit_hand, audit_with_chips, audit_with_shares,
     audit_with_streets,
 };
-use hand_blocks::{has_counted, write_hand, write_results, write_settlement, write_street};
 use history_text::hand_number;
 use line_text::next_line;
-use report_sheet::Form;
+use report_table::{Form, has_counted, write_hand, write_results, write_settlement, write_street};
 use std::alloc::Global;
 
 /// The part of a line between two places.

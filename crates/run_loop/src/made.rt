@@ -12,7 +12,7 @@ use crate::write_fault::WriteFault;
 use byte_ends::{Sink, write_all};
 use command_words::Command;
 use made_hands::{law_made_text_is_short, made_input};
-use player_totals::MadeSums;
+use report_table::MadeSums;
 use std::alloc::Global;
 
 /// Makes the hands that a command asks for, audits them, and writes what they come to as one block. Answers

@@ -13,7 +13,7 @@ use range_lines::{
     RangeFault, RangeJobFault, RangeSpot, RangeTally, law_lines_give_sound_ranges, read_ranges,
     write_ranges,
 };
-use report_sheet::Form;
+use report_table::Form;
 use std::alloc::Global;
 
 /// Whether memory ran out while a line was read.

@@ -23,8 +23,7 @@ use byte_ends::{Sink, Source};
 use card_sets::Memory;
 use command_words::{Command, Mode};
 use hand_cuts::INPUT_MAX;
-use player_totals::{Balance, Totals};
-use report_sheet::Form;
+use report_table::{Balance, Form, Totals};
 use std::alloc::Global;
 
 /// Appends the block of a hand or a line, and answers whether the hand or the spot is rejected; none where

@@ -15,9 +15,8 @@ use crate::block_kinds::{SpotKind, UnitPosition};
 use crate::counter::{Counter, EquityCounter};
 use crate::ranges::write_range_line;
 use card_sets::{Known, Memory};
-use hand_blocks::{table_alone, write_spot};
 use line_text::next_line;
-use report_sheet::Form;
+use report_table::{Form, table_alone, write_spot};
 use spot_text::{SpotFault, has_word, read_spot};
 use std::alloc::Global;
 

@@ -21,8 +21,7 @@ use byte_ends::Source;
 use card_sets::Memory;
 use hand_audit::{audit_hand, audit_with_chips};
 use hand_cuts::{CutKind, INPUT_MAX};
-use player_totals::{Balance, MadeSums, Totals};
-use report_sheet::Form;
+use report_table::{Balance, Form, MadeSums, Totals};
 use std::alloc::Global;
 
 /// Sums over some hands, to which one hand after the other is added.

@@ -21,6 +21,8 @@ mod seats;
 #[cfg(test)]
 mod shared_runs;
 #[cfg(test)]
+mod sheets;
+#[cfg(test)]
 mod spots;
 #[cfg(test)]
 mod workers;

@@ -16,9 +16,10 @@ use steal_pool::{Gate, OpenGate};
 /// Aces against kings before the flop.
 const PREFLOP: &[u8] = b"holdem As Ah - Ks Kh\n";
 
-/// A spot of many blocks, one of one block, one above the limit, and one that is rejected.
+/// A spot of 27 blocks, one of one block, two stud hands on fifth street in 11 blocks, one above the limit, and one that is rejected.
 const SPOTS: &[u8] = b"holdem As Ah - Ks Kh\n\
 holdem As Ah - Ks Kh -- 2c 7d 9h 4s\n\
+stud As Ad Ah Ac 2c - Ks Kd Kh Kc 2d\n\
 stud As Ad Ah - Ks Kd Kh\n\
 holdem As Ah\n";
 
@@ -179,18 +180,18 @@ fn a_run_has_four_workers_inside_at_once(rt: HostRuntime) -> Result<(), Fail> {
     Ok(())
 }
 
-/// Spots with dead cards, and whether workers count their runouts: hold'em with C(47, 5) in 24 blocks; a draw of four cards and of
-/// one, C(35, 4) * 31 in 25; and of three and of two, C(31, 3) * C(28, 2) in 26.
+/// Spots with dead cards, and whether workers count their runouts. In hold'em C(37, 5) runouts make 7 blocks, C(38, 5) make 8, and
+/// C(39, 5) make 9.
 const AROUND_THE_BOUND: &[(&[u8], bool)] = &[
-    (b"holdem As Ah - Ks Kh / 2c\n", false),
     (
-        b"lowball27 2s - 3s 4h 5d 7c / 8c 8d 8h 8s 9c 9d 9h 9s Tc Td Th Ts\n",
-        true,
+        b"holdem As Ah - Ks Kh / 2c 2d 2h 2s 3c 3d 3h 3s 4c 4d 4h\n",
+        false,
     ),
     (
-        b"lowball27 2s 3s - 4h 5d 7c / 8c 8d 8h 8s 9c 9d 9h 9s Tc Td Th Ts Jc Jd Jh Js\n",
+        b"holdem As Ah - Ks Kh / 2c 2d 2h 2s 3c 3d 3h 3s 4c 4d\n",
         true,
     ),
+    (b"holdem As Ah - Ks Kh / 2c 2d 2h 2s 3c 3d 3h 3s 4c\n", true),
 ];
 
 #[test]

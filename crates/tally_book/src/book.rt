@@ -82,12 +82,14 @@ impl<N: Naming> Book<N> {
         Ok((book, Part::of(share)))
     }
 
-    /// Whether a block is marked.
+    /// Returns whether a block is marked, and `false` for a block that the job doesn't have.
     pub fn marked(&self, block: u32) -> bool
-        requires { block < blocks_of (length (runouts_after N.deal.state)) }
         ensures { result ≡ is_marked self.now block }
     {
-        self.marks[block as usize]
+        match self.marks.get(block as usize) {
+            Some(mark) => *mark,
+            None => false,
+        }
     }
 
     /// Hands in a block with its tally. `Fresh` exactly where it wasn't marked. It then is, its tally is added to the total,

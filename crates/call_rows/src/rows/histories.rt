@@ -1,6 +1,6 @@
 //! Tests of hand histories: their lines, where a hand ends, whole hands judged and audited, and made hands.
 
-mod audits;
+pub(crate) mod audits;
 mod cuts;
 mod game_lines;
 mod headers;

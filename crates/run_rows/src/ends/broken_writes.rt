@@ -9,13 +9,14 @@ use crate::runs::{
     AMPLE, Case, Edges, Part, Ran, did, each_ends, front, holds, input_of, owned, run, sink_of,
     source_of,
 };
-use byte_ends::{MemorySource, Source};
-use run_engine::run_alone;
+use byte_ends::{MemorySink, MemorySource, Source};
+use run_engine::{run as run_shared, run_alone};
 use std::alloc::Global;
 use std::process::Abort;
 use std::sync::Wait;
 use std::test::Fail;
 use std::thread::Threads;
+use steal_pool::OpenGate;
 
 /// Words, an input, how many bytes a write takes, and each of how many writes is tried.
 type Writes = (
@@ -223,9 +224,20 @@ fn bytes_left(source: &mut MemorySource) -> usize {
     left
 }
 
-/// Where the write of this number fails, so many bytes are left unread.
-fn leaves_unread(
-    rt: &impl Abort,
+/// Returns whether a run stopped at the write of this number, and left so many bytes unread. Before the first write nothing is taken.
+fn is_stopped(
+    status: u8,
+    write: u64,
+    sink: &MemorySink,
+    source: &mut MemorySource,
+    left: usize,
+) -> bool {
+    status == 4 && (write > 0 || sink.bytes().is_empty()) && bytes_left(source) == left
+}
+
+/// Where the write of this number fails, so many bytes are left unread, by one thread and by workers.
+fn leaves_unread<R: Threads + Wait + Sync + Abort>(
+    rt: &R,
     alloc: Global,
     mode: &str,
     input: &[u8],
@@ -242,12 +254,28 @@ fn leaves_unread(
     let mut source = source_of(alloc, input, edges)?;
     let mut sink = sink_of(alloc, edges)?;
     let status = run_alone(alloc, &words, &mut source, &mut sink);
-    holds(rt, status == 4 && bytes_left(&mut source) == left, mode);
+    holds(
+        rt,
+        is_stopped(status, write, &sink, &mut source, left),
+        mode,
+    );
+    let mut source = source_of(alloc, input, edges)?;
+    let mut sink = sink_of(alloc, edges)?;
+    let status = run_shared(rt, alloc, &words, &mut source, &mut sink, &OpenGate);
+    holds(
+        rt,
+        is_stopped(status, write, &sink, &mut source, left),
+        mode,
+    );
     Ok(())
 }
 
 /// So it is with the writes of a row.
-fn each_leaves_unread(rt: &impl Abort, alloc: Global, row: &Unread) -> Result<(), Fail> {
+fn each_leaves_unread<R: Threads + Wait + Sync + Abort>(
+    rt: &R,
+    alloc: Global,
+    row: &Unread,
+) -> Result<(), Fail> {
     let (mode, parts, piece, writes) = row;
     let input = input_of(alloc, parts)?;
     for (write, left) in *writes {

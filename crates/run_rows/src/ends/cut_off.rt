@@ -30,6 +30,12 @@ fn departs_in(alloc: Global, hand: u8, line: usize, report: &[u8]) -> Result<boo
     Ok(report.starts_with(rejected.as_bytes()))
 }
 
+/// Returns whether a report is that of a hand that ends after this line, before its pot is stated.
+fn is_unfinished(alloc: Global, hand: u8, line: usize, report: &[u8]) -> Result<bool, AllocError> {
+    let rejected = format!(in alloc; "hand {hand} rejected line {line} Unfinished\n")?;
+    Ok(report == rejected.as_bytes())
+}
+
 /// What is told of the hand where it is cut off in this line and `check` writes so. Before its header line has the form of
 /// one there is no hand.
 fn told_in<'a>(whole: &Cut, line: usize, departs: bool, written: &'a [u8]) -> Verdict<'a> {
@@ -47,8 +53,8 @@ fn told_in<'a>(whole: &Cut, line: usize, departs: bool, written: &'a [u8]) -> Ve
     }
 }
 
-/// A mode reports of the hand, cut off after this byte, that the line departs, or that the hand is unfinished there.
-/// Before the line of its stated pot it can't be accepted.
+/// A mode reports of the hand, cut off after this byte, that the line departs. Before the line of its stated pot it can't be
+/// accepted. If the byte ends such a line, the cause is that the hand is unfinished.
 fn is_cut_behind<R: Threads + Wait + Sync + Abort>(
     rt: &R,
     alloc: Global,
@@ -62,6 +68,10 @@ fn is_cut_behind<R: Threads + Wait + Sync + Abort>(
     let checked = run(rt, alloc, &["check"], cut, AMPLE)?;
     let departs = departs_in(alloc, whole.number, line, &checked.written)?;
     holds(rt, departs || line == 1 || line >= whole.total, mode);
+    if cut.ends_with(b"\n") && line < whole.total {
+        let unfinished = is_unfinished(alloc, whole.number, line, &checked.written)?;
+        holds(rt, unfinished, "unfinished");
+    }
     let verdict = told_in(whole, line, departs, &checked.written);
     mode_tells(rt, alloc, mode, cut, whole.piece, &verdict)
 }

@@ -8,10 +8,11 @@ use crate::histories::Hand;
 use crate::reports::checks::SIDE_POTS_REPORT;
 use crate::runs::{AMPLE, Part, holds, input_of, owned, sink_of};
 use byte_ends::{Failed, RepeatSource, Source};
-use run_engine::{INPUT_MAX, run_alone};
+use run_engine::{INPUT_MAX, run, run_alone};
 use std::alloc::Global;
 use std::process::Abort;
 use std::test::Fail;
+use steal_pool::OpenGate;
 
 /// A source of some bytes, then so many of long lines of one byte, and then some bytes again. It doesn't tell
 /// them.
@@ -79,13 +80,27 @@ fn ends_over(
     Ok(())
 }
 
+/// Returns a source of one byte above the limit, in lines that belong to no hand.
+fn above_the_limit() -> RepeatSource {
+    let mut line = [b'x'; 64];
+    line[63] = b'\n';
+    RepeatSource::new(line, INPUT_MAX as u64 + 1, 65_536)
+}
+
 /// One byte above the limit ends the run, and lines that belong to no hand are passed over.
 #[test]
 fn an_input_above_the_limit_with_no_hand_gives_nothing(rt: HostRuntime) -> Result<(), Fail> {
-    let mut line = [b'x'; 64];
-    line[63] = b'\n';
-    let mut source = RepeatSource::new(line, INPUT_MAX as u64 + 1, 65_536);
-    ends_over(&rt, rt.alloc(), "audit", &mut source, 5, "")
+    ends_over(&rt, rt.alloc(), "audit", &mut above_the_limit(), 5, "")
+}
+
+#[test]
+fn an_input_above_the_limit_gives_nothing_by_workers(rt: HostRuntime) -> Result<(), Fail> {
+    let words = owned(rt.alloc(), &["audit"])?;
+    let mut sink = sink_of(rt.alloc(), AMPLE)?;
+    let mut source = above_the_limit();
+    let status = run(&rt, rt.alloc(), &words, &mut source, &mut sink, &OpenGate);
+    assert!(rt; status == 5 && sink.bytes().is_empty());
+    Ok(())
 }
 
 /// An input of just the limit is read whole.

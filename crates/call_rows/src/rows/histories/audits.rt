@@ -1,8 +1,9 @@
 //! Whole hands as a site writes them.
 
-ghost use Rattle.std.specs.Prelude.{◌≡◌, length};
+ghost use Rattle.std.specs.Prelude.{◌≡◌, Some, length};
 ghost use Rattle.line_text.specs.Lines.{lines};
 ghost use Rattle.hand_audit.specs.Departs.{begins_hand};
+ghost use Rattle.hand_audit.specs.Streets.{has_known_all_in};
 
 use card_sets::{Card, CardSet, Known};
 use hand_audit::*;
@@ -47,7 +48,7 @@ Seat 3: cat mucked [Qd Qh]
 
 /// A hand in which bob and cat are all-in on the flop, and cat folds after it. Ann's cards are known, and she folds
 /// before it.
-const FOLDED_BEHIND: &[u8] =
+pub(crate) const FOLDED_BEHIND: &[u8] =
     b"PokerStars Hand #4: Tournament #5, $1+$0.10 USD Hold'em No Limit - Level I (10/20)
 Table 'x' 3-max Seat #1 is the button
 Seat 1: ann (1000 in chips)
@@ -93,7 +94,7 @@ fn is_hand(bytes: &[u8]) -> bool
     }
 }
 
-fn audit(alloc: Global, bytes: &[u8]) -> Option<HandAudit> {
+pub(crate) fn audit(alloc: Global, bytes: &[u8]) -> Option<HandAudit> {
     if !is_hand(bytes) || count_lines(bytes) > 99 {
         return None;
     }
@@ -211,8 +212,64 @@ fn who_folds_behind_the_point_wins_no_pot(rt: HostRuntime) {
     assert!(rt; is_won_alone(&audit(rt.alloc(), FOLDED_BEHIND)));
 }
 
+/// Returns whether the all-in of a hand is known.
+fn has_known_all_in(audit: &HandAudit) -> bool
+    ensures { result ≡ has_known_all_in (Some audit.now) }
+{
+    match audit {
+        HandAudit::Accepted {
+            all_in: AllIn::Known { .. },
+            ..
+        } => true,
+        _ => false,
+    }
+}
+
+/// Returns the later streets of a hand, or `None` if it has no known all-in.
+fn streets_after(alloc: Global, bytes: &[u8]) -> Option<Vec<StreetState>> {
+    if !is_hand(bytes) || count_lines(bytes) > 99 {
+        return None;
+    }
+    let Ok(audit) = audit_hand(alloc, bytes, 1) else {
+        return None;
+    };
+    if !has_known_all_in(&audit) {
+        return None;
+    }
+    match later_streets(alloc, bytes, 1) {
+        Ok(streets) => Some(streets),
+        Err(_) => None,
+    }
+}
+
+/// Returns whether the only later street is the turn, with its card on the board and the hands of bob and cat.
+fn is_turn_alone(streets: &Option<Vec<StreetState>>) -> bool {
+    let Some(streets) = streets else {
+        return false;
+    };
+    match streets.as_slice() {
+        [only] => match &only.table {
+            Some(table) => {
+                only.street == Street::Turn
+                    && table.pots == 1
+                    && table.known.count == 2
+                    && table.known.board.count() == 4
+                    && is_pair(table.known.hands[0], *b"Ks", *b"Qs")
+                    && is_pair(table.known.hands[1], *b"7c", *b"7d")
+            }
+            None => false,
+        },
+        _ => false,
+    }
+}
+
+#[test]
+fn the_turn_is_known_after_an_all_in_on_the_flop(rt: HostRuntime) {
+    assert!(rt; is_turn_alone(&streets_after(rt.alloc(), FOLDED_BEHIND)));
+}
+
 /// A hand with antes, blinds and dead chips, in which what ann raised comes back to her.
-const RETURNED: &[u8] =
+pub(crate) const RETURNED: &[u8] =
     b"PokerStars Hand #6: Tournament #5, $1+$0.10 USD Hold'em No Limit - Level I (10/20)
 Table 'x' 6-max Seat #1 is the button
 Seat 1: ann (1000 in chips)

@@ -90,6 +90,42 @@ fn the_first_point_is_kept(rt: HostRuntime) {
     assert!(rt; keeps_the_first_point(&names_of(rt.alloc(), THREE_NAMES)));
 }
 
+/// Stakes of 50 and 100 chips.
+const FIFTY: Header = Header {
+    game: Game::Holdem,
+    limit: Limit::NoLimit,
+    hundredths: false,
+    big: 100,
+};
+
+/// A call of a big blind with fewer chips than the call takes.
+const SHORT_CALL: [&[u8]; 8] = [
+    b"Seat 1: ann (4000 in chips)",
+    b"Seat 2: bob (99 in chips)",
+    b"Seat 3: cat (1500 in chips)",
+    b"bob: posts small blind 50",
+    b"cat: posts big blind 100",
+    b"*** HOLE CARDS ***",
+    b"ann: calls 100",
+    b"bob: calls 49 and is all-in",
+];
+
+/// Returns whether the call is accepted, and leaves its player without a chip.
+fn may_call_short(names: &Option<Names>) -> bool {
+    let Some(names) = names else {
+        return false;
+    };
+    let mut replay = Replay::new(&FIFTY, 14);
+    go(&mut replay, names, &FIFTY, Part::Preamble, &SHORT_CALL)
+        && replay.paid(2).live == 99
+        && replay.stack(2) == 0
+}
+
+#[test]
+fn a_player_may_call_with_fewer_chips_than_are_due(rt: HostRuntime) {
+    assert!(rt; may_call_short(&names_of(rt.alloc(), THREE_NAMES)));
+}
+
 /// Stakes of 10 and 20 chips.
 fn chips(game: Game) -> Header {
     Header {

@@ -1,21 +1,40 @@
-use Rattle.std.proofs.Common.{Some, [], ◌∷◌, ◌++◌, ap, subst, sym, ◌∙◌}
-use Rattle.std.specs.BTreeMap.{Updates}
-use Rattle.std.specs.List.{IsDistinct, list_any}
-use Rattle.std.specs.Map.{keys_of}
-use Rattle.player_totals.specs.Totals.{same_player}
-use Rattle.player_totals.specs.TotalsSeen.{IsIndexOf, key_cmp, player_of, seen_rows}
-use Rattle.player_totals.proofs.IndexFacts.{distinct_push, index_push, keys_push, place_none, rows_length}
+use Rattle.std.proofs.Common.{◌≡◌, [], ◌∷◌, ◌++◌, ap, subst, sym, ◌∙◌}
+use Rattle.std.specs.List.{list_any}
+use Rattle.indexmap.proofs.CallerLemmas.{insert_entry-new}
+use Rattle.player_totals.specs.Totals.{Player, same_player}
+use Rattle.player_totals.specs.TotalsSeen.{AreRows, player_of, same_row, seen_rows}
+use Rattle.player_totals.proofs.NumberFacts.{absent_row, copy_under, rows_more, rows_pushed, seen_push, still_under, under}
 use Rattle.player_totals.proofs.player_rows.Players.push.Goals as goal
 
-pub invariant_of-self-in-Ok : goal.invariant_of-self-in-Ok
-invariant_of-self-in-Ok g c =
-    let player = player_of c.args.key.now in
-    let rows = c.self.inside.rows.items in
-    let players = keys_of (seen_rows rows) in
-    let none = place_none player (seen_rows rows) (ap (list_any (λ entry. same_player player entry.0)) c.self.view_is ∙ c.requires) in
-    let keys = ap (λ items. keys_of (seen_rows items)) c.in_ok-push.ensures.items ∙ keys_push rows _ ∙ ap (λ last. players ++ last ∷ []) c.in_ok-own.ensures in
-    let updates = subst (λ place. Updates key_cmp c.self.inside.places c.insert.new.self c.in_ok-other.other (Some place)) (c.len-place.ensures ∙ c.self.inside.rows.ok.0 ∙ sym (rows_length rows)) c.in-Ok.ensures.updates in (
-      subst (λ all. IsIndexOf all c.insert.new.self) (sym keys)
-          (index_push players c.self.inside.places c.insert.new.self c.in_ok-other.other player c.in_ok-other.ensures c.self.invariant.0 updates none),
-      subst (IsDistinct same_player) (sym keys) (distinct_push players player c.self.invariant.1 none),
-    )
+pub invariant_of-self : goal.invariant_of-self
+invariant_of-self g c = rows_more c.self.inside.numbers c.number_of.new.numbers c.self.inside.rows.entries c.number_of.ensures.numbers c.number_of.ensures.kept c.self.invariant
+
+pub invariant_of-self-in_err-copy : goal.invariant_of-self-in_err-copy
+invariant_of-self-in_err-copy g c = rows_more c.self.inside.numbers c.number_of.new.numbers c.self.inside.rows.entries c.number_of.ensures.numbers c.number_of.ensures.kept c.self.invariant
+
+pub invariant_of-self-in_err-insert : goal.invariant_of-self-in_err-insert
+invariant_of-self-in_err-insert g c =
+    subst (AreRows c.number_of.new.numbers) (sym c.in_err-insert.ensures.err)
+    (rows_more c.self.inside.numbers c.number_of.new.numbers c.self.inside.rows.entries c.number_of.ensures.numbers c.number_of.ensures.kept c.self.invariant)
+
+pub invariant_of-self-2 : goal.invariant_of-self-2
+invariant_of-self-2 g c =
+    let key = c.args.key.now in
+    let rows = c.self.inside.rows in
+    let number = c.in_ok-number_of.field-0 in
+    let before = rows_more c.self.inside.numbers c.number_of.new.numbers rows.entries c.number_of.ensures.numbers c.number_of.ensures.kept c.self.invariant in
+    let none = absent_row c.number_of.new.numbers before.given key number c.in_ok-number_of.ensures.number rows.entries before.stand (ap (list_any (λ entry. same_player (player_of key) entry.0)) c.self.view_is ∙ c.requires) in
+    let entries = c.in_ok-insert.ensures.entries ∙ insert_entry-new same_row rows (under key number) (record { key = c.in_ok-copy.field-0; sums = c.none.result }) none in
+    rows_pushed c.number_of.new.numbers rows.entries _ c.insert.new.self.entries entries before
+    (copy_under c.number_of.new.numbers key c.in_ok-copy.field-0 number c.none.result c.in_ok-copy.ensures c.in_ok-number_of.ensures.number) c.in_ok-insert.ensures.unique
+
+pub returns-clause-added : goal.returns-clause-added
+returns-clause-added g c =
+    let key = c.args.key.now in
+    let rows = c.self.inside.rows in
+    let number = c.in_ok-number_of.field-0 in
+    let before = rows_more c.self.inside.numbers c.number_of.new.numbers rows.entries c.number_of.ensures.numbers c.number_of.ensures.kept c.self.invariant in
+    let none = absent_row c.number_of.new.numbers before.given key number c.in_ok-number_of.ensures.number rows.entries before.stand (ap (list_any (λ entry. same_player (player_of key) entry.0)) c.self.view_is ∙ c.requires) in
+    let entries = c.in_ok-insert.ensures.entries ∙ insert_entry-new same_row rows (under key number) (record { key = c.in_ok-copy.field-0; sums = c.none.result }) none in
+    ap seen_rows entries ∙ seen_push rows.entries (under key number, record { key = c.in_ok-copy.field-0; sums = c.none.result })
+    ∙ (λ i. c.self.view_is i ++ (c.in_ok-copy.ensures i, c.none.ensures i) ∷ [])

@@ -1,11 +1,10 @@
-use Rattle.std.proofs.Common.{◌≡◌, length, take, ap, ◌∙◌, arith}
+use Rattle.std.proofs.Common.{take, ap, ◌∙◌}
+use Rattle.player_totals.specs.TotalsSeen.{seen_rows}
+use Rattle.player_totals.proofs.NumberFacts.{rows_cut, seen_take}
 use Rattle.player_totals.proofs.player_rows.Players.truncate.Goals as goal
 
+pub invariant_of-self : goal.invariant_of-self
+invariant_of-self g c = rows_cut c.self.inside.numbers c.args.count c.self.inside.rows.entries c.truncate.new.self.entries c.truncate.ensures.entries c.self.invariant c.truncate.ensures.unique
+
 pub returns : goal.returns
-returns g c =
-    let all = c.len-last-end.ensures in
-    let below = c.loop-last.auto.last-end (omega (arith, all, c.requires)) in
-    let beyond = c.loop-last-test.false in
-    let left = c.loop-last.invariant.left in
-    let long : length c.loop-last.self ≡ c.args.count = omega arith in
-    c.loop-last.invariant.front ∙ ap (λ n. take n c.args.self.now) long
+returns g c = ap seen_rows c.truncate.ensures.entries ∙ seen_take c.args.count c.self.inside.rows.entries ∙ ap (take c.args.count) c.self.view_is
