@@ -2,8 +2,8 @@
 // Runs the proved code. Each call has an instance of its own, so that nothing is left of an earlier one, and none is used after a trap.
 let program;
 
-// The status where the room was too small for the report: a failed write, or a report that doesn't fit.
-const FAILED_WRITE = 4, NO_ROOM = 9;
+// The status where the room is full and there is more to report.
+const FAILED_WRITE = 4;
 
 function run(mode, form, input) {
     const encode = (text) => new TextEncoder().encode(text);
@@ -23,7 +23,7 @@ function run(mode, form, input) {
         const out = take(room), written = take(8);
         new DataView(memory.buffer).setBigUint64(Number(written), 0n, true);
         const status = equity_page_run(...given, out, BigInt(room), written);
-        if (status === FAILED_WRITE || status === NO_ROOM) continue;
+        if (status === FAILED_WRITE) continue;
         const length = Number(new DataView(memory.buffer).getBigUint64(Number(written), true));
         return { status, report: new Uint8Array(memory.buffer, Number(out), length).slice() };
     }

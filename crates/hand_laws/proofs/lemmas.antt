@@ -9,3 +9,4 @@ pub mod pot_sums
 pub mod nets
 pub mod dues
 pub mod all_ins
+pub mod odd_units

@@ -13,6 +13,12 @@ pub mod Before
 pub mod Chips
 pub mod Splits
 pub mod MarkLaws
+pub mod HeightLaws
+pub mod OddLaws
+pub mod BoardLaws
+pub mod ReturnLaws
+pub mod SideLaws
+pub mod DeadChips
 pub mod PotSums
 pub mod Nets
 pub mod Dues

@@ -3,7 +3,9 @@
 ghost use Rattle.std.specs.Prelude.{◌≡◌, ℕ, ◌∷◌, true, List, Some, Ok};
 ghost use Rattle.history_text.specs.Headers.{header_of};
 ghost use Rattle.hand_events.specs.declared.events.Header.{Header};
+ghost use Rattle.hand_laws.specs.BoardLaws.{BoardsAreNamed};
 ghost use Rattle.hand_laws.specs.Dues.{PartsGiveDues};
+ghost use Rattle.hand_laws.specs.SideLaws.{NearIsAccepted, SidesAreSets};
 ghost use Rattle.hand_audit.specs.Showings.{showing_of};
 ghost use Rattle.hand_laws.specs.Splits.{IsSplitRightly, IsWonBySomebody, LoneAreDueAll, PotsGoByBoards};
 ghost use Rattle.hand_audit.specs.Verdict.{audit_of, events_of};
@@ -86,3 +88,22 @@ pub fn law_a_mark_is_a_card_of_its_player()
     law_a_table_shows_each_seat();
     law_a_folded_player_is_eligible_nowhere();
 }
+
+/// A law on boards. Each share of a pot of a hand that was run once names the first board. Of a hand that was run twice the
+/// shares of the first part name the first board, and then those of the second part the second. A pot of which it isn't
+/// known who wins it has none.
+pub fn law_shares_name_their_boards()
+    ensures { BoardsAreNamed }
+{}
+
+/// A law on sides. Of a pot of which it is known who wins it, and that two players or more may win, a seat wins as many sides
+/// as there are sets of winners that it is in: one for each side of each part.
+pub fn law_sides_won_are_sets_of_winners()
+    ensures { SidesAreSets }
+{}
+
+/// A law on payments. Where each seat got of each pot what is due to it, but for a unit for each side that it wins, no payment
+/// is refused.
+pub fn law_near_payments_are_accepted()
+    ensures { NearIsAccepted }
+{}

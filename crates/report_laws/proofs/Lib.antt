@@ -5,3 +5,6 @@ pub mod ReadBackFacts
 pub mod ExpectFacts
 pub mod EvenSums
 pub mod SettleFacts
+pub mod EvenKnown
+pub mod NearestUnits
+pub mod UnknownWinners

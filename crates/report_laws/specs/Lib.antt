@@ -1,4 +1,6 @@
 pub mod BalanceLaws
+pub mod EvenLaws
 pub mod ExpectLaws
+pub mod KnownSettles
 pub mod ReadBack
 pub mod SettleLaws

@@ -4,6 +4,7 @@ ghost use Rattle.std.specs.Prelude.{◌≡◌, ℕ, List, length, true, false};
 ghost use Rattle.card_sets.specs.Games.{has_side};
 ghost use Rattle.card_sets.specs.declared.games.Side.{Side};
 ghost use Rattle.hand_verdict.specs.declared.settlement.PotLine.{PotLine};
+ghost use Rattle.report_laws.specs.EvenLaws.{EvenIsKnown, ExpectIsNearest};
 ghost use Rattle.report_laws.specs.ExpectLaws.{EvenAddsUp, GivesAll, HasLows, HasPlayers};
 ghost use Rattle.showdown_tally.specs.Deals.{deal_of};
 
@@ -43,3 +44,14 @@ pub fn law_even_luck_adds_up_to_what_was_got(table: &Table)
 {
     law_expectations_add_up_to_the_pots(table);
 }
+
+/// A law: what a hand of a counted all-in could expect of all pots is rounded once, to the nearest unit and a half up.
+pub fn law_expectations_are_rounded_once()
+    ensures { ExpectIsNearest }
+{}
+
+/// A law: what a seat would have got with even luck is known of a hand without an all-in, and of one whose all-in is counted
+/// and whose pot names fit; of every seat alike. Of other hands it is known of none.
+pub fn law_even_luck_is_known_by_the_hand()
+    ensures { EvenIsKnown }
+{}

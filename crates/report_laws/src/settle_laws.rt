@@ -1,6 +1,7 @@
 //! What the lines of a settlement come to.
 
 ghost use Rattle.hand_laws.specs.Fitting.{OfFitting, OfSplit};
+ghost use Rattle.report_laws.specs.KnownSettles.{SettlesWhatIsKnown};
 ghost use Rattle.report_laws.specs.SettleLaws.{SettlesUp};
 
 use hand_laws::law_players_are_due_what_they_got;
@@ -14,3 +15,9 @@ pub fn law_settle_lines_add_up()
 {
     law_players_are_due_what_they_got();
 }
+
+/// A law: of a pot of which it isn't known who wins it, `settle` says who got what, as a verdict does. The block of a hand
+/// whose pot names don't fit is that of its verdict.
+pub fn law_what_is_unknown_is_not_settled()
+    ensures { SettlesWhatIsKnown }
+{}

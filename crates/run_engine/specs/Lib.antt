@@ -6,4 +6,5 @@ pub use Rattle.run_loop.specs.Report
 pub use Rattle.run_loop.specs.Laws
 pub use Rattle.run_loop.specs.Headline
 pub use Rattle.run_loop.specs.Order
+pub use Rattle.run_loop.specs.MemoryRuns
 pub mod Page

@@ -18,3 +18,4 @@ pub mod OrderTells
 pub mod SumOrder
 pub mod TotalsFacts
 pub mod HandNumbers
+pub mod MemoryFacts

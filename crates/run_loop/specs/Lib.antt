@@ -40,3 +40,5 @@ pub mod Order
 pub mod Cutting
 pub mod Gathering
 pub mod TextReads
+pub mod MemoryRuns
+pub use Rattle.byte_ends.specs.Memory

@@ -1,10 +1,10 @@
 -- The blocks of the units of an input.
-use Rattle.std.specs.Prelude.{◌≡◌, ℕ, ◌+◌, Bool, false, if◌then◌else◌, List, [], ◌∷◌, count_by, Option, Some, None}
+use Rattle.std.specs.Prelude.{◌≡◌, ℕ, ◌+◌, Bool, true, false, if◌then◌else◌, List, [], ◌∷◌, count_by, Option, Some, None}
 use Rattle.hand_cuts.specs.Units.{UnitLines}
 use Rattle.hand_cuts.specs.declared.units.CutKind.{CutKind}
 use Rattle.hand_cuts.specs.declared.units.CutKind.TheVariants as cut
 use Rattle.report_sheet.specs.declared.form.Form.{Form}
-use Rattle.run_loop.specs.Histories.{hand_block, hand_results, hand_settlement, is_rejected_hand}
+use Rattle.run_loop.specs.Histories.{hand_block, hand_results, hand_settlement, is_rejected_hand, tells_all_in}
 use Rattle.run_loop.specs.Report.{is_rejected_spot, line_block}
 use Rattle.command_words.specs.declared.command.Mode.{Mode}
 use Rattle.command_words.specs.declared.command.Mode.TheVariants.{Check, Audit, Streets, Totals, Balance, Made}
@@ -35,6 +35,13 @@ listed_kind (Spots holding) = cut.Lines
 listed_kind (Hands told) = cut.Hands
 listed_kind Results = cut.Hands
 listed_kind Settle = cut.Hands
+
+-- whether an equity may be counted for a block
+abbrev pub counts_equities : BlockKind → Bool
+counts_equities (Spots holding) = true
+counts_equities (Hands told) = tells_all_in told
+counts_equities Results = true
+counts_equities Settle = false
 
 -- the block of a line, the first of some; a line with no word has none
 abbrev pub first_block : Form → SpotKind → ℕ → ℕ → List (List ℕ) → Option (List ℕ)

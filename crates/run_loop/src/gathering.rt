@@ -1,12 +1,13 @@
 //! Blocks that are gathered and written together: those of the hands that one piece closes. All that was
 //! gathered is written before anything is read.
 
-ghost use Rattle.std.specs.Prelude.{◌≡◌, ℕ, List, [], false, OnOk};
+ghost use Rattle.std.specs.Prelude.{◌≡◌, ℕ, List, [], false, not, OnOk};
 ghost use Rattle.byte_ends.specs.Ends.{WritesOut};
 ghost use Rattle.hand_cuts.specs.Units.{UnitLines};
 ghost use Rattle.hand_cuts.specs.declared.units.CutKind.{CutKind};
 ghost use Rattle.run_loop.specs.Cutting.{Cuts};
 ghost use Rattle.run_loop.specs.Gathering.{AsksOne, Gathers, WritesRest};
+ghost use Rattle.run_loop.specs.UnitBlocks.{counts_equities};
 ghost use Rattle.run_loop.specs.declared.reading.Ending.TheVariants.{Open};
 
 use crate::block_kinds::BlockKind;
@@ -21,7 +22,9 @@ const GATHERED: usize = 65_536;
 
 /// Whether a block may wait for those after it. It may where none of them takes long: where no equity is
 /// counted.
-pub(crate) fn may_wait(listed: BlockKind) -> bool {
+pub(crate) fn may_wait(listed: BlockKind) -> bool
+    ensures { result ≡ not (counts_equities listed) }
+{
     match listed {
         BlockKind::Hands { told } => !told.tells_all_in(),
         BlockKind::Settle => true,
@@ -51,10 +54,11 @@ pub(crate) fn next_written<S: Source, K: Sink>(
     sink: &mut K,
 ) -> Result<Option<Unit>, WriteFault>
     requires { input.old.ending ≡ Open → input.old.cutter.closed ≡ false }
-    ensures { (kind : CutKind) (bytes : List ℕ) (done : List UnitLines)
+    ensures order { (kind : CutKind) (bytes : List ℕ) (done : List UnitLines)
         → Cuts INPUT_MAX kind input.old bytes done
         → AsksOne S.reads K.writes INPUT_MAX source.old source.new sink.old sink.new kind
         input.old input.new bytes done ready.old.items ready.new.items result }
+    ensures none { ready.old.items ≡ [] → OnOk result (ready.new.items ≡ []) }
 {
     if let Some(unit) = input.cutter.next_unit() {
         return Ok(Some(unit));
@@ -71,7 +75,8 @@ pub(crate) fn next_written<S: Source, K: Sink>(
 
 /// Writes what was gathered, and a block after it.
 fn write_behind<K: Sink>(block: &[u8], ready: &mut Vec<u8>, sink: &mut K) -> Result<(), Failed>
-    ensures { Gathers K.writes sink.old sink.new block.now ready.old.items ready.new.items result }
+    ensures order { Gathers K.writes sink.old sink.new block.now ready.old.items ready.new.items result }
+    ensures none { OnOk result (ready.new.items ≡ []) }
 {
     match write_ready(ready, sink) {
         Ok(()) => write_all(sink, block),
@@ -87,7 +92,10 @@ pub(crate) fn gather<K: Sink>(
     ready: &mut Vec<u8>,
     sink: &mut K,
 ) -> Result<(), Failed>
-    ensures { Gathers K.writes sink.old sink.new block.now ready.old.items ready.new.items result }
+    ensures order { Gathers K.writes sink.old sink.new block.now ready.old.items ready.new.items result }
+
+    // Where it may not wait nothing does.
+    ensures none { waits ≡ false → OnOk result (ready.new.items ≡ []) }
 {
     match ready.extend_from_slice(block) {
         Ok(()) => {}

@@ -153,10 +153,12 @@ pub(crate) fn write_lines<C: Counter>(
     told: Detail,
     bytes: &[u8],
     first: u32,
+    _ready: &[u8],
     equities: &mut EquityCounter<C>,
     block: &mut Vec<u8>,
 ) -> Result<bool, Memory>
     requires ready { C.ready }
+    requires idle { tells_all_in told ≡ true → _ready.now ≡ [] }
     requires header { IsTrue (begins_hand (lines bytes.now)) }
     requires numbers { first + length (lines bytes.now) < 2 ^ 32 }
     ensures block { OnOk result (block.new.items ≡ block.old.items
@@ -185,10 +187,12 @@ pub(crate) fn write_result_lines<C: Counter>(
     form: Form,
     bytes: &[u8],
     first: u32,
+    _ready: &[u8],
     equities: &mut EquityCounter<C>,
     block: &mut Vec<u8>,
 ) -> Result<bool, Memory>
     requires ready { C.ready }
+    requires idle { _ready.now ≡ [] }
     requires header { IsTrue (begins_hand (lines bytes.now)) }
     requires numbers { first + length (lines bytes.now) < 2 ^ 32 }
     ensures block { OnOk result (block.new.items ≡ block.old.items

@@ -7,7 +7,7 @@ ghost use Rattle.line_text.specs.Lines.{lines};
 ghost use Rattle.command_words.specs.Command.{reads_input};
 ghost use Rattle.run_loop.specs.Order.{GoesOn};
 ghost use Rattle.run_loop.specs.Reporting.{told_status};
-ghost use Rattle.run_loop.specs.UnitBlocks.{MakesBlock, block_kind_in, listed_kind};
+ghost use Rattle.run_loop.specs.UnitBlocks.{MakesBlock, block_kind_in, counts_equities, listed_kind};
 ghost use Rattle.run_loop.specs.Units.{started, unit_kind};
 ghost use Rattle.run_loop.specs.declared.reading.Ending.TheVariants.{Open};
 
@@ -27,17 +27,20 @@ use report_table::{Balance, Form, Totals};
 use std::alloc::Global;
 
 /// Appends the block of a hand or a line, and answers whether the hand or the spot is rejected; none where
-/// a line has no word. The bytes are its lines.
+/// a line has no word. The bytes are its lines. Nothing is ready where an equity may be counted: what was gathered has been
+/// written.
 fn write_unit<C: Counter>(
     alloc: Global,
     form: Form,
     listed: BlockKind,
     numbers: UnitPosition,
     bytes: &[u8],
+    ready: &[u8],
     equities: &mut EquityCounter<C>,
     block: &mut Vec<u8>,
 ) -> Result<Option<bool>, Memory>
     requires ready { C.ready }
+    requires idle { counts_equities listed ≡ true → ready.now ≡ [] }
     requires empty { block.old.items ≡ [] }
     requires header { listed_kind listed ≡ Hands → begins_hand (lines bytes.now) ≡ true }
     requires few { numbers.line + length (lines bytes.now) < 2 ^ 32 }
@@ -46,14 +49,31 @@ fn write_unit<C: Counter>(
 {
     match listed {
         BlockKind::Spots { holding } => {
-            write_spot_line(alloc, block, form, holding, numbers, bytes, equities)
+            write_spot_line(alloc, block, form, holding, numbers, bytes, ready, equities)
         }
         BlockKind::Hands { told } => {
-            let rejected = write_lines(alloc, form, told, bytes, numbers.line, equities, block)?;
+            let rejected = write_lines(
+                alloc,
+                form,
+                told,
+                bytes,
+                numbers.line,
+                ready,
+                equities,
+                block,
+            )?;
             Ok(Some(rejected))
         }
         BlockKind::Results => {
-            let rejected = write_result_lines(alloc, form, bytes, numbers.line, equities, block)?;
+            let rejected = write_result_lines(
+                alloc,
+                form,
+                bytes,
+                numbers.line,
+                ready,
+                equities,
+                block,
+            )?;
             Ok(Some(rejected))
         }
         BlockKind::Settle => {
@@ -101,7 +121,7 @@ fn write_blocks<C: Counter, S: Source, K: Sink>(
         };
         let bytes = &input.cutter.held()[unit.first..unit.end];
         let told = match write_unit(
-            alloc, asked.form, listed, numbers, bytes, equities, &mut block,
+            alloc, asked.form, listed, numbers, bytes, &ready, equities, &mut block,
         ) {
             Ok(told) => told,
             Err(Memory) => return Err(write_rest(&ready, sink)),

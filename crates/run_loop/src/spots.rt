@@ -90,9 +90,11 @@ pub(crate) fn write_spot_line<C: Counter>(
     holding: SpotKind,
     numbers: UnitPosition,
     bytes: &[u8],
+    _ready: &[u8],
     equities: &mut EquityCounter<C>,
 ) -> Result<Option<bool>, Memory>
     requires ready { C.ready }
+    requires idle { _ready.now ≡ [] }
     requires empty { block.old.items ≡ [] }
     ensures { IfOk result (λ told. MakesBlock form (Spots holding) numbers.place
         (record { first = numbers.line; lines = lines bytes.now }) block.new.items told) }

@@ -13,6 +13,10 @@ mod histories;
 #[cfg(test)]
 mod machine;
 #[cfg(test)]
+mod page_runs;
+#[cfg(test)]
+mod ready_blocks;
+#[cfg(test)]
 mod reports;
 #[cfg(test)]
 mod runs;

@@ -7,9 +7,9 @@ ghost use Rattle.showdown_tally.specs.Tallies.{Counts, runouts_after};
 ghost use Rattle.job_blocks.specs.Blocks.{blocks_of};
 ghost use Rattle.tally_book.specs.Pages.{is_marked};
 
-use crate::BlockCounter;
 use crate::desk::Desk;
 use crate::seat::Seat;
+use crate::{BlockCounter, OpenGate};
 use job_blocks::Job;
 use tally_book::{Book, Closed, Naming, Part};
 
@@ -109,7 +109,7 @@ fn post_unmarked<N: Naming, C: BlockCounter>(
         return 0;
     }
     let Desk { counter, tally, .. } = desk;
-    counter.count(job, block, tally);
+    counter.count(job, block, 0, &OpenGate, tally);
     let _ = book.post(block, tally, spare);
     1
 }

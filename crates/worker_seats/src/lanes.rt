@@ -12,13 +12,14 @@ ghost use Rattle.worker_seats.specs.Seating.{IsUntouched};
 
 use crate::desk::Desk;
 use crate::reaches::Reach;
+use crate::shared_book::SharedBook;
 use crate::{BlockCounter, Gate};
 use card_sets::Memory;
 use job_blocks::Job;
 use std::alloc::Global;
-use std::sync::{Mutex, Wait};
+use std::sync::Wait;
 use std::thread;
-use tally_book::{Book, Naming};
+use tally_book::Naming;
 
 /// What a take gives.
 pub enum Got {
@@ -85,7 +86,7 @@ pub(crate) fn drain<N: Naming, C: BlockCounter, R: Wait, G: Gate>(
     worker: u32,
     job: &Job,
     gate: &G,
-    book: &Mutex<Book<N>>,
+    book: &SharedBook<N>,
     lane: &mut Lane<N>,
     desk: &mut Desk<N, C>,
 )
@@ -110,7 +111,10 @@ pub(crate) fn drain<N: Naming, C: BlockCounter, R: Wait, G: Gate>(
     let blocks = job.blocks();
     for _ in rt.forever() {
         match lane.take(rt, blocks) {
-            Got::Block(block) => desk.count(rt, worker, block, job, gate, book),
+            Got::Block(block) => {
+                desk.count(worker, block, job, gate);
+                book.post(rt, block, &desk.tally, &mut desk.part);
+            }
             Got::End => return,
             Got::Nothing => thread::yield_now(),
         }

@@ -31,6 +31,7 @@ mod reaches;
 mod running;
 mod seat;
 mod seats;
+mod shared_book;
 mod workers;
 
 pub use counter::BlockCounter;

@@ -9,12 +9,13 @@ ghost use Rattle.worker_seats.specs.Seating.{IsFresh, HasWorked, AllFresh, AllHa
 
 use crate::joins::join_all;
 use crate::seat::Seat;
+use crate::shared_book::SharedBook;
 use crate::{BlockCounter, Gate};
 use job_blocks::Job;
-use std::sync::{Mutex, Wait};
+use std::sync::Wait;
 use std::thread;
 use std::thread::Threads;
-use tally_book::{Book, Naming};
+use tally_book::Naming;
 
 /// Runs all seats, and joins their passes.
 pub(crate) fn work_seats<
@@ -22,7 +23,7 @@ pub(crate) fn work_seats<
     C: BlockCounter + Send,
     R: Threads + Wait + Sync,
     G: Gate + Sync,
->(rt: &R, seats: &mut Vec<Seat<N, C>>, job: &Job, gate: &G, book: &Mutex<Book<N>>)
+>(rt: &R, seats: &mut Vec<Seat<N, C>>, job: &Job, gate: &G, book: &SharedBook<N>)
     // `N` names the deal of the job, and the number of the workers, 1 to 16.
     requires named { deal_of job.now.table ≡ N.deal }
     requires workers { (N.all - 1 ≤ 16) × (0 < N.all - 1) }
@@ -50,7 +51,7 @@ fn work_all<
     C: BlockCounter + Send,
     R: Threads + Wait + Sync,
     G: Gate + Sync,
->(rt: &R, seats: &mut [Seat<N, C>], job: &Job, gate: &G, book: &Mutex<Book<N>>)
+>(rt: &R, seats: &mut [Seat<N, C>], job: &Job, gate: &G, book: &SharedBook<N>)
     // `N` names the deal of the job, and the number of the workers, 1 to 16.
     requires named { deal_of job.now.table ≡ N.deal }
     requires workers { (N.all - 1 ≤ 16) × (0 < N.all - 1) }
@@ -80,7 +81,7 @@ fn run_seats<
     C: BlockCounter + Send,
     R: Threads + Wait + Sync,
     G: Gate + Sync,
->(rt: &R, seats: &mut [Seat<N, C>], job: &Job, gate: &G, book: &Mutex<Book<N>>)
+>(rt: &R, seats: &mut [Seat<N, C>], job: &Job, gate: &G, book: &SharedBook<N>)
     requires named { deal_of job.now.table ≡ N.deal }
     requires workers { (length seats.old ≡ N.all - 1) × (N.all - 1 ≤ 16) × (0 < N.all - 1) }
     requires fresh { AllFresh (N.all - 1)

@@ -8,10 +8,11 @@ ghost use Rattle.worker_seats.specs.Seating.{IsFresh, HasWorked};
 
 use crate::desk::Desk;
 use crate::lanes::{Lane, drain};
+use crate::shared_book::SharedBook;
 use crate::{BlockCounter, Gate};
 use job_blocks::Job;
-use std::sync::{Mutex, Wait};
-use tally_book::{Book, Naming};
+use std::sync::Wait;
+use tally_book::Naming;
 
 /// What one worker works with: a way to each deque, and what it counts with.
 #[derive(Drop)]
@@ -29,7 +30,7 @@ impl<N: Naming, C: BlockCounter> Seat<N, C> {
         worker: usize,
         job: &Job,
         gate: &G,
-        book: &Mutex<Book<N>>,
+        book: &SharedBook<N>,
     )
         requires named { deal_of job.now.table ≡ N.deal }
         requires worker { worker < N.all - 1 }

@@ -11,13 +11,14 @@ use crate::finishing::finish_book;
 use crate::making::{add_deque, seats_without_ways};
 use crate::running::work_seats;
 use crate::seat::Seat;
+use crate::shared_book::SharedBook;
 use crate::{BlockCounter, Gate};
 use card_sets::Memory;
 use job_blocks::Job;
 use std::alloc::Global;
 use std::marker::Model;
+use std::sync::Wait;
 use std::sync::ledger::Blank;
-use std::sync::{Mutex, Wait};
 use std::thread::Threads;
 use tally_book::{Book, Closed, Naming, Part};
 
@@ -30,7 +31,7 @@ use tally_book::{Book, Closed, Naming, Part};
 #[derive(Drop)]
 pub struct Seats<N: Naming, C> {
     seats: Vec<Seat<N, C>>,
-    book: Mutex<Book<N>>,
+    book: SharedBook<N>,
     spare: Part<N>,
     worked: bool,
 }
@@ -74,7 +75,7 @@ impl<N: Naming, C: BlockCounter> Seats<N, C> {
         }
         Ok(Seats {
             seats,
-            book: Mutex::new(book),
+            book: SharedBook::new(book),
             spare,
             worked: false,
         })
@@ -133,6 +134,6 @@ impl<N: Naming, C: BlockCounter> Seats<N, C> {
             spare,
             ..
         } = self;
-        finish_book(job, book.into_inner(), seats, spare)
+        finish_book(job, book.into_book(), seats, spare)
     }
 }

@@ -81,6 +81,19 @@ pot 0 high win 0 0.00 tie 0 0.00 lose 1 100.00 y
 pot 0 ev 0.000 y
 ";
 
+const TWICE_RESULTS: &str = "hand 2 accepted holdem rake 0 twice
+result had 100 put 100 got 100 net 0 even 91 x
+result had 100 put 100 got 100 net 0 even -91 y
+";
+
+const TWICE_SETTLEMENT: &str = "hand 2 accepted holdem rake 0 twice
+pot 0 gross 200 rake 0 checked
+part 0 1 high units 100 odd 0 x
+part 0 2 high units 100 odd 0 y
+share 0 due 100 got 100 x
+share 0 due 100 got 100 y
+";
+
 /// The report of a hand that is cut off after its twelfth line.
 pub(crate) const TWELVE_REPORT: &str = "hand 88 rejected line 12 Unfinished\n";
 
@@ -98,6 +111,13 @@ const OF_HANDS: &[Broken] = &[
         closes: (3, 27),
         is_sum: false,
         texts: &[CUT_REPORT, TWICE_REPORT, OPEN_REPORT],
+    },
+    Broken {
+        mode: "settle",
+        input: HANDS,
+        closes: (3, 27),
+        is_sum: false,
+        texts: &[CUT_REPORT, TWICE_SETTLEMENT, OPEN_REPORT],
     },
     Broken {
         mode: "totals",
@@ -134,6 +154,31 @@ const OF_ALL_INS: &[Broken] = &[
         closes: (3, 27),
         is_sum: false,
         texts: &[CUT_REPORT, TWICE_STREETS, OPEN_REPORT],
+    },
+    Broken {
+        mode: "results",
+        input: HANDS,
+        closes: (3, 27),
+        is_sum: false,
+        texts: &[CUT_REPORT, TWICE_RESULTS, OPEN_REPORT],
+    },
+    Broken {
+        mode: "balance",
+        input: HANDS,
+        closes: (3, 27),
+        is_sum: true,
+        texts: &[
+            "balance hands 0 accepted 0 rejected 0\n",
+            "balance hands 1 accepted 0 rejected 1\n",
+            "balance hands 2 accepted 1 rejected 1
+balance chips hands 1 got 100 net 0 even 91 unknown 0 x
+balance chips hands 1 got 100 net 0 even -91 unknown 0 y
+",
+            "balance hands 3 accepted 1 rejected 2
+balance chips hands 1 got 100 net 0 even 91 unknown 0 x
+balance chips hands 1 got 100 net 0 even -91 unknown 0 y
+",
+        ],
     },
 ];
 
@@ -253,10 +298,10 @@ fn leaves<R: Threads + Wait + Sync + Abort>(
     Ok(())
 }
 
-/// How many of the first blocks are written by one write, of reads of so many bytes: in `check` those of the hands that one
-/// read closes, where the input is one piece, and else one.
+/// How many of the first blocks are written by one write, of reads of so many bytes: in `check` and `settle`, which count no
+/// equity, those of the hands that one read closes, where the input is one piece, and else one.
 fn written_together(row: &Broken, input: &[u8], piece: usize) -> usize {
-    if row.mode == "check" {
+    if row.mode == "check" || row.mode == "settle" {
         closed_by(row, line_count(front(input, piece))).max(1)
     } else {
         1

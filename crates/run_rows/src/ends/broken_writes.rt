@@ -57,18 +57,20 @@ fn write_fails<R: Threads + Wait + Sync + Abort>(
     Ok(())
 }
 
-/// So it is with these writes.
+/// So it is with each of so many writes, of so many bytes each.
 fn all_writes_fail<R: Threads + Wait + Sync + Abort>(
     rt: &R,
     alloc: Global,
-    row: &Writes,
+    words: &[&str],
+    taken: usize,
+    each: usize,
     input: &[u8],
     whole: &Ran,
 ) -> Result<(), Fail> {
-    let writes = whole.written.len() / row.3.max(1);
+    let writes = whole.written.len() / each.max(1);
     for number in 0..writes.saturating_add(1) {
-        let write = number.saturating_mul(row.3);
-        write_fails(rt, alloc, row.0, input, whole, row.2, write)?;
+        let write = number.saturating_mul(each);
+        write_fails(rt, alloc, words, input, whole, taken, write)?;
     }
     Ok(())
 }
@@ -81,30 +83,42 @@ fn each_write_fails<R: Threads + Wait + Sync + Abort>(
 ) -> Result<(), Fail> {
     let input = input_of(alloc, row.1)?;
     let whole = run(rt, alloc, row.0, &input, AMPLE)?;
-    all_writes_fail(rt, alloc, row, &input, &whole)
+    all_writes_fail(rt, alloc, row.0, row.2, row.3, &input, &whole)
 }
 
-const SOME_WRITES: &[Writes] = &[
-    (&["check", "--format=text", "--hands=3"], HANDS, 1, 7),
-    (&["check", "--format=csv", "--hands=3"], HANDS, 1, 7),
-    (&["audit", "--format=text", "--hands=3"], HANDS, 1, 7),
-    (&["audit", "--format=csv", "--hands=3"], HANDS, 1, 7),
-    (&["streets", "--format=text", "--hands=3"], HANDS, 1, 7),
-    (&["streets", "--format=csv", "--hands=3"], HANDS, 1, 7),
-    (&["totals", "--format=text", "--hands=3"], HANDS, 1, 7),
-    (&["totals", "--format=csv", "--hands=3"], HANDS, 1, 7),
-    (&["made", "--format=text", "--hands=3"], HANDS, 1, 7),
-    (&["made", "--format=csv", "--hands=3"], HANDS, 1, 7),
-    (&["spots", "--format=text", "--hands=3"], SPOTS, 1, 7),
-    (&["spots", "--format=csv", "--hands=3"], SPOTS, 1, 7),
-    (&["ranges", "--format=text", "--hands=3"], RANGES, 1, 7),
-    (&["ranges", "--format=csv", "--hands=3"], RANGES, 1, 7),
+/// Each mode of a command, with an input of it.
+pub(crate) const MODES: &[(&str, &[Part])] = &[
+    ("audit", HANDS),
+    ("streets", HANDS),
+    ("check", HANDS),
+    ("results", HANDS),
+    ("settle", HANDS),
+    ("spots", SPOTS),
+    ("ranges", RANGES),
+    ("totals", HANDS),
+    ("balance", HANDS),
+    ("made", HANDS),
 ];
+
+/// In a mode and a form each seventh write of a byte may fail.
+fn each_seventh_fails<R: Threads + Wait + Sync + Abort>(
+    rt: &R,
+    alloc: Global,
+    mode: &str,
+    form: &str,
+    parts: &[Part],
+) -> Result<(), Fail> {
+    let input = input_of(alloc, parts)?;
+    let words = [mode, form, "--hands=3"];
+    let whole = run(rt, alloc, &words, &input, AMPLE)?;
+    all_writes_fail(rt, alloc, &words, 1, 7, &input, &whole)
+}
 
 #[test]
 fn any_write_may_fail(rt: HostRuntime) -> Result<(), Fail> {
-    for row in SOME_WRITES {
-        each_write_fails(&rt, rt.alloc(), row)?;
+    for (mode, parts) in MODES {
+        each_seventh_fails(&rt, rt.alloc(), mode, "--format=text", parts)?;
+        each_seventh_fails(&rt, rt.alloc(), mode, "--format=csv", parts)?;
     }
     Ok(())
 }
@@ -202,7 +216,10 @@ const UNREAD: &[Unread] = &[
         100,
         &[(0, 105_100), (1, 104_000), (49, 53_000), (98, 900), (99, 0)],
     ),
+    ("audit", HUNDRED, 100, &[(0, 105_100), (49, 53_000)]),
     ("streets", HUNDRED, 100, &[(0, 105_100), (49, 53_000)]),
+    ("results", HUNDRED, 100, &[(0, 105_100), (49, 53_000)]),
+    ("settle", HUNDRED, 100, &[(0, 105_100), (49, 53_000)]),
     (
         "spots",
         &[Part::Times(SPOT, 50)],

@@ -152,5 +152,5 @@ pub(crate) const REJECTED_SUMS: &[u8] = b"totals hands 1 accepted 0 rejected 1\n
 
 pub(crate) const ACCEPTED_SUMS: &[u8] = b"totals hands 1 accepted 1 rejected 0\n";
 
-/// The modes that read hands.
+/// The modes that read hands, and of which `check` says the beginning.
 pub(crate) const HAND_MODES: [&str; 4] = ["check", "audit", "streets", "totals"];

@@ -1,5 +1,5 @@
-use Rattle.std.proofs.Common.{◌-◌, ap, sym, subst, ◌∙◌, ◌||◌, length}
-use Rattle.tally_book.specs.Parts.{is_handed}
+use Rattle.std.proofs.Common.{◌-◌, ◌==◌, ap, sym, subst, ◌∙◌, ◌||◌, length}
+use Rattle.tally_book.specs.Parts.{Hand, is_handed}
 use Rattle.worker_seats.specs.Lanes.{is_in, IsALane, StaysLane}
 use Rattle.showdown_tally.specs.Showdown.{Showdown}
 use Rattle.showdown_tally.specs.Tallies.{runouts_after}
@@ -20,8 +20,9 @@ loop-preserved-in-Block g c =
       λ deque lane. subst (λ n. StaysLane (g.N.Naming.all - 1) n c.loop.lane c.take.new.self) blocks c.take.ensures.lane deque (c.loop.invariant.2 deque lane),
       c.in-Block.ensures.got.2,
       stays_on c.args.lane.now.reach c.loop.lane.reach c.take.new.self.reach c.loop.invariant.4 c.take.ensures.same,
-      c.count.ensures.parts ∙ c.loop.invariant.5,
-      λ b low. handed_more (is_handed c.args.desk.now.part b) (is_handed c.loop.desk.part b) (is_handed c.count.new.self.part b) b c.in-Block.block c.loop.lane.taken.items c.take.new.self.taken.items c.in-Block.ensures.got.1 (c.loop.invariant.6 b low) (c.count.ensures.handed b low),
+      c.post.ensures.parts ∙ ap (λ (h : Hand). h.parts) c.count.ensures.part ∙ c.loop.invariant.5,
+      λ b low. handed_more (is_handed c.args.desk.now.part b) (is_handed c.loop.desk.part b) (is_handed c.post.new.part b) b c.in-Block.block c.loop.lane.taken.items c.take.new.self.taken.items c.in-Block.ensures.got.1 (c.loop.invariant.6 b low)
+          (c.post.ensures.handed b low ∙ ap (λ (h : Hand). is_handed h b || (b == c.in-Block.block)) c.count.ensures.part),
     )
 
 pub returns-in-End-clause-lane : goal.returns-in-End-clause-lane
