@@ -1,10 +1,9 @@
 -- The groups of some cards are the ranks of the cards, each once, larger groups first and then higher ranks.
-use Rattle.std.proofs.Common.{◌≡◌, ℕ, suc, zero, ◌-◌, ◌+◌, ◌*◌, ◌≤◌, ◌<◌, ◌==◌, List, ◌++◌, ◌∷◌, [], refl, ◌∙◌, sym, arith, true, false, cond, inl, inr, max, ◌⊎◌}
-use Rattle.std.specs.Prelude.{Contains, All, AllPairs}
+use Rattle.std.proofs.Common.{◌≡◌, ℕ, suc, zero, ◌+◌, ◌<◌, ◌==◌, List, ◌++◌, ◌∷◌, [], ◌∙◌, sym, arith, true, false, cond, inl, inr, ◌⊎◌}
+use Rattle.std.specs.Prelude.{All, AllPairs}
 use Rattle.std.proofs.lemmas.Bool.{cases_eq}
-use Rattle.std.proofs.lemmas.List.Elements.{All-append, Contains-append_left, Contains-append_right}
-use Rattle.card_sets.specs.Cards.{rank_of, IsCardSet, RisingFrom}
-use Rattle.card_sets.specs.Rising.{IsCardSet-rising}
+use Rattle.std.proofs.lemmas.List.Elements.{All-append}
+use Rattle.card_sets.specs.Cards.{IsCardSet}
 use Rattle.rank_high.specs.High.{groups, groups_counted, count_of_rank, ranks_below, ranks_counted}
 use Rattle.rank_laws.specs.HighHands.{ComesBefore, AreRanksInOrder}
 use Rattle.rank_high.proofs.CallerLemmas.{count-most, grouped}

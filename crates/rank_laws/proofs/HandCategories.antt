@@ -1,14 +1,13 @@
 -- What beats what: straights, flushes, threes of a kind and pairs.
-use Rattle.std.proofs.Common.{◌≡◌, ◌≢◌, ℕ, suc, zero, ◌+◌, ◌≤◌, ◌<◌, ◌==◌, List, ◌∷◌, [], refl, ap, ◌∙◌, sym, arith, Bool, true, false, cond, length, length-append, inl, inr, map}
+use Rattle.std.proofs.Common.{◌≡◌, ◌≢◌, ℕ, suc, zero, ◌+◌, ◌≤◌, ◌<◌, ◌==◌, List, ◌∷◌, [], refl, ap, ◌∙◌, sym, arith, Bool, true, false, cond, length, length-append, inl, inr}
 use Rattle.std.specs.Prelude.{nat_lt, ◌&&◌, ◌||◌, slice_index}
-use Rattle.std.specs.List.{list_all}
 use Rattle.std.specs.Ordering.{nat_cmp, ordering_then}
 use Rattle.std.specs.Cmp.{nat_cmp_is}
 use Rattle.std.specs.Cmp.Lexicographic.{slice_cmp}
 use Rattle.std.specs.declared.cmp.Ordering.TheVariants.{Equal, Greater}
-use Rattle.std.proofs.lemmas.Bool.{cases_eq, cases_lt, eqb-true, and_parts}
+use Rattle.std.proofs.lemmas.Bool.{cases_eq, cases_lt}
 use mathlib.Core.Bool.{true≢false}
-use Rattle.card_sets.specs.Cards.{rank_of, suit_of, IsCardSet, RisingFrom}
+use Rattle.card_sets.specs.Cards.{suit_of, IsCardSet}
 use Rattle.card_sets.specs.Rising.{IsCardSet-rising}
 use Rattle.rank_high.specs.High.{high, pips, is_wheel, is_flush, is_straight, falls_by_one, groups, group_count, category, category_of, count_of_rank, ranks_below, ranks_counted}
 use Rattle.rank_laws.specs.HighHands.{FlushBeatsStraight, ThreeBeatsTwoPair, SuitsDontMatter, WheelIsLowest, Beats}

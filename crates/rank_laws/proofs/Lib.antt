@@ -5,3 +5,4 @@ pub mod Categories
 pub mod Straights
 pub mod BestLows
 pub mod LowHands
+pub mod SameRanks

@@ -37,7 +37,7 @@ high_rank-lt : (rank : ℕ) → rank < 13 → high_rank rank < 13
 high_rank-lt zero h = omega arith
 high_rank-lt (suc rank) h = omega arith
 
-none_counted : (f : ℕ → ℕ) (size : ℕ) → 2 ≤ size → ((rank : ℕ) → rank < 13 → f rank ≤ 1) → length (ranks_counted f size) ≡ 0
+pub none_counted : (f : ℕ → ℕ) (size : ℕ) → 2 ≤ size → ((rank : ℕ) → rank < 13 → f rank ≤ 1) → length (ranks_counted f size) ≡ 0
 unfolding ranks_counted
 none_counted f size two h = none (ranks_below f size 13) (falls_counted f size)
   where
@@ -58,7 +58,7 @@ counted_some : (f : ℕ → ℕ) (size rank : ℕ) → rank < 13 → f rank ≡ 
 unfolding ranks_counted
 counted_some f size rank h e = some_length (ranks_below f size 13) rank (contains_counted f size 13 rank h e)
 
-low_of : (rank : ℕ) → rank < 13 → (low : ℕ) × (low < 13) × (high_rank low ≡ rank)
+pub low_of : (rank : ℕ) → rank < 13 → (low : ℕ) × (low < 13) × (high_rank low ≡ rank)
 low_of rank h = elim (cases_eq rank 12) [
   | inl e ↦ (0, omega arith, sym e)
   | inr ne ↦ (suc rank, omega arith, refl)

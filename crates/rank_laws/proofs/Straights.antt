@@ -2,7 +2,7 @@
 use Rattle.std.proofs.Common.{◌≡◌, ℕ, suc, zero, ◌-◌, ◌+◌, ◌≤◌, ◌<◌, ◌==◌, List, ◌∷◌, [], refl, ap, ◌∙◌, sym, arith, true, false, cond, length, inl, inr, subst}
 use Rattle.std.specs.Prelude.{nat_lt, nat_le, ◌&&◌, ◌⊎◌}
 use Rattle.std.specs.Prelude.{All}
-use Rattle.std.proofs.lemmas.Bool.{cases_eq, cases_lt, eqb-true, and_parts}
+use Rattle.std.proofs.lemmas.Bool.{cases_eq, cases_lt}
 use Rattle.rank_high.specs.High.{is_straight, is_wheel, falls_by_one, pips, groups, groups_counted, count_of_rank, ranks_counted}
 use Rattle.rank_laws.specs.HighHands.{IsFive, IsUsualStraight, AreInARow, AreFiveToAce, IsStraight}
 use Rattle.rank_laws.proofs.GroupsInOrder.{IsCounted, are_counted}

@@ -1,5 +1,5 @@
 -- The best of some fives is one of them, and none is worth more.
-use Rattle.std.proofs.Common.{◌≡◌, ℕ, suc, zero, ◌-◌, ◌+◌, ◌≤◌, ◌<◌, List, ◌++◌, ◌∷◌, [], refl, ap, ◌∙◌, sym, arith, Bool, true, false, cond, length, length-append, inl, inr, map, max, append_assoc, append-nil, subst}
+use Rattle.std.proofs.Common.{◌≡◌, ℕ, suc, zero, ◌≤◌, ◌<◌, List, ◌∷◌, [], refl, ap, ◌∙◌, sym, arith, Bool, true, false, cond, length, inl, inr, map}
 use Rattle.std.specs.Prelude.{slice_index_or, Contains}
 use Rattle.std.specs.Ordering.{nat_cmp, is_lt}
 use Rattle.std.specs.Cmp.{nat_cmp_is}
@@ -11,8 +11,8 @@ use Rattle.card_sets.specs.Choose.{choose}
 use Rattle.rank_high.specs.High.{value_of, high, greatest_of, best_high}
 use Rattle.rank_laws.specs.HighHands.{IsBest}
 use Rattle.rank_high.proofs.CallerLemmas.{IsHighList, value_of-order}
-use Rattle.card_sets.proofs.CallerLemmas.{greatest, greatest-append, choose-short, choose-some, choose-all}
-use Rattle.rank_high.proofs.CallerLemmas.{AreHighLists, AreHighLists-map, HaveLength-choose, alone, fives, greatest_of-IsHighList, value_of-greatest_of, value_of-none}
+use Rattle.card_sets.proofs.CallerLemmas.{greatest, choose-some}
+use Rattle.rank_high.proofs.CallerLemmas.{AreHighLists, alone, fives, greatest_of-IsHighList, value_of-greatest_of}
 
 one_of : (b : Bool) (l m : List ℕ) (ls : List (List ℕ)) → Contains ls m → Contains (l ∷ ls) (cond b m l)
 one_of true l m ls (k, h, e) = (suc k, omega arith, e)

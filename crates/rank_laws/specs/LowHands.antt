@@ -6,7 +6,7 @@ use Rattle.std.specs.declared.cmp.Ordering.TheVariants.{Less}
 use Rattle.card_sets.specs.Cards.{IsCardSet}
 use Rattle.rank_high.specs.High.{count_of_rank, is_flush, groups}
 use Rattle.rank_high.specs.ByRanks.{falling, held}
-use Rattle.rank_laws.specs.HighHands.{IsFive, AreFiveToAce}
+use Rattle.rank_laws.specs.HighHands.{IsFive, AreFiveToAce, HaveSameRanks}
 use Rattle.rank_low.specs.Low.{low_a5, low_27, low_groups, count_of_low, is_run, best_eight}
 
 -- the first five are the better ace-to-five low
@@ -32,6 +32,14 @@ FiveToAceIsBest = (a b : List ℕ) → IsFive a → IsFive b → AreFiveToAce a 
 -- suits don't count, and straights don't: fives with the same ranks are worth the same
 abbrev pub RanksAloneCount : Type 0
 RanksAloneCount = (a b : List ℕ) → IsFive a → IsFive b → ((rank : ℕ) → rank < 13 → count_of_rank a rank ≡ count_of_rank b rank) → low_a5 a ≡ low_a5 b
+
+-- fives that are worth the same as an ace-to-five low have the same ranks
+abbrev pub AceTiesHaveSameRanks : Type 0
+AceTiesHaveSameRanks = (a b : List ℕ) → IsFive a → IsFive b → low_a5 a ≡ low_a5 b → HaveSameRanks a b
+
+-- fives that are worth the same as a deuce-to-seven low have the same ranks, and both are a flush or neither
+abbrev pub DeuceTiesHaveSameRanks : Type 0
+DeuceTiesHaveSameRanks = (a b : List ℕ) → IsFive a → IsFive b → low_27 a ≡ low_27 b → HaveSameRanks a b × (is_flush a ≡ is_flush b)
 
 -- five different ranks beat any five with a pair
 abbrev pub NoPairBeatsPair : Type 0

@@ -1,9 +1,8 @@
 -- What cards of one suit are worth.
-use Rattle.std.specs.Prelude.{true, ◌≤◌, length, ◌≡◌, ℕ, ◌==◌, ◌<◌, false, List, ◌∷◌, map, filter, max, nat_lt, if◌then◌else◌, ◌+◌, ◌*◌, ◌^◌}
-use Rattle.std.specs.List.{count_by, list_all}
-use Rattle.card_sets.specs.Cards.{suit_of, IsCardSet, IsRising}
-use Rattle.card_sets.specs.Choose.{choose}
-use Rattle.rank_high.specs.High.{best_high, value_of, greatest_of, groups, group_count, is_straight, category_of, pips, count_of_rank}
+use Rattle.std.specs.Prelude.{true, ◌≤◌, length, ◌≡◌, ℕ, ◌==◌, List}
+use Rattle.std.specs.List.{list_all}
+use Rattle.card_sets.specs.Cards.{suit_of, IsRising}
+use Rattle.rank_high.specs.High.{best_high, value_of}
 use Rattle.rank_high.specs.Parts.{as_flush, best_plain}
 
 -- cards of one suit are worth by their ranks alone what their straights and flushes make of it

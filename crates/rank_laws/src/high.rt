@@ -7,7 +7,7 @@ ghost use Rattle.rank_high.specs.High.{groups, high, best_high, value_of};
 ghost use Rattle.card_sets.specs.Cards.{IsCardSet};
 ghost use Rattle.rank_high.specs.Parts.{RanksDecide};
 ghost use Rattle.rank_laws.specs.OneSuit.{FlushesByRanks};
-ghost use Rattle.rank_laws.specs.HighHands.{FlushBeatsStraight, ThreeBeatsTwoPair, SuitsDontMatter, WheelIsLowest, AreRanksInOrder, IsUsualCategory, IsUsualStraight, IsFive, IsBest};
+ghost use Rattle.rank_laws.specs.HighHands.{FlushBeatsStraight, ThreeBeatsTwoPair, SuitsDontMatter, TiesHaveSameRanks, WheelIsLowest, AreRanksInOrder, IsUsualCategory, IsUsualStraight, IsFive, IsBest};
 
 /// The numbers of two fives are in the order of what they are worth.
 pub fn law_numbers_keep_order()
@@ -38,6 +38,11 @@ pub fn law_three_beats_two_pair()
 /// Fives with the same ranks, both a flush or neither, are worth the same.
 pub fn law_suits_dont_matter()
     ensures { SuitsDontMatter }
+{}
+
+/// Fives that are worth the same have the same ranks, and both are a flush or neither.
+pub fn law_ties_have_same_ranks()
+    ensures { TiesHaveSameRanks }
 {}
 
 /// Five to ace is the lowest straight.

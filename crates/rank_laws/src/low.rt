@@ -6,7 +6,7 @@ ghost use Rattle.std.specs.Ordering.{nat_cmp};
 ghost use Rattle.card_sets.specs.Cards.{IsCardSet};
 ghost use Rattle.rank_high.specs.High.{value_of};
 ghost use Rattle.rank_low.specs.Low.{low_a5, low_27, ace_number, best_low, best_eight};
-ghost use Rattle.rank_laws.specs.LowHands.{FiveToAceIsBest, RanksAloneCount, NoPairBeatsPair, StraightsDontCount, SevenLowIsBest, FiveToAceIsAceHigh, StraightsAndFlushesLose, QualifyByRanks};
+ghost use Rattle.rank_laws.specs.LowHands.{FiveToAceIsBest, RanksAloneCount, AceTiesHaveSameRanks, DeuceTiesHaveSameRanks, NoPairBeatsPair, StraightsDontCount, SevenLowIsBest, FiveToAceIsAceHigh, StraightsAndFlushesLose, QualifyByRanks};
 
 /// The ace-to-five numbers of two fives are in the order of what they are worth.
 pub fn law_ace_numbers_keep_order()
@@ -44,6 +44,16 @@ pub fn law_five_to_ace_is_best()
 /// Fives with the same ranks are worth the same as an ace-to-five low, whatever their suits.
 pub fn law_ranks_alone_count()
     ensures { RanksAloneCount }
+{}
+
+/// Fives that are worth the same as an ace-to-five low have the same ranks.
+pub fn law_ace_ties_have_same_ranks()
+    ensures { AceTiesHaveSameRanks }
+{}
+
+/// Fives that are worth the same as a deuce-to-seven low have the same ranks, and both are a flush or neither.
+pub fn law_deuce_ties_have_same_ranks()
+    ensures { DeuceTiesHaveSameRanks }
 {}
 
 /// Five different ranks beat any five with a pair.

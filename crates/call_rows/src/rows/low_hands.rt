@@ -12,6 +12,11 @@ const ACE_TO_FIVE: &[&str] = &[
     "8c7d6h5s4cKdQh",
     "KcQdJhTs9c", // the worst with no pair
     "AcAd2h3s4c", // the best pair
+    "AcAd5h3s2c", // the highest kicker is higher
+    "AcAd5h4s2c",
+    "AcAd5h4s3c",
+    "AcAdKhQsJc",
+    "2c2d4h3sAc", // an ace is the lowest kicker
     "2c2d5h4s3c",
     "KcKdQhJsTc",
     "3c3d2h2s2cAcAd",
@@ -25,7 +30,12 @@ const DEUCE_TO_SEVEN: &[&str] = &[
     "8c5d4h3s2c",
     "Ac5d4h3s2c", // ace high, and no straight
     "AcKdQhJs9c",
-    "2c2d5h4s3c",
+    "2c2d5h4s3c", // the best pair
+    "2c2d6h4s3c", // the highest kicker is higher
+    "2c2d6h5s3c",
+    "2c2d6h5s4c",
+    "2c2dAh4s3c", // an ace is the highest kicker
+    "3c3d5h4s2c",
     "2c2d2h4s3c",
     "6c5d4h3s2c", // the lowest straight
     "7h5h4h3h2h",
