@@ -12,3 +12,4 @@ pub mod WrittenWords
 pub mod FirstRepeated
 pub mod WrittenSpots
 pub mod NamedHands
+pub mod WrittenRanges

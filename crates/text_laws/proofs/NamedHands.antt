@@ -1,9 +1,9 @@
 -- What items name, worked out over all hands.
-use Rattle.std.proofs.Common.{◌≡◌, [], ◌∷◌, refl}
+use Rattle.std.proofs.Common.{◌≡◌, true, false, [], ◌∷◌, refl}
 use Rattle.std.specs.Prelude.{codes}
 use Rattle.card_sets.specs.CardText.{card_of_letters}
 use Rattle.card_sets.specs.Cards.{cards_where}
-use Rattle.range_lines.specs.Hands.{all_pairs}
+use Rattle.range_lines.specs.Hands.{all_pairs, is_range}
 use Rattle.text_laws.specs.ItemHands.{IsRangeOf, range_of}
 use Rattle.range_lines.specs.Items.{rank_named}
 
@@ -54,3 +54,31 @@ next_hands = record { count = refl; same = refl }
 pub weights_hands : IsRangeOf (codes "AKs:3,AK:2") 16 (codes "AKs:5,AKo:2")
 unfolding all_pairs cards_where rank_named card_of_letters
 weights_hands = record { count = refl; same = refl }
+
+pub lightest_range : is_range (codes "AA:1") ≡ true
+unfolding all_pairs cards_where rank_named card_of_letters
+lightest_range = refl
+
+pub heaviest_range : is_range (codes "AA:100") ≡ true
+unfolding all_pairs cards_where rank_named card_of_letters
+heaviest_range = refl
+
+pub no_weight_range : is_range (codes "AA:0") ≡ false
+unfolding all_pairs cards_where rank_named card_of_letters
+no_weight_range = refl
+
+pub too_heavy_range : is_range (codes "AA:101") ≡ false
+unfolding all_pairs cards_where rank_named card_of_letters
+too_heavy_range = refl
+
+pub together_range : is_range (codes "AA:60,AsAh:40") ≡ true
+unfolding all_pairs cards_where rank_named card_of_letters
+together_range = refl
+
+pub above_range : is_range (codes "AA:60,AsAh:41") ≡ false
+unfolding all_pairs cards_where rank_named card_of_letters
+above_range = refl
+
+pub one_card_range : is_range (codes "AsAs") ≡ false
+unfolding all_pairs cards_where rank_named card_of_letters
+one_card_range = refl

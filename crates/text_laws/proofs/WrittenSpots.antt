@@ -80,10 +80,10 @@ before_texts (card ∷ cards) ws h =
     )
 
 -- the words after the hands
-abbrev tail : List ℕ → List ℕ → List (List ℕ)
+abbrev pub tail : List ℕ → List ℕ → List (List ℕ)
 tail board dead = codes "--" ∷ (texts board ++ codes "/" ∷ texts dead)
 
-tail_parts : (board dead : List ℕ) → all_in_deck board ≡ true →
+pub tail_parts : (board dead : List ℕ) → all_in_deck board ≡ true →
     (hand_words (tail board dead) ≡ [] ∷ []) × (board_words (tail board dead) ≡ texts board) × (dead_words (tail board dead) ≡ texts dead)
 tail_parts board dead h =
     let p = dashes_first (codes "--") (texts board ++ codes "/" ∷ texts dead) refl refl in
@@ -108,7 +108,7 @@ hands_parts first (next ∷ hands) ws h none =
     )
 
 -- what the words of cards say
-cards_texts : (cards : List ℕ) → all_in_deck cards ≡ true → cards_of (texts cards) ≡ cards
+pub cards_texts : (cards : List ℕ) → all_in_deck cards ≡ true → cards_of (texts cards) ≡ cards
 cards_texts [] h = refl
 cards_texts (card ∷ cards) h =
     let inside : card < 52 = below card (and_first (nat_lt card 52) (all_in_deck cards) h) in
@@ -118,7 +118,7 @@ cards_texts (card ∷ cards) h =
     below : (n : ℕ) → nat_lt n 52 ≡ true → n < 52
     below n t = grind arith
 
-texts_form : (cards : List ℕ) → all_in_deck cards ≡ true → all_cards (texts cards) ≡ true
+pub texts_form : (cards : List ℕ) → all_in_deck cards ≡ true → all_cards (texts cards) ≡ true
 texts_form [] h = refl
 texts_form (card ∷ cards) h =
     let inside : card < 52 = below card (and_first (nat_lt card 52) (all_in_deck cards) h) in
@@ -128,7 +128,7 @@ texts_form (card ∷ cards) h =
     below : (n : ℕ) → nat_lt n 52 ≡ true → n < 52
     below n t = grind arith
 
-length-texts : (cards : List ℕ) → length (texts cards) ≡ length cards
+pub length-texts : (cards : List ℕ) → length (texts cards) ≡ length cards
 length-texts [] = refl
 length-texts (card ∷ cards) = omega (arith, length-texts cards)
 
@@ -153,13 +153,13 @@ hands_written (hand ∷ hands) h =
     }
 
 -- each word is a word
-words_append : (xs ys : List (List ℕ)) → list_all is_word xs ≡ true → list_all is_word ys ≡ true → list_all is_word (xs ++ ys) ≡ true
+pub words_append : (xs ys : List (List ℕ)) → list_all is_word xs ≡ true → list_all is_word ys ≡ true → list_all is_word (xs ++ ys) ≡ true
 words_append [] ys h k = k
 words_append (x ∷ xs) ys h k =
     and_from (is_word x) (list_all is_word (xs ++ ys)) (and_first (is_word x) (list_all is_word xs) h)
     (words_append xs ys (and_second (is_word x) (list_all is_word xs) h) k)
 
-texts_words : (cards : List ℕ) → all_in_deck cards ≡ true → list_all is_word (texts cards) ≡ true
+pub texts_words : (cards : List ℕ) → all_in_deck cards ≡ true → list_all is_word (texts cards) ≡ true
 texts_words [] h = refl
 texts_words (card ∷ cards) h =
     let is = plain card (and_first (nat_lt card 52) (all_in_deck cards) h) in

@@ -4,3 +4,4 @@ pub mod WrittenLines
 pub mod NameLaws
 pub mod WrittenSpots
 pub mod ItemHands
+pub mod WrittenRanges

@@ -1,6 +1,7 @@
-//! What the items of a range name. The function is empty, and its clauses are the law.
+//! What the items of a range name, and which words are ranges. Each function is empty, and its clauses are the law.
 
-ghost use Rattle.std.specs.Prelude.{◌≡◌, [], ◌∷◌, codes};
+ghost use Rattle.std.specs.Prelude.{◌≡◌, true, false, [], ◌∷◌, codes};
+ghost use Rattle.range_lines.specs.Hands.{is_range};
 ghost use Rattle.text_laws.specs.ItemHands.{IsRangeOf, range_of};
 
 /// Which hands each item names, and how many. `AsKh` is one hand. A pair is six, `AKs` four of one suit, `AKo`
@@ -28,4 +29,16 @@ pub fn law_items_name_their_hands()
 
     // A weight counts for each hand, and the weights of a hand add up.
     ensures weights { IsRangeOf (codes "AKs:3,AK:2") 16 (codes "AKs:5,AKo:2") }
+{}
+
+/// Which words are ranges: an item weighs 1 to 100, all items of a hand together at most 100, and a hand has
+/// two different cards.
+pub fn law_ranges_are_bounded()
+    ensures lightest { is_range (codes "AA:1") ≡ true }
+    ensures heaviest { is_range (codes "AA:100") ≡ true }
+    ensures no_weight { is_range (codes "AA:0") ≡ false }
+    ensures too_heavy { is_range (codes "AA:101") ≡ false }
+    ensures together { is_range (codes "AA:60,AsAh:40") ≡ true }
+    ensures above { is_range (codes "AA:60,AsAh:41") ≡ false }
+    ensures one_card { is_range (codes "AsAs") ≡ false }
 {}

@@ -12,13 +12,15 @@ mod fractions;
 mod histories;
 mod items;
 mod lines;
+mod ranges;
 mod spots;
 
 pub use amounts::law_written_amounts_are_read;
 pub use fractions::{law_rounds_to_the_nearest_half_up, law_the_text_says_the_number};
 pub use histories::{law_the_longest_name_counts, law_written_lines_are_read};
-pub use items::law_items_name_their_hands;
+pub use items::{law_items_name_their_hands, law_ranges_are_bounded};
 pub use lines::law_lines_read_back;
+pub use ranges::law_written_ranges_are_read;
 pub use spots::{
     law_a_written_spot_is_read, law_the_first_repeated_card, law_written_words_are_read,
 };
