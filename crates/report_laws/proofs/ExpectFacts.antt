@@ -38,11 +38,11 @@ sum_times : {X : Type 0} (n : ℕ) (f : X → ℕ) (xs : List X) → sum_by (λ 
 sum_times n f [] = omega arith
 sum_times n f (x ∷ xs) = sum_by-cons (λ x. f x * n) x xs ∙ ap (λ s. f x * n + s) (sum_times n f xs) ∙ times_more (f x) (sum_by f xs) n ∙ ap (λ s. s * n) (sym (sum_by-cons f x xs))
 
-multiple : {X : Type 0} (n : ℕ) (f : X → ℕ) (xs : List X) → sum_by (λ x. n * f x) xs ≡ n * sum_by f xs
+pub multiple : {X : Type 0} (n : ℕ) (f : X → ℕ) (xs : List X) → sum_by (λ x. n * f x) xs ≡ n * sum_by f xs
 multiple n f [] = omega arith
 multiple n f (x ∷ xs) = sum_by-cons (λ x. n * f x) x xs ∙ ap (λ s. n * f x + s) (multiple n f xs) ∙ more_times n (f x) (sum_by f xs) ∙ ap (λ s. n * s) (sym (sum_by-cons f x xs))
 
-sum_of_equals : {X : Type 0} (f : X → ℕ) (n : ℕ) (xs : List X) → All (λ x. f x ≡ n) xs → sum_by f xs ≡ n * length xs
+pub sum_of_equals : {X : Type 0} (f : X → ℕ) (n : ℕ) (xs : List X) → All (λ x. f x ≡ n) xs → sum_by f xs ≡ n * length xs
 sum_of_equals f n [] all = omega arith
 sum_of_equals f n (x ∷ xs) all =
     let first : f x ≡ n = all 0 x (omega arith) in

@@ -8,3 +8,5 @@ pub mod SettleFacts
 pub mod EvenKnown
 pub mod NearestUnits
 pub mod UnknownWinners
+pub mod EvenNear
+pub mod AllInTotals

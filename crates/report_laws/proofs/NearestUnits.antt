@@ -13,7 +13,7 @@ quotient_below n d some = omega arith
 quotient_above : (n d : ℕ) → 0 < d → n < d * (n / d + 1)
 quotient_above n d some = omega arith
 
-rounded : (given pieces : ℕ) → 0 < pieces → IsNearest given pieces (round given pieces 0)
+pub rounded : (given pieces : ℕ) → 0 < pieces → IsNearest given pieces (round given pieces 0)
 unfolding round
 rounded given pieces some =
     let low = quotient_below (2 * given * 1 + pieces) (2 * pieces) (omega (arith, some)) in

@@ -1,7 +1,11 @@
 -- Where even luck is known, and how what may be expected is rounded.
-use Rattle.std.specs.Prelude.{◌≡◌, ℕ, ◌+◌, ◌*◌, ◌<◌, ◌≤◌, ◌&&◌, Bool, true, false, length, is_some}
-use Rattle.even_luck.specs.EvenLuck.{even_of}
+use Rattle.std.specs.Prelude.{◌≡◌, ℕ, ◌+◌, ◌*◌, ◌<◌, ◌≤◌, ◌&&◌, Bool, true, false, List, length, is_some}
+use Rattle.std.specs.List.{sum_by}
+use Rattle.even_luck.specs.EvenLuck.{even_got, even_of}
 use Rattle.even_luck.specs.Figures.{expected_by, full_figures, given_to, is_counted}
+use Rattle.even_luck.specs.Seats.{contenders}
+use Rattle.report_laws.specs.ExpectLaws.{got_of_all}
+use Rattle.report_sheet.specs.SpotLines.{every_hand}
 use Rattle.hand_verdict.specs.declared.settlement.Settlement.{Settlement}
 use Rattle.hand_verdict.specs.declared.verdicts.AllIn.{AllIn}
 use Rattle.hand_verdict.specs.declared.verdicts.AllIn.TheVariants.{None, Unknown, Known}
@@ -28,3 +32,15 @@ pub record IsNearest (given pieces units : ℕ) : Type 0 where
 abbrev pub ExpectIsNearest : Type 0
 ExpectIsNearest = (s : Settlement) (deal : Showdown) (hand : ℕ) → 0 < length (runouts_after deal.state)
     → IsNearest (given_to s.pots (full_figures deal) hand (length deal.pots)) (5040 * length (runouts_after deal.state)) (expected_by s deal hand)
+
+-- what the hands of an all-in would have got with even luck, each rounded, and what their players got out of the pots
+abbrev pub even_of_all : Settlement → List ℕ → Showdown → ℕ
+even_of_all s seats deal = sum_by (λ hand. even_got s seats deal hand) (every_hand (length deal.state.hands))
+
+abbrev pub got_of_contenders : Settlement → List ℕ → Showdown → ℕ
+got_of_contenders s seats deal = sum_by (λ seat. got_of_all s.pots deal seat) (contenders seats deal)
+
+-- the two differ by half a unit for each hand at most
+pub record EvenIsNear (s : Settlement) (seats : List ℕ) (deal : Showdown) : Type 0 where
+  pub not_above : 2 * even_of_all s seats deal ≤ 2 * got_of_contenders s seats deal + length deal.state.hands
+  pub not_below : 2 * got_of_contenders s seats deal ≤ 2 * even_of_all s seats deal + length deal.state.hands

@@ -4,3 +4,4 @@ pub mod ExpectLaws
 pub mod KnownSettles
 pub mod ReadBack
 pub mod SettleLaws
+pub mod TotalLaws

@@ -20,8 +20,12 @@ pub use balance_laws::{
 };
 pub use expect_laws::{
     law_even_luck_adds_up_to_what_was_got, law_even_luck_is_known_by_the_hand,
-    law_expectations_add_up_to_the_pots, law_expectations_are_rounded_once,
+    law_even_luck_is_near_what_was_got, law_expectations_add_up_to_the_pots,
+    law_expectations_are_rounded_once,
 };
 pub use line_laws::{law_a_record_is_read_back, law_money_is_written_whole};
 pub use settle_laws::{law_settle_lines_add_up, law_what_is_unknown_is_not_settled};
-pub use total_laws::{law_hands_are_those_that_are_played, law_no_player_is_listed_twice};
+pub use total_laws::{
+    law_hands_are_those_that_are_played, law_no_player_is_listed_twice,
+    law_totals_sum_counted_all_ins,
+};
