@@ -1,16 +1,14 @@
 -- The nets of a balance add up to minus the rakes.
-use Rattle.std.proofs.Common.{◌≡◌, ℕ, zero, suc, ◌+◌, ◌*◌, ◌<◌, ◌≤◌, Bool, true, false, cond, ◌&&◌, ◌||◌, ◌==◌, List, [], ◌∷◌, ◌++◌, length, map, filter, refl, sym, ap, subst, ◌∙◌, arith}
-use Rattle.std.specs.Prelude.{All, Err, None, Ok, Option, Result, Some, count_by, if◌then◌else◌, nat_le, nat_lt}
+use Rattle.std.proofs.Common.{◌≡◌, ℕ, suc, ◌+◌, ◌≤◌, Bool, true, false, cond, ◌&&◌, ◌||◌, ◌==◌, List, [], ◌∷◌, map, refl, sym, ap, ◌∙◌, arith}
+use Rattle.std.specs.Prelude.{All, Err, None, Ok, Option, Result, Some, count_by, if◌then◌else◌}
 use Rattle.std.specs.Bool.{beq}
 use Rattle.std.specs.Cmp.Lexicographic.{nat_list_eq_equiv}
 use Rattle.std.specs.List.{AllByRecursion, IsDistinct, flat_map, list_any, sum_by}
-use Rattle.std.specs.Map.{keys_of}
 use Rattle.std.specs.Option.{option_map_or}
 use Rattle.std.specs.Str.{bytes_eq}
-use Rattle.std.proofs.lemmas.List.Concat.{flat_map-cons}
 use Rattle.std.proofs.lemmas.List.Folds.{list_any-append}
 use Rattle.std.proofs.lemmas.List.Sums.{sum_by-cons}
-use Rattle.card_sets.specs.PlayerSets.{has_player, players_from, seats_in}
+use Rattle.card_sets.specs.PlayerSets.{seats_in}
 use Rattle.history_text.specs.Headers.{header_of}
 use Rattle.hand_events.specs.Names.{seat_named}
 use Rattle.hand_events.specs.declared.events.Header.{Header}
@@ -31,7 +29,7 @@ use Rattle.player_totals.specs.Balance.{audits_of, balance_by, balance_in, balan
 use Rattle.report_laws.specs.BalanceLaws.{AreNamed, HasNames, IsAudited, LosesRakes, counts_in, rake_of, rakes_in, rows_have}
 use Rattle.report_laws.proofs.TotalLaws.{distinct_once}
 use Rattle.even_luck.specs.Seats.{Seated}
-use Rattle.player_totals.specs.Totals.{Player, all_players, each_once, players_in, playing, same_player}
+use Rattle.player_totals.specs.Totals.{Player, all_players, players_in, playing, same_player}
 use Rattle.player_totals.specs.TotalsSeen.{named_player}
 use Rattle.player_totals.specs.declared.balance_sums.BalanceSums.{BalanceSums}
 use Rattle.player_totals.proofs.CallerLemmas.{any_once, same_congr, same_name}

@@ -1,10 +1,9 @@
 -- Whether even luck is known goes by the hand alone.
 use Rattle.std.proofs.Common.{◌≡◌, ℕ, ◌&&◌, Bool, true, false, is_some, refl}
-use Rattle.report_laws.specs.EvenLaws.{EvenIsKnown, knows_even}
-use Rattle.even_luck.specs.EvenLuck.{even_of, known_even}
+use Rattle.report_laws.specs.EvenLaws.{EvenIsKnown}
+use Rattle.even_luck.specs.EvenLuck.{known_even}
 use Rattle.even_luck.specs.Figures.{is_counted}
 use Rattle.hand_verdict.specs.declared.settlement.Settlement.{Settlement}
-use Rattle.hand_verdict.specs.declared.verdicts.AllIn.{AllIn}
 use Rattle.hand_verdict.specs.declared.verdicts.AllIn.TheVariants.{None, Unknown, Known}
 use Rattle.showdown_tally.specs.Deals.{deal_of}
 use Rattle.showdown_tally.specs.Showdown.{Showdown}

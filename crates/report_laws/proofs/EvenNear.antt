@@ -1,14 +1,14 @@
 -- What the hands of an all-in would have got with even luck, each rounded, is near what their players got.
-use Rattle.std.proofs.Common.{◌≡◌, ℕ, zero, suc, ◌+◌, ◌*◌, ◌<◌, ◌≤◌, List, [], ◌∷◌, length, length-append, refl, sym, ap, ◌∙◌, arith}
+use Rattle.std.proofs.Common.{◌≡◌, ℕ, zero, suc, ◌+◌, ◌*◌, ◌<◌, ◌≤◌, List, [], ◌∷◌, length, length-append, refl, ap, ◌∙◌, arith}
 use Rattle.std.specs.List.{sum_by}
-use Rattle.std.proofs.lemmas.List.Sums.{sum_by-cons, sum_by-append}
+use Rattle.std.proofs.lemmas.List.Sums.{sum_by-cons}
 use Rattle.std.proofs.Math.Nat.{le_of_mul-le-mul_left}
 use Rattle.even_luck.specs.EvenLuck.{even_got, shared_pots}
 use Rattle.even_luck.specs.Figures.{full_figures, given_to}
 use Rattle.even_luck.specs.Seats.{contenders}
 use Rattle.hand_verdict.specs.declared.settlement.Settlement.{Settlement}
 use Rattle.report_laws.specs.EvenLaws.{EvenIsNear, IsNearest, even_of_all, got_of_contenders}
-use Rattle.report_laws.specs.ExpectLaws.{EvenAddsUp, given_to_all}
+use Rattle.report_laws.specs.ExpectLaws.{EvenAddsUp}
 use Rattle.report_laws.proofs.ExpectFacts.{multiple, sum_of_equals}
 use Rattle.report_laws.proofs.NearestUnits.{rounded}
 use Rattle.report_sheet.specs.SpotLines.{every_hand}

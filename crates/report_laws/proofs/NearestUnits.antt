@@ -2,8 +2,6 @@
 use Rattle.std.proofs.Common.{ℕ, ◌+◌, ◌*◌, ◌/◌, ◌<◌, ◌≤◌, length, arith}
 use Rattle.share_fractions.specs.Round.{round}
 use Rattle.even_luck.specs.Figures.{full_figures, given_to}
-use Rattle.hand_verdict.specs.declared.settlement.Settlement.{Settlement}
-use Rattle.showdown_tally.specs.Showdown.{Showdown}
 use Rattle.showdown_tally.specs.Tallies.{runouts_after}
 use Rattle.report_laws.specs.EvenLaws.{ExpectIsNearest, IsNearest}
 

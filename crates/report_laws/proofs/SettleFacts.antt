@@ -1,14 +1,14 @@
 -- The lines of what players are still to get, or to give back, add up to nothing.
 use Rattle.std.proofs.Common.{◌≡◌, ℕ, ◌+◌, List, [], ◌∷◌, ◌++◌, refl, sym, ap, ◌∙◌, Bool, true, false, ◌==◌, ◌&&◌, ◌||◌, not, arith}
 use Rattle.std.specs.Prelude.{filter, if◌then◌else◌, sum_by}
-use Rattle.std.specs.List.{flat_map, list_any}
+use Rattle.std.specs.List.{flat_map}
 use Rattle.std.proofs.lemmas.List.Sums.{sum_by-cons}
 use Rattle.card_sets.specs.PlayerSets.{seats_in}
 use Rattle.hand_verdict.specs.SeatSums.{PlayersAreDue, due_of, got_of}
 use Rattle.hand_verdict.specs.declared.settlement.Settlement.{Settlement}
 use Rattle.even_luck.specs.Seats.{Seated}
 use Rattle.report_sheet.specs.Lines.{line_in}
-use Rattle.report_laws.specs.SettleLaws.{SettlesUp, is_one_of, to_settle}
+use Rattle.report_laws.specs.SettleLaws.{SettlesUp, is_one_of}
 use Rattle.hand_blocks.specs.Settles.{are_checked, settle_line, settle_lines, settle_lines_of}
 use Rattle.report_sheet.specs.declared.form.Form.{Form}
 

@@ -17,7 +17,6 @@ use Rattle.even_luck.specs.Seats.{Seated, hand_at}
 use Rattle.player_totals.specs.Totals.{Player, all_players, each_once, hand_all_in, hand_alone, known_sums, no_sums, players_in, playing, same_player, seat_sums, sums_in, sums_over, totals_of}
 use Rattle.even_luck.specs.Figures.{is_counted}
 use Rattle.player_totals.specs.TotalsSeen.{named_player}
-use Rattle.player_totals.specs.declared.player_sums.PlayerSums.{PlayerSums}
 use Rattle.showdown_tally.specs.Deals.{deal_of}
 use Rattle.showdown_tally.specs.Showdown.{Showdown}
 
