@@ -1,0 +1,169 @@
+// A part of a file as columns: what the proved program says of its hands, and what their texts say beside that.
+// A worker makes it, so the page's own thread only puts columns together.
+
+import { NOWHERE, positionsOf } from './positions.mjs';
+import { handsOf, settlementsOf } from './reports.mjs';
+import { allInStreet } from './streets.mjs';
+import { cut, facts, unitOf } from './texts.mjs';
+
+/** Flags of a hand. */
+export const ACCEPTED = 1, MONEY = 2, TWICE = 4, OWED = 8, CASHED = 16, UNIT_KNOWN = 32;
+
+/** Flags of a player of a hand. A SEATED row is of a rejected hand, of which only the seat line is known. */
+export const UNKNOWN = 1, SHOWN = 2, DEALT = 4, SEATED = 8;
+
+/**
+ * What a player of a hand is still to get, or to give back if it is below 0.
+ * @typedef {{ hand: number, name: string, amount: string }} Owed
+ */
+
+/**
+ * Hands in columns. A text is an index into `texts`. The rows of players of hand h are those from `first[h]` to before
+ * `first[h + 1]`. Lines and bytes are counted from the start of the part.
+ * @typedef {{ numbers: string[], texts: string[], newlines: number, first: Uint32Array, owed: Owed[] }} Bare
+ * @typedef {{ clock: Float64Array, line: Uint32Array, start: Uint32Array, end: Uint32Array, departs: Uint32Array,
+ *     flags: Uint8Array, unit: Uint32Array, stakes: Uint32Array, game: Uint32Array, table: Uint32Array,
+ *     tournament: Uint32Array, street: Uint32Array, cause: Uint32Array, rake: BigInt64Array }} OfHands
+ * @typedef {{ name: Uint32Array, net: BigInt64Array, even: BigInt64Array, got: BigInt64Array, position: Uint8Array,
+ *     marks: Uint8Array }} OfRows
+ * @typedef {Bare & OfHands & OfRows} Part
+ */
+
+/**
+ * What a column is made with.
+ * @typedef {{ new (size: number): any, from: (values: any) => any }} ColumnKind
+ */
+
+/**
+ * The columns of hands, with the kind of each.
+ * @type {{ [column: string]: ColumnKind }}
+ */
+export const HAND_COLUMNS = {
+    clock: Float64Array,
+    line: Uint32Array,
+    start: Uint32Array,
+    end: Uint32Array,
+    departs: Uint32Array,
+    flags: Uint8Array,
+    unit: Uint32Array,
+    stakes: Uint32Array,
+    game: Uint32Array,
+    table: Uint32Array,
+    tournament: Uint32Array,
+    street: Uint32Array,
+    cause: Uint32Array,
+    rake: BigInt64Array
+};
+
+/**
+ * The columns of the players of hands, with the kind of each.
+ * @type {{ [column: string]: ColumnKind }}
+ */
+export const ROW_COLUMNS = {
+    name: Uint32Array,
+    net: BigInt64Array,
+    even: BigInt64Array,
+    got: BigInt64Array,
+    position: Uint8Array,
+    marks: Uint8Array
+};
+
+/** The columns whose values are indices of texts. */
+export const TEXT_COLUMNS = ['unit', 'stakes', 'game', 'table', 'tournament', 'street', 'cause'];
+
+/** Returns a function that gives each text a number, and the texts by their numbers. */
+const numbering = () => {
+    const texts = [''], numbers = new Map([['', 0]]);
+    /** @param {string} text */
+    const number = (text) => {
+        let it = numbers.get(text);
+        if (it === undefined) {
+            it = texts.push(text) - 1;
+            numbers.set(text, it);
+        }
+        return it;
+    };
+    return { texts, number };
+};
+
+/**
+ * Columns that are being filled.
+ * @param {{ [column: string]: ColumnKind }} kinds
+ */
+const filling = (kinds) => {
+    /** @type {{ [column: string]: (number | bigint)[] }} */
+    const columns = Object.fromEntries(Object.keys(kinds).map((it) => [it, []]));
+    return {
+        columns,
+        add: (/** @type {{ [column: string]: number | bigint }} */ values) => {
+            for (const [column, value] of Object.entries(values)) columns[column].push(value);
+        },
+        filled: () => Object.fromEntries(Object.entries(kinds).map(([it, kind]) => [it, kind.from(columns[it])]))
+    };
+};
+
+/** @typedef {ReturnType<typeof facts>} Facts */
+
+/**
+ * Returns the players of a hand, each with what they got and netted. Of a rejected hand only the seat lines are known.
+ * @param {import('./reports.mjs').Hand} hand
+ * @param {Facts} text
+ */
+const playersOf = (hand, text) => hand.isAccepted ? hand.players
+    : [...text.seats.values()].map((name) => ({ name, net: 0n, even: null, got: 0n }));
+
+/**
+ * Reads a part of a file. `report(mode, input)` returns a report in CSV.
+ * @param {(mode: string, input: Uint8Array) => string} report
+ * @param {Uint8Array} bytes
+ * @returns {Part}
+ */
+export const readPart = (report, bytes) => {
+    const { places, newlines } = cut(bytes), decoder = new TextDecoder(), { length } = places;
+    const judged = length ? handsOf(report('results', bytes)) : [];
+    const settled = length ? settlementsOf(report('settle', bytes)) : [];
+    // the program begins hands where this page does, and if not, nothing can be trusted
+    if (judged.length !== length || settled.length !== length) {
+        throw new Error('other hands are found than the program finds');
+    }
+    const { texts, number } = numbering(), hands = filling(HAND_COLUMNS), rows = filling(ROW_COLUMNS), first = [0];
+    /** @type {Owed[]} */
+    const owed = [];
+    judged.forEach((hand, at) => {
+        const { line, start, end } = places[at], { settle, pots } = settled[at];
+        const whole = decoder.decode(bytes.subarray(start, end)), text = facts(whole);
+        const isMoney = hand.isAccepted ? hand.isMoney : text.isMoney === true;
+        const isUneven = pots.some((pot) => pot.shares.some(({ due, got }) => due !== null && due !== got));
+        const flags = [[ACCEPTED, hand.isAccepted], [MONEY, isMoney], [TWICE, hand.isTwice],
+            [OWED, settle.length > 0 || isUneven], [CASHED, text.isCashed],
+            [UNIT_KNOWN, hand.isAccepted || text.isMoney !== null]];
+        const game = hand.game || text.game;
+        hands.add({
+            clock: text.clock, line, start, end, departs: hand.line, rake: hand.rake, cause: number(hand.cause),
+            flags: flags.reduce((all, [flag, isSet]) => isSet ? all | Number(flag) : all, 0),
+            unit: number(unitOf(isMoney, text.currency)), game: number(game),
+            stakes: number(`${game} ${text.limit} ${text.stakes}`.trim()), table: number(text.table),
+            tournament: number(text.tournament), street: number(allInStreet(whole))
+        });
+        for (const { name, amount } of settle) owed.push({ hand: at, name, amount });
+        const players = playersOf(hand, text);
+        const positions = positionsOf(text.seats, text.button, players.map(({ name }) => name));
+        for (const { name, net, even, got } of players) {
+            const isShown = hand.isAccepted && text.hasShowdown && !text.folded.has(name), seat = positions.get(name);
+            const marks = (even === null ? UNKNOWN : 0) | (isShown ? SHOWN : 0) | (text.dealt.has(name) ? DEALT : 0)
+                | (hand.isAccepted ? 0 : SEATED);
+            rows.add({ name: number(name), net, even: even === null ? net : even, got, marks,
+                position: seat === undefined ? NOWHERE : seat });
+        }
+        first.push(rows.columns.name.length);
+    });
+    return /** @type {Part} */ (/** @type {any} */ ({ ...hands.filled(), ...rows.filled(), texts, newlines, owed,
+        numbers: judged.map((it) => it.number), first: Uint32Array.from(first) }));
+};
+
+/**
+ * Returns the buffers of a part, which can be handed to another thread without a copy.
+ * @param {Part} part
+ */
+export const buffersOf = (part) =>
+    Object.values(part).filter((it) => ArrayBuffer.isView(it)).map((it) => /** @type {Uint8Array} */ (it).buffer);

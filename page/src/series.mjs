@@ -1,0 +1,51 @@
+// The points of the graph: what a player won, would have won with average luck, the difference, and what they won with
+// a showdown and without, summed up by hand, by day, or by session. x always rises.
+
+import { sessions } from './clock.mjs';
+import { MONEY, SHOWN } from './part.mjs';
+
+/** @typedef {import('./hands.mjs').Hands} Hands */
+/** @typedef {import('./played.mjs').Played} Played */
+
+export const LINES = ['won', 'all-in adjusted', 'luck', 'with showdown', 'without showdown'];
+
+/**
+ * The points of a graph in columns: x, and the value of each line there. `without` counts the hands that are in no
+ * point.
+ * @typedef {{ count: number, x: Float64Array, lines: Float64Array[], without: number }} Series
+ */
+
+const DAY = 86400;
+
+/**
+ * Returns a point after each hand, or after the last hand of each day or session. Hands without a clock are in no day
+ * and no session. The x of a day is its number since 1970.
+ * @param {Hands} hands
+ * @param {Played[]} played  in order
+ * @param {string} by  hand, day, or session
+ * @returns {Series}
+ */
+export const seriesOf = (hands, played, by) => {
+    const { clock, net, even, marks, flags } = hands.columns;
+    const of = played.length && flags[played[0].hand] & MONEY ? 100 : 1;
+    const numbers = by === 'session' ? sessions(played.map(({ hand }) => clock[hand])) : [];
+    const x = new Float64Array(played.length), lines = LINES.map(() => new Float64Array(played.length));
+    let won = 0n, adjusted = 0n, shown = 0n, without = 0, count = 0;
+    played.forEach(({ hand, row }, at) => {
+        if (by !== 'hand' && Number.isNaN(clock[hand])) {
+            without++;
+            return;
+        }
+        won += net[row];
+        adjusted += even[row];
+        if (marks[row] & SHOWN) shown += net[row];
+        const here = by === 'hand' ? at + 1 : by === 'day' ? Math.floor(clock[hand] / DAY) : numbers[at];
+        // a later hand of a day or a session takes the place of the one before
+        if (count && x[count - 1] === here) count--;
+        x[count] = here;
+        const sums = [Number(won), Number(adjusted), Number(won - adjusted), Number(shown), Number(won - shown)];
+        for (let line = 0; line < sums.length; line++) lines[line][count] = sums[line] / of;
+        count++;
+    });
+    return { count, x: x.subarray(0, count), lines: lines.map((it) => it.subarray(0, count)), without };
+};
