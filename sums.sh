@@ -15,17 +15,21 @@
     proved="$here/out/equity.proved"
     built="$here/crates/equity_main/out/equity_main"
     page_built="$here/out/page/equity.html"
+    # the npm package's file, which page/build makes beside the page
+    script_built="$here/out/page/equity.mjs"
 }
 
 # what RELEASE says of the tools whose version decides the bytes of the page, and all its keys in their order
-page_tools=(dygraphs)
+page_tools=(esbuild zlib)
 # shellcheck disable=SC2034
 release_keys=(version sources page kit gate glibc module "${page_tools[@]}")
 
 # tool_version TOOL: prints the version of one of the page's tools that is installed, or nothing
 tool_version() {
     case "$1" in
-    dygraphs) dpkg-query -W -f '${Version}' libjs-dygraphs 2>/dev/null ;;
+    esbuild) esbuild --version 2>/dev/null ;;
+    # the packer of the module, in Python
+    zlib) python3 -c 'import zlib; print(zlib.ZLIB_RUNTIME_VERSION)' 2>/dev/null ;;
     esac
 }
 
@@ -59,11 +63,6 @@ dist_hash() {
     while read -r hash name; do
         if [ "$name" = "$1" ]; then printf '%s' "$hash"; fi
     done <"$here/dist/SHA256SUMS"
-}
-
-# logic_of LINE: prints the part of a kit's line that names its logic
-logic_of() {
-    printf '%s' "${1#* }"
 }
 
 # Prints the checksum of the program's sources.
@@ -105,9 +104,10 @@ is_gate_here() {
         has "$gate" program "$(hash_of "$built")"
 }
 
-# is_page_here SUM: whether the page that was built here is that of a gate over the files with this checksum
+# is_page_here SUM: whether the page and the npm package's file that were built here are those of a gate over the files with this checksum
 is_page_here() {
-    [ -e "$page_built" ] && has "$gate" page "$1" && has "$gate" html "$(hash_of "$page_built")"
+    [ -e "$page_built" ] && [ -e "$script_built" ] && has "$gate" page "$1" && has "$gate" html "$(hash_of "$page_built")" &&
+        has "$gate" mjs "$(hash_of "$script_built")"
 }
 
 # Prints the sums that a gate takes before and after it ran.
@@ -126,13 +126,13 @@ record_gate() {
         printf 'kit %s\ngate %s\n%s\nprogram %s\n' "$(kit_line)" "$2" "$1" "$(hash_of "$built")" >"$gate.$$" && mv -f "$gate.$$" "$gate"
 }
 
-# Builds the page into out/page and adds it to the record of the gate.
+# Builds the page and the npm package's file into out/page and adds them to the record of the gate.
 record_page() {
     local tool versions="" module
     for tool in "${page_tools[@]}"; do versions+="$tool $(tool_version "$tool")"$'\n'; done
     mkdir -p "$here/out/page" && module="$("$here/page/build" "$page_built")" || return 1
     {
-        grep -v '^\(html\|module\) ' "$gate" | grep -vE "^($(IFS="|"; echo "${page_tools[*]}")) "
-        printf 'html %s\nmodule %s\n%s' "$(hash_of "$page_built")" "${module##* }" "$versions"
+        grep -v '^\(html\|mjs\|module\) ' "$gate" | grep -vE "^($(IFS="|"; echo "${page_tools[*]}")) "
+        printf 'html %s\nmjs %s\nmodule %s\n%s' "$(hash_of "$page_built")" "$(hash_of "$script_built")" "${module##* }" "$versions"
     } >"$gate.$$" && mv -f "$gate.$$" "$gate"
 }
