@@ -5,7 +5,7 @@ PRAGMA journal_mode = OFF;
 PRAGMA synchronous = OFF;
 
 -- the form of this database: one of another form is made anew
-PRAGMA user_version = 2;
+PRAGMA user_version = 3;
 
 -- which program judged: the checksum of its file, and the version of the repository beside it
 CREATE TABLE programs (sha256 TEXT, version TEXT);
@@ -67,8 +67,14 @@ CREATE INDEX parts_of_hands ON parts (file, line);
 CREATE TABLE expectations (file INTEGER, line INTEGER, expected INTEGER, name TEXT);
 CREATE INDEX expectations_of_hands ON expectations (file, line);
 
+-- A player's part of a pot on each street after the all-in, with the runouts that are left there. A street on which the cards of a
+-- player aren't known has one row, with no more than its name.
+CREATE TABLE streets (file INTEGER, line INTEGER, street TEXT, runouts INTEGER, pot INTEGER, ev REAL, name TEXT);
+CREATE INDEX streets_of_hands ON streets (file, line);
+
 -- what the player of an accepted hand, or of one that is rejected for its payments alone, is still to get, or with a sign to give back.
-CREATE TABLE settlements (file INTEGER, line INTEGER, units INTEGER, name TEXT);
+-- unit: hundredths or chips, which a rejected hand doesn't have in its own row
+CREATE TABLE settlements (file INTEGER, line INTEGER, units INTEGER, unit TEXT, name TEXT);
 CREATE INDEX settlements_of_hands ON settlements (file, line);
 
 -- Each hand once: of those with one number an accepted one before a rejected one, and then the first by path and line. measure: how
@@ -76,11 +82,11 @@ CREATE INDEX settlements_of_hands ON settlements (file, line);
 CREATE VIEW first_told AS
 SELECT *, CASE unit WHEN 'hundredths' THEN 100.0 WHEN 'chips' THEN 1 END AS measure FROM hands WHERE again = 0;
 
--- Each player of each hand. luck: net less even, and NULL where even isn't known. rake_paid: the part of the hand's rake that he has
+-- Each player of each hand. The blinds have other names here than in hands, so that `big` after `JOIN hands` is that of hands. luck: net less even, and NULL where even isn't known. rake_paid: the part of the hand's rake that he has
 -- of what all players got.
 CREATE VIEW results AS
-SELECT f.path, h.file, h.line, h.number, h.day, h.second, h.zone, h.place, h.tournament, h.buyin, h.small, h.big, h.betting, h.game,
-       h.unit, h.currency, p.seat, p.name, p.cards, h.board, h.board2, p.had / measure AS had, p.put / measure AS put,
+SELECT f.path, h.file, h.line, h.number, h.day, h.second, h.zone, h.place, h.tournament, h.buyin,
+       h.small AS small_blind, h.big AS big_blind, h.betting, h.game, h.unit, h.currency, p.seat, p.name, p.cards, h.board, h.board2, p.had / measure AS had, p.put / measure AS put,
        p.got / measure AS got, p.net / measure AS net, p.even / measure AS even, (p.net - p.even) / measure AS luck, p.by_count,
        CASE WHEN h.collected > 0 THEN 1.0 * h.rake * p.got / h.collected ELSE 0 END / measure AS rake_paid
 FROM players p JOIN first_told h USING (file, line) JOIN files f USING (file);
@@ -103,10 +109,11 @@ SELECT name, unit, currency, substr(day, 1, 7) AS month, count(*) AS hands, roun
 FROM results GROUP BY name, unit, currency, substr(day, 1, 7);
 
 CREATE VIEW results_by_stakes AS
-SELECT name, unit, currency, tournament IS NOT NULL AS is_tournament, game, betting, small, big, count(*) AS hands,
+SELECT name, unit, currency, tournament IS NOT NULL AS is_tournament, game, betting, small_blind AS small, big_blind AS big,
+       count(*) AS hands,
        round(sum(net), 2) AS net, round(sum(coalesce(even, net)), 2) AS even, round(sum(luck), 2) AS luck,
        count(*) - count(even) AS unknown, round(sum(rake_paid), 2) AS rake_paid
-FROM results GROUP BY name, unit, currency, tournament IS NOT NULL, game, betting, small, big;
+FROM results GROUP BY name, unit, currency, tournament IS NOT NULL, game, betting, small_blind, big_blind;
 
 CREATE VIEW results_by_game AS
 SELECT name, unit, currency, game, count(*) AS hands, round(sum(net), 2) AS net, round(sum(coalesce(even, net)), 2) AS even,
@@ -124,7 +131,8 @@ SELECT name, unit, tournament, buyin, min(day) AS day, count(*) AS hands, round(
        round(sum(coalesce(even, net)), 2) AS even, round(sum(luck), 2) AS luck, count(*) - count(even) AS unknown
 FROM results WHERE tournament IS NOT NULL GROUP BY name, unit, tournament, buyin;
 
--- A session of a player ends where he plays no hand for 30 minutes, at any table; hands without a clock are in none.
+-- A session of a player ends where he plays no hand for 30 minutes, at any table; hands without a clock are in none. The last step sums by
+-- a window and not by groups, because SQLite then reads only the rows of a name that is asked for.
 CREATE VIEW results_by_session AS
 WITH told AS (
     SELECT *, day || ' ' || second AS clock, CAST(strftime('%s', day || ' ' || second) AS INTEGER) AS at
@@ -133,11 +141,16 @@ WITH told AS (
     SELECT *, coalesce(at - lag(at) OVER (PARTITION BY name, unit, currency ORDER BY at, file, line) > 1800, 1) AS begins FROM told
 ), numbered AS (
     SELECT *, sum(begins) OVER (PARTITION BY name, unit, currency ORDER BY at, file, line) AS session FROM begun
+), summed AS (
+    SELECT name, unit, currency, session, min(clock) OVER sessions AS first, max(clock) OVER sessions AS last, count(*) OVER sessions AS hands,
+           sum(net) OVER sessions AS net, sum(coalesce(even, net)) OVER sessions AS even, sum(luck) OVER sessions AS luck,
+           count(*) OVER sessions - count(even) OVER sessions AS unknown, sum(rake_paid) OVER sessions AS rake_paid,
+           row_number() OVER sessions AS place
+    FROM numbered WINDOW sessions AS (PARTITION BY name, unit, currency, session)
 )
-SELECT name, unit, currency, session, min(clock) AS first, max(clock) AS last, count(*) AS hands, round(sum(net), 2) AS net,
-       round(sum(coalesce(even, net)), 2) AS even, round(sum(luck), 2) AS luck, count(*) - count(even) AS unknown,
-       round(sum(rake_paid), 2) AS rake_paid
-FROM numbered GROUP BY name, unit, currency, session;
+SELECT name, unit, currency, session, first, last, hands, round(net, 2) AS net, round(even, 2) AS even, round(luck, 2) AS luck, unknown,
+       round(rake_paid, 2) AS rake_paid
+FROM summed WHERE place = 1;
 
 -- Each player of a hand whose luck goes by a count. Over the players of a hand luck adds up to 0, but for what was rounded.
 CREATE VIEW luck AS
@@ -164,6 +177,22 @@ FROM parts e JOIN first_told h USING (file, line) JOIN files f USING (file) JOIN
 JOIN pots q ON q.file = e.file AND q.line = e.line AND q.pot = e.pot
 LEFT JOIN players p ON p.file = e.file AND p.line = e.line AND p.name = e.name;
 
+-- Each player of each pot of a counted all-in, on its own street and on each later one whose cards are known. ahead: 1 if no other
+-- player's part of the pot is as great.
+CREATE VIEW all_in_streets AS
+WITH told AS (
+    SELECT file, line, street, runouts, pot, ev, name FROM parts JOIN allins USING (file, line)
+    UNION ALL SELECT file, line, street, runouts, pot, ev, name FROM streets WHERE pot IS NOT NULL
+), ranked AS (
+    SELECT *, rank() OVER pots AS place, count(*) OVER (pots RANGE CURRENT ROW) AS equals FROM told
+    WINDOW pots AS (PARTITION BY file, line, street, pot ORDER BY ev DESC)
+)
+SELECT f.path, h.line, h.number, h.day, h.game, a.street AS all_in, t.street, t.runouts, t.pot, q.gross / measure AS gross, h.unit,
+       h.currency, t.name, p.cards, h.board, t.ev, t.place = 1 AND t.equals = 1 AS ahead, p.net / measure AS net
+FROM ranked t JOIN first_told h USING (file, line) JOIN files f USING (file) JOIN allins a USING (file, line)
+JOIN pots q ON q.file = t.file AND q.line = t.line AND q.pot = t.pot
+LEFT JOIN players p ON p.file = t.file AND p.line = t.line AND p.name = t.name;
+
 -- What `equity totals` prints of all files, but for the hands without a counted all-in, and each hand once.
 CREATE VIEW expected_by_player AS
 SELECT e.name, h.unit, count(*) AS allins,
@@ -179,9 +208,10 @@ UNION ALL
 SELECT f.path, r.line, r.number, 'rejected', NULL, NULL, NULL, NULL, r.carried
 FROM rejections r JOIN first_told h USING (file, line) JOIN files f USING (file) WHERE r.cause = 'Split';
 
--- Who is still to get what, or to give it back, in units, by the split that the rules give.
+-- Who is still to get what, or to give it back, by the split that the rules give: in units, and in the hand's own measure.
 CREATE VIEW to_settle AS
-SELECT f.path, s.line, h.number, h.verdict, s.name, s.units
+SELECT f.path, s.line, h.number, h.verdict, s.name, s.units, CASE s.unit WHEN 'chips' THEN s.units ELSE s.units / 100.0 END AS amount,
+       s.unit, h.currency
 FROM settlements s JOIN first_told h USING (file, line) JOIN files f USING (file);
 
 CREATE VIEW rejected AS

@@ -1,0 +1,639 @@
+#!/usr/bin/env bash
+# Runs the program `equity` with the files that the words name. ./install puts this file into PREFIX/bin as `equity`, and ./equity sources
+# it. Standard output and the exit status are the program's. This script writes to standard error only.
+#
+#   equity MODE FILE ..       FILE is a file, a folder, or - for standard input. A folder means each *.txt, in any case, in it and below
+#                             it, in byte order of their paths. Files are read one after the other, with a newline between two
+#   equity MODE < FILE        without a FILE, the program reads standard input
+#   --                        each word after it is a FILE
+#   --lines                   with several files: first prints FILE: lines A to B for each
+#   --quiet                   shows no progress. EQUITY_QUIET=1 in the environment does the same
+#   equity help [MODE]        what to type. So do --help, -h, and words that name no mode
+#   equity --version          the version, the program's path, and its checksum
+#   equity --which            prints the program's path on standard output, and runs nothing. The status is 0
+#
+# The first word that is a mode is the mode. --workers, --format, --seed, and --hands take the next word and go to the program. The status is
+# 3 if a file can't be read or a folder has no *.txt: then nothing runs. It is 2, and the usage line is printed, if `made` gets a file, if
+# no mode is named, or if no file is named and standard input is a terminal. It is 8 if there is no program.
+#
+# Statuses 3 to 7 get a sentence. A history without a hand gets a line with the likely reason. If standard error is a terminal and
+# standard output isn't, a run of more than two seconds shows how far it is. TERM, INT, and HUP end the program too. If a signal ended the
+# program, the status is 128 plus its number.
+#
+# The program is ../libexec/equity/equity, seen from the folder of this file, and VERSION next to it names the version. The script needs
+# bash 5.1 or later, coreutils, findutils, and grep.
+
+# the program's own line, and its modes: docs/check compares both with the code
+usage="usage: equity MODE [--workers N] [--format text|csv] [--seed S] [--hands H]"
+modes=(audit check streets results settle totals balance spots ranges made)
+
+# what the words say, the process of the program and of the script that feeds it, and how this script is called
+mode="" wanted="" lines="" quiet="" words=() files=()
+child="" feeder="" watcher="" torn="" closed=""
+name=equity
+
+# say LINE: on standard error
+say() { printf 'equity: %s\n' "$1" >&2; }
+
+# is_mode WORD
+is_mode() {
+    local one
+    for one in "${modes[@]}"; do [ "$1" != "$one" ] || return 0; done
+    return 1
+}
+
+# reads_hands: whether the mode reads hand histories
+reads_hands() {
+    case "$mode" in
+    '' | spots | ranges | made) return 1 ;;
+    esac
+}
+
+# read_words WORDS..: sets mode, words (those for the program), files, wanted, lines, and quiet
+read_words() {
+    mode="" wanted="" lines="" quiet="" words=() files=()
+    [ "${EQUITY_QUIET-}" != 1 ] || quiet=1
+    if [ "${1-}" = help ]; then
+        wanted=help
+        shift
+    fi
+    while [ "$#" -gt 0 ]; do
+        case "$1" in
+        --)
+            shift
+            files+=("$@")
+            return
+            ;;
+        --workers | --format | --seed | --hands)
+            words+=("${@:1:2}")
+            [ "$#" -eq 1 ] || shift
+            ;;
+        --lines) lines=1 ;;
+        --quiet) quiet=1 ;;
+        --help | -h) wanted=help ;;
+        --version) wanted=version ;;
+        --*) words+=("$1") ;;
+        *)
+            if [ -z "$mode" ] && is_mode "$1"; then
+                mode="$1"
+                words+=("$1")
+            else
+                files+=("$1")
+            fi
+            ;;
+        esac
+        shift
+    done
+}
+
+# purpose MODE: prints what the mode reports
+purpose() {
+    case "$1" in
+    audit) echo "a verdict on each hand, and each player's equity at the all-in" ;;
+    check) echo "only the verdicts" ;;
+    streets) echo "the report of audit, and the equities on each later street" ;;
+    results) echo "for each hand and player: stack, put in, collected, net, all-in adjusted net" ;;
+    settle) echo "for each pot what the rules give, and who must still get or give back" ;;
+    totals) echo "for each player, over hands with a counted all-in: collected and expected" ;;
+    balance) echo "for each player: the sums of results over all hands" ;;
+    spots) echo "equities of hands, a line for each situation" ;;
+    ranges) echo "equities of ranges of hands" ;;
+    made) echo "a self-test over generated hands; reads no file" ;;
+    esac
+}
+
+# example MODE: prints what to type
+example() {
+    case "$1" in
+    spots) printf '%s spots spots.txt' "$name" ;;
+    ranges) printf '%s ranges ranges.txt' "$name" ;;
+    made) printf '%s made --seed 1 --hands 100' "$name" ;;
+    *) printf '%s %s hands.txt' "$name" "$1" ;;
+    esac
+}
+
+# help_all: what to type, for all modes
+help_all() {
+    local one
+    {
+        printf 'Type a mode and the files to read:\n\n'
+        for one in "${modes[@]}"; do printf '    %-36s %s\n' "$(example "$one")" "$(purpose "$one")"; done
+        cat <<END
+
+A file can be a folder: then all its *.txt are read, and those of the folders in it. A hyphen is standard input.
+$name help MODE says more about a mode, and $name --version which program this is.
+PokerStars saves hand histories, if its settings say so, in a folder with the player's name below
+    Windows  C:\\Users\\YOU\\AppData\\Local\\PokerStars\\HandHistory     (in WSL /mnt/c/Users/YOU/AppData/Local/PokerStars/HandHistory)
+    macOS    ~/Library/Application Support/PokerStars/HandHistory
+END
+    } >&2
+}
+
+# help_mode MODE: what to type, for one mode
+help_mode() {
+    {
+        printf '%s: %s\n\n    %s\n' "$1" "$(purpose "$1")" "$(example "$1")"
+        case "$1" in
+        spots) printf "    echo 'holdem As Ah - Ks Kh -- 2c 7d 9h' | %s spots\n" "$name" ;;
+        ranges) printf "    echo 'holdem TT+ - AsAh -- 2c 7d 9h' | %s ranges\n" "$name" ;;
+        made) ;;
+        *) printf '    %s %s FOLDER > report.txt\n    %s %s -              paste hands, then press Ctrl-D on a line of its own\n' "$name" "$1" "$name" "$1" ;;
+        esac
+        printf '\n    %-20s %s\n' '--format csv' 'prints CSV instead of text'
+        if [ "$1" = made ]; then
+            printf '    %-20s %s\n' '--seed S' 'the seed of the hands, 1 if none is given' '--hands H' 'the number of hands, 0 to 10000, 100 if none is given'
+        else
+            printf '    %-20s %s\n' '--lines' 'prints which lines are of which file, if there are several' '--quiet' 'shows no progress'
+        fi
+        printf '    %-20s %s\n' '--workers N' 'counts with N threads, 1 to 16, 2 if none is given'
+    } >&2
+}
+
+# print_usage: the usage line on standard output, as the program prints it, and status 2, or 4 if that fails
+print_usage() {
+    trap '' PIPE
+    printf '%s\n' "$usage" 2>/dev/null || end_with 4
+}
+
+# distance ONE OTHER: prints how many letters differ, are missing, are too many, or have changed places with the next one
+distance() {
+    local one="$1" other="$2" i j cost least
+    local -A at=()
+    for ((i = 0; i <= ${#one}; i++)); do at[$i, 0]=$i; done
+    for ((j = 0; j <= ${#other}; j++)); do at[0, $j]=$j; done
+    for ((i = 1; i <= ${#one}; i++)); do
+        for ((j = 1; j <= ${#other}; j++)); do
+            cost=1
+            [ "${one:i-1:1}" != "${other:j-1:1}" ] || cost=0
+            least=$((at[$((i - 1)), $((j - 1))] + cost))
+            ((at[$((i - 1)), $j] + 1 >= least)) || least=$((at[$((i - 1)), $j] + 1))
+            ((at[$i, $((j - 1))] + 1 >= least)) || least=$((at[$i, $((j - 1))] + 1))
+            if ((i > 1 && j > 1)) && [ "${one:i-1:1}${one:i-2:1}" = "${other:j-2:1}${other:j-1:1}" ]; then
+                ((at[$((i - 2)), $((j - 2))] + 1 >= least)) || least=$((at[$((i - 2)), $((j - 2))] + 1))
+            fi
+            at[$i, $j]=$least
+        done
+    done
+    echo "${at[${#one}, ${#other}]}"
+}
+
+# nearest WORD: prints the mode that is most like the word, or nothing if none is
+nearest() {
+    local one far best=3 found="" word="${1,,}"
+    [ "${#word}" -le 12 ] || return 0
+    for one in "${modes[@]}"; do
+        far="$(distance "$word" "$one")"
+        if [ "${#word}" -ge 3 ] && [ "${one#"$word"}" != "$one" ]; then far=1; fi
+        if [ "$far" -lt "$best" ] && [ "$far" -lt "${#word}" ]; then best="$far" found="$one"; fi
+    done
+    printf '%s' "$found"
+}
+
+# explain: the lines for words that name no mode
+explain() {
+    local word="${files[0]-}" like
+    if [ -z "$word" ]; then
+        help_all
+    elif [ -e "$word" ]; then
+        say "no mode is named. Type, for example: $name audit $word"
+        help_all
+    elif like="$(nearest "$word")" && [ -n "$like" ]; then
+        say "there is no mode $word. Did you mean $like?"
+        printf '\n    %s\n\n' "$(example "$like")" >&2
+        say "$name help says what each mode does"
+    else
+        say "there is no mode $word. The modes are: ${modes[*]}"
+        say "$name help says what each of them does"
+    fi
+}
+
+# is_number TEXT LEAST MOST
+is_number() {
+    [[ "$1" =~ ^[0-9]{1,10}$ ]] && [ "$((10#$1))" -ge "$2" ] && [ "$((10#$1))" -le "$3" ]
+}
+
+# blame: says which option isn't in form, or fails if none is found
+blame() {
+    local word value at
+    local -A seen=()
+    for ((at = 0; at < ${#words[@]}; at++)); do
+        word="${words[at]}" value=""
+        case "$word" in
+        --workers | --format | --seed | --hands)
+            at=$((at + 1))
+            value="${words[at]-}"
+            ;;
+        --*=*)
+            value="${word#*=}"
+            word="${word%%=*}"
+            ;;
+        esac
+        if [ -n "${seen[$word]-}" ]; then
+            say "$word is there twice"
+            return 0
+        fi
+        seen[$word]=1
+        case "$word" in
+        --workers) is_number "$value" 1 16 || { say "--workers takes a number from 1 to 16"; return 0; } ;;
+        --seed) is_number "$value" 0 4294967295 || { say "--seed takes a number from 0 to 4294967295"; return 0; } ;;
+        --hands) is_number "$value" 0 10000 || { say "--hands takes a number from 0 to 10000"; return 0; } ;;
+        --format) [ "$value" = text ] || [ "$value" = csv ] || { say "--format takes text or csv"; return 0; } ;;
+        --*) say "there is no option $word"; return 0 ;;
+        esac
+    done
+    return 1
+}
+
+# spread FOLDER: adds the *.txt of the folder and below it to `found`, or says what is wrong and fails
+spread() {
+    local at="$1" path before="${#found[@]}"
+    while [ "$at" != / ] && [ "${at%/}" != "$at" ]; do at="${at%/}"; done
+    case "$at" in
+    -*) at="./$at" ;;
+    esac
+    while IFS= read -r -d '' path; do found+=("$path"); done < <(set -o pipefail; find -H "$at" -iname '*.txt' -xtype f -print0 2>/dev/null | sort -z)
+    if ! wait "$!"; then
+        say "$1: a folder in it can't be read"
+        return 1
+    elif [ "${#found[@]}" -eq "$before" ]; then
+        say "$1: there is no file *.txt in it or below it"
+        return 1
+    fi
+}
+
+# find_files: replaces each folder among the files by its *.txt, and names each file that can't be read. Fails if there is one
+find_files() {
+    local file found=() failed=0
+    for file in "${files[@]}"; do
+        if [ "$file" = - ]; then
+            found+=(-)
+        elif [ -d "$file" ]; then
+            spread "$file" || failed=1
+        elif [ -e "$file" ]; then
+            found+=("$file")
+        elif [ -z "$file" ] || [ ! -L "$file" ]; then
+            say "$file: there is no such file"
+            failed=1
+        else
+            say "$file: it links to a file that isn't there"
+            failed=1
+        fi
+    done
+    for file in "${found[@]}"; do
+        # opening anything else than a file could wait, or take something out of it
+        if [ "$file" = - ] || { [ -f "$file" ] && { : <"$file"; } 2>/dev/null; } || { [ ! -f "$file" ] && [ -r "$file" ]; }; then continue; fi
+        say "$file: it can't be read"
+        failed=1
+    done
+    files=("${found[@]}")
+    return "$failed"
+}
+
+# print_lines: for each file which lines of the whole are its own, as far as that is known before the run
+print_lines() {
+    local file at=1 last count ends="" counts=() plain=() n=0 e=0
+    for file in "${files[@]}"; do
+        [ -f "$file" ] || break
+        plain+=("$file")
+    done
+    if [ "${#plain[@]}" -gt 0 ]; then
+        mapfile -t counts < <(for file in "${plain[@]}"; do [ "${file#-}" = "$file" ] || file="./$file"; printf '%s\0' "$file"; done | wc -l --files0-from=-)
+        ends="$(for file in "${plain[@]}"; do [ ! -s "$file" ] || printf '%s\0' "$file"; done | xargs -0r tail -qc1 -- | tr '\n' n | tr -c n x)"
+    fi
+    for file in "${plain[@]}"; do
+        read -r count _ <<<"${counts[n]}"
+        n=$((n + 1))
+        last=$((at + count - 1))
+        if [ -s "$file" ]; then
+            [ "${ends:e:1}" = n ] || last=$((last + 1))
+            e=$((e + 1))
+        fi
+        [ "$last" -ge "$at" ] || last=$at
+        printf '%s: lines %d to %d\n' "$file" "$at" "$last" >&2
+        # the newline between two files ends the last line of the first one, or is a line of its own
+        at=$((at + count + 1))
+    done
+    [ "$n" -eq "${#files[@]}" ] || printf '%s: from line %d on; the lines of later files depend on its length\n' "${files[n]}" "$at" >&2
+}
+
+# feed: writes the files to standard output, with a newline between two. If one can't be read to its end, the program must not see the end
+# of its input, so `feed` waits to be ended
+feed() {
+    local file first=1 said out
+    trap - INT TERM HUP
+    exec {out}>&1
+    for file in "${files[@]}"; do
+        if [ "$first" = 1 ]; then first=0; else printf '\n' 2>/dev/null || exit 0; fi
+        said="$(cat -- "$file" 2>&1 >&"$out")" && continue
+        # the program has ended
+        [ -n "$said" ] && [[ "$said" != *'Broken pipe' ]] || exit 0
+        say "$file: it couldn't be read to its end"
+        kill -USR1 "$$"
+        sleep 60
+        exit 1
+    done
+}
+
+# end_tree PROCESS: ends it and all that it started
+# shellcheck disable=SC2317 # it is called by traps
+end_tree() {
+    local below children
+    read -ra children < <(cat "/proc/$1/task/"*/children 2>/dev/null)
+    for below in "${children[@]}"; do end_tree "$below"; done
+    kill -TERM "$1" 2>/dev/null
+}
+
+# ended STATUS: ends what runs, and then this script
+# shellcheck disable=SC2317
+ended() {
+    trap '' INT TERM HUP
+    [ -z "$child" ] || end_tree "$child"
+    stop_helpers
+    wait 2>/dev/null
+    exit "$1"
+}
+
+# hear: has the signals end the program too
+hear() {
+    trap 'ended 130' INT
+    trap 'ended 143' TERM
+    trap 'ended 129' HUP
+}
+
+# stop_helpers: ends what feeds and what watches the program
+stop_helpers() {
+    if [ -n "$watcher" ]; then
+        { kill "$watcher" && wait "$watcher"; } 2>/dev/null
+        watcher=""
+        # where the line of progress may be
+        [ "$SECONDS" -lt 2 ] || printf '\r\033[K' >&2
+    fi
+    if [ -n "$feeder" ]; then
+        { end_tree "$feeder" && wait "$feeder"; } 2>/dev/null
+        feeder=""
+    fi
+}
+
+# total_size: prints the bytes of all that the program is to read, or nothing if that isn't known
+total_size() {
+    local file
+    if [ "${#files[@]}" -eq 0 ]; then
+        [ -f /dev/stdin ] || return 0
+        stat -Lc %s /dev/stdin
+        return
+    fi
+    for file in "${files[@]}"; do [ -f "$file" ] || return 0; done
+    printf '%s\0' "${files[@]}" | xargs -0 stat -Lc %s -- | {
+        local sum=0 size
+        while read -r size; do sum=$((sum + size + 1)); done
+        echo "$((sum - 1))"
+    }
+}
+
+# watch PROCESS: shows how much of the input the program has read, from the third second on
+watch() {
+    local clock total from="${EPOCHREALTIME//[.,]/}" key value done_ time line rate
+    # reading a pipe into which nobody writes waits without another process
+    exec {clock}<> <(:)
+    read -rt 2 -u "$clock"
+    total="$(total_size 2>/dev/null)"
+    while [ -r "/proc/$1/io" ]; do
+        done_=""
+        while read -r key value; do [ "$key" != rchar: ] || done_="$value"; done 2>/dev/null <"/proc/$1/io"
+        [ -n "$done_" ] || return
+        time=$((${EPOCHREALTIME//[.,]/} - from))
+        rate=$((done_ * 10 / time))
+        line="$((rate / 10)).$((rate % 10)) MB/s"
+        if [ -z "$total" ]; then
+            line="$((done_ / 1000000)) MB, $line"
+        elif [ "$done_" -lt "$total" ]; then
+            line="$((done_ * 100 / total))%, $line, $(((total - done_) * (time / 1000) / (done_ + 1) / 1000 + 1)) s left"
+        else
+            line="100% read, still counting"
+        fi
+        printf '\r%s\033[K' "$line" >&2
+        read -rt 0.5 -u "$clock"
+    done
+}
+
+# launch WORDS..: becomes the program
+launch() { exec "$program" "$@"; }
+
+# run_program: runs it over the files, or over standard input, and returns its status
+run_program() {
+    local from=0 status
+    hear
+    SECONDS=0
+    if ! [ -e /dev/fd/0 ]; then from=- closed=1; fi
+    if [ "${#files[@]}" -gt 1 ]; then
+        trap 'torn=1; [ -z "$child" ] || kill "$child"' USR1
+        exec {from}< <(feed)
+        feeder="$!"
+    elif [ "${#files[@]}" -eq 1 ] && [ "${files[0]}" != - ]; then
+        exec {from}<"${files[0]}" || return 3
+    fi
+    # in the background, so that a signal to this script is heard meanwhile
+    (trap - INT QUIT; launch "${words[@]}") <&"$from" &
+    child="$!"
+    if [ -z "$quiet" ] && [ "$mode" != made ] && [ -t 2 ] && ! [ -t 1 ]; then
+        watch "$child" <&"$from" &
+        watcher="$!"
+    fi
+    case "$from" in
+    0 | -) ;;
+    *) exec {from}<&- ;;
+    esac
+    [ -z "$torn" ] || kill "$child"
+    wait "$child" 2>/dev/null
+    status=$?
+    if [ -n "$torn" ]; then
+        # the signal of `feed` ended the first call
+        wait "$child" 2>/dev/null
+        status=3
+    fi
+    child=""
+    stop_helpers
+    trap - INT TERM HUP USR1
+    return "$status"
+}
+
+# reason_of FILE: prints why the file has no hand, as far as its first bytes show that
+reason_of() {
+    local head zeros other="only hand histories of PokerStars are read"
+    # (a shell can't keep zero bytes)
+    head="$(head -c 16384 -- "$1" 2>/dev/null | tr '\000' '\001')"
+    zeros="${head//[^$'\001']/}"
+    case "$head" in
+    '') echo "an empty file" ;;
+    $'PK\003\004'*) echo "a zip archive: unpack it first" ;;
+    $'\037\213'*) echo "a gzip archive: unpack it first" ;;
+    $'7z\274\257'*) echo "a 7z archive: unpack it first" ;;
+    'Rar!'*) echo "a rar archive: unpack it first" ;;
+    '%PDF'*) echo "a PDF: the hand histories themselves are text files" ;;
+    $'\377\376'* | $'\376\377'*) echo "text in UTF-16: save it as UTF-8" ;;
+    *)
+        if [ "$((${#zeros} * 5))" -gt "$((${#head} * 2))" ]; then
+            echo "text in UTF-16: save it as UTF-8"
+        elif [ -n "$zeros" ]; then
+            echo "not text"
+        else
+            case $'\n'"$head" in
+            *$'\n'[\>\|]*'PokerStars '*) echo "a copy from a mail or a forum, with a mark before each line" ;;
+            *$'\n''POKERSTARS '*) echo "a history with PokerStars in capitals, which isn't read" ;;
+            *$'\n''Poker Hand #'*) echo "another site, likely GGPoker: $other" ;;
+            *$'\n''***** Hand History '[Ff]'or Game'* | *$'\n''#Game No'*) echo "another site, likely partypoker or 888: $other" ;;
+            *$'\n''Winamax Poker'*) echo "another site, Winamax: $other" ;;
+            *$'\n'Ignition*'Hand #'* | *$'\n'Bovada*'Hand #'* | *$'\n'Bodog*'Hand #'*) echo "another site, likely Ignition or Bovada: $other" ;;
+            *$'\n''Full Tilt Poker Game #'*) echo "another site, Full Tilt: $other" ;;
+            *'<session'*) echo "another site, likely of the iPoker network: $other" ;;
+            *$'\n''Hand #'[0-9]* | *$'\n''Game Hand #'[0-9]*) echo "another site, likely of the Winning network: $other" ;;
+            *$'\n''PokerStars Tournament #'[0-9]*) echo "the summary of a tournament, which has no hands" ;;
+            *$'\n''Main PokerStars'* | *$'\n''Mano PokerStars'* | *$'\n'*'PokerStars '*'#'[0-9]*) echo "PokerStars, but in another language: switch the histories to English" ;;
+            *$'\n'[[:blank:]]'PokerStars '* | *$'\n'[[:blank:]]*[[:blank:]]'PokerStars '*) echo "a copy with spaces before its lines" ;;
+            *) echo "no line begins a hand, as PokerStars Hand # and a number does" ;;
+            esac
+        fi
+        ;;
+    esac
+}
+
+# has_hand FILE: whether a line of it begins a hand
+has_hand() {
+    local line="" header=$'^(\357\273\277)?PokerStars [A-Za-z ]*(Hand|Game) #[0-9]'
+    # mostly the first line does. (`read` leaves out zero bytes, if it doesn't end at one)
+    IFS= read -r -d '' -n 120 line 2>/dev/null <"$1"
+    [[ "$line" =~ $header ]] || grep -qaE "$header" -- "$1" 2>/dev/null
+}
+
+# tell_handless: names each file in which no hand is
+tell_handless() {
+    local file without=0
+    if [ "${#files[@]}" -gt 0 ]; then
+        for file in "${files[@]}"; do
+            if ! [ -f "$file" ] || has_hand "$file"; then continue; fi
+            without=$((without + 1))
+            [ "$without" -gt 10 ] || say "$file: no hand was found: $(reason_of "$file")"
+        done
+        [ "$without" -le 10 ] || say "no hand was found in $((without - 10)) more files"
+        [ "$without" -eq 0 ] || return 0
+    elif [ -f /dev/stdin ]; then
+        has_hand /dev/stdin || say "no hand was found in standard input: $(reason_of /dev/stdin)"
+        return 0
+    fi
+    if [ -f /dev/stdout ] && ! [ -s /dev/stdout ]; then
+        say "no hand was found in standard input: no line begins a hand, as PokerStars Hand # and a number does"
+    fi
+}
+
+# end_with STATUS: says what the status means, and ends
+end_with() {
+    case "$1" in
+    0 | 1)
+        if [ "$1" = 1 ] && [ "${#files[@]}" -gt 1 ]; then
+            if [ -n "$lines" ]; then
+                say "something was rejected: the lines above say of which file its line is"
+            else
+                say "something was rejected, and its line is counted over all files: --lines prints which lines are of which file"
+            fi
+        fi
+        ! reads_hands || tell_handless
+        ;;
+    2)
+        blame || :
+        say "$name help $mode says more"
+        ;;
+    3)
+        if [ -n "$torn" ]; then
+            say "the report ends before that file"
+        elif [ -d /dev/stdin ] && [ "${#files[@]}" -eq 0 ]; then
+            say "standard input is a folder. Type its name as a word: ${name} ${mode:-audit} FOLDER"
+        elif [ "${#files[@]}" -eq 0 ] && [ -n "$closed" ]; then
+            say "standard input is closed, so there is nothing to read"
+        else
+            say "the input couldn't be read to its end: what was complete before that is reported"
+        fi
+        ;;
+    4) [ -p /dev/stdout ] || say "the report couldn't be written to its end: is the disk full?" ;;
+    5) say "the input has more than 1 GiB: what was complete within it is reported. Give the files in several runs" ;;
+    6) say "there isn't enough memory: only the first part of the report was written" ;;
+    7) say "the words couldn't be read: an option isn't UTF-8" ;;
+    *) [ "$1" -le 128 ] || say "signal $(($1 - 128)) ended the program" ;;
+    esac
+    exit "$1"
+}
+
+# prepare: ends with what to type if the words aren't for the program, and otherwise finds the files
+prepare() {
+    if [ -n "$wanted" ] || [ -z "$mode" ] || { [ "$mode" = made ] && [ "${#files[@]}" -gt 0 ]; }; then
+        print_usage
+        if [ "$wanted" = version ]; then
+            tell_version
+        elif [ "$wanted" = help ] && [ -n "$mode" ]; then
+            help_mode "$mode"
+        elif [ "$wanted" = help ] && [ "${#files[@]}" -eq 0 ]; then
+            help_all
+        elif [ "$mode" = made ]; then
+            say "made reads no file, and ${files[0]} is one. Type, for example: $(example made)"
+        else
+            [ "${#files[@]}" -gt 0 ] || ! blame || say "no mode is named either"
+            explain
+        fi
+        exit 2
+    fi
+    if [ "${#files[@]}" -eq 0 ]; then
+        if [ "$mode" = made ] || ! [ -t 0 ]; then return; fi
+        print_usage
+        say "no file is named, and standard input is the terminal"
+        help_mode "$mode"
+        exit 2
+    fi
+    # a command that isn't in form comes first, as in the program
+    if blame; then
+        print_usage
+        say "$name help $mode says more"
+        exit 2
+    fi
+    find_files || exit 3
+    if [ -n "$lines" ] && [ "${#files[@]}" -gt 1 ]; then print_lines; fi
+}
+
+# serve: runs the program as prepared, and ends with its status
+serve() {
+    local file
+    for file in "${files[@]}"; do
+        if [ "$file" = - ] && [ -t 0 ]; then say "reads from the terminal: paste, then press Ctrl-D on a line of its own"; fi
+    done
+    run_program
+    end_with "$?"
+}
+
+# tell_version: says the version, the program's path, and its checksum. ./equity has its own
+tell_version() {
+    local sum
+    sum="$(sha256sum <"$program")"
+    printf 'equity %s\n%s\nsha256 %s\n' "$(cat "$place/VERSION" 2>/dev/null)" "$(realpath -- "$program")" "${sum%% *}" >&2
+}
+
+# main WORDS..: what the installed script does
+main() {
+    local self="${BASH_SOURCE[0]}"
+    set -u
+    export LC_ALL=C
+    [ ! -L "$self" ] || self="$(readlink -f -- "$self")"
+    [ "$self" != "${self##*/}" ] || self="./$self"
+    place="${self%/*}/../libexec/equity"
+    program="$place/equity"
+    if [ ! -x "$program" ]; then
+        say "there is no program $program. Run ./install again"
+        exit 8
+    fi
+    if [ "${1-}" = --which ]; then
+        realpath -- "$program" || exit 8
+        exit 0
+    fi
+    read_words "$@"
+    prepare
+    serve
+}
+
+if [ "${BASH_SOURCE[0]}" = "$0" ]; then main "$@"; fi
