@@ -139,6 +139,21 @@ fn a_hand_may_be_cut_at_any_byte_for_streets(rt: HostRuntime) -> Result<(), Fail
 }
 
 #[test]
+fn a_hand_may_be_cut_at_any_byte_for_results(rt: HostRuntime) -> Result<(), Fail> {
+    is_cut_at_each_byte(&rt, rt.alloc(), "results", &TWO)
+}
+
+#[test]
+fn a_hand_may_be_cut_at_any_byte_for_settle(rt: HostRuntime) -> Result<(), Fail> {
+    is_cut_at_each_byte(&rt, rt.alloc(), "settle", &TWO)
+}
+
+#[test]
+fn a_hand_may_be_cut_at_any_byte_for_balance(rt: HostRuntime) -> Result<(), Fail> {
+    is_cut_at_each_byte(&rt, rt.alloc(), "balance", &TWO)
+}
+
+#[test]
 fn a_hand_may_be_cut_at_any_byte_for_totals(rt: HostRuntime) -> Result<(), Fail> {
     is_cut_at_each_byte(&rt, rt.alloc(), "totals", &TWO)
 }

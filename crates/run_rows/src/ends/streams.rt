@@ -1,7 +1,7 @@
 //! Inputs that come in pieces.
 
 use crate::histories::{CUT_AND_WHOLE, Hand};
-use crate::reports::forms::goes_so;
+use crate::reports::forms::{HAND_MODES, goes_so};
 use crate::runs::{AMPLE, Edges, Part, ends, holds, input_of, run};
 use std::alloc::Global;
 use std::process::Abort;
@@ -30,7 +30,7 @@ fn is_the_same<R: Threads + Wait + Sync + Abort>(
 #[test]
 fn pieces_change_nothing(rt: HostRuntime) -> Result<(), Fail> {
     let input = input_of(rt.alloc(), CUT_AND_WHOLE)?;
-    for mode in ["check", "audit", "totals"] {
+    for mode in HAND_MODES {
         is_the_same(&rt, rt.alloc(), mode, &input)?;
     }
     Ok(())

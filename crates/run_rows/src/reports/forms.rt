@@ -113,21 +113,49 @@ pub(crate) struct Verdict<'a> {
     pub(crate) sums: &'a [u8],
 }
 
-/// Whether a text goes on from that report. Of a rejected hand it says no more.
-fn goes_on(report: &[u8], written: &[u8]) -> bool {
-    written.starts_with(report) && (line_count(report) != 1 || written.len() == report.len())
+/// The lines of a report that say of a hand whether it is accepted.
+fn hand_lines(alloc: Global, report: &[u8]) -> Result<Vec<u8>, AllocError> {
+    let mut kept = Vec::new(alloc);
+    let mut line = Vec::new(alloc);
+    for byte in report {
+        line.push(*byte)?;
+        if *byte == b'\n' {
+            if line.starts_with(b"hand ") {
+                kept.extend_from_slice(&line)?;
+            }
+            line.clear();
+        }
+    }
+    Ok(kept)
 }
 
-/// Whether a run of the mode wrote so: `check` that report, `audit` and `streets` what goes on from it, and `totals` what
-/// begins with these sums.
-fn is_told(mode: &str, verdict: &Verdict, written: &[u8]) -> bool {
-    if mode == "totals" {
-        written.starts_with(verdict.sums)
-    } else if mode == "check" {
-        written == verdict.report
-    } else {
-        goes_on(verdict.report, written)
-    }
+/// What follows the first word of a report.
+fn behind(report: &[u8], word: &str) -> &[u8] {
+    &report[word.len().min(report.len())..]
+}
+
+/// Whether a run of the mode wrote so: `check` that report, `audit` and `streets` what goes on from it, `results` and `settle` the
+/// same line of each hand, and `totals` and `balance` what begins with these sums.
+fn is_told(alloc: Global, mode: &str, verdict: &Verdict, written: &[u8]) -> Result<bool, AllocError> {
+    let told = match mode {
+        "check" => written == verdict.report,
+        "totals" => written.starts_with(verdict.sums),
+        "balance" => {
+            written.starts_with(b"balance ")
+                && behind(written, "balance").starts_with(behind(verdict.sums, "totals"))
+        }
+        "results" | "settle" => hand_lines(alloc, written)? == hand_lines(alloc, verdict.report)?,
+        _ => written.starts_with(verdict.report),
+    };
+    Ok(told)
+}
+
+/// Whether a run of the mode says no more than `check` where no hand is accepted.
+fn ends_there(mode: &str, verdict: &Verdict, written: &[u8]) -> bool {
+    mode == "totals"
+        || mode == "balance"
+        || line_count(verdict.report) > 1
+        || written == verdict.report
 }
 
 /// A mode tells so of this input, in both forms, and where the input comes in pieces.
@@ -141,7 +169,8 @@ pub(crate) fn mode_tells<R: Threads + Wait + Sync + Abort>(
 ) -> Result<(), Fail> {
     let ran = run(rt, alloc, &[mode], input, AMPLE)?;
     holds(rt, ran.status == verdict.status, mode);
-    holds(rt, is_told(mode, verdict, &ran.written), mode);
+    holds(rt, is_told(alloc, mode, verdict, &ran.written)?, mode);
+    holds(rt, ends_there(mode, verdict, &ran.written), mode);
     goes_so(rt, alloc, mode, input, piece, &ran)
 }
 
@@ -152,5 +181,7 @@ pub(crate) const REJECTED_SUMS: &[u8] = b"totals hands 1 accepted 0 rejected 1\n
 
 pub(crate) const ACCEPTED_SUMS: &[u8] = b"totals hands 1 accepted 1 rejected 0\n";
 
-/// The modes that read hands, and of which `check` says the beginning.
-pub(crate) const HAND_MODES: [&str; 4] = ["check", "audit", "streets", "totals"];
+/// The modes that read hands.
+pub(crate) const HAND_MODES: [&str; 7] = [
+    "check", "audit", "streets", "results", "settle", "totals", "balance",
+];
