@@ -337,9 +337,13 @@ feed() {
 # end_tree PROCESS: ends it and all that it started
 # shellcheck disable=SC2317 # it is called by traps
 end_tree() {
-    local below children
-    read -ra children < <(cat "/proc/$1/task/"*/children 2>/dev/null)
-    for below in "${children[@]}"; do end_tree "$below"; done
+    local list below children
+    for list in "/proc/$1/task/"*/children; do
+        # (the list ends without a newline, so `read` fails)
+        children=()
+        { read -ra children <"$list"; } 2>/dev/null
+        for below in "${children[@]}"; do end_tree "$below"; done
+    done
     kill -TERM "$1" 2>/dev/null
 }
 
