@@ -8,7 +8,6 @@ mod high_hands;
 mod histories;
 mod low_hands;
 mod pots;
-mod reports;
 mod runouts;
 mod settling;
 mod spot_lines;

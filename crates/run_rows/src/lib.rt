@@ -5,6 +5,8 @@
 #[cfg(test)]
 mod book;
 #[cfg(test)]
+mod calls;
+#[cfg(test)]
 mod ends;
 #[cfg(test)]
 mod equities;

@@ -1,6 +1,5 @@
-//! Tests of hand histories: their lines, where a hand ends, whole hands judged and audited, and made hands.
+//! Tests of hand histories: their lines, where a hand ends, replays, and made hands.
 
-pub(crate) mod audits;
 mod cuts;
 mod game_lines;
 mod headers;

@@ -4,7 +4,7 @@ ghost use Rattle.std.specs.Prelude.{IsTrue};
 ghost use Rattle.even_luck.specs.Equities.{IsOfHand};
 ghost use Rattle.even_luck.specs.declared.equity.Equity.{Equity};
 
-use crate::rows::histories::audits::{FOLDED_BEHIND, RETURNED, audit};
+use crate::calls::audits::{FOLDED_BEHIND, RETURNED, audit};
 use card_sets::Card;
 use command_words::{Command, Mode, read_words};
 use hand_audit::{AllIn, HandAudit, StreetState};
