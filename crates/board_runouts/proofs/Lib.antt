@@ -11,6 +11,7 @@ pub mod CodeSets
 pub mod PairCounts
 pub mod CodedPairs
 pub mod PlainPairs
+pub mod FrontFacts
 pub mod BoardLeaf
 pub mod NoTable
 pub mod RiverFacts

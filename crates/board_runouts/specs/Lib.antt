@@ -32,4 +32,5 @@ pub mod Fields
 pub mod Codes
 pub mod PlainRanks
 pub mod KeptFlushes
+pub mod Fronts
 pub mod Rivers

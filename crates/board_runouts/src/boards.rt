@@ -13,6 +13,7 @@ ghost use Rattle.board_runouts.specs.KeptFlushes.{AreFlushes};
 use crate::coded_rows::CodedRows;
 use crate::deal::same_deal;
 use crate::flushes::Flushes;
+use crate::front::Front;
 use crate::pairs::Pairs;
 use crate::row::{last_rank, ranks_of};
 use crate::rows::Rows;
@@ -118,23 +119,21 @@ impl Leaf for Boards {
     fn count<L: Ledger>(&mut self, counts: &mut [[u32; 2048]], span: &Span, steps: &mut Steps<L>) {
         span.tail.rest.rising();
         let spot = &self.spot;
-        let ranks = ranks_of(span.tail.taken);
-        let least = last_rank(span.tail.taken);
-        let base = self.rows.ready(&spot.table, span.tail.taken, &ranks, least);
+        let taken = span.tail.taken;
+        let ranks = ranks_of(taken);
+        let least = last_rank(taken);
+        let base = self.rows.ready(&spot.table, taken, &ranks, least);
         let rows = self.rows.stretch(base, spot.table.pots);
         let place = self.codes.ready(spot, base, rows, &ranks, least);
         let codes = self.codes.codes_at(place);
+        let front = Front::of(spot, taken, rows, codes);
         let flushes = &mut self.flushes;
         self.pairs.serve(self.cards);
         let pairs = &mut self.pairs;
-        if span.tail.taken == CardSet::empty() {
-            count_whole(
-                spot, flushes, rows, codes, pairs, &span.tail, span.lo, span.hi, counts, steps,
-            );
+        if taken == CardSet::empty() {
+            count_whole(&front, flushes, pairs, span, counts, steps);
             return;
         }
-        count_sieved(
-            spot, flushes, rows, codes, pairs, &span.tail, span.lo, span.hi, counts, steps,
-        );
+        count_sieved(&front, flushes, pairs, span, counts, steps);
     }
 }

@@ -1,23 +1,46 @@
-//! First cards of a board, and where somebody may have a flush with two more.
+//! First cards of a board, with all that is looked up at a pair after them.
 
-ghost use Rattle.std.specs.Prelude.{◌≡◌, false, length, IsTrue};
+ghost use Rattle.std.specs.Prelude.{◌≡◌, length, IsTrue};
+ghost use Rattle.showdown_tally.specs.Deals.{deal_of};
+ghost use Rattle.board_runouts.specs.Codes.{AreCodesFor};
+ghost use Rattle.board_runouts.specs.KeptRows.{AreRowsOf};
 ghost use Rattle.board_ranks.specs.Suits.{AreAllShort, AreFivesWith};
 
+use crate::codes::Codes;
+use crate::row::Row;
 use crate::spot::BoardSpot;
 use board_ranks::suits_for;
 use card_sets::CardSet;
 
-/// First cards of a board, and where somebody may have a flush with two more.
+/// First cards of a board, with all that is looked up at a pair after them.
 #[derive(Clone, Copy)]
-pub(crate) struct FirstCards {
+pub(crate) struct Front<'a> {
+    /// The table.
+    pub(crate) spot: &'a BoardSpot,
     /// The cards.
     pub(crate) taken: CardSet,
+    /// By the ranks of the pair, who wins each pot.
+    pub(crate) rows: &'a [Row],
+    /// The same as codes.
+    pub(crate) codes: &'a Codes,
     /// Whether no two more make anybody a flush.
     pub(crate) plain: bool,
     /// The suit of which somebody may have a flush, at 4 times the suit of one of the last two and that of the other, or else 4.
     pub(crate) suits: [u8; 16],
     /// For each suit the ranks of the board's cards so far, as bits, where pairs that may be a flush are to be counted.
     pub(crate) tags: [u32; 4],
+    /// Each row is for these cards,
+    pub(crate) ghost rows_are: { AreRowsOf (deal_of spot.now.table) taken rows.now },
+    /// and each pot has one.
+    pub(crate) ghost pots: { length rows.now ≡ spot.now.table.pots },
+    /// The codes are for these cards.
+    pub(crate) ghost codes_are: { AreCodesFor (deal_of spot.now.table) taken codes.now },
+    /// Where it is said that no two more make anybody a flush, none do.
+    pub(crate) ghost short: { IsTrue plain → AreAllShort spot.now.most taken },
+    /// Where the table of suits names none, no two of these suits make anybody a flush.
+    pub(crate) ghost fives: { AreFivesWith spot.now.most taken suits },
+    /// It has a place for each two suits.
+    pub(crate) ghost places: { length suits ≡ 16 },
 }
 
 /// The ranks of some cards, as bits. They only say where to look for what is kept.
@@ -49,51 +72,79 @@ fn wanted_bits(cards: CardSet, wanted: bool) -> [u32; 4] {
     [0; 4]
 }
 
-impl FirstCards {
-    /// First cards of a board, with the table of suits for so many cards of each, where pairs that may be a flush are to be counted
-    /// after them or aren't.
+impl<'a> Front<'a> {
+    /// First cards, by whose ranks each pot has a row and the rows have codes. Any two more may make somebody a flush.
     #[inline]
-    pub(crate) fn with(
-        spot: &BoardSpot,
+    pub(crate) fn of(
+        spot: &'a BoardSpot,
         taken: CardSet,
-        suits: &[u8; 16],
-        flushes: bool,
-    ) -> FirstCards
-        requires suits { AreFivesWith spot.now.most taken suits.now }
-        requires places { length suits.now ≡ 16 }
+        rows: &'a [Row],
+        codes: &'a Codes,
+    ) -> Front<'a>
+        requires rows { AreRowsOf (deal_of spot.now.table) taken rows.now }
+        requires pots { length rows.now ≡ spot.now.table.pots }
+        requires codes { AreCodesFor (deal_of spot.now.table) taken codes.now }
+        ensures spot { result.spot.now ≡ spot.now }
         ensures taken { result.taken ≡ taken }
-        ensures plain { result.plain ≡ false }
-        ensures suits { result.suits ≡ suits.now }
     {
-        FirstCards {
+        Front {
+            spot,
             taken,
+            rows,
+            codes,
             plain: false,
-            suits: *suits,
-            tags: wanted_bits(spot.table.known.board.union(taken), flushes),
+            suits: [0; 16],
+            tags: [0; 4],
         }
     }
 
-    /// First cards of a board.
+    /// The same with the table of suits for so many cards of each, where pairs that may be a flush are to be counted or aren't.
     #[inline]
-    pub(crate) fn of(spot: &BoardSpot, taken: CardSet) -> FirstCards
-        ensures taken { result.taken ≡ taken }
-        ensures plain { IsTrue result.plain → AreAllShort spot.now.most result.taken }
-        ensures suits { AreFivesWith spot.now.most result.taken result.suits }
-        ensures places { length result.suits ≡ 16 }
+    pub(crate) fn with_suits(&self, suits: &[u8; 16], flushes: bool) -> Front<'a>
+        requires fives { AreFivesWith self.now.spot.now.most self.now.taken suits.now }
+        requires places { length suits.now ≡ 16 }
+        ensures spot { result.spot.now ≡ self.now.spot.now }
+        ensures taken { result.taken ≡ self.now.taken }
+        ensures suits { result.suits ≡ suits.now }
     {
-        match suits_for(spot.most, taken) {
-            Some(suits) => FirstCards {
-                taken,
-                plain: false,
-                suits,
-                tags: suit_bits(spot.table.known.board.union(taken)),
-            },
-            None => FirstCards {
-                taken,
+        let spot = self.spot;
+        Front {
+            spot,
+            taken: self.taken,
+            rows: self.rows,
+            codes: self.codes,
+            plain: false,
+            suits: *suits,
+            tags: wanted_bits(spot.table.known.board.union(self.taken), flushes),
+        }
+    }
+
+    /// The same with its own table of suits.
+    #[inline]
+    pub(crate) fn with_own_suits(&self) -> Front<'a>
+        ensures spot { result.spot.now ≡ self.now.spot.now }
+        ensures taken { result.taken ≡ self.now.taken }
+    {
+        let spot = self.spot;
+        let Some(suits) = suits_for(spot.most, self.taken) else {
+            return Front {
+                spot,
+                taken: self.taken,
+                rows: self.rows,
+                codes: self.codes,
                 plain: true,
                 suits: [4; 16],
                 tags: [0; 4],
-            },
+            };
+        };
+        Front {
+            spot,
+            taken: self.taken,
+            rows: self.rows,
+            codes: self.codes,
+            plain: false,
+            suits,
+            tags: suit_bits(spot.table.known.board.union(self.taken)),
         }
     }
 }

@@ -1,13 +1,13 @@
 //! Places of the counts, and runouts that are added there.
 
-ghost use Rattle.std.specs.Prelude.{◌≡◌, ℕ, ◌+◌, ◌*◌, ◌^◌, ◌<◌, ◌≤◌, ◌==◌, if◌then◌else◌, length, slice_get, slice_index, Some, true, IsTrue};
+ghost use Rattle.std.specs.Prelude.{◌≡◌, ℕ, ◌+◌, ◌*◌, ◌^◌, ◌<◌, ◌==◌, if◌then◌else◌, length, slice_get, Some, true, IsTrue};
 ghost use Rattle.card_sets.specs.Games.{has_side};
-ghost use Rattle.showdown_tally.specs.Deals.{deal_of};
-ghost use Rattle.showdown_tally.specs.SideCounts.{CountsFit, count_at};
+ghost use Rattle.showdown_tally.specs.SideCounts.{count_at};
+ghost use Rattle.board_runouts.specs.Fronts.{HasRoom, front_deal};
 ghost use Rattle.board_runouts.specs.KeptRows.{row_place, so_many};
+ghost use Rattle.board_runouts.specs.declared.row.Row.{Row};
 
-use crate::row::Row;
-use crate::spot::BoardSpot;
+use crate::front::Front;
 use card_sets::Side;
 use runout_walk::add_times;
 
@@ -57,24 +57,22 @@ pub(crate) fn add_place(
 
 /// Counts a runout at a place of the rows, for each pot.
 #[inline]
-pub(crate) fn put_runout(spot: &BoardSpot, rows: &[Row], ranks: usize, counts: &mut [[u32; 2048]])
-    // Each pot has a row, and this is one of its places.
-    requires pots { length rows.now ≡ spot.now.table.pots }
+pub(crate) fn put_runout(front: &Front, ranks: usize, counts: &mut [[u32; 2048]])
     requires inside { ranks < 169 }
-
-    // Each pot has its two rows of counts, with room for one more.
-    requires counts { 2 * spot.now.table.pots ≤ length counts.old }
-    requires fits { CountsFit (deal_of spot.now.table) counts.old 1 }
+    requires room { HasRoom front.now counts.old 1 }
 
     // For each pot it is counted where its row says who wins there.
     ensures counts { (pot number : ℕ) (side : Side) (row : Row)
-        → pot < length (deal_of spot.now.table).pots
-        → has_side side spot.now.table.known.game ≡ true → slice_get rows.now pot ≡ Some row
+        → pot < length (front_deal front.now).pots
+        → has_side side front.now.spot.now.table.known.game ≡ true
+        → slice_get front.now.rows.now pot ≡ Some row
         → count_at counts.new pot side number
         ≡ count_at counts.old pot side number
         + (if row_place row side ranks == number then 1 else 0) }
     ensures same { length counts.new ≡ length counts.old }
 {
+    let spot = front.spot;
+    let rows = front.rows;
     let two_sides = spot.table.known.game.has_side(Side::Low);
     for pot in 0..spot.table.pots {
         let row = &rows[usize::from(pot)];

@@ -1,26 +1,17 @@
 //! Pairs of last cards that make nobody a flush, by their ranks alone.
 
-ghost use Rattle.std.specs.Prelude.{◌≡◌, ℕ, ◌+◌, ◌*◌, ◌^◌, ◌<◌, ◌≤◌, ◌++◌, [], ◌∷◌, length, slice_index, IsTrue};
+ghost use Rattle.std.specs.Prelude.{◌≡◌, ℕ, ◌+◌, ◌^◌, ◌<◌, length, slice_index};
 ghost use Rattle.std.specs.List.{sum_by};
-ghost use Rattle.card_sets.specs.State.{state_of};
 ghost use Rattle.runout_ranges.specs.Runouts.{HasMember};
-ghost use Rattle.showdown_tally.specs.Deals.{deal_of};
-ghost use Rattle.showdown_tally.specs.SideCounts.{CountsFit};
-ghost use Rattle.showdown_tally.specs.Tallies.{runouts_after};
-ghost use Rattle.board_runouts.specs.Codes.{AreCodesFor};
-ghost use Rattle.board_runouts.specs.KeptRows.{AreRowsOf, PairsGrow};
-ghost use Rattle.board_runouts.specs.Pairs.{cards_of_pair};
-ghost use Rattle.board_runouts.specs.PlainRanks.{CodesGrow, HasCode, MainsGrow, RowsGrow};
 ghost use Rattle.board_ranks.specs.Sieves.{plain_pairs, plain_ranks};
-ghost use Rattle.board_ranks.specs.Suits.{AreFivesWith};
-ghost use Rattle.board_ranks.specs.declared.pair.Pair.{Pair};
+ghost use Rattle.board_runouts.specs.Fronts.{AddPairs, AreRunoutsWith, HasRoom, front_deal};
+ghost use Rattle.board_runouts.specs.PlainRanks.{CodesGrow, HasCode, MainsGrow, RowsGrow};
 
 use crate::codes::Codes;
-use crate::front::FirstCards;
+use crate::front::Front;
 use crate::packed::{PIECE, put_sum};
 use crate::places::put_runout;
 use crate::row::Row;
-use crate::spot::BoardSpot;
 use board_ranks::Pair;
 use card_sets::Side;
 use runout_walk::all_are_hands;
@@ -52,56 +43,53 @@ fn sum_ranks<L: Ledger>(codes: &Codes, all: &[u8], steps: &mut Steps<L>) -> u64
 /// Counts up to 511 ranks by their codes, for each pot. It takes a step for each.
 #[inline]
 fn count_piece<L: Ledger>(
-    spot: &BoardSpot,
-    codes: &Codes,
+    front: &Front,
     all: &[u8],
     counts: &mut [[u32; 2048]],
     steps: &mut Steps<L>,
 )
     // The ranks are places, and have codes.
     requires inside { (ranks : ℕ) → HasMember all.now ranks → ranks < 169 }
-    requires coded { (ranks : ℕ) → HasMember all.now ranks → HasCode codes.now ranks }
+    requires coded { (ranks : ℕ) → HasMember all.now ranks → HasCode front.now.codes.now ranks }
 
     // Each count has room for all of them, and so has a field.
-    requires counts { 2 * spot.now.table.pots ≤ length counts.old }
-    requires fits { CountsFit (deal_of spot.now.table) counts.old (length all.now) }
+    requires room { HasRoom front.now counts.old (length all.now) }
     requires few { length all.now < 512 }
 
     // Each is counted for each pot.
-    ensures counts { CodesGrow (deal_of spot.now.table) codes.now all.now counts.old counts.new }
+    ensures counts { CodesGrow (front_deal front.now) front.now.codes.now all.now counts.old counts.new }
     ensures same { length counts.new ≡ length counts.old }
     ensures steps { steps.new ≡ steps.old + length all.now }
 {
+    let codes = front.codes;
     codes.seven();
     let sum = sum_ranks(codes, all, steps);
-    put_sum(spot, codes, sum, counts);
+    put_sum(front, sum, counts);
 }
 
 /// Counts some ranks by their codes, for each pot. It takes a step for each.
 fn count_codes<L: Ledger>(
-    spot: &BoardSpot,
-    codes: &Codes,
+    front: &Front,
     all: &[u8],
     counts: &mut [[u32; 2048]],
     steps: &mut Steps<L>,
 )
     // The ranks are places, and have codes.
     requires inside { (ranks : ℕ) → HasMember all.now ranks → ranks < 169 }
-    requires coded { (ranks : ℕ) → HasMember all.now ranks → HasCode codes.now ranks }
+    requires coded { (ranks : ℕ) → HasMember all.now ranks → HasCode front.now.codes.now ranks }
 
     // Each count has room for all of them.
-    requires counts { 2 * spot.now.table.pots ≤ length counts.old }
-    requires fits { CountsFit (deal_of spot.now.table) counts.old (length all.now) }
+    requires room { HasRoom front.now counts.old (length all.now) }
 
     // Each is counted for each pot.
-    ensures counts { CodesGrow (deal_of spot.now.table) codes.now all.now counts.old counts.new }
+    ensures counts { CodesGrow (front_deal front.now) front.now.codes.now all.now counts.old counts.new }
     ensures same { length counts.new ≡ length counts.old }
     ensures steps { steps.new ≡ steps.old + length all.now }
 {
     let mut at = 0;
     while at < all.len() {
         let end = all.len().min(at + PIECE);
-        count_piece(spot, codes, &all[at..end], counts, steps);
+        count_piece(front, &all[at..end], counts, steps);
         at = end;
     }
 }
@@ -127,28 +115,25 @@ fn count_mains<L: Ledger>(row: &Row, all: &[u8], cells: &mut [u32], steps: &mut 
 /// Counts some ranks where the rows of all pots say who wins. It takes a step for each.
 #[inline(never)]
 fn count_rows<L: Ledger>(
-    spot: &BoardSpot,
-    rows: &[Row],
+    front: &Front,
     all: &[u8],
     counts: &mut [[u32; 2048]],
     steps: &mut Steps<L>,
 )
-    // Each pot has a row, and the ranks are places of it.
-    requires pots { length rows.now ≡ spot.now.table.pots }
+    // The ranks are places of a row.
     requires inside { (ranks : ℕ) → HasMember all.now ranks → ranks < 169 }
 
     // Each count has room for all of them.
-    requires counts { 2 * spot.now.table.pots ≤ length counts.old }
-    requires fits { CountsFit (deal_of spot.now.table) counts.old (length all.now) }
+    requires room { HasRoom front.now counts.old (length all.now) }
 
     // Each is counted for each pot.
-    ensures counts { RowsGrow (deal_of spot.now.table) rows.now all.now counts.old counts.new }
+    ensures counts { RowsGrow (front_deal front.now) front.now.rows.now all.now counts.old counts.new }
     ensures same { length counts.new ≡ length counts.old }
     ensures steps { steps.new ≡ steps.old + length all.now }
 {
     for ranks in all {
         steps.tick();
-        put_runout(spot, rows, usize::from(*ranks), counts);
+        put_runout(front, usize::from(*ranks), counts);
     }
 }
 
@@ -156,50 +141,35 @@ fn count_rows<L: Ledger>(
 /// for each.
 #[inline]
 pub(crate) fn count_plain<L: Ledger>(
-    spot: &BoardSpot,
-    front: &FirstCards,
-    rows: &[Row],
-    codes: &Codes,
+    front: &Front,
     pairs: &[Pair],
     all: &[u8],
     counts: &mut [[u32; 2048]],
     steps: &mut Steps<L>,
 )
-    // Where the front's table of suits names none, no two cards of these suits make anybody a flush.
-    requires suits { AreFivesWith spot.now.most front.now.taken front.now.suits }
-    requires places { length front.now.suits ≡ 16 }
+    requires pairs { AreRunoutsWith front.now pairs.now }
 
-    // Each pot has a row for the first cards, and with each pair these are a runout.
-    requires rows { AreRowsOf (deal_of spot.now.table) front.now.taken rows.now }
-    requires pots { length rows.now ≡ spot.now.table.pots }
-    requires pairs { (pair : Pair) → HasMember pairs.now pair
-        → HasMember (runouts_after (state_of spot.now.table.known))
-        ((front.now.taken ++ cards_of_pair pair) ∷ []) }
-
-    // The codes are those of the first cards.
-    requires codes { AreCodesFor (deal_of spot.now.table) front.now.taken codes.now }
-
-    // These are the ranks of the pairs for which the table names no suit. Each count has room for them.
+    // These are the ranks of the pairs for which the front's table names no suit.
     requires ranks { all.now ≡ plain_ranks front.now.suits pairs.now }
-    requires counts { 2 * spot.now.table.pots ≤ length counts.old }
-    requires fits { CountsFit (deal_of spot.now.table) counts.old (length all.now) }
+    requires room { HasRoom front.now counts.old (length all.now) }
 
     // Each of these pairs is counted for each pot.
-    ensures counts { PairsGrow (deal_of spot.now.table) front.now.taken
-        (plain_pairs front.now.suits pairs.now) counts.old counts.new }
-    ensures same { length counts.new ≡ length counts.old }
+    ensures counts { AddPairs front.now (plain_pairs front.now.suits pairs.now) counts.old counts.new }
     ensures steps { steps.new ≡ steps.old + length all.now }
 {
     law_values_keep_order();
+    let spot = front.spot;
     all_are_hands(&spot.table);
+    let codes = front.codes;
     if codes.enough {
-        count_codes(spot, codes, all, counts, steps);
+        count_codes(front, all, counts, steps);
         return;
     }
     if spot.table.pots == 1 && !spot.table.known.game.has_side(Side::Low) {
         let cells = &mut counts[0];
+        let rows = front.rows;
         count_mains(&rows[0], all, cells, steps);
         return;
     }
-    count_rows(spot, rows, all, counts, steps);
+    count_rows(front, all, counts, steps);
 }

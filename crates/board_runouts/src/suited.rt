@@ -1,28 +1,21 @@
 //! Runouts with which somebody may have a flush.
 
-ghost use Rattle.std.specs.Prelude.{◌≡◌, ℕ, ◌<◌, ◌≤◌, ◌++◌, [], ◌∷◌, length, slice_index, slice_index_or, IsTrue};
+ghost use Rattle.std.specs.Prelude.{◌≡◌, ℕ, ◌<◌, ◌≤◌, [], length, slice_index, slice_index_or, IsTrue};
 ghost use Rattle.card_sets.specs.Games.{has_board, own_size};
 ghost use Rattle.card_sets.specs.Disjoint.{apart};
 ghost use Rattle.card_sets.specs.State.{state_of};
-ghost use Rattle.runout_ranges.specs.Runouts.{HasMember};
 ghost use Rattle.showdown_tally.specs.Deals.{deal_of};
 ghost use Rattle.showdown_tally.specs.Flushes.{IsOnlySuit};
-ghost use Rattle.showdown_tally.specs.SideCounts.{count_place};
 ghost use Rattle.showdown_tally.specs.Showdown.{eligible_in};
-ghost use Rattle.showdown_tally.specs.Tallies.{runouts_after};
 ghost use Rattle.runout_walk.specs.Bests.{best_set};
 ghost use Rattle.board_ranks.specs.HighParts.{high_number};
-ghost use Rattle.board_runouts.specs.KeptFlushes.{AreFlushes};
-ghost use Rattle.board_runouts.specs.KeptRows.{IsFlushPart, IsPart, IsRowFor};
-ghost use Rattle.board_runouts.specs.Pairs.{cards_of_pair};
-ghost use Rattle.board_ranks.specs.Suits.{AreFivesWith};
+ghost use Rattle.board_runouts.specs.Fronts.{HoldsFlushes, IsFlushWith, IsPartWith, IsRunoutWith, front_deal};
+ghost use Rattle.board_runouts.specs.KeptRows.{pair_place};
 
 use crate::flush::Suited;
 use crate::flushes::Flushes;
-use crate::front::FirstCards;
+use crate::front::Front;
 use crate::places::Place;
-use crate::row::Row;
-use crate::spot::BoardSpot;
 use board_ranks::{Pair, high_value};
 use card_sets::{Card, CardSet, Known, Side};
 use runout_walk::{are_hands, low_mark, pot_best};
@@ -102,17 +95,17 @@ fn bit_in(card: Card, suit: u8) -> u32 {
 
 /// The suit that the board has more than two cards of with a pair as the last two cards, if there is one. One suit is looked at first.
 #[inline]
-fn board_part(spot: &BoardSpot, front: &FirstCards, pair: &Pair, first: u8) -> Option<Suited>
+fn board_part(front: &Front, pair: &Pair, first: u8) -> Option<Suited>
     requires first { first < 4 }
-    requires member { HasMember (runouts_after (state_of spot.now.table.known))
-        ((front.now.taken ++ cards_of_pair pair.now) ∷ []) }
-    ensures { IsPart (state_of spot.now.table.known)
-        ((front.now.taken ++ cards_of_pair pair.now) ∷ []) result }
+    requires member { IsRunoutWith front.now pair.now }
+    ensures { IsPartWith front.now pair.now result }
 {
+    let spot = front.spot;
+    let taken = front.taken;
     let table = &spot.table;
     table.known.board.rising();
-    front.taken.rising();
-    let set = front.taken.with(pair.low).with(pair.high);
+    taken.rising();
+    let set = taken.with(pair.low).with(pair.high);
     let board = table.known.board.union(set);
     let Some(suit) = suit_of_three(board, first) else {
         return None;
@@ -129,58 +122,47 @@ fn board_part(spot: &BoardSpot, front: &FirstCards, pair: &Pair, first: u8) -> O
 
 /// The suit that somebody may have a flush of with a pair as the last two cards, if there is one.
 #[inline]
-pub(crate) fn suited_part(spot: &BoardSpot, front: &FirstCards, pair: &Pair) -> Option<Suited>
-    requires suits { AreFivesWith spot.now.most front.now.taken front.now.suits }
-    requires places { length front.now.suits ≡ 16 }
-    requires member { HasMember (runouts_after (state_of spot.now.table.known))
-        ((front.now.taken ++ cards_of_pair pair.now) ∷ []) }
-    ensures { IsPart (state_of spot.now.table.known)
-        ((front.now.taken ++ cards_of_pair pair.now) ∷ []) result }
+pub(crate) fn suited_part(front: &Front, pair: &Pair) -> Option<Suited>
+    requires member { IsRunoutWith front.now pair.now }
+    ensures { IsPartWith front.now pair.now result }
 {
     let first = front.suits[usize::from(pair.suits)];
     if first > 3 {
         return None;
     }
-    board_part(spot, front, pair, first)
+    board_part(front, pair, first)
 }
 
 /// Where a runout with a pair as the last two cards, with which somebody may have a flush, is counted for a pot.
 #[inline]
 pub(crate) fn suited_place(
-    spot: &BoardSpot,
+    front: &Front,
     flushes: &mut Flushes,
-    taken: CardSet,
-    row: &Row,
     pot: u8,
     pair: &Pair,
     part: &Suited,
 ) -> Place
-    // The pot is one of the table, and its row is one for the first cards.
-    requires row { IsRowFor (deal_of spot.now.table) pot taken row.now }
-    requires pot { pot < spot.now.table.pots }
+    requires pot { pot < front.now.spot.now.table.pots }
 
-    // With the pair they are a runout, after which a hand is worth its ranks or its flush with the part's cards.
-    requires member { HasMember (runouts_after (state_of spot.now.table.known))
-        ((taken ++ cards_of_pair pair.now) ∷ []) }
-    requires part { IsFlushPart (state_of spot.now.table.known)
-        ((taken ++ cards_of_pair pair.now) ∷ []) part.now.board part.now.cards part.now.suit }
-
-    // What is kept of flushes is right where it bears the deal's number.
-    requires flushes { AreFlushes (deal_of spot.now.table) flushes.old }
+    // After the runout a hand is worth its ranks or its flush with the part's cards.
+    requires member { IsRunoutWith front.now pair.now }
+    requires part { IsFlushWith front.now pair.now part.now }
+    requires flushes { HoldsFlushes front.now flushes.old }
 
     // By the definition the runout is counted at these places, and what is kept of flushes stays right.
     ensures main { result.main
-        ≡ count_place (deal_of spot.now.table) pot Side.High
-        ((taken ++ cards_of_pair pair.now) ∷ []) }
+        ≡ pair_place (front_deal front.now) front.now.taken pot Side.High pair.now }
     ensures low { result.low
-        ≡ count_place (deal_of spot.now.table) pot Side.Low
-        ((taken ++ cards_of_pair pair.now) ∷ []) }
+        ≡ pair_place (front_deal front.now) front.now.taken pot Side.Low pair.now }
     ensures few_mains { result.main < 2048 }
     ensures few_lows { result.low < 1024 }
-    ensures flushes { AreFlushes (deal_of spot.now.table) flushes.new }
+    ensures flushes { HoldsFlushes front.now flushes.new }
 {
     law_values_keep_order();
+    let spot = front.spot;
+    let rows = front.rows;
     are_hands(&spot.table, pot);
+    let row = &rows[usize::from(pot)];
     let place = usize::from(pair.ranks);
     let main = row.mains[place];
     let low = row.lows[place];

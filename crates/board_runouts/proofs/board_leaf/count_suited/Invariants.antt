@@ -1,12 +1,11 @@
 use Rattle.std.proofs.Common.{◌≡◌, length}
-use Rattle.showdown_tally.specs.Deals.{deal_of}
-use Rattle.board_runouts.specs.KeptFlushes.{AreFlushes}
+use Rattle.board_runouts.specs.Fronts.{HoldsFlushes, front_deal}
 use Rattle.board_runouts.proofs.PairCounts.{IsCounted}
 use Rattle.board_runouts.proofs.board_leaf.count_suited.Given as goal
 
 abbrev pub invariant-loop-pot : goal.invariant-loop-pot
 invariant-loop-pot l = record {
-  counted : IsCounted (deal_of l.spot.table) l.taken l.pair l.pot l.fn.counts l.counts;
+  counted : IsCounted (front_deal l.front) l.front.taken l.pair l.pot l.fn.counts l.counts;
   same : length l.counts ≡ length l.fn.counts;
-  flushes : AreFlushes (deal_of l.spot.table) l.flushes;
+  flushes : HoldsFlushes l.front l.flushes;
 }

@@ -6,8 +6,8 @@ use Rattle.board_runouts.proofs.board_leaf.sum_piece.Given as goal
 
 abbrev pub invariant-loop-pair : goal.invariant-loop-pair
 invariant-loop-pair g l = record {
-  summed : PairsSum (deal_of l.spot.table) l.front.taken l.codes (take l.pair-index l.pairs) l.sum l.fn.counts l.counts;
+  summed : PairsSum (deal_of l.front.spot.now.table) l.front.taken l.front.codes.now (take l.pair-index l.pairs) l.sum l.fn.counts l.counts;
   same : length l.counts ≡ length l.fn.counts;
-  flushes : AreFlushes (deal_of l.spot.table) l.flushes;
+  flushes : AreFlushes (deal_of l.front.spot.now.table) l.flushes;
   steps : l.steps ≡ l.fn.steps + l.pair-index;
 }

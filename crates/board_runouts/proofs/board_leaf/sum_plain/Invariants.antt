@@ -5,6 +5,6 @@ use Rattle.board_runouts.proofs.board_leaf.sum_plain.Given as goal
 
 abbrev pub invariant-loop-pair : goal.invariant-loop-pair
 invariant-loop-pair g l = record {
-  summed : (counts : List (List ℕ)) → PairsSum (deal_of l.spot.table) l.taken l.codes (take l.pair-index l.pairs) l.sum counts counts;
+  summed : (counts : List (List ℕ)) → PairsSum (deal_of l.front.spot.now.table) l.front.taken l.front.codes.now (take l.pair-index l.pairs) l.sum counts counts;
   steps : l.steps ≡ l.fn.steps + l.pair-index;
 }

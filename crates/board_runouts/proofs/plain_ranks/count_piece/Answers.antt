@@ -9,9 +9,9 @@ pub put_sum-requires-clause-fits : goal.put_sum-requires-clause-fits
 put_sum-requires-clause-fits g c = λ pot place side p has l.
     omega (
       arith,
-      c.requires.fits pot place side p has l,
-      ranks_fields c.args.codes.now pot place side c.args.all.now c.sum_ranks-sum.result c.requires.coded c.requires.few c.seven.ensures c.sum_ranks-sum.ensures.sum,
-      count_by-le-length (λ ranks. code_end c.args.codes.now pot side ranks == place) c.args.all.now,
+      c.requires.room.fits pot place side p has l,
+      ranks_fields c.args.front.now.codes.now pot place side c.args.all.now c.sum_ranks-sum.result c.requires.coded c.requires.few c.seven.ensures c.sum_ranks-sum.ensures.sum,
+      count_by-le-length (λ ranks. code_end c.args.front.now.codes.now pot side ranks == place) c.args.all.now,
     )
 
 pub returns-clause-counts : goal.returns-clause-counts
@@ -19,5 +19,8 @@ returns-clause-counts g c = λ pot place side p has l.
     omega (
       arith,
       c.put_sum.ensures.counts pot place side p has l,
-      ranks_fields c.args.codes.now pot place side c.args.all.now c.sum_ranks-sum.result c.requires.coded c.requires.few c.seven.ensures c.sum_ranks-sum.ensures.sum,
+      ranks_fields c.args.front.now.codes.now pot place side c.args.all.now c.sum_ranks-sum.result c.requires.coded c.requires.few c.seven.ensures c.sum_ranks-sum.ensures.sum,
     )
+
+pub put_sum-requires-clause-counts : goal.put_sum-requires-clause-counts
+put_sum-requires-clause-counts g c = c.requires.room.rows

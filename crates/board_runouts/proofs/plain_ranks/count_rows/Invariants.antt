@@ -5,7 +5,7 @@ use Rattle.board_runouts.proofs.plain_ranks.count_rows.Given as goal
 
 abbrev pub invariant-loop-ranks : goal.invariant-loop-ranks
 invariant-loop-ranks g l = record {
-  grown : RowsGrow (deal_of l.spot.table) l.rows (take l.ranks-index l.all) l.fn.counts l.counts;
+  grown : RowsGrow (deal_of l.front.spot.now.table) l.front.rows.now (take l.ranks-index l.all) l.fn.counts l.counts;
   same : length l.counts ≡ length l.fn.counts;
   steps : l.steps ≡ l.fn.steps + l.ranks-index;
 }

@@ -11,17 +11,14 @@ use Rattle.board_runouts.proofs.suited.suited_part.Goals as goal
 
 pub returns-then-first-gt3 : goal.returns-then-first-gt3
 returns-then-first-gt3 c =
-    let st : State = state_of c.args.spot.now.table.known in
+    let st : State = state_of c.args.front.now.spot.now.table.known in
     let set : List ℕ = c.args.front.now.taken ++ cards_of_pair c.args.pair.now in
-    let scene : IsScene st set = scene_of c.args.spot.now set c.requires.member in
-    let rises = pair_rises st c.args.front.now.taken c.args.pair.now.low c.args.pair.now.high c.args.spot.now.alone c.requires.member in
+    let scene : IsScene st set = scene_of c.args.front.now.spot.now set c.requires.member in
+    let rises = pair_rises st c.args.front.now.taken c.args.pair.now.low c.args.pair.now.high c.args.front.now.spot.now.alone c.requires.member in
     let up : c.args.pair.now.low < c.args.pair.now.high = rises.0 in
     let top : c.args.pair.now.high < 52 = rises.1 in
-    let inside : c.from.result < length c.args.front.now.suits = (let n = c.requires.places in let k = c.args.pair.now.by_suit in omega (arith, c.from.ensures)) in
+    let inside : c.from.result < length c.args.front.now.suits = (let n = c.args.front.now.places in let k = c.args.pair.now.by_suit in omega (arith, c.from.ensures)) in
     let k : c.from.result ≡ 4 * suit_of c.args.pair.now.low + suit_of c.args.pair.now.high = c.from.ensures ∙ c.args.pair.now.by_suit in
-    let short : IsShortWith c.args.spot.now.most c.args.front.now.taken (suit_of c.args.pair.now.low) (suit_of c.args.pair.now.high) = c.requires.suits (suit_of c.args.pair.now.low) (suit_of c.args.pair.now.high) _ (omega arith) (omega arith)
+    let short : IsShortWith c.args.front.now.spot.now.most c.args.front.now.taken (suit_of c.args.pair.now.low) (suit_of c.args.pair.now.high) = c.args.front.now.fives (suit_of c.args.pair.now.low) (suit_of c.args.pair.now.high) _ (omega arith) (omega arith)
     (ap (slice_get c.args.front.now.suits) (sym k) ∙ slice_get-get_or c.args.front.now.suits c.from.result _ inside) c.if-first-gt3.true in
-    unflagged st c.args.front.now.taken c.args.spot.now.most c.args.pair.now.low c.args.pair.now.high scene c.args.spot.now.greatest short
-
-pub board_part-requires-clause-member : goal.board_part-requires-clause-member
-board_part-requires-clause-member c = c.requires.member
+    unflagged st c.args.front.now.taken c.args.front.now.spot.now.most c.args.pair.now.low c.args.pair.now.high scene c.args.front.now.spot.now.greatest short

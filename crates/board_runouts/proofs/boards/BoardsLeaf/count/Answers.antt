@@ -1,11 +1,10 @@
-use Rattle.std.proofs.Common.{◌≡◌, ◌-◌, length, sym, ap, ◌∙◌, arith, subst}
+use Rattle.std.proofs.Common.{◌≡◌, ◌-◌, length, ap, ◌∙◌, arith}
+use Rattle.std.specs.List.{slice_range}
 use Rattle.card_sets.specs.Choose.{choose}
 use Rattle.card_sets.specs.State.{state_of}
 use Rattle.runout_ranges.specs.Slots.{unseen}
 use Rattle.showdown_tally.specs.Deals.{deal_of}
-use Rattle.showdown_tally.specs.SideCounts.{CountsFit}
-use Rattle.showdown_tally.specs.declared.table.Table.{Table}
-use Rattle.board_runouts.proofs.BoardLeaf.{IsLeafOf, end_of_all, leaf_grow, leaf_of}
+use Rattle.board_runouts.proofs.BoardLeaf.{IsLeafOf, end_of_all, front_flushes, front_grow, front_members, front_room, leaf_grow, leaf_of}
 use Rattle.board_runouts.proofs.CodedPairs.{codes_for, right_as}
 use Rattle.board_runouts.proofs.boards.BoardsLeaf.count.Goals as goal
 
@@ -29,20 +28,6 @@ ready-place-requires-clause-rows g c = λ pot row at.
     let named = c.ready-base.ensures.names pot row r.0 r.1 in
     right_as (deal_of c.args.self.now.spot.table) pot c.ranks_of-ranks.result c.last_rank-least.result row named (c.ready-base.ensures.rows pot row r.0 r.1).right
 
-pub count_whole-requires-clause-rows : goal.count_whole-requires-clause-rows
-count_whole-requires-clause-rows g c = λ pot row at. let r = c.stretch-rows.ensures.rows pot row at in c.ready-base.ensures.rows pot row r.0 r.1
-
-pub count_whole-requires-clause-members : goal.count_whole-requires-clause-members
-count_whole-requires-clause-members g c =
-    (leaf_of c.args.self.now.spot c.args.self.now.table c.args.span.now.front.now c.args.span.now.tail.taken c.args.span.now.tail.rest c.args.span.now.tail.left c.args.span.now.lo c.args.span.now.hi c.args.self.now.same c.requires.last c.requires.deep c.requires.members c.requires.order c.requires.inside).members
-
-pub count_whole-requires-clause-codes : goal.count_whole-requires-clause-codes
-count_whole-requires-clause-codes g c =
-    let at = c.codes_at-codes.ensures in
-    let place = c.ready-place.ensures in
-    codes_for (deal_of c.args.self.now.spot.table) c.args.span.now.tail.taken c.ranks_of-ranks.result c.last_rank-least.result c.codes_at-codes.result.now (place.right c.ready-place.result c.codes_at-codes.result.now at) (place.ranks c.codes_at-codes.result.now at) (place.least c.codes_at-codes.result.now at)
-    c.ranks_of-ranks.ensures.ranks c.last_rank-least.ensures
-
 pub count_whole-requires-clause-end : goal.count_whole-requires-clause-end
 count_whole-requires-clause-end g c =
     let leaf : IsLeafOf c.args.self.now.spot c.args.span.now.front.now c.args.span.now.tail.taken c.args.span.now.tail.rest =
@@ -54,25 +39,6 @@ count_whole-requires-clause-inside g c =
     let more : length (choose c.args.span.now.tail.left c.args.span.now.tail.rest) ≡ length (choose 2 c.args.span.now.tail.rest) = ap (λ n. length (choose n c.args.span.now.tail.rest)) c.requires.deep in
     let i = c.requires.inside in
     omega arith
-
-pub count_whole-requires-clause-fits : goal.count_whole-requires-clause-fits
-count_whole-requires-clause-fits g c =
-    let P : Table → Type 0 = λ t. CountsFit (deal_of t) c.args.counts.now (c.args.span.now.hi - c.args.span.now.lo) in
-    subst P (sym c.args.self.now.same) c.requires.fits
-
-pub count_sieved-requires-clause-rows : goal.count_sieved-requires-clause-rows
-count_sieved-requires-clause-rows g c = λ pot row at. let r = c.stretch-rows.ensures.rows pot row at in c.ready-base.ensures.rows pot row r.0 r.1
-
-pub count_sieved-requires-clause-members : goal.count_sieved-requires-clause-members
-count_sieved-requires-clause-members g c =
-    (leaf_of c.args.self.now.spot c.args.self.now.table c.args.span.now.front.now c.args.span.now.tail.taken c.args.span.now.tail.rest c.args.span.now.tail.left c.args.span.now.lo c.args.span.now.hi c.args.self.now.same c.requires.last c.requires.deep c.requires.members c.requires.order c.requires.inside).members
-
-pub count_sieved-requires-clause-codes : goal.count_sieved-requires-clause-codes
-count_sieved-requires-clause-codes g c =
-    let at = c.codes_at-codes.ensures in
-    let place = c.ready-place.ensures in
-    codes_for (deal_of c.args.self.now.spot.table) c.args.span.now.tail.taken c.ranks_of-ranks.result c.last_rank-least.result c.codes_at-codes.result.now (place.right c.ready-place.result c.codes_at-codes.result.now at) (place.ranks c.codes_at-codes.result.now at) (place.least c.codes_at-codes.result.now at)
-    c.ranks_of-ranks.ensures.ranks c.last_rank-least.ensures
 
 pub count_sieved-requires-clause-end : goal.count_sieved-requires-clause-end
 count_sieved-requires-clause-end g c =
@@ -86,22 +52,51 @@ count_sieved-requires-clause-inside g c =
     let i = c.requires.inside in
     omega arith
 
-pub count_sieved-requires-clause-fits : goal.count_sieved-requires-clause-fits
-count_sieved-requires-clause-fits g c =
-    let P : Table → Type 0 = λ t. CountsFit (deal_of t) c.args.counts.now (c.args.span.now.hi - c.args.span.now.lo) in
-    subst P (sym c.args.self.now.same) c.requires.fits
+pub of-front-requires-clause-rows : goal.of-front-requires-clause-rows
+of-front-requires-clause-rows g c = λ pot row at. let r = c.stretch-rows.ensures.rows pot row at in c.ready-base.ensures.rows pot row r.0 r.1
+
+pub of-front-requires-clause-codes : goal.of-front-requires-clause-codes
+of-front-requires-clause-codes g c =
+    let at = c.codes_at-codes.ensures in
+    let place = c.ready-place.ensures in
+    codes_for (deal_of c.args.self.now.spot.table) c.args.span.now.tail.taken c.ranks_of-ranks.result c.last_rank-least.result c.codes_at-codes.result.now (place.right c.ready-place.result c.codes_at-codes.result.now at) (place.ranks c.codes_at-codes.result.now at) (place.least c.codes_at-codes.result.now at)
+    c.ranks_of-ranks.ensures.ranks c.last_rank-least.ensures
+
+pub count_whole-requires-clause-members : goal.count_whole-requires-clause-members
+count_whole-requires-clause-members g c =
+    front_members c.of-front.result c.args.self.now.spot c.args.span.now.tail.taken c.args.span.now.tail.rest c.of-front.ensures.spot c.of-front.ensures.taken
+    (leaf_of c.args.self.now.spot c.args.self.now.table c.args.span.now.front.now c.args.span.now.tail.taken c.args.span.now.tail.rest c.args.span.now.tail.left c.args.span.now.lo c.args.span.now.hi c.args.self.now.same c.requires.last c.requires.deep c.requires.members c.requires.order c.requires.inside).members
+
+pub count_whole-requires-clause-room : goal.count_whole-requires-clause-room
+count_whole-requires-clause-room g c = front_room c.of-front.result c.args.self.now.spot c.args.self.now.table c.args.counts.now (c.args.span.now.hi - c.args.span.now.lo) c.of-front.ensures.spot c.args.self.now.same c.requires.places c.requires.fits
+
+pub count_whole-requires-clause-flushes : goal.count_whole-requires-clause-flushes
+count_whole-requires-clause-flushes g c = front_flushes c.of-front.result c.args.self.now.spot c.args.self.now.flushes c.of-front.ensures.spot c.args.self.now.best
 
 pub returns-then-eq-clause-counts : goal.returns-then-eq-clause-counts
 returns-then-eq-clause-counts g c =
     let leaf : IsLeafOf c.args.self.now.spot c.args.span.now.front.now c.args.span.now.tail.taken c.args.span.now.tail.rest =
     leaf_of c.args.self.now.spot c.args.self.now.table c.args.span.now.front.now c.args.span.now.tail.taken c.args.span.now.tail.rest c.args.span.now.tail.left c.args.span.now.lo c.args.span.now.hi c.args.self.now.same c.requires.last c.requires.deep c.requires.members c.requires.order c.requires.inside in
-    leaf_grow c.args.self.now.spot c.args.self.now.table c.args.span.now.front.now c.args.span.now.tail.taken c.args.span.now.tail.rest c.args.span.now.tail.left c.args.span.now.lo c.args.span.now.hi c.args.counts.now c.count_whole.new.counts c.args.self.now.same leaf.none c.requires.deep c.count_whole.ensures.counts
+    leaf_grow c.args.self.now.spot c.args.self.now.table c.args.span.now.front.now c.args.span.now.tail.taken c.args.span.now.tail.rest c.args.span.now.tail.left c.args.span.now.lo c.args.span.now.hi c.args.counts.now c.count_whole.new.counts c.args.self.now.same leaf.none c.requires.deep
+    (front_grow c.of-front.result c.args.self.now.spot c.args.span.now.tail.taken (slice_range (choose 2 c.args.span.now.tail.rest) c.args.span.now.lo c.args.span.now.hi) c.args.counts.now c.count_whole.new.counts c.of-front.ensures.spot c.of-front.ensures.taken c.count_whole.ensures.counts)
+
+pub count_sieved-requires-clause-members : goal.count_sieved-requires-clause-members
+count_sieved-requires-clause-members g c =
+    front_members c.of-front.result c.args.self.now.spot c.args.span.now.tail.taken c.args.span.now.tail.rest c.of-front.ensures.spot c.of-front.ensures.taken
+    (leaf_of c.args.self.now.spot c.args.self.now.table c.args.span.now.front.now c.args.span.now.tail.taken c.args.span.now.tail.rest c.args.span.now.tail.left c.args.span.now.lo c.args.span.now.hi c.args.self.now.same c.requires.last c.requires.deep c.requires.members c.requires.order c.requires.inside).members
+
+pub count_sieved-requires-clause-room : goal.count_sieved-requires-clause-room
+count_sieved-requires-clause-room g c = front_room c.of-front.result c.args.self.now.spot c.args.self.now.table c.args.counts.now (c.args.span.now.hi - c.args.span.now.lo) c.of-front.ensures.spot c.args.self.now.same c.requires.places c.requires.fits
+
+pub count_sieved-requires-clause-flushes : goal.count_sieved-requires-clause-flushes
+count_sieved-requires-clause-flushes g c = front_flushes c.of-front.result c.args.self.now.spot c.args.self.now.flushes c.of-front.ensures.spot c.args.self.now.best
 
 pub returns-clause-counts : goal.returns-clause-counts
 returns-clause-counts g c =
     let leaf : IsLeafOf c.args.self.now.spot c.args.span.now.front.now c.args.span.now.tail.taken c.args.span.now.tail.rest =
     leaf_of c.args.self.now.spot c.args.self.now.table c.args.span.now.front.now c.args.span.now.tail.taken c.args.span.now.tail.rest c.args.span.now.tail.left c.args.span.now.lo c.args.span.now.hi c.args.self.now.same c.requires.last c.requires.deep c.requires.members c.requires.order c.requires.inside in
-    leaf_grow c.args.self.now.spot c.args.self.now.table c.args.span.now.front.now c.args.span.now.tail.taken c.args.span.now.tail.rest c.args.span.now.tail.left c.args.span.now.lo c.args.span.now.hi c.args.counts.now c.count_sieved.new.counts c.args.self.now.same leaf.none c.requires.deep c.count_sieved.ensures.counts
+    leaf_grow c.args.self.now.spot c.args.self.now.table c.args.span.now.front.now c.args.span.now.tail.taken c.args.span.now.tail.rest c.args.span.now.tail.left c.args.span.now.lo c.args.span.now.hi c.args.counts.now c.count_sieved.new.counts c.args.self.now.same leaf.none c.requires.deep
+    (front_grow c.of-front.result c.args.self.now.spot c.args.span.now.tail.taken (slice_range (choose 2 c.args.span.now.tail.rest) c.args.span.now.lo c.args.span.now.hi) c.args.counts.now c.count_sieved.new.counts c.of-front.ensures.spot c.of-front.ensures.taken c.count_sieved.ensures.counts)
 
 pub ready-base-requires-clause-right : goal.ready-base-requires-clause-right
 ready-base-requires-clause-right g c = c.args.self.now.right
@@ -117,9 +112,3 @@ ready-base-requires-clause-least g c = c.last_rank-least.ensures
 
 pub ready-place-requires-clause-right : goal.ready-place-requires-clause-right
 ready-place-requires-clause-right g c = c.args.self.now.coded
-
-pub count_whole-requires-clause-flushes : goal.count_whole-requires-clause-flushes
-count_whole-requires-clause-flushes g c = c.args.self.now.best
-
-pub count_sieved-requires-clause-flushes : goal.count_sieved-requires-clause-flushes
-count_sieved-requires-clause-flushes g c = c.args.self.now.best

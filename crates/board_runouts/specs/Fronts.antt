@@ -1,0 +1,48 @@
+-- First cards of a board, with all that is looked up at a pair after them.
+use Rattle.std.specs.Prelude.{◌≡◌, ℕ, ◌*◌, ◌≤◌, ◌++◌, List, [], ◌∷◌, length, Option}
+use Rattle.card_sets.specs.State.{state_of}
+use Rattle.runout_ranges.specs.Runouts.{HasMember}
+use Rattle.showdown_tally.specs.Deals.{deal_of}
+use Rattle.showdown_tally.specs.Showdown.{Showdown}
+use Rattle.showdown_tally.specs.SideCounts.{CountsFit}
+use Rattle.showdown_tally.specs.Tallies.{runouts_after}
+use Rattle.board_ranks.specs.declared.pair.Pair.{Pair}
+use Rattle.board_runouts.specs.KeptFlushes.{AreFlushes}
+use Rattle.board_runouts.specs.KeptRows.{IsFlushPart, IsPart, PairsGrow}
+use Rattle.board_runouts.specs.Pairs.{cards_of_pair}
+use Rattle.board_runouts.specs.declared.flush.Suited.{Suited}
+use Rattle.board_runouts.specs.declared.flushes.Flushes.{Flushes}
+use Rattle.board_runouts.specs.declared.front.Front.{Front}
+
+-- the deal whose boards are counted
+abbrev pub front_deal : Front → Showdown
+front_deal front = deal_of front.spot.now.table
+
+-- a pair as the last two cards makes a runout of them
+abbrev pub IsRunoutWith : Front → Pair → Type 0
+IsRunoutWith front pair = HasMember (runouts_after (state_of front.spot.now.table.known)) ((front.taken ++ cards_of_pair pair) ∷ [])
+
+-- and so does each of some pairs
+abbrev pub AreRunoutsWith : Front → List Pair → Type 0
+AreRunoutsWith front pairs = (pair : Pair) → HasMember pairs pair → IsRunoutWith front pair
+
+-- what somebody may have a flush with after such a runout
+abbrev pub IsPartWith : Front → Pair → Option Suited → Type 0
+IsPartWith front pair part = IsPart (state_of front.spot.now.table.known) ((front.taken ++ cards_of_pair pair) ∷ []) part
+
+abbrev pub IsFlushWith : Front → Pair → Suited → Type 0
+IsFlushWith front pair part = IsFlushPart (state_of front.spot.now.table.known) ((front.taken ++ cards_of_pair pair) ∷ []) part.board part.cards part.suit
+
+-- each pot has its two rows of counts, which have room for so many runouts more
+pub record HasRoom (front : Front) (counts : List (List ℕ)) (more : ℕ) : Type 0 where
+  pub rows : 2 * front.spot.now.table.pots ≤ length counts
+  pub fits : CountsFit (front_deal front) counts more
+
+-- what is kept of flushes is right where it bears the deal's number
+abbrev pub HoldsFlushes : Front → Flushes → Type 0
+HoldsFlushes front flushes = AreFlushes (front_deal front) flushes
+
+-- the new counts are the old ones and those of the first cards with each of some pairs, in as many rows
+pub record AddPairs (front : Front) (pairs : List Pair) (old new : List (List ℕ)) : Type 0 where
+  pub counted : PairsGrow (front_deal front) front.taken pairs old new
+  pub rows : length new ≡ length old
