@@ -1,6 +1,6 @@
 -- First cards of a board, and counts of them with some pairs.
 use Rattle.std.proofs.Common.{◌≡◌, ℕ, suc, ◌+◌, ◌-◌, ◌*◌, ◌<◌, ◌≤◌, ◌==◌, List, [], ◌∷◌, ◌++◌, length, map, take, refl, sym, ap, ◌∙◌, arith, Some, get_or, subst}
-use Rattle.std.specs.Prelude.{slice_get}
+use Rattle.std.specs.Prelude.{slice_get, slice_index}
 use Rattle.std.specs.List.{slice_range}
 use Rattle.std.proofs.lemmas.Option.{slice_get-get_or}
 use Rattle.card_sets.specs.Choose.{choose}
@@ -11,15 +11,18 @@ use Rattle.showdown_tally.specs.SideCounts.{CountsFit, CountsGrow}
 use Rattle.showdown_tally.specs.Tallies.{runouts_after}
 use Rattle.runout_ranges.proofs.CallerLemmas.{member_at}
 use Rattle.board_ranks.specs.declared.pair.Pair.{Pair}
-use Rattle.board_runouts.specs.Fronts.{AddPairs, AreRunoutsWith, HasRoom, HoldsFlushes, IsRunoutWith, front_deal}
+use Rattle.board_runouts.specs.Fronts.{AddPairs, AreRunoutsWith, HasRoom, HoldsFlushes, IsFlushFor, IsFlushWith, IsRunoutWith, front_deal}
+use Rattle.board_runouts.specs.Highs.{AreSuitedFor, IsBestFlush}
 use Rattle.board_runouts.specs.KeptFlushes.{AreFlushes}
 use Rattle.board_runouts.specs.KeptRows.{PairsGrow, pair_place}
 use Rattle.board_runouts.specs.Pairs.{cards_of_pair}
+use Rattle.board_runouts.specs.declared.flush.Flush.{Flush}
+use Rattle.board_runouts.specs.declared.flush.Suited.{Suited}
 use Rattle.board_runouts.specs.declared.flushes.Flushes.{Flushes}
 use Rattle.board_runouts.specs.declared.front.Front.{Front}
 use Rattle.board_runouts.specs.declared.row.Row.{Row}
 use Rattle.board_runouts.specs.declared.spot.BoardSpot.{BoardSpot}
-use Rattle.board_runouts.proofs.BoardDealt.{IsScene, pair_inside, scene_of}
+use Rattle.board_runouts.proofs.BoardDealt.{IsScene, own_of, pair_inside, scene_of}
 use Rattle.board_runouts.proofs.BoardRunouts.{stretch-length, stretch-member}
 use Rattle.board_runouts.proofs.CodedPairs.{grow_on}
 use Rattle.board_runouts.proofs.PairCounts.{count_few, fits_next, grow_of, pairs_next}
@@ -42,6 +45,23 @@ scene_with front pair member = scene_of front.spot.now (front.taken ++ cards_of_
 
 pub place_inside : (front : Front) (pair : Pair) (place : ℕ) → IsRunoutWith front pair → place ≡ pair.ranks → place < 169
 place_inside front pair place member is = pair_inside (state_of front.spot.now.table.known) front.taken pair.low pair.high place (scene_with front pair member) (is ∙ pair.by_rank)
+
+-- what is asked of flushes with the cards of a suit after it
+pub suited_for : (front : Front) (pair : Pair) (part : Suited) → IsRunoutWith front pair → IsFlushWith front pair part → AreSuitedFor (state_of front.spot.now.table.known) part.cards part.suit
+suited_for front pair part member flush = record {
+  dealt = front.spot.now.dealt;
+  own = λ h l. own_of (state_of front.spot.now.table.known) (front.taken ++ cards_of_pair pair) h (scene_with front pair member) l;
+  inside = flush.inside;
+  five = flush.five;
+  away = flush.away;
+}
+
+-- the best flush of a pot
+pub best_at : (front : Front) (part : Suited) (flush : Flush) (pot at : ℕ) → at ≡ pot → pot < front.spot.now.table.pots → IsFlushFor front part flush → IsBestFlush (front_deal front) pot part.cards part.suit (slice_index flush.tops at) (slice_index flush.sets at)
+best_at front part flush pot at same inside is =
+    let n = front.spot.now.pots in
+    let P : ℕ → Type 0 = λ k. IsBestFlush (front_deal front) pot part.cards part.suit (slice_index flush.tops k) (slice_index flush.sets k) in
+    subst P (sym same) (is pot (omega arith))
 
 -- one pair after another
 pub room_next : (front : Front) (pairs : List Pair) (i : ℕ) (old mid : List (List ℕ)) → HasRoom front old (length pairs) → i < length pairs → AddPairs front (take i pairs) old mid → HasRoom front mid 1

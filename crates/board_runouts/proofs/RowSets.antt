@@ -1,13 +1,13 @@
 -- Rows and flushes in their places.
-use Rattle.std.proofs.Common.{◌≡◌, ◌+◌, ◌<◌, ◌≤◌, ℕ, zero, suc, List, [], ◌∷◌, ◌++◌, length, refl, sym, ap, ◌∙◌, arith, Some, set, subst, inl, inr, take, drop, ◌-◌, get_or, ◌⊎◌}
-use Rattle.std.specs.Prelude.{slice_get, replicate}
+use Rattle.std.proofs.Common.{◌≡◌, ◌+◌, ◌<◌, ◌≤◌, ℕ, zero, suc, List, [], ◌∷◌, ◌++◌, length, refl, sym, ap, ◌∙◌, arith, Some, set, subst, inl, inr, take, drop, ◌-◌, get_or, get_or-set_same, get_or-set_other, ◌⊎◌}
+use Rattle.std.specs.Prelude.{slice_get, slice_index, replicate}
 use Rattle.std.specs.List.{slice_range}
 use Rattle.std.proofs.lemmas.Bool.{cases_eq, cases_lt}
 use Rattle.card_sets.specs.Cards.{IsRising, rank_of}
 use Rattle.showdown_tally.specs.Showdown.{Showdown}
 use Rattle.runout_walk.proofs.CallerLemmas.{get-other}
 use Rattle.board_ranks.proofs.CallerLemmas.{get-same}
-use Rattle.board_runouts.specs.Highs.{IsBestFlush}
+use Rattle.board_runouts.specs.Highs.{AreBestFlushes, IsBestFlush}
 use Rattle.board_runouts.specs.KeptRows.{IsAway, IsBestAt, IsButAt, IsRowFor}
 use Rattle.board_runouts.specs.SideRows.{AreRanksOf, IsSideRow}
 use Rattle.board_runouts.specs.declared.row.Row.{Row}
@@ -113,15 +113,35 @@ row_for deal pot taken ranks least row is same_pot same_ranks same_least are low
       from_least = λ card more rises. subst (λ l. l ≤ rank_of card) (sym same_least) (low card more rises);
     }
 
--- the same flush
-pub same_best : (deal : Showdown) (pot pot' : ℕ) (cards cards' : List ℕ) (suit suit' top top' set set' : ℕ) → pot ≡ pot' → cards ≡ cards' → suit ≡ suit' → top ≡ top' → set ≡ set' → IsBestFlush deal pot cards suit top set → IsBestFlush deal pot' cards' suit' top' set'
-same_best deal pot pot' cards cards' suit suit' top top' set set' p c s t w is =
-    let D : ℕ → Type 0 = λ x. IsBestFlush deal x cards suit top set in
-    let C : List ℕ → Type 0 = λ x. IsBestFlush deal pot' x suit top set in
-    let S : ℕ → Type 0 = λ x. IsBestFlush deal pot' cards' x top set in
-    let T : ℕ → Type 0 = λ x. IsBestFlush deal pot' cards' suit' x set in
-    let W : ℕ → Type 0 = λ x. IsBestFlush deal pot' cards' suit' top' x in
-    subst W w (subst T t (subst S s (subst C c (subst D p is))))
+-- the best flush of one pot more stands in its place
+pub flush_set : (deal : Showdown) (cards : List ℕ) (suit : ℕ) (tops sets : List ℕ) (pot i j top won p : ℕ) → i ≡ pot → j ≡ pot → pot < length tops → pot < length sets → (p < pot → IsBestFlush deal p cards suit (slice_index tops p) (slice_index sets p))
+    → IsBestFlush deal pot cards suit top won → p < pot + 1 → IsBestFlush deal p cards suit (slice_index (set tops i top) p) (slice_index (set sets j won) p)
+flush_set deal cards suit tops sets pot i j top won p a b h l was here lt = rw (a, b) (elim (cases_lt p pot) [
+  | inl less ↦
+      let ne : p ≡ pot → ⊥ = λ e. omega arith in
+      let old = was less in
+      let same : slice_index (set tops pot top) p ≡ slice_index tops p = get_or-set_other tops pot p top 0 ne in
+      record {
+        greatest = same ∙ old.greatest;
+        winners = λ some. get_or-set_other sets pot p won 0 ne ∙ old.winners (omega (arith, some, same));
+      }
+  | inr ge ↦
+      let same : pot ≡ p = omega arith in
+      let top_is : slice_index (set tops pot top) pot ≡ top = get_or-set_same tops pot top 0 h in
+      let P : ℕ → Type 0 = λ k. IsBestFlush deal k cards suit (slice_index (set tops pot top) k) (slice_index (set sets pot won) k) in
+      let there : P pot = record {
+        greatest = top_is ∙ here.greatest;
+        winners = λ some. get_or-set_same sets pot won 0 l ∙ here.winners (omega (arith, some, top_is));
+      } in
+      subst P same there
+])
+
+-- and what is kept is that of other names for the same cards
+pub same_flushes : (deal : Showdown) (cards cards' tops sets : List ℕ) (suit suit' : ℕ) → cards ≡ cards' → suit ≡ suit' → AreBestFlushes deal cards suit tops sets → AreBestFlushes deal cards' suit' tops sets
+same_flushes deal cards cards' tops sets suit suit' c s is =
+    let C : List ℕ → Type 0 = λ x. AreBestFlushes deal x suit tops sets in
+    let S : ℕ → Type 0 = λ x. AreBestFlushes deal cards' x tops sets in
+    subst S s (subst C c is)
 
 -- what stands at the front of a list that had more put after it stood there before
 get-front : {X : Type 0} (xs more : List X) (i : ℕ) → i < length xs → slice_get (xs ++ more) i ≡ slice_get xs i

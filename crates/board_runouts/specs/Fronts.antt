@@ -7,9 +7,11 @@ use Rattle.showdown_tally.specs.Showdown.{Showdown}
 use Rattle.showdown_tally.specs.SideCounts.{CountsFit}
 use Rattle.showdown_tally.specs.Tallies.{runouts_after}
 use Rattle.board_ranks.specs.declared.pair.Pair.{Pair}
+use Rattle.board_runouts.specs.Highs.{AreBestFlushes}
 use Rattle.board_runouts.specs.KeptFlushes.{AreFlushes}
 use Rattle.board_runouts.specs.KeptRows.{IsFlushPart, IsPart, PairsGrow}
 use Rattle.board_runouts.specs.Pairs.{cards_of_pair}
+use Rattle.board_runouts.specs.declared.flush.Flush.{Flush}
 use Rattle.board_runouts.specs.declared.flush.Suited.{Suited}
 use Rattle.board_runouts.specs.declared.flushes.Flushes.{Flushes}
 use Rattle.board_runouts.specs.declared.front.Front.{Front}
@@ -32,6 +34,10 @@ IsPartWith front pair part = IsPart (state_of front.spot.now.table.known) ((fron
 
 abbrev pub IsFlushWith : Front → Pair → Suited → Type 0
 IsFlushWith front pair part = IsFlushPart (state_of front.spot.now.table.known) ((front.taken ++ cards_of_pair pair) ∷ []) part.board part.cards part.suit
+
+-- the best flush of each pot with the cards of a suit
+abbrev pub IsFlushFor : Front → Suited → Flush → Type 0
+IsFlushFor front part flush = AreBestFlushes (front_deal front) part.cards part.suit flush.tops flush.sets
 
 -- each pot has its two rows of counts, which have room for so many runouts more
 pub record HasRoom (front : Front) (counts : List (List ℕ)) (more : ℕ) : Type 0 where

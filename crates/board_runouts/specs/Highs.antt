@@ -1,5 +1,7 @@
 -- What hands are worth as highs, by ranks alone, with flushes, and as a flush.
-use Rattle.std.specs.Prelude.{◌≡◌, ℕ, ◌<◌, List, [], length, slice_index, slice_index_or}
+use Rattle.std.specs.Prelude.{◌≡◌, ℕ, ◌<◌, ◌≤◌, true, List, [], length, slice_index, slice_index_or}
+use Rattle.card_sets.specs.Disjoint.{apart}
+use Rattle.card_sets.specs.Games.{has_board, own_size}
 use Rattle.card_sets.specs.State.{State}
 use Rattle.showdown_tally.specs.Showdown.{Showdown, own_after, board_after, eligible_in}
 use Rattle.runout_walk.specs.Bests.{best_set, best_value}
@@ -24,3 +26,15 @@ AreFlushesOf state cards suit values = (h : ℕ) → h < length state.hands → 
 pub record IsBestFlush (deal : Showdown) (pot : ℕ) (cards : List ℕ) (suit top set : ℕ) : Type 0 where
   pub greatest : top ≡ best_value (flush_of deal.state cards suit) (eligible_in deal pot)
   pub winners : 0 < top → set ≡ best_set (flush_of deal.state cards suit) (eligible_in deal pot)
+
+-- the same of each pot
+abbrev pub AreBestFlushes : Showdown → List ℕ → ℕ → List ℕ → List ℕ → Type 0
+AreBestFlushes deal cards suit tops sets = (pot : ℕ) → pot < length deal.pots → IsBestFlush deal pot cards suit (slice_index tops pot) (slice_index sets pot)
+
+-- each hand of a game with a board has all its own cards, and none of some cards of the board, which are of one suit
+pub record AreSuitedFor (state : State) (cards : List ℕ) (suit : ℕ) : Type 0 where
+  pub dealt : has_board state.game ≡ true
+  pub own : (h : ℕ) → h < length state.hands → length (slice_index_or state.hands h []) ≡ own_size state.game
+  pub inside : suit < 4
+  pub five : length cards ≤ 5
+  pub away : (h : ℕ) → h < length state.hands → apart (slice_index_or state.hands h []) cards ≡ true

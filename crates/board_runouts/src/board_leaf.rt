@@ -1,6 +1,6 @@
 //! The last two cards of a board, pair by pair.
 
-ghost use Rattle.std.specs.Prelude.{◌≡◌, ℕ, ◌+◌, ◌^◌, ◌<◌, [], ◌∷◌, List, length, slice_index, IsTrue};
+ghost use Rattle.std.specs.Prelude.{◌≡◌, ℕ, ◌+◌, ◌^◌, ◌<◌, [], ◌∷◌, length, slice_index, IsTrue};
 ghost use Rattle.board_runouts.specs.Codes.{IsPairSummed, PairsSum};
 ghost use Rattle.board_runouts.specs.Fronts.{AddPairs, AreRunoutsWith, HasRoom, HoldsFlushes, IsFlushWith, IsRunoutWith, front_deal};
 ghost use Rattle.board_runouts.specs.KeptRows.{CellsGrow, pair_place};
@@ -39,8 +39,10 @@ fn count_suited(
 {
     let spot = front.spot;
     let two_sides = spot.table.known.game.has_side(Side::Low);
+    let at = flushes.ready(&spot.table, part);
+    let flush = flushes.flush_at(at);
     for pot in 0..spot.table.pots {
-        let place = suited_place(front, flushes, pot, pair, part);
+        let place = suited_place(front, flush, pot, pair, part);
         add_place(counts, two_sides, pot, place, 1);
     }
 }
@@ -110,7 +112,9 @@ fn one_place(front: &Front, flushes: &mut Flushes, pair: &Pair) -> u16
         let row = &front.rows[0];
         return row.mains[usize::from(pair.ranks)];
     };
-    suited_place(front, flushes, 0, pair, &part).main
+    let at = flushes.ready(&spot.table, &part);
+    let flush = flushes.flush_at(at);
+    suited_place(front, flush, 0, pair, &part).main
 }
 
 /// Counts first cards with each of some pairs as the last two, for the only pot of a game with one side. It takes a step a pair.
@@ -201,48 +205,6 @@ fn sum_piece<L: Ledger>(
     sum
 }
 
-/// A one in the field of the code of a pair's ranks, where no two cards make anybody a flush.
-#[inline]
-fn one_plain(front: &Front, pair: &Pair) -> u64
-    // There is a code for each outcome.
-    requires plain { IsTrue front.now.plain }
-    requires enough { IsTrue front.now.codes.now.enough }
-    requires member { IsRunoutWith front.now pair.now }
-
-    // The pair is counted in the field of the number, whatever the counts are.
-    ensures { (counts : List (List ℕ)) → IsPairSummed
-        (front_deal front.now) front.now.taken front.now.codes.now pair.now result counts counts }
-{
-    law_values_keep_order();
-    let spot = front.spot;
-    all_are_hands(&spot.table);
-    let codes = front.codes;
-    codes.adds[usize::from(pair.ranks)]
-}
-
-/// Counts first cards, with which no two cards make anybody a flush, with each of up to 511 pairs as the last two, in the fields of a
-/// sum. It takes a step a pair.
-#[inline(never)]
-fn sum_plain<L: Ledger>(front: &Front, pairs: &[Pair], steps: &mut Steps<L>) -> u64
-    // There is a code for each outcome, and a field has room for all pairs.
-    requires plain { IsTrue front.now.plain }
-    requires enough { IsTrue front.now.codes.now.enough }
-    requires few { length pairs.now < 512 }
-    requires pairs { AreRunoutsWith front.now pairs.now }
-
-    // Each pair is counted in a field of the sum, whatever the counts are.
-    ensures sum { (counts : List (List ℕ)) → PairsSum
-        (front_deal front.now) front.now.taken front.now.codes.now pairs.now result counts counts }
-    ensures steps { steps.new ≡ steps.old + length pairs.now }
-{
-    let mut sum = 0u64;
-    for pair in pairs {
-        steps.tick();
-        sum += one_plain(front, pair);
-    }
-    sum
-}
-
 /// Counts first cards with each of up to 511 pairs as the last two, for each pot. It takes a step a pair.
 #[inline]
 fn count_piece<L: Ledger>(
@@ -266,11 +228,6 @@ fn count_piece<L: Ledger>(
 {
     let codes = front.codes;
     codes.seven();
-    if front.plain {
-        let sum = sum_plain(front, pairs, steps);
-        put_sum(front, sum, counts);
-        return;
-    }
     let sum = sum_piece(front, flushes, pairs, counts, steps);
     put_sum(front, sum, counts);
 }

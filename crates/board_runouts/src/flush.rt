@@ -1,9 +1,8 @@
 //! Flushes with some cards of one suit on the board.
 
-ghost use Rattle.std.specs.Prelude.{◌≡◌, ◌<◌, IsTrue};
+ghost use Rattle.std.specs.Prelude.{◌≡◌, ℕ, ◌<◌, slice_index, IsTrue};
 
 use card_sets::CardSet;
-use runout_walk::Best;
 
 /// The suit that a full board has more than two cards of.
 #[derive(Clone, Copy)]
@@ -18,23 +17,21 @@ pub(crate) struct Suited {
     pub(crate) tag: u32,
 }
 
-/// The best flush of the hands of a pot with cards of one suit on the board.
+/// The best flush of the hands of each pot with cards of one suit on the board.
 #[derive(Clone, Copy)]
 pub(crate) struct Flush {
     /// The cards of the suit on the board.
     pub(crate) cards: CardSet,
-    /// The number of the best flush, 0 where nobody has one.
-    pub(crate) top: u32,
     /// The number of the deal.
     pub(crate) stamp: u32,
-    /// The hands that have it, as the number with their bits, where somebody has one.
-    pub(crate) set: u16,
     /// The suit, from 0.
     pub(crate) suit: u8,
-    /// The pot, from 0.
-    pub(crate) pot: u8,
+    /// By the pot, the hands that have the best flush, as the number with their bits, where somebody has one.
+    pub(crate) sets: [u16; 10],
+    /// By the pot, the number of the best flush, 0 where nobody has one.
+    pub(crate) tops: [u32; 10],
     /// So large may a set be.
-    pub(crate) ghost few: { set < 1024 },
+    pub(crate) ghost few: { (pot : ℕ) → slice_index sets pot < 1024 },
 }
 
 impl Flush {
@@ -44,67 +41,16 @@ impl Flush {
     {
         Flush {
             cards: CardSet::empty(),
-            top: 0,
             stamp: 0,
-            set: 0,
             suit: 0,
-            pot: 0,
+            sets: [0; 10],
+            tops: [0; 10],
         }
     }
 
-    /// Whether it is the best flush of a pot of a deal with some cards of a suit on the board.
+    /// Whether it is that of a deal with some cards of a suit on the board.
     #[inline]
-    pub(crate) fn is_of(&self, stamp: u32, pot: u8, part: &Suited) -> bool
-        ensures stamp { IsTrue result → self.now.stamp ≡ stamp }
-        ensures pot { IsTrue result → self.now.pot ≡ pot }
-        ensures cards { IsTrue result → self.now.cards ≡ part.now.cards }
-        ensures suit { IsTrue result → self.now.suit ≡ part.now.suit }
-    {
-        self.cards == part.cards && self.stamp == stamp && self.pot == pot && self.suit == part.suit
-    }
-
-    /// Its number, and who has it.
-    #[inline]
-    pub(crate) fn best(&self) -> Best
-        ensures top { result.top ≡ self.now.top }
-        ensures set { result.set ≡ self.now.set }
-        ensures small { result.set < 1024 }
-    {
-        Best {
-            top: self.top,
-            set: self.set,
-        }
-    }
-}
-
-/// What each hand of a deal is worth as a flush with cards of one suit on the board.
-#[derive(Clone, Copy)]
-pub(crate) struct HandFlushes {
-    /// The cards of the suit on the board.
-    pub(crate) cards: CardSet,
-    /// The suit, from 0.
-    pub(crate) suit: u8,
-    /// The number of the deal.
-    pub(crate) stamp: u32,
-    /// What each hand is worth, 0 where it has no flush.
-    pub(crate) values: [u32; 10],
-}
-
-impl HandFlushes {
-    /// Those of no deal.
-    pub(crate) fn none() -> HandFlushes
-        ensures { result.stamp ≡ 0 }
-    {
-        HandFlushes {
-            cards: CardSet::empty(),
-            suit: 0,
-            stamp: 0,
-            values: [0; 10],
-        }
-    }
-
-    /// Whether they are those of a deal with some cards of a suit on the board.
-    pub(crate) fn are_of(&self, stamp: u32, part: &Suited) -> bool
+    pub(crate) fn is_of(&self, stamp: u32, part: &Suited) -> bool
         ensures stamp { IsTrue result → self.now.stamp ≡ stamp }
         ensures cards { IsTrue result → self.now.cards ≡ part.now.cards }
         ensures suit { IsTrue result → self.now.suit ≡ part.now.suit }

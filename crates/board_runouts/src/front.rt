@@ -1,10 +1,10 @@
 //! First cards of a board, with all that is looked up at a pair after them.
 
-ghost use Rattle.std.specs.Prelude.{◌≡◌, length, IsTrue};
+ghost use Rattle.std.specs.Prelude.{◌≡◌, length};
 ghost use Rattle.showdown_tally.specs.Deals.{deal_of};
 ghost use Rattle.board_runouts.specs.Codes.{AreCodesFor};
 ghost use Rattle.board_runouts.specs.KeptRows.{AreRowsOf};
-ghost use Rattle.board_ranks.specs.Suits.{AreAllShort, AreFivesWith};
+ghost use Rattle.board_ranks.specs.Suits.{AreFivesWith};
 
 use crate::codes::Codes;
 use crate::row::Row;
@@ -23,8 +23,6 @@ pub(crate) struct Front<'a> {
     pub(crate) rows: &'a [Row],
     /// The same as codes.
     pub(crate) codes: &'a Codes,
-    /// Whether no two more make anybody a flush.
-    pub(crate) plain: bool,
     /// The suit of which somebody may have a flush, at 4 times the suit of one of the last two and that of the other, or else 4.
     pub(crate) suits: [u8; 16],
     /// For each suit the ranks of the board's cards so far, as bits, where pairs that may be a flush are to be counted.
@@ -35,8 +33,6 @@ pub(crate) struct Front<'a> {
     pub(crate) ghost pots: { length rows.now ≡ spot.now.table.pots },
     /// The codes are for these cards.
     pub(crate) ghost codes_are: { AreCodesFor (deal_of spot.now.table) taken codes.now },
-    /// Where it is said that no two more make anybody a flush, none do.
-    pub(crate) ghost short: { IsTrue plain → AreAllShort spot.now.most taken },
     /// Where the table of suits names none, no two of these suits make anybody a flush.
     pub(crate) ghost fives: { AreFivesWith spot.now.most taken suits },
     /// It has a place for each two suits.
@@ -92,7 +88,6 @@ impl<'a> Front<'a> {
             taken,
             rows,
             codes,
-            plain: false,
             suits: [0; 16],
             tags: [0; 4],
         }
@@ -113,7 +108,6 @@ impl<'a> Front<'a> {
             taken: self.taken,
             rows: self.rows,
             codes: self.codes,
-            plain: false,
             suits: *suits,
             tags: wanted_bits(spot.table.known.board.union(self.taken), flushes),
         }
@@ -127,24 +121,8 @@ impl<'a> Front<'a> {
     {
         let spot = self.spot;
         let Some(suits) = suits_for(spot.most, self.taken) else {
-            return Front {
-                spot,
-                taken: self.taken,
-                rows: self.rows,
-                codes: self.codes,
-                plain: true,
-                suits: [4; 16],
-                tags: [0; 4],
-            };
+            return self.with_suits(&[4; 16], false);
         };
-        Front {
-            spot,
-            taken: self.taken,
-            rows: self.rows,
-            codes: self.codes,
-            plain: false,
-            suits,
-            tags: suit_bits(spot.table.known.board.union(self.taken)),
-        }
+        self.with_suits(&suits, true)
     }
 }

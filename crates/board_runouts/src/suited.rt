@@ -9,16 +9,15 @@ ghost use Rattle.showdown_tally.specs.Flushes.{IsOnlySuit};
 ghost use Rattle.showdown_tally.specs.Showdown.{eligible_in};
 ghost use Rattle.runout_walk.specs.Bests.{best_set};
 ghost use Rattle.board_ranks.specs.HighParts.{high_number};
-ghost use Rattle.board_runouts.specs.Fronts.{HoldsFlushes, IsFlushWith, IsPartWith, IsRunoutWith, front_deal};
+ghost use Rattle.board_runouts.specs.Fronts.{IsFlushFor, IsFlushWith, IsPartWith, IsRunoutWith, front_deal};
 ghost use Rattle.board_runouts.specs.KeptRows.{pair_place};
 
-use crate::flush::Suited;
-use crate::flushes::Flushes;
+use crate::flush::{Flush, Suited};
 use crate::front::Front;
 use crate::places::Place;
 use board_ranks::{Pair, high_value};
 use card_sets::{Card, CardSet, Known, Side};
-use runout_walk::{are_hands, low_mark, pot_best};
+use runout_walk::{are_hands, low_mark, pot_best, ten_places};
 use showdown_tally::{Table, flush_suit, law_values_keep_order};
 
 /// What each hand is worth as a high with a full board.
@@ -137,44 +136,45 @@ pub(crate) fn suited_part(front: &Front, pair: &Pair) -> Option<Suited>
 #[inline]
 pub(crate) fn suited_place(
     front: &Front,
-    flushes: &mut Flushes,
+    flush: &Flush,
     pot: u8,
     pair: &Pair,
     part: &Suited,
 ) -> Place
     requires pot { pot < front.now.spot.now.table.pots }
 
-    // After the runout a hand is worth its ranks or its flush with the part's cards.
+    // After the runout a hand is worth its ranks or its flush with the part's cards, the best of which is given for each pot.
     requires member { IsRunoutWith front.now pair.now }
     requires part { IsFlushWith front.now pair.now part.now }
-    requires flushes { HoldsFlushes front.now flushes.old }
+    requires flush { IsFlushFor front.now part.now flush.now }
 
-    // By the definition the runout is counted at these places, and what is kept of flushes stays right.
+    // By the definition the runout is counted at these places.
     ensures main { result.main
         ≡ pair_place (front_deal front.now) front.now.taken pot Side.High pair.now }
     ensures low { result.low
         ≡ pair_place (front_deal front.now) front.now.taken pot Side.Low pair.now }
     ensures few_mains { result.main < 2048 }
     ensures few_lows { result.low < 1024 }
-    ensures flushes { HoldsFlushes front.now flushes.new }
 {
     law_values_keep_order();
     let spot = front.spot;
     let rows = front.rows;
     are_hands(&spot.table, pot);
-    let row = &rows[usize::from(pot)];
+    ten_places(&spot.table);
+    let at = usize::from(pot);
+    let row = &rows[at];
     let place = usize::from(pair.ranks);
     let main = row.mains[place];
     let low = row.lows[place];
     let top = row.tops[place];
-    let flush = flushes.best_for(&spot.table, pot, part);
-    if flush.top < top {
+    let best = flush.tops[at];
+    if best < top {
         return Place { main, low };
     }
     let mark = low_mark(low);
-    if top < flush.top {
+    if top < best {
         return Place {
-            main: flush.set + mark,
+            main: flush.sets[at] + mark,
             low,
         };
     }

@@ -1,6 +1,7 @@
 use Rattle.std.proofs.Common.{sym, ◌∙◌, arith}
 use Rattle.card_sets.specs.declared.games.Side.TheVariants.{High, Low}
 use Rattle.board_runouts.specs.Fronts.{front_deal}
+use Rattle.board_runouts.proofs.FrontFacts.{suited_for}
 use Rattle.board_runouts.proofs.PairCounts.{adds_pot, board_high, count_pot, room_for}
 use Rattle.board_runouts.proofs.board_leaf.count_suited.Goals as goal
 
@@ -13,7 +14,6 @@ loop-pot-preserved c =
           (adds_pot (front_deal c.args.front.now) 1 c.loop-pot.pot place.result.main place.result.low c.loop-pot.counts c.add_place.new.counts c.add_place.ensures.high (λ p k has. c.add_place.ensures.low p k (c.has_side-two_sides.ensures ∙ has)))
           was.counted;
       same = c.add_place.ensures.places ∙ was.same;
-      flushes = place.ensures.flushes;
     }
 
 pub returns-clause-counts : goal.returns-clause-counts
@@ -40,3 +40,9 @@ add_place-requires-clause-fits_low c = λ two.
     let n = c.args.front.now.spot.now.pots in
     let t = c.loop-pot-test.true in
     room_for (front_deal c.args.front.now) c.args.front.now.taken c.args.pair.now c.loop-pot.pot c.suited_place-place.result.low Low c.args.counts.now c.loop-pot.counts c.requires.room.fits (omega arith) (sym c.has_side-two_sides.ensures ∙ two) (let f = c.suited_place-place.ensures.few_lows in omega arith) c.loop-pot.invariant.counted
+
+pub ready-at-requires-clause-suited : goal.ready-at-requires-clause-suited
+ready-at-requires-clause-suited c = suited_for c.args.front.now c.args.pair.now c.args.part.now c.requires.member c.requires.part
+
+pub suited_place-place-requires-clause-flush : goal.suited_place-place-requires-clause-flush
+suited_place-place-requires-clause-flush c = c.ready-at.ensures.there c.flush_at-flush.result.now c.flush_at-flush.ensures

@@ -1,5 +1,5 @@
 use Rattle.std.proofs.Common.{◌≡◌, length}
-use Rattle.board_runouts.specs.Fronts.{HoldsFlushes, front_deal}
+use Rattle.board_runouts.specs.Fronts.{front_deal}
 use Rattle.board_runouts.proofs.PairCounts.{IsCounted}
 use Rattle.board_runouts.proofs.board_leaf.count_suited.Given as goal
 
@@ -7,5 +7,4 @@ abbrev pub invariant-loop-pot : goal.invariant-loop-pot
 invariant-loop-pot l = record {
   counted : IsCounted (front_deal l.front) l.front.taken l.pair l.pot l.fn.counts l.counts;
   same : length l.counts ≡ length l.fn.counts;
-  flushes : HoldsFlushes l.front l.flushes;
 }

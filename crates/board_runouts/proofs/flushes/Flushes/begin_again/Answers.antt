@@ -11,13 +11,10 @@ returns c = λ deal.
     let is : take was.len (new ++ drop (length new) was.items) ≡ new = written was.len new was.items (c.drop_all.ensures.places ∙ c.as_mut_slice.ensures.len) in
     let P : List Flush → Type 0 = λ list. (i : ℕ) (flush : Flush) → slice_get list i ≡ Some flush → flush.stamp ≡ 0 in
     let none = subst P (sym is) c.drop_all.ensures.none in
-    let hands = c.none-self.ensures in
     record {
       past = record {
         places = ap length is ∙ c.drop_all.ensures.places ∙ ap length c.as_mut_slice.ensures.value ∙ c.requires;
         each = λ i flush at. let zero = none i flush at in omega arith;
-        hands = omega arith;
       };
       best = λ i flush at same. absurd (let zero = none i flush at in omega arith);
-      of_hands = λ same. absurd (omega arith);
     }

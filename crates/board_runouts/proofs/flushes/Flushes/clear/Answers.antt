@@ -5,11 +5,6 @@ pub returns : goal.returns
 returns c = λ deal.
     let was = c.requires in
     record {
-      past = record {
-        places = was.places;
-        each = λ i flush at. let l = was.each i flush at in omega arith;
-        hands = (let l = was.hands in omega arith);
-      };
+      past = record { places = was.places; each = λ i flush at. let l = was.each i flush at in omega arith };
       best = λ i flush at same. absurd (let l = was.each i flush at in omega arith);
-      of_hands = λ same. absurd (let l = was.hands in omega arith);
     }
