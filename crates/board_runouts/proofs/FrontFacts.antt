@@ -1,5 +1,5 @@
 -- First cards of a board, and counts of them with some pairs.
-use Rattle.std.proofs.Common.{◌≡◌, ℕ, suc, ◌+◌, ◌-◌, ◌*◌, ◌<◌, ◌≤◌, ◌==◌, List, [], ◌∷◌, ◌++◌, length, map, take, refl, sym, ap, ◌∙◌, arith, Some, get_or, subst}
+use Rattle.std.proofs.Common.{◌≡◌, ℕ, suc, ◌+◌, ◌-◌, ◌*◌, ◌<◌, ◌≤◌, List, [], ◌∷◌, ◌++◌, length, map, take, refl, sym, ap, ◌∙◌, arith, Some, get_or, subst}
 use Rattle.std.specs.Prelude.{slice_get, slice_index}
 use Rattle.std.specs.List.{slice_range}
 use Rattle.std.proofs.lemmas.Option.{slice_get-get_or}
@@ -14,7 +14,7 @@ use Rattle.board_ranks.specs.declared.pair.Pair.{Pair}
 use Rattle.board_runouts.specs.Fronts.{AddPairs, AreRunoutsWith, HasRoom, HoldsFlushes, IsFlushFor, IsFlushWith, IsRunoutWith, front_deal}
 use Rattle.board_runouts.specs.Highs.{AreSuitedFor, IsBestFlush}
 use Rattle.board_runouts.specs.KeptFlushes.{AreFlushes}
-use Rattle.board_runouts.specs.KeptRows.{PairsGrow, pair_place}
+use Rattle.board_runouts.specs.KeptRows.{PairsGrow}
 use Rattle.board_runouts.specs.Pairs.{cards_of_pair}
 use Rattle.board_runouts.specs.declared.flush.Flush.{Flush}
 use Rattle.board_runouts.specs.declared.flush.Suited.{Suited}
@@ -24,8 +24,7 @@ use Rattle.board_runouts.specs.declared.row.Row.{Row}
 use Rattle.board_runouts.specs.declared.spot.BoardSpot.{BoardSpot}
 use Rattle.board_runouts.proofs.BoardDealt.{IsScene, own_of, pair_inside, scene_of}
 use Rattle.board_runouts.proofs.BoardRunouts.{stretch-length, stretch-member}
-use Rattle.board_runouts.proofs.CodedPairs.{grow_on}
-use Rattle.board_runouts.proofs.PairCounts.{count_few, fits_next, grow_of, pairs_next}
+use Rattle.board_runouts.proofs.PairCounts.{fits_next, grow_of, pairs_next}
 
 -- what stands at a place of a list
 pub item_at : {X : Type 0} (xs : List X) (i : ℕ) (x : X) → i < length xs → x ≡ get_or xs i x → slice_get xs i ≡ Some x
@@ -73,19 +72,6 @@ room_next front pairs i old mid room l was = record {
 pub add_next : (front : Front) (pairs : List Pair) (i next : ℕ) (pair : Pair) (old mid new : List (List ℕ)) → next ≡ suc i → slice_get pairs i ≡ Some pair → AddPairs front (take i pairs) old mid → AddPairs front (pair ∷ []) mid new → AddPairs front (take next pairs) old new
 add_next front pairs i next pair old mid new n at was more = record {
   counted = pairs_next (front_deal front) front.taken pairs i next pair old mid new n at was.counted more.counted;
-  rows = more.rows ∙ was.rows;
-}
-
--- one piece after another
-pub room_part : (front : Front) (pairs : List Pair) (at size : ℕ) (old mid : List (List ℕ)) → HasRoom front old (length pairs) → at + size ≤ length pairs → AddPairs front (take at pairs) old mid → HasRoom front mid size
-room_part front pairs at size old mid room l was = record {
-  rows = (let a = room.rows in let b = was.rows in omega arith);
-  fits = λ pot place side p has k. omega (arith, room.fits pot place side p has k, was.counted pot place side p has k, count_few (λ q. pair_place (front_deal front) front.taken pot side q == place) pairs at);
-}
-
-pub add_part : (front : Front) (pairs : List Pair) (at end : ℕ) (old mid new : List (List ℕ)) → at ≤ end → AddPairs front (take at pairs) old mid → AddPairs front (slice_range pairs at end) mid new → AddPairs front (take end pairs) old new
-add_part front pairs at end old mid new l was more = record {
-  counted = grow_on (front_deal front) front.taken pairs at end old mid new l was.counted more.counted;
   rows = more.rows ∙ was.rows;
 }
 

@@ -1,5 +1,5 @@
 -- Rows and flushes in their places.
-use Rattle.std.proofs.Common.{◌≡◌, ◌+◌, ◌<◌, ◌≤◌, ℕ, zero, suc, List, [], ◌∷◌, ◌++◌, length, refl, sym, ap, ◌∙◌, arith, Some, set, subst, inl, inr, take, drop, ◌-◌, get_or, get_or-set_same, get_or-set_other, ◌⊎◌}
+use Rattle.std.proofs.Common.{◌≡◌, ◌+◌, ◌<◌, ◌≤◌, ℕ, zero, suc, List, [], ◌∷◌, ◌++◌, length, refl, sym, ap, ◌∙◌, arith, Some, set, subst, inl, inr, take, drop, ◌-◌, get_or-set_same, get_or-set_other, ◌⊎◌}
 use Rattle.std.specs.Prelude.{slice_get, slice_index, replicate}
 use Rattle.std.specs.List.{slice_range}
 use Rattle.std.proofs.lemmas.Bool.{cases_eq, cases_lt}

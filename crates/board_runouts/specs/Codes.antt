@@ -1,6 +1,5 @@
 -- Codes of the outcomes of rows, and sums of ones in their fields.
-use Rattle.std.specs.Prelude.{◌≡◌, ℕ, ◌+◌, ◌/◌, ◌%◌, ◌<◌, ◌≤◌, ◌==◌, true, List, [], ◌∷◌, ◌++◌, length, slice_get, slice_index, slice_index_or, Some, ◌⊎◌, ⊤}
-use Rattle.std.specs.List.{count_by, sum_by}
+use Rattle.std.specs.Prelude.{◌≡◌, ℕ, ◌+◌, ◌/◌, ◌%◌, ◌<◌, ◌≤◌, true, List, [], ◌∷◌, ◌++◌, length, slice_get, slice_index, slice_index_or, Some}
 use Rattle.card_sets.specs.Cards.{IsRising, rank_of}
 use Rattle.card_sets.specs.Games.{has_side}
 use Rattle.card_sets.specs.declared.games.Side.{Side}
@@ -10,7 +9,7 @@ use Rattle.showdown_tally.specs.SideCounts.{count_at}
 use Rattle.runout_walk.specs.Bests.{best_value}
 use Rattle.board_runouts.specs.Highs.{plain_of}
 use Rattle.board_runouts.specs.Fields.{code_of, end_of, ends_of, field, fields_at}
-use Rattle.board_runouts.specs.KeptRows.{PairsGrow, pair_place}
+use Rattle.board_runouts.specs.KeptRows.{pair_place}
 use Rattle.board_runouts.specs.SideRows.{AreRanksOf, IsBestOf, IsDealtWith}
 use Rattle.board_runouts.specs.declared.codes.Codes.{Codes}
 use Rattle.board_ranks.specs.declared.pair.Pair.{Pair}
@@ -39,26 +38,6 @@ pub record IsCodeOf (deal : Showdown) (taken : List ℕ) (codes : Codes) (pair :
   pub inside : code < 7
   pub add_is : slice_index codes.adds pair.ranks ≡ field code
   pub end_is : (pot : ℕ) (side : Side) → pot < length deal.pots → has_side side deal.state.game ≡ true → pair_place deal taken pot side pair ≡ slice_index (ends_of pot side codes.ends) code
-
--- one does so for each of some pairs
-abbrev pub AreCodedPairs : Showdown → List ℕ → Codes → List Pair → Type 0
-AreCodedPairs deal taken codes [] = ⊤
-AreCodedPairs deal taken codes (pair ∷ pairs) = ((code : ℕ) × IsCodeOf deal taken codes pair code) × AreCodedPairs deal taken codes pairs
-
--- the counts have all of some pairs but a few, which are in the fields of a sum
-pub record IsSumOf (deal : Showdown) (taken : List ℕ) (codes : Codes) (pairs : List Pair) (sum : ℕ) (old new : List (List ℕ)) (summed : List Pair) : Type 0 where
-  pub sum_is : sum ≡ sum_by (λ pair. slice_index codes.adds pair.ranks) summed
-  pub coded : AreCodedPairs deal taken codes summed
-  pub few : length summed ≤ length pairs
-  pub grown : (pot place : ℕ) (side : Side) → pot < length deal.pots → has_side side deal.state.game ≡ true → place < 2048
-      → count_at new pot side place + count_by (λ pair. pair_place deal taken pot side pair == place) summed ≡ count_at old pot side place + count_by (λ pair. pair_place deal taken pot side pair == place) pairs
-
-abbrev pub PairsSum : Showdown → List ℕ → Codes → List Pair → ℕ → List (List ℕ) → List (List ℕ) → Type 0
-PairsSum deal taken codes pairs sum old new = (summed : List Pair) × IsSumOf deal taken codes pairs sum old new summed
-
--- the counts have a pair, or else a number has a one in the field of its code
-abbrev pub IsPairSummed : Showdown → List ℕ → Codes → Pair → ℕ → List (List ℕ) → List (List ℕ) → Type 0
-IsPairSummed deal taken codes pair add old new = ((add ≡ 0) × PairsGrow deal taken (pair ∷ []) old new) ⊎ ((old ≡ new) × (slice_index codes.adds pair.ranks ≡ add) × ((code : ℕ) × IsCodeOf deal taken codes pair code))
 
 -- the fields of a sum are added to the counts that they stand for
 abbrev pub FieldsGrow : Showdown → Codes → ℕ → List (List ℕ) → List (List ℕ) → Type 0

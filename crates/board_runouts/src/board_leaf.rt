@@ -1,14 +1,12 @@
 //! The last two cards of a board, pair by pair.
 
-ghost use Rattle.std.specs.Prelude.{◌≡◌, ℕ, ◌+◌, ◌^◌, ◌<◌, [], ◌∷◌, length, slice_index, IsTrue};
-ghost use Rattle.board_runouts.specs.Codes.{IsPairSummed, PairsSum};
+ghost use Rattle.std.specs.Prelude.{◌≡◌, ℕ, ◌+◌, ◌^◌, ◌<◌, [], ◌∷◌, length, slice_index};
 ghost use Rattle.board_runouts.specs.Fronts.{AddPairs, AreRunoutsWith, HasRoom, HoldsFlushes, IsFlushWith, IsRunoutWith, front_deal};
 ghost use Rattle.board_runouts.specs.KeptRows.{CellsGrow, pair_place};
 
 use crate::flush::Suited;
 use crate::flushes::Flushes;
 use crate::front::Front;
-use crate::packed::{PIECE, put_sum};
 use crate::places::{add_place, put_runout};
 use crate::suited::{suited_part, suited_place};
 use board_ranks::Pair;
@@ -149,116 +147,6 @@ fn count_one_pot<L: Ledger>(
     }
 }
 
-/// Where a pair makes nobody a flush, a one in the field of the code of its ranks. Else it is counted for each pot, and none is given.
-#[inline]
-fn one_of_pair(front: &Front, flushes: &mut Flushes, pair: &Pair, counts: &mut [[u32; 2048]]) -> u64
-    // There is a code for each outcome.
-    requires enough { IsTrue front.now.codes.now.enough }
-    requires member { IsRunoutWith front.now pair.now }
-    requires flushes { HoldsFlushes front.now flushes.old }
-    requires room { HasRoom front.now counts.old 1 }
-
-    // The pair is counted, or else in the field of the number; what is kept stays right.
-    ensures counts { IsPairSummed (front_deal front.now) front.now.taken front.now.codes.now pair.now result counts.old counts.new }
-    ensures same { length counts.new ≡ length counts.old }
-    ensures flushes { HoldsFlushes front.now flushes.new }
-{
-    law_values_keep_order();
-    let spot = front.spot;
-    all_are_hands(&spot.table);
-    let Some(part) = suited_part(front, pair) else {
-        let codes = front.codes;
-        return codes.adds[usize::from(pair.ranks)];
-    };
-    count_suited(front, flushes, pair, &part, counts);
-    0
-}
-
-/// Counts first cards with each of up to 511 pairs as the last two, for each pot: those that make nobody a flush in the fields of a
-/// sum. It takes a step a pair.
-#[inline(never)]
-fn sum_piece<L: Ledger>(
-    front: &Front,
-    flushes: &mut Flushes,
-    pairs: &[Pair],
-    counts: &mut [[u32; 2048]],
-    steps: &mut Steps<L>,
-) -> u64
-    // There is a code for each outcome, and a field has room for all pairs.
-    requires enough { IsTrue front.now.codes.now.enough }
-    requires few { length pairs.now < 512 }
-    requires pairs { AreRunoutsWith front.now pairs.now }
-    requires flushes { HoldsFlushes front.now flushes.old }
-    requires room { HasRoom front.now counts.old (length pairs.now) }
-
-    // Each pair is counted for each pot, or else in a field of the sum; what is kept stays right.
-    ensures counts { PairsSum (front_deal front.now) front.now.taken front.now.codes.now pairs.now result counts.old counts.new }
-    ensures same { length counts.new ≡ length counts.old }
-    ensures flushes { HoldsFlushes front.now flushes.new }
-    ensures steps { steps.new ≡ steps.old + length pairs.now }
-{
-    let mut sum = 0u64;
-    for pair in pairs {
-        steps.tick();
-        sum += one_of_pair(front, flushes, pair, counts);
-    }
-    sum
-}
-
-/// Counts first cards with each of up to 511 pairs as the last two, for each pot. It takes a step a pair.
-#[inline]
-fn count_piece<L: Ledger>(
-    front: &Front,
-    flushes: &mut Flushes,
-    pairs: &[Pair],
-    counts: &mut [[u32; 2048]],
-    steps: &mut Steps<L>,
-)
-    // There is a code for each outcome, and a field has room for all pairs.
-    requires enough { IsTrue front.now.codes.now.enough }
-    requires few { length pairs.now < 512 }
-    requires pairs { AreRunoutsWith front.now pairs.now }
-    requires flushes { HoldsFlushes front.now flushes.old }
-    requires room { HasRoom front.now counts.old (length pairs.now) }
-
-    // Each pair is counted for each pot, and what is kept stays right.
-    ensures counts { AddPairs front.now pairs.now counts.old counts.new }
-    ensures flushes { HoldsFlushes front.now flushes.new }
-    ensures steps { steps.new ≡ steps.old + length pairs.now }
-{
-    let codes = front.codes;
-    codes.seven();
-    let sum = sum_piece(front, flushes, pairs, counts, steps);
-    put_sum(front, sum, counts);
-}
-
-/// Counts first cards with each of some pairs as the last two, for each pot, by codes. It takes a step a pair.
-fn count_coded<L: Ledger>(
-    front: &Front,
-    flushes: &mut Flushes,
-    pairs: &[Pair],
-    counts: &mut [[u32; 2048]],
-    steps: &mut Steps<L>,
-)
-    // There is a code for each outcome.
-    requires enough { IsTrue front.now.codes.now.enough }
-    requires pairs { AreRunoutsWith front.now pairs.now }
-    requires flushes { HoldsFlushes front.now flushes.old }
-    requires room { HasRoom front.now counts.old (length pairs.now) }
-
-    // Each pair is counted for each pot, and what is kept stays right.
-    ensures counts { AddPairs front.now pairs.now counts.old counts.new }
-    ensures flushes { HoldsFlushes front.now flushes.new }
-    ensures steps { steps.new ≡ steps.old + length pairs.now }
-{
-    let mut at = 0;
-    while at < pairs.len() {
-        let end = pairs.len().min(at + PIECE);
-        count_piece(front, flushes, &pairs[at..end], counts, steps);
-        at = end;
-    }
-}
-
 /// Counts first cards with each of some pairs as the last two, one by one: for the only pot of a game with one side, or for each. It takes
 /// a step a pair.
 #[inline]
@@ -285,30 +173,4 @@ pub(crate) fn count_each<L: Ledger>(
         return;
     }
     count_pairs(front, flushes, pairs, counts, steps);
-}
-
-/// Counts first cards with each of some pairs as the last two. It takes a step a pair.
-#[inline]
-pub(crate) fn count_front<L: Ledger>(
-    front: &Front,
-    flushes: &mut Flushes,
-    pairs: &[Pair],
-    counts: &mut [[u32; 2048]],
-    steps: &mut Steps<L>,
-)
-    requires pairs { AreRunoutsWith front.now pairs.now }
-    requires flushes { HoldsFlushes front.now flushes.old }
-    requires room { HasRoom front.now counts.old (length pairs.now) }
-
-    // Each pair is counted for each pot, and what is kept stays right.
-    ensures counts { AddPairs front.now pairs.now counts.old counts.new }
-    ensures flushes { HoldsFlushes front.now flushes.new }
-    ensures steps { steps.new ≡ steps.old + length pairs.now }
-{
-    let codes = front.codes;
-    if codes.enough {
-        count_coded(front, flushes, pairs, counts, steps);
-        return;
-    }
-    count_each(front, flushes, pairs, counts, steps);
 }

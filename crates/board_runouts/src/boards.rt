@@ -124,16 +124,17 @@ impl Leaf for Boards {
         let least = last_rank(taken);
         let base = self.rows.ready(&spot.table, taken, &ranks, least);
         let rows = self.rows.stretch(base, spot.table.pots);
-        let place = self.codes.ready(spot, base, rows, &ranks, least);
-        let codes = self.codes.codes_at(place);
-        let front = Front::of(spot, taken, rows, codes);
         let flushes = &mut self.flushes;
         self.pairs.serve(self.cards);
         let pairs = &mut self.pairs;
         if taken == CardSet::empty() {
+            let front = Front::of(spot, taken, rows, None);
             count_whole(&front, flushes, pairs, span, counts, steps);
             return;
         }
+        let place = self.codes.ready(spot, base, rows, &ranks, least);
+        let codes = self.codes.codes_at(place).if_enough();
+        let front = Front::of(spot, taken, rows, codes);
         count_sieved(&front, flushes, pairs, span, counts, steps);
     }
 }

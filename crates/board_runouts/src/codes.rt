@@ -1,5 +1,6 @@
 //! Who wins all pots for each pair of ranks of the last two cards, as a code.
 
+ghost use Rattle.std.specs.Option.{ForSome};
 ghost use Rattle.std.specs.Prelude.{◌≡◌, ◌≢◌, ℕ, ◌+◌, ◌*◌, ◌<◌, ◌≤◌, [], length, slice_index, slice_index_or, false, true, IsTrue, MatchOption, ⊤};
 ghost use Rattle.board_runouts.specs.Fields.{AreCodesAt, IsOutcome, field};
 
@@ -102,6 +103,18 @@ impl Codes {
         ensures { length self.now.adds ≡ 169 }
     {
         let _adds: &[u64] = &self.adds;
+    }
+
+    /// They, where there is a code for each outcome.
+    #[inline]
+    pub(crate) fn if_enough(&self) -> Option<&Codes>
+        ensures codes { ForSome result (λ c. c.now ≡ self.now) }
+        ensures enough { ForSome result (λ c. IsTrue c.now.enough) }
+    {
+        if !self.enough {
+            return None;
+        }
+        Some(self)
     }
 
     /// Whether they are those of first cards of these ranks, the last of which is the least of the cards after them.

@@ -1,6 +1,7 @@
 //! First cards of a board, with all that is looked up at a pair after them.
 
-ghost use Rattle.std.specs.Prelude.{◌≡◌, length};
+ghost use Rattle.std.specs.Option.{ForSome};
+ghost use Rattle.std.specs.Prelude.{◌≡◌, length, IsTrue};
 ghost use Rattle.showdown_tally.specs.Deals.{deal_of};
 ghost use Rattle.board_runouts.specs.Codes.{AreCodesFor};
 ghost use Rattle.board_runouts.specs.KeptRows.{AreRowsOf};
@@ -21,8 +22,8 @@ pub(crate) struct Front<'a> {
     pub(crate) taken: CardSet,
     /// By the ranks of the pair, who wins each pot.
     pub(crate) rows: &'a [Row],
-    /// The same as codes.
-    pub(crate) codes: &'a Codes,
+    /// The same as codes, where there is one for each outcome and they are asked for.
+    pub(crate) codes: Option<&'a Codes>,
     /// The suit of which somebody may have a flush, at 4 times the suit of one of the last two and that of the other, or else 4.
     pub(crate) suits: [u8; 16],
     /// For each suit the ranks of the board's cards so far, as bits, where pairs that may be a flush are to be counted.
@@ -32,7 +33,9 @@ pub(crate) struct Front<'a> {
     /// and each pot has one.
     pub(crate) ghost pots: { length rows.now ≡ spot.now.table.pots },
     /// The codes are for these cards.
-    pub(crate) ghost codes_are: { AreCodesFor (deal_of spot.now.table) taken codes.now },
+    pub(crate) ghost codes_are: { ForSome codes (λ c. AreCodesFor (deal_of spot.now.table) taken c.now) },
+    /// There is one for each outcome.
+    pub(crate) ghost enough: { ForSome codes (λ c. IsTrue c.now.enough) },
     /// Where the table of suits names none, no two of these suits make anybody a flush.
     pub(crate) ghost fives: { AreFivesWith spot.now.most taken suits },
     /// It has a place for each two suits.
@@ -75,11 +78,12 @@ impl<'a> Front<'a> {
         spot: &'a BoardSpot,
         taken: CardSet,
         rows: &'a [Row],
-        codes: &'a Codes,
+        codes: Option<&'a Codes>,
     ) -> Front<'a>
         requires rows { AreRowsOf (deal_of spot.now.table) taken rows.now }
         requires pots { length rows.now ≡ spot.now.table.pots }
-        requires codes { AreCodesFor (deal_of spot.now.table) taken codes.now }
+        requires codes { ForSome codes (λ c. AreCodesFor (deal_of spot.now.table) taken c.now) }
+        requires enough { ForSome codes (λ c. IsTrue c.now.enough) }
         ensures spot { result.spot.now ≡ spot.now }
         ensures taken { result.taken ≡ taken }
     {

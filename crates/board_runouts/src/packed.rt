@@ -6,10 +6,8 @@ ghost use Rattle.showdown_tally.specs.Deals.{deal_of};
 ghost use Rattle.showdown_tally.specs.SideCounts.{count_at};
 ghost use Rattle.board_runouts.specs.Codes.{FieldsGrow};
 ghost use Rattle.board_runouts.specs.Fields.{end_of, ends_of, fields_at};
-ghost use Rattle.board_runouts.specs.Fronts.{front_deal};
 
-use crate::codes::ENDS;
-use crate::front::Front;
+use crate::codes::{Codes, ENDS};
 use crate::places::{Place, add_place};
 use crate::spot::BoardSpot;
 use card_sets::Side;
@@ -46,18 +44,16 @@ fn put_outcome(spot: &BoardSpot, outcome: &[u16; ENDS], times: u32, counts: &mut
 
 /// Adds the fields of a sum to the counts that their codes stand for, for each pot.
 #[inline]
-pub(crate) fn put_sum(front: &Front, sum: u64, counts: &mut [[u32; 2048]])
-    requires pots { front.now.spot.now.table.pots ≤ 10 }
-    requires counts { 2 * front.now.spot.now.table.pots ≤ length counts.old }
-    requires fits { (pot place : ℕ) (side : Side) → pot < length (front_deal front.now).pots
-        → has_side side front.now.spot.now.table.known.game ≡ true → place < 2048
+pub(crate) fn put_sum(spot: &BoardSpot, codes: &Codes, sum: u64, counts: &mut [[u32; 2048]])
+    requires pots { spot.now.table.pots ≤ 10 }
+    requires counts { 2 * spot.now.table.pots ≤ length counts.old }
+    requires fits { (pot place : ℕ) (side : Side) → pot < length (deal_of spot.now.table).pots
+        → has_side side spot.now.table.known.game ≡ true → place < 2048
         → count_at counts.old pot side place
-        + fields_at (ends_of pot side front.now.codes.now.ends) sum place < 2 ^ 32 }
-    ensures counts { FieldsGrow (front_deal front.now) front.now.codes.now sum counts.old counts.new }
+        + fields_at (ends_of pot side codes.now.ends) sum place < 2 ^ 32 }
+    ensures counts { FieldsGrow (deal_of spot.now.table) codes.now sum counts.old counts.new }
     ensures same { length counts.new ≡ length counts.old }
 {
-    let spot = front.spot;
-    let codes = front.codes;
     codes.seven();
     let mut rest = sum;
     let ends: &[[u16; ENDS]] = &codes.ends;

@@ -44,52 +44,54 @@ fn sum_ranks<L: Ledger>(codes: &Codes, all: &[u8], steps: &mut Steps<L>) -> u64
 #[inline]
 fn count_piece<L: Ledger>(
     front: &Front,
+    codes: &Codes,
     all: &[u8],
     counts: &mut [[u32; 2048]],
     steps: &mut Steps<L>,
 )
     // The ranks are places, and have codes.
     requires inside { (ranks : ℕ) → HasMember all.now ranks → ranks < 169 }
-    requires coded { (ranks : ℕ) → HasMember all.now ranks → HasCode front.now.codes.now ranks }
+    requires coded { (ranks : ℕ) → HasMember all.now ranks → HasCode codes.now ranks }
 
     // Each count has room for all of them, and so has a field.
     requires room { HasRoom front.now counts.old (length all.now) }
     requires few { length all.now < 512 }
 
     // Each is counted for each pot.
-    ensures counts { CodesGrow (front_deal front.now) front.now.codes.now all.now counts.old counts.new }
+    ensures counts { CodesGrow (front_deal front.now) codes.now all.now counts.old counts.new }
     ensures same { length counts.new ≡ length counts.old }
     ensures steps { steps.new ≡ steps.old + length all.now }
 {
-    let codes = front.codes;
     codes.seven();
     let sum = sum_ranks(codes, all, steps);
-    put_sum(front, sum, counts);
+    let spot = front.spot;
+    put_sum(spot, codes, sum, counts);
 }
 
 /// Counts some ranks by their codes, for each pot. It takes a step for each.
 fn count_codes<L: Ledger>(
     front: &Front,
+    codes: &Codes,
     all: &[u8],
     counts: &mut [[u32; 2048]],
     steps: &mut Steps<L>,
 )
     // The ranks are places, and have codes.
     requires inside { (ranks : ℕ) → HasMember all.now ranks → ranks < 169 }
-    requires coded { (ranks : ℕ) → HasMember all.now ranks → HasCode front.now.codes.now ranks }
+    requires coded { (ranks : ℕ) → HasMember all.now ranks → HasCode codes.now ranks }
 
     // Each count has room for all of them.
     requires room { HasRoom front.now counts.old (length all.now) }
 
     // Each is counted for each pot.
-    ensures counts { CodesGrow (front_deal front.now) front.now.codes.now all.now counts.old counts.new }
+    ensures counts { CodesGrow (front_deal front.now) codes.now all.now counts.old counts.new }
     ensures same { length counts.new ≡ length counts.old }
     ensures steps { steps.new ≡ steps.old + length all.now }
 {
     let mut at = 0;
     while at < all.len() {
         let end = all.len().min(at + PIECE);
-        count_piece(front, &all[at..end], counts, steps);
+        count_piece(front, codes, &all[at..end], counts, steps);
         at = end;
     }
 }
@@ -160,9 +162,8 @@ pub(crate) fn count_plain<L: Ledger>(
     law_values_keep_order();
     let spot = front.spot;
     all_are_hands(&spot.table);
-    let codes = front.codes;
-    if codes.enough {
-        count_codes(front, all, counts, steps);
+    if let Some(codes) = front.codes {
+        count_codes(front, codes, all, counts, steps);
         return;
     }
     if spot.table.pots == 1 && !spot.table.known.game.has_side(Side::Low) {

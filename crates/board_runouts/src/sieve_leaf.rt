@@ -11,7 +11,7 @@ ghost use Rattle.runout_walk.specs.Listing.{IsEndOf};
 ghost use Rattle.board_ranks.specs.Sieves.{flush_pairs, plain_ranks};
 ghost use Rattle.board_runouts.specs.Fronts.{AddPairs, AreRunoutsWith, HasRoom, HoldsFlushes, front_deal};
 
-use crate::board_leaf::{count_each, count_front};
+use crate::board_leaf::count_each;
 use crate::flushes::Flushes;
 use crate::front::Front;
 use crate::pairs::Pairs;
@@ -83,7 +83,7 @@ pub(crate) fn count_whole<L: Ledger>(
     let stretch = pairs.stretch(span.tail.rest, span.lo, span.hi);
     let all = pairs.listed();
     let some = &all[stretch.start..stretch.end];
-    count_front(&first, flushes, some, counts, steps);
+    count_each(&first, flushes, some, counts, steps);
 }
 
 /// The same with a sieve, which is made where it isn't kept.

@@ -9,7 +9,7 @@ use Rattle.board_runouts.proofs.packed.put_sum.Given as goal
 
 abbrev pub invariant-loop-outcome : goal.invariant-loop-outcome
 invariant-loop-outcome l = record {
-  grown : (pot place : ℕ) (side : Side) → pot < length (deal_of l.front.spot.now.table).pots → has_side side l.front.spot.now.table.known.game ≡ true → place < 2048
-      → count_at l.counts pot side place + fields_from (ends_of pot side l.front.codes.now.ends) l.outcome-index l.rest place ≡ count_at l.fn.counts pot side place + fields_at (ends_of pot side l.front.codes.now.ends) l.sum place;
+  grown : (pot place : ℕ) (side : Side) → pot < length (deal_of l.spot.table).pots → has_side side l.spot.table.known.game ≡ true → place < 2048
+      → count_at l.counts pot side place + fields_from (ends_of pot side l.codes.ends) l.outcome-index l.rest place ≡ count_at l.fn.counts pot side place + fields_at (ends_of pot side l.codes.ends) l.sum place;
   same : length l.counts ≡ length l.fn.counts;
 }

@@ -18,7 +18,7 @@ count_piece-requires-clause-room g c =
     let size : length (slice_range c.args.all.now c.loop-at.at c.min-end.result) ≡ c.min-end.result - c.loop-at.at = length-range c.args.all.now c.loop-at.at c.min-end.result (omega arith) (omega arith) in
     record {
       rows = (let r = c.requires.room.rows in let s = c.loop-at.invariant.same in omega arith);
-      fits = codes_room (front_deal c.args.front.now) c.args.front.now.codes.now c.args.all.now c.loop-at.at (length (slice_range c.args.all.now c.loop-at.at c.min-end.result)) c.args.counts.now c.loop-at.counts c.requires.room.fits (omega arith) c.loop-at.invariant.grown;
+      fits = codes_room (front_deal c.args.front.now) c.args.codes.now c.args.all.now c.loop-at.at (length (slice_range c.args.all.now c.loop-at.at c.min-end.result)) c.args.counts.now c.loop-at.counts c.requires.room.fits (omega arith) c.loop-at.invariant.grown;
     }
 
 pub loop-at-preserved : goal.loop-at-preserved
@@ -30,7 +30,7 @@ loop-at-preserved g c =
     let size : length (slice_range c.args.all.now c.loop-at.at c.min-end.result) ≡ c.min-end.result - c.loop-at.at = length-range c.args.all.now c.loop-at.at c.min-end.result (omega arith) (omega arith) in
     record {
       within = omega arith;
-      grown = codes_on (front_deal c.args.front.now) c.args.front.now.codes.now c.args.all.now c.loop-at.at c.min-end.result c.args.counts.now c.loop-at.counts c.count_piece.new.counts (omega arith) was.grown e.counts;
+      grown = codes_on (front_deal c.args.front.now) c.args.codes.now c.args.all.now c.loop-at.at c.min-end.result c.args.counts.now c.loop-at.counts c.count_piece.new.counts (omega arith) was.grown e.counts;
       same = e.same ∙ was.same;
       steps = (let s = was.steps in let n = e.steps in omega arith);
     }

@@ -6,7 +6,7 @@ use Rattle.board_runouts.proofs.plain_ranks.count_codes.Given as goal
 abbrev pub invariant-loop-at : goal.invariant-loop-at
 invariant-loop-at g l = record {
   within : l.at ≤ length l.all;
-  grown : CodesGrow (deal_of l.front.spot.now.table) l.front.codes.now (take l.at l.all) l.fn.counts l.counts;
+  grown : CodesGrow (deal_of l.front.spot.now.table) l.codes (take l.at l.all) l.fn.counts l.counts;
   same : length l.counts ≡ length l.fn.counts;
   steps : l.steps ≡ l.fn.steps + l.at;
 }

@@ -10,8 +10,8 @@ put_sum-requires-clause-fits g c = λ pot place side p has l.
     omega (
       arith,
       c.requires.room.fits pot place side p has l,
-      ranks_fields c.args.front.now.codes.now pot place side c.args.all.now c.sum_ranks-sum.result c.requires.coded c.requires.few c.seven.ensures c.sum_ranks-sum.ensures.sum,
-      count_by-le-length (λ ranks. code_end c.args.front.now.codes.now pot side ranks == place) c.args.all.now,
+      ranks_fields c.args.codes.now pot place side c.args.all.now c.sum_ranks-sum.result c.requires.coded c.requires.few c.seven.ensures c.sum_ranks-sum.ensures.sum,
+      count_by-le-length (λ ranks. code_end c.args.codes.now pot side ranks == place) c.args.all.now,
     )
 
 pub returns-clause-counts : goal.returns-clause-counts
@@ -19,7 +19,7 @@ returns-clause-counts g c = λ pot place side p has l.
     omega (
       arith,
       c.put_sum.ensures.counts pot place side p has l,
-      ranks_fields c.args.front.now.codes.now pot place side c.args.all.now c.sum_ranks-sum.result c.requires.coded c.requires.few c.seven.ensures c.sum_ranks-sum.ensures.sum,
+      ranks_fields c.args.codes.now pot place side c.args.all.now c.sum_ranks-sum.result c.requires.coded c.requires.few c.seven.ensures c.sum_ranks-sum.ensures.sum,
     )
 
 pub put_sum-requires-clause-counts : goal.put_sum-requires-clause-counts

@@ -15,11 +15,11 @@ count_codes-requires-clause-inside g c =
 
 pub count_codes-requires-clause-coded : goal.count_codes-requires-clause-coded
 count_codes-requires-clause-coded g c =
-    plain_coded c.args.front.now.spot.now c.args.front.now.taken c.args.front.now.codes.now (plain_pairs c.args.front.now.suits c.args.pairs.now) c.args.all.now (plain_all c.args.front.now.spot.now c.args.front.now.taken c.args.front.now.suits c.args.pairs.now c.args.front.now.fives c.args.front.now.places c.requires.pairs) c.requires.ranks c.law_values_keep_order.ensures (λ pot p. c.all_are_hands.ensures pot (let n = c.args.front.now.spot.now.pots in omega arith)) c.args.front.now.codes_are c.if-codes.true
+    plain_coded c.args.front.now.spot.now c.args.front.now.taken c.in-Some.codes.now (plain_pairs c.args.front.now.suits c.args.pairs.now) c.args.all.now (plain_all c.args.front.now.spot.now c.args.front.now.taken c.args.front.now.suits c.args.pairs.now c.args.front.now.fives c.args.front.now.places c.requires.pairs) c.requires.ranks c.law_values_keep_order.ensures (λ pot p. c.all_are_hands.ensures pot (let n = c.args.front.now.spot.now.pots in omega arith)) (c.args.front.now.codes_are c.in-Some.codes c.in-Some.is) (c.args.front.now.enough c.in-Some.codes c.in-Some.is)
 
-pub returns-then-codes-clause-counts : goal.returns-then-codes-clause-counts
-returns-then-codes-clause-counts g c = record {
-  counted = plain_codes c.args.front.now.spot.now c.args.front.now.taken c.args.front.now.codes.now (plain_pairs c.args.front.now.suits c.args.pairs.now) c.args.all.now c.args.counts.now c.count_codes.new.counts (plain_all c.args.front.now.spot.now c.args.front.now.taken c.args.front.now.suits c.args.pairs.now c.args.front.now.fives c.args.front.now.places c.requires.pairs) c.requires.ranks c.law_values_keep_order.ensures (λ pot p. c.all_are_hands.ensures pot (let n = c.args.front.now.spot.now.pots in omega arith)) c.args.front.now.codes_are c.if-codes.true c.count_codes.ensures.counts;
+pub returns-in-Some-clause-counts : goal.returns-in-Some-clause-counts
+returns-in-Some-clause-counts g c = record {
+  counted = plain_codes c.args.front.now.spot.now c.args.front.now.taken c.in-Some.codes.now (plain_pairs c.args.front.now.suits c.args.pairs.now) c.args.all.now c.args.counts.now c.count_codes.new.counts (plain_all c.args.front.now.spot.now c.args.front.now.taken c.args.front.now.suits c.args.pairs.now c.args.front.now.fives c.args.front.now.places c.requires.pairs) c.requires.ranks c.law_values_keep_order.ensures (λ pot p. c.all_are_hands.ensures pot (let n = c.args.front.now.spot.now.pots in omega arith)) (c.args.front.now.codes_are c.in-Some.codes c.in-Some.is) (c.args.front.now.enough c.in-Some.codes c.in-Some.is) c.count_codes.ensures.counts;
   rows = c.count_codes.ensures.same;
 }
 

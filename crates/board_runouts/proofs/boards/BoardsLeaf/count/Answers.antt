@@ -1,9 +1,10 @@
-use Rattle.std.proofs.Common.{◌≡◌, ◌-◌, length, ap, ◌∙◌, arith}
+use Rattle.std.proofs.Common.{◌≡◌, ◌-◌, length, sym, ap, ◌∙◌, arith, subst}
 use Rattle.std.specs.List.{slice_range}
 use Rattle.card_sets.specs.Choose.{choose}
 use Rattle.card_sets.specs.State.{state_of}
 use Rattle.runout_ranges.specs.Slots.{unseen}
 use Rattle.showdown_tally.specs.Deals.{deal_of}
+use Rattle.board_runouts.specs.Codes.{AreCodesFor}
 use Rattle.board_runouts.proofs.BoardLeaf.{IsLeafOf, end_of_all, front_flushes, front_grow, front_members, front_room, leaf_grow, leaf_of}
 use Rattle.board_runouts.proofs.CodedPairs.{codes_for, right_as}
 use Rattle.board_runouts.proofs.boards.BoardsLeaf.count.Goals as goal
@@ -55,13 +56,6 @@ count_sieved-requires-clause-inside g c =
 pub of-front-requires-clause-rows : goal.of-front-requires-clause-rows
 of-front-requires-clause-rows g c = λ pot row at. let r = c.stretch-rows.ensures.rows pot row at in c.ready-base.ensures.rows pot row r.0 r.1
 
-pub of-front-requires-clause-codes : goal.of-front-requires-clause-codes
-of-front-requires-clause-codes g c =
-    let at = c.codes_at-codes.ensures in
-    let place = c.ready-place.ensures in
-    codes_for (deal_of c.args.self.now.spot.table) c.args.span.now.tail.taken c.ranks_of-ranks.result c.last_rank-least.result c.codes_at-codes.result.now (place.right c.ready-place.result c.codes_at-codes.result.now at) (place.ranks c.codes_at-codes.result.now at) (place.least c.codes_at-codes.result.now at)
-    c.ranks_of-ranks.ensures.ranks c.last_rank-least.ensures
-
 pub count_whole-requires-clause-members : goal.count_whole-requires-clause-members
 count_whole-requires-clause-members g c =
     front_members c.of-front.result c.args.self.now.spot c.args.span.now.tail.taken c.args.span.now.tail.rest c.of-front.ensures.spot c.of-front.ensures.taken
@@ -82,21 +76,21 @@ returns-then-eq-clause-counts g c =
 
 pub count_sieved-requires-clause-members : goal.count_sieved-requires-clause-members
 count_sieved-requires-clause-members g c =
-    front_members c.of-front.result c.args.self.now.spot c.args.span.now.tail.taken c.args.span.now.tail.rest c.of-front.ensures.spot c.of-front.ensures.taken
+    front_members c.of-front-2.result c.args.self.now.spot c.args.span.now.tail.taken c.args.span.now.tail.rest c.of-front-2.ensures.spot c.of-front-2.ensures.taken
     (leaf_of c.args.self.now.spot c.args.self.now.table c.args.span.now.front.now c.args.span.now.tail.taken c.args.span.now.tail.rest c.args.span.now.tail.left c.args.span.now.lo c.args.span.now.hi c.args.self.now.same c.requires.last c.requires.deep c.requires.members c.requires.order c.requires.inside).members
 
 pub count_sieved-requires-clause-room : goal.count_sieved-requires-clause-room
-count_sieved-requires-clause-room g c = front_room c.of-front.result c.args.self.now.spot c.args.self.now.table c.args.counts.now (c.args.span.now.hi - c.args.span.now.lo) c.of-front.ensures.spot c.args.self.now.same c.requires.places c.requires.fits
+count_sieved-requires-clause-room g c = front_room c.of-front-2.result c.args.self.now.spot c.args.self.now.table c.args.counts.now (c.args.span.now.hi - c.args.span.now.lo) c.of-front-2.ensures.spot c.args.self.now.same c.requires.places c.requires.fits
 
 pub count_sieved-requires-clause-flushes : goal.count_sieved-requires-clause-flushes
-count_sieved-requires-clause-flushes g c = front_flushes c.of-front.result c.args.self.now.spot c.args.self.now.flushes c.of-front.ensures.spot c.args.self.now.best
+count_sieved-requires-clause-flushes g c = front_flushes c.of-front-2.result c.args.self.now.spot c.args.self.now.flushes c.of-front-2.ensures.spot c.args.self.now.best
 
 pub returns-clause-counts : goal.returns-clause-counts
 returns-clause-counts g c =
     let leaf : IsLeafOf c.args.self.now.spot c.args.span.now.front.now c.args.span.now.tail.taken c.args.span.now.tail.rest =
     leaf_of c.args.self.now.spot c.args.self.now.table c.args.span.now.front.now c.args.span.now.tail.taken c.args.span.now.tail.rest c.args.span.now.tail.left c.args.span.now.lo c.args.span.now.hi c.args.self.now.same c.requires.last c.requires.deep c.requires.members c.requires.order c.requires.inside in
     leaf_grow c.args.self.now.spot c.args.self.now.table c.args.span.now.front.now c.args.span.now.tail.taken c.args.span.now.tail.rest c.args.span.now.tail.left c.args.span.now.lo c.args.span.now.hi c.args.counts.now c.count_sieved.new.counts c.args.self.now.same leaf.none c.requires.deep
-    (front_grow c.of-front.result c.args.self.now.spot c.args.span.now.tail.taken (slice_range (choose 2 c.args.span.now.tail.rest) c.args.span.now.lo c.args.span.now.hi) c.args.counts.now c.count_sieved.new.counts c.of-front.ensures.spot c.of-front.ensures.taken c.count_sieved.ensures.counts)
+    (front_grow c.of-front-2.result c.args.self.now.spot c.args.span.now.tail.taken (slice_range (choose 2 c.args.span.now.tail.rest) c.args.span.now.lo c.args.span.now.hi) c.args.counts.now c.count_sieved.new.counts c.of-front-2.ensures.spot c.of-front-2.ensures.taken c.count_sieved.ensures.counts)
 
 pub ready-base-requires-clause-right : goal.ready-base-requires-clause-right
 ready-base-requires-clause-right g c = c.args.self.now.right
@@ -112,3 +106,14 @@ ready-base-requires-clause-least g c = c.last_rank-least.ensures
 
 pub ready-place-requires-clause-right : goal.ready-place-requires-clause-right
 ready-place-requires-clause-right g c = c.args.self.now.coded
+
+pub of-front-requires-2-clause-rows : goal.of-front-requires-2-clause-rows
+of-front-requires-2-clause-rows g c = λ pot row at. let r = c.stretch-rows.ensures.rows pot row at in c.ready-base.ensures.rows pot row r.0 r.1
+
+pub of-front-requires-2-clause-codes : goal.of-front-requires-2-clause-codes
+of-front-requires-2-clause-codes g c = λ codes is.
+    let at = c.codes_at.ensures in
+    let place = c.ready-place.ensures in
+    subst (AreCodesFor (deal_of c.args.self.now.spot.table) c.args.span.now.tail.taken) (sym (c.if_enough-codes.ensures.codes codes is))
+    (codes_for (deal_of c.args.self.now.spot.table) c.args.span.now.tail.taken c.ranks_of-ranks.result c.last_rank-least.result c.codes_at.result.now (place.right c.ready-place.result c.codes_at.result.now at) (place.ranks c.codes_at.result.now at) (place.least c.codes_at.result.now at)
+    c.ranks_of-ranks.ensures.ranks c.last_rank-least.ensures)
