@@ -18,11 +18,9 @@ use std::alloc::Global;
 /// How many there is room for.
 const ROOM: usize = 192;
 
-/// Codes of groups of rows.
+/// Codes of groups of rows, each in the place of the group's first row. What stands there is looked at before it is used.
 #[derive(Drop)]
 pub(crate) struct CodedRows {
-    /// Where the codes of the rows from each place on stand, if they do. What stands there is looked at before it is used.
-    at: [u8; 256],
     /// The codes.
     pub(crate) list: Vec<Codes>,
     /// There is room for so many.
@@ -35,10 +33,7 @@ impl CodedRows {
         ensures { IfOk result (λ kept. (deal : Showdown) → AreAllCodes deal kept.list.items) }
     {
         let list = Vec::with_capacity(alloc, ROOM)?;
-        Ok(CodedRows {
-            at: [255; 256],
-            list,
-        })
+        Ok(CodedRows { list })
     }
 
     /// Drops all codes.
@@ -49,59 +44,36 @@ impl CodedRows {
         self.list.clear();
     }
 
-    /// Makes room for codes more: where there is none, all are dropped.
-    fn make_room(&mut self)
-        ensures room { length self.new.list.items < 192 }
+    /// Makes places up to one.
+    fn reach(&mut self, place: usize)
+        requires { place < 192 }
+        ensures place { place < length self.new.list.items }
         ensures right { (deal : Showdown) → AreAllCodes deal self.old.list.items
             → AreAllCodes deal self.new.list.items }
     {
-        if self.list.len() < ROOM {
-            return;
+        while self.list.len() <= place {
+            self.list.push_reserved(Codes::none());
         }
-        self.clear();
     }
 
-    /// Where codes are to stand: in the place given, if there are some, or else in one of their own.
-    fn place_for(&mut self, place: usize) -> usize
-        ensures place { result < length self.new.list.items }
-        ensures right { (deal : Showdown) → AreAllCodes deal self.old.list.items
-            → AreAllCodes deal self.new.list.items }
-    {
-        if place < self.list.len() {
-            return place;
-        }
-        self.make_room();
-        let last = self.list.len();
-        self.list.push_reserved(Codes::none());
-        last
-    }
-
-    /// Makes the codes of the rows of all pots for first cards of these ranks, and gives their place.
+    /// Makes the codes of the rows of all pots for first cards of these ranks, in a place.
     #[inline(never)]
-    fn put(
-        &mut self,
-        spot: &BoardSpot,
-        place: usize,
-        rows: &[Row],
-        ranks: [u8; 3],
-        least: u8,
-    ) -> usize
+    fn put(&mut self, spot: &BoardSpot, place: usize, rows: &[Row], ranks: [u8; 3], least: u8)
+        requires place { place < length self.old.list.items }
         requires few { length rows.now ≤ 10 }
         requires pots { length rows.now ≡ length (deal_of spot.now.table).pots }
         requires right { AreAllCodes (deal_of spot.now.table) self.old.list.items }
         requires rows { (pot : ℕ) (row : Row) → slice_get rows.now pot ≡ Some row
             → IsSideRow (deal_of spot.now.table) pot ranks least row.mains row.lows row.tops }
-        ensures place { result < length self.new.list.items }
-        ensures ranks { (codes : Codes) → slice_get self.new.list.items result ≡ Some codes
+        ensures size { length self.new.list.items ≡ length self.old.list.items }
+        ensures ranks { (codes : Codes) → slice_get self.new.list.items place ≡ Some codes
             → codes.ranks ≡ ranks }
-        ensures least { (codes : Codes) → slice_get self.new.list.items result ≡ Some codes
+        ensures least { (codes : Codes) → slice_get self.new.list.items place ≡ Some codes
             → codes.least ≡ least }
         ensures right { AreAllCodes (deal_of spot.now.table) self.new.list.items }
     {
-        let at = self.place_for(place);
-        let codes = &mut self.list[at];
+        let codes = &mut self.list[place];
         codes.fill(rows, ranks, least);
-        at
     }
 
     /// Makes the codes of the rows of all pots for first cards stand in their place, where they aren't kept, and gives it. The rows
@@ -130,14 +102,13 @@ impl CodedRows {
             → codes.least ≡ least }
         ensures right { AreAllCodes (deal_of spot.now.table) self.new.list.items }
     {
-        let group = base % 256;
-        let place = usize::from(self.at[group]);
-        if place < self.list.len() && self.list[place].are_for(ranks, least) {
+        let place = base % ROOM;
+        self.reach(place);
+        if self.list[place].are_for(ranks, least) {
             return place;
         }
-        let at = self.put(spot, place, rows, *ranks, least);
-        self.at[group] = (at % 256) as u8;
-        at
+        self.put(spot, place, rows, *ranks, least);
+        place
     }
 
     /// The codes in a place.
