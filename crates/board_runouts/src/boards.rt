@@ -15,10 +15,10 @@ use crate::deal::same_deal;
 use crate::flushes::Flushes;
 use crate::front::Front;
 use crate::pairs::Pairs;
-use crate::row::{last_rank, ranks_of};
 use crate::rows::Rows;
 use crate::sieve_leaf::{count_sieved, count_whole};
 use crate::spot::BoardSpot;
+use crate::start::Start;
 use card_sets::{CardSet, Memory};
 use runout_ranges::{Receiver, Shape};
 use runout_walk::{Leaf, Span};
@@ -118,23 +118,22 @@ impl Leaf for Boards {
 
     fn count<L: Ledger>(&mut self, counts: &mut [[u32; 2048]], span: &Span, steps: &mut Steps<L>) {
         span.tail.rest.rising();
-        let spot = &self.spot;
         let taken = span.tail.taken;
-        let ranks = ranks_of(taken);
-        let least = last_rank(taken);
-        let base = self.rows.ready(&spot.table, taken, &ranks, least);
+        let start = Start::of(&self.spot, taken);
+        let spot = start.spot;
+        let base = self.rows.ready(&start);
         let rows = self.rows.stretch(base, spot.table.pots);
         let flushes = &mut self.flushes;
         self.pairs.serve(self.cards);
         let pairs = &mut self.pairs;
         if taken == CardSet::empty() {
-            let front = Front::of(spot, taken, rows, None);
+            let front = Front::of(&start, rows, None);
             count_whole(&front, flushes, pairs, span, counts, steps);
             return;
         }
-        let place = self.codes.ready(spot, base, rows, &ranks, least);
+        let place = self.codes.ready(base, rows, &start);
         let codes = self.codes.codes_at(place).if_enough();
-        let front = Front::of(spot, taken, rows, codes);
+        let front = Front::of(&start, rows, codes);
         count_sieved(&front, flushes, pairs, span, counts, steps);
     }
 }

@@ -11,7 +11,7 @@ ghost use Rattle.board_runouts.specs.declared.row.Row.{Row};
 
 use crate::codes::Codes;
 use crate::row::Row;
-use crate::spot::BoardSpot;
+use crate::start::Start;
 use card_sets::{CardSet, Memory};
 use std::alloc::Global;
 
@@ -58,56 +58,49 @@ impl CodedRows {
 
     /// Makes the codes of the rows of all pots for first cards of these ranks, in a place.
     #[inline(never)]
-    fn put(&mut self, spot: &BoardSpot, place: usize, rows: &[Row], ranks: [u8; 3], least: u8)
+    fn put(&mut self, place: usize, rows: &[Row], start: &Start)
         requires place { place < length self.old.list.items }
         requires few { length rows.now ≤ 10 }
-        requires pots { length rows.now ≡ length (deal_of spot.now.table).pots }
-        requires right { AreAllCodes (deal_of spot.now.table) self.old.list.items }
+        requires pots { length rows.now ≡ length (deal_of start.now.spot.now.table).pots }
+        requires right { AreAllCodes (deal_of start.now.spot.now.table) self.old.list.items }
         requires rows { (pot : ℕ) (row : Row) → slice_get rows.now pot ≡ Some row
-            → IsSideRow (deal_of spot.now.table) pot ranks least row.mains row.lows row.tops }
+            → IsSideRow (deal_of start.now.spot.now.table) pot start.now.ranks start.now.least row.mains row.lows row.tops }
         ensures size { length self.new.list.items ≡ length self.old.list.items }
         ensures ranks { (codes : Codes) → slice_get self.new.list.items place ≡ Some codes
-            → codes.ranks ≡ ranks }
+            → codes.ranks ≡ start.now.ranks }
         ensures least { (codes : Codes) → slice_get self.new.list.items place ≡ Some codes
-            → codes.least ≡ least }
-        ensures right { AreAllCodes (deal_of spot.now.table) self.new.list.items }
+            → codes.least ≡ start.now.least }
+        ensures right { AreAllCodes (deal_of start.now.spot.now.table) self.new.list.items }
     {
         let codes = &mut self.list[place];
-        codes.fill(rows, ranks, least);
+        codes.fill(rows, start.ranks, start.least);
     }
 
     /// Makes the codes of the rows of all pots for first cards stand in their place, where they aren't kept, and gives it. The rows
     /// stand from a base on.
     #[inline]
-    pub(crate) fn ready(
-        &mut self,
-        spot: &BoardSpot,
-        base: usize,
-        rows: &[Row],
-        ranks: &[u8; 3],
-        least: u8,
-    ) -> usize
+    pub(crate) fn ready(&mut self, base: usize, rows: &[Row], start: &Start) -> usize
         // There is a row for each pot, for first cards of these ranks, and the codes are right.
         requires few { length rows.now ≤ 10 }
-        requires pots { length rows.now ≡ length (deal_of spot.now.table).pots }
+        requires pots { length rows.now ≡ length (deal_of start.now.spot.now.table).pots }
         requires rows { (pot : ℕ) (row : Row) → slice_get rows.now pot ≡ Some row
-            → IsSideRow (deal_of spot.now.table) pot ranks.now least row.mains row.lows row.tops }
-        requires right { AreAllCodes (deal_of spot.now.table) self.old.list.items }
+            → IsSideRow (deal_of start.now.spot.now.table) pot start.now.ranks start.now.least row.mains row.lows row.tops }
+        requires right { AreAllCodes (deal_of start.now.spot.now.table) self.old.list.items }
 
         // In their place stand codes for first cards of these ranks, and all are right.
         ensures place { result < length self.new.list.items }
         ensures ranks { (codes : Codes) → slice_get self.new.list.items result ≡ Some codes
-            → codes.ranks ≡ ranks.now }
+            → codes.ranks ≡ start.now.ranks }
         ensures least { (codes : Codes) → slice_get self.new.list.items result ≡ Some codes
-            → codes.least ≡ least }
-        ensures right { AreAllCodes (deal_of spot.now.table) self.new.list.items }
+            → codes.least ≡ start.now.least }
+        ensures right { AreAllCodes (deal_of start.now.spot.now.table) self.new.list.items }
     {
         let place = base % ROOM;
         self.reach(place);
-        if self.list[place].are_for(ranks, least) {
+        if self.list[place].are_for(&start.ranks, start.least) {
             return place;
         }
-        self.put(spot, place, rows, *ranks, least);
+        self.put(place, rows, start);
         place
     }
 

@@ -10,6 +10,7 @@ ghost use Rattle.board_runouts.specs.SideRows.{AreRanksOf, IsSideRow};
 
 use crate::row::Row;
 use crate::sides::{Worths, add_rank, hand_ranks, pot_ends, worths_with};
+use crate::start::Start;
 use board_ranks::Threes;
 use card_sets::CardSet;
 use showdown_tally::Table;
@@ -54,42 +55,29 @@ fn put_ends(rows: &mut [Row], base: usize, table: &Table, place: usize, worths: 
     }
 }
 
-/// Fills the rows of the pots of a table for first cards, whose ranks are given, for the pairs of ranks from the least on. They stand
+/// Fills the rows of the pots of a table for first cards, for the pairs of ranks from the least on. They stand
 /// from a base on. What each hand is worth is worked out once for all pots.
-pub(crate) fn fill_rows(
-    rows: &mut [Row],
-    base: usize,
-    table: &Table,
-    threes: &Threes,
-    taken: CardSet,
-    ranks: [u8; 3],
-    least: u8,
-)
+pub(crate) fn fill_rows(rows: &mut [Row], base: usize, threes: &Threes, start: &Start)
     // From the base on there is a row for each pot.
-    requires room { base + table.now.pots ≤ length rows.old }
-
-    // The game has a board, which lacks two cards after the first ones, and each hand has all its own cards.
-    requires dealt { IsTrue (has_board table.now.known.game) }
-    requires first { AreFirst (state_of table.now.known) taken }
-    requires own { (h : ℕ) → h < length (state_of table.now.known).hands
-        → length (slice_index_or (state_of table.now.known).hands h [])
-        ≡ own_size table.now.known.game }
-
-    // The ranks are those of the first cards, in whichever order.
-    requires ranks { AreRanksOf ranks taken }
+    requires room { base + start.now.spot.now.table.pots ≤ length rows.old }
 
     // Each pot's row is named for them, and says who is best with each two ranks, the lower one no less than the least.
-    ensures names { (pot : ℕ) (row : Row) → pot < table.now.pots
-        → slice_get rows.new (base + pot) ≡ Some row → IsNamed row pot ranks least }
-    ensures rows { (pot : ℕ) (row : Row) → pot < table.now.pots
+    ensures names { (pot : ℕ) (row : Row) → pot < start.now.spot.now.table.pots
+        → slice_get rows.new (base + pot) ≡ Some row → IsNamed row pot start.now.ranks start.now.least }
+    ensures rows { (pot : ℕ) (row : Row) → pot < start.now.spot.now.table.pots
         → slice_get rows.new (base + pot) ≡ Some row
-        → IsSideRow (deal_of table.now) pot ranks least row.mains row.lows row.tops }
+        → IsSideRow (deal_of start.now.spot.now.table) pot start.now.ranks start.now.least row.mains row.lows row.tops }
 
     // Rows of no pot don't change.
-    ensures away { (i : ℕ) → IsAway base table.now.pots i
+    ensures away { (i : ℕ) → IsAway base start.now.spot.now.table.pots i
         → slice_get rows.new i ≡ slice_get rows.old i }
     ensures places { length rows.new ≡ length rows.old }
 {
+    let spot = start.spot;
+    let taken = start.taken;
+    let ranks = start.ranks;
+    let least = start.least;
+    let table = &spot.table;
     table.known.board.rising();
     taken.rising();
     name_rows(rows, base, table.pots, ranks, least);

@@ -10,6 +10,7 @@ ghost use Rattle.board_ranks.specs.Suits.{AreFivesWith};
 use crate::codes::Codes;
 use crate::row::Row;
 use crate::spot::BoardSpot;
+use crate::start::Start;
 use board_ranks::suits_for;
 use card_sets::CardSet;
 
@@ -74,22 +75,18 @@ fn wanted_bits(cards: CardSet, wanted: bool) -> [u32; 4] {
 impl<'a> Front<'a> {
     /// First cards, by whose ranks each pot has a row and the rows have codes. Any two more may make somebody a flush.
     #[inline]
-    pub(crate) fn of(
-        spot: &'a BoardSpot,
-        taken: CardSet,
-        rows: &'a [Row],
-        codes: Option<&'a Codes>,
-    ) -> Front<'a>
-        requires rows { AreRowsOf (deal_of spot.now.table) taken rows.now }
-        requires pots { length rows.now ≡ spot.now.table.pots }
-        requires codes { ForSome codes (λ c. AreCodesFor (deal_of spot.now.table) taken c.now) }
+    pub(crate) fn of(start: &Start<'a>, rows: &'a [Row], codes: Option<&'a Codes>) -> Front<'a>
+        requires rows { AreRowsOf (deal_of start.now.spot.now.table) start.now.taken rows.now }
+        requires pots { length rows.now ≡ start.now.spot.now.table.pots }
+        requires codes { ForSome codes (λ c. AreCodesFor (deal_of start.now.spot.now.table) start.now.taken c.now) }
         requires enough { ForSome codes (λ c. IsTrue c.now.enough) }
-        ensures spot { result.spot.now ≡ spot.now }
-        ensures taken { result.taken ≡ taken }
+        ensures spot { result.spot.now ≡ start.now.spot.now }
+        ensures taken { result.taken ≡ start.now.taken }
     {
+        let spot = start.spot;
         Front {
             spot,
-            taken,
+            taken: start.taken,
             rows,
             codes,
             suits: [0; 16],

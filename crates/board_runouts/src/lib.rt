@@ -46,6 +46,7 @@ mod rows;
 mod sides;
 mod sieve_leaf;
 mod spot;
+mod start;
 mod suited;
 
 pub use boards::{Boards, are_boards};

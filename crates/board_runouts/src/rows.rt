@@ -12,9 +12,9 @@ ghost use Rattle.board_runouts.specs.SideRows.{AreRanksOf};
 
 use crate::fill::fill_rows;
 use crate::row::Row;
+use crate::start::Start;
 use board_ranks::Threes;
-use card_sets::{CardSet, Memory};
-use showdown_tally::Table;
+use card_sets::Memory;
 use std::alloc::Global;
 
 /// How many rows there is room for.
@@ -121,41 +121,25 @@ impl Rows {
 
     /// Makes a row of each pot for first cards of the board stand in its place, where it isn't kept, and gives the place of the first.
     #[inline]
-    pub(crate) fn ready(
-        &mut self,
-        table: &Table,
-        taken: CardSet,
-        ranks: &[u8; 3],
-        least: u8,
-    ) -> usize
-        // The game has a board, which lacks two cards after the first ones; the hands are full, and the rows are right.
-        requires dealt { IsTrue (has_board table.now.known.game) }
-        requires right { AreRows (deal_of table.now) self.old.rows.items }
-        requires first { AreFirst (state_of table.now.known) taken }
-        requires own { (h : ℕ) → h < length (state_of table.now.known).hands
-            → length (slice_index_or (state_of table.now.known).hands h [])
-            ≡ own_size table.now.known.game }
-
-        // The ranks are those of the first cards, and no card that may follow them has a rank below the least.
-        requires ranks { AreRanksOf ranks.now taken }
-        requires second { (place : ℕ) → slice_index ranks.now place < 14 }
-        requires least { (card : ℕ) (more : List ℕ) → IsRising (taken ++ card ∷ more)
-            → least ≤ rank_of card }
+    pub(crate) fn ready(&mut self, start: &Start) -> usize
+        requires right { AreRows (deal_of start.now.spot.now.table) self.old.rows.items }
 
         // From that place on there is a row for each pot, with these first cards and named for them, and the rows are right.
-        ensures place { result + table.now.pots ≤ length self.new.rows.items }
-        ensures rows { AreRowsFor (deal_of table.now) table.now.pots taken self.new.rows.items result }
-        ensures names { (pot : ℕ) (row : Row) → pot < table.now.pots
+        ensures place { result + start.now.spot.now.table.pots ≤ length self.new.rows.items }
+        ensures rows { AreRowsFor (deal_of start.now.spot.now.table) start.now.spot.now.table.pots start.now.taken self.new.rows.items result }
+        ensures names { (pot : ℕ) (row : Row) → pot < start.now.spot.now.table.pots
             → slice_get self.new.rows.items (result + pot) ≡ Some row
-            → IsNamed row pot ranks.now least }
-        ensures right { AreRows (deal_of table.now) self.new.rows.items }
+            → IsNamed row pot start.now.ranks start.now.least }
+        ensures right { AreRows (deal_of start.now.spot.now.table) self.new.rows.items }
     {
-        let group = row_group(ranks[1], ranks[2], table.pots);
+        let spot = start.spot;
+        let ranks = start.ranks;
+        let group = row_group(ranks[1], ranks[2], spot.table.pots);
         let base = usize::from(self.bases[group]);
-        if self.has_all(base, table.pots, ranks, least) {
+        if self.has_all(base, spot.table.pots, &ranks, start.least) {
             return base;
         }
-        self.put(group, table, taken, *ranks, least)
+        self.put(group, start)
     }
 
     /// Makes room for some rows more: where there is none, all rows are dropped.
@@ -218,40 +202,23 @@ impl Rows {
 
     /// Fills the rows of a group for first cards of the board, whose ranks are given, and gives the place of the first.
     #[inline(never)]
-    fn put(
-        &mut self,
-        group: usize,
-        table: &Table,
-        taken: CardSet,
-        ranks: [u8; 3],
-        least: u8,
-    ) -> usize
+    fn put(&mut self, group: usize, start: &Start) -> usize
         requires group { group < 96 }
 
-        // The game has a board, which lacks two cards after the first ones; the hands are full, and the rows are right.
-        requires dealt { IsTrue (has_board table.now.known.game) }
-        requires right { AreRows (deal_of table.now) self.old.rows.items }
-        requires first { AreFirst (state_of table.now.known) taken }
-        requires own { (h : ℕ) → h < length (state_of table.now.known).hands
-            → length (slice_index_or (state_of table.now.known).hands h [])
-            ≡ own_size table.now.known.game }
-
-        // The ranks are those of the first cards, and no card that may follow them has a rank below the least.
-        requires ranks { AreRanksOf ranks taken }
-        requires least { (card : ℕ) (more : List ℕ) → IsRising (taken ++ card ∷ more)
-            → least ≤ rank_of card }
+        requires right { AreRows (deal_of start.now.spot.now.table) self.old.rows.items }
 
         // From the place on each pot's row is one for the first cards and named for them, and the rows are right.
-        ensures place { result + table.now.pots ≤ length self.new.rows.items }
-        ensures rows { AreRowsFor (deal_of table.now) table.now.pots taken self.new.rows.items result }
-        ensures names { (pot : ℕ) (row : Row) → pot < table.now.pots
-            → slice_get self.new.rows.items (result + pot) ≡ Some row → IsNamed row pot ranks least }
-        ensures right { AreRows (deal_of table.now) self.new.rows.items }
+        ensures place { result + start.now.spot.now.table.pots ≤ length self.new.rows.items }
+        ensures rows { AreRowsFor (deal_of start.now.spot.now.table) start.now.spot.now.table.pots start.now.taken self.new.rows.items result }
+        ensures names { (pot : ℕ) (row : Row) → pot < start.now.spot.now.table.pots
+            → slice_get self.new.rows.items (result + pot) ≡ Some row → IsNamed row pot start.now.ranks start.now.least }
+        ensures right { AreRows (deal_of start.now.spot.now.table) self.new.rows.items }
     {
-        let base = self.place_for(group, table.pots);
-        self.threes.serve(&table.known);
+        let spot = start.spot;
+        let base = self.place_for(group, spot.table.pots);
+        self.threes.serve(&spot.table.known);
         let rows = self.rows.as_mut_slice();
-        fill_rows(rows, base, table, &self.threes, taken, ranks, least);
+        fill_rows(rows, base, &self.threes, start);
         base
     }
 

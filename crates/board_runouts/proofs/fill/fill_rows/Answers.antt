@@ -31,14 +31,14 @@ loop-high-init c =
 
 pub worths_with-requires-clause-ranks : goal.worths_with-requires-clause-ranks
 worths_with-requires-clause-ranks c =
-    let st : State = state_of c.args.table.now.known in
+    let st : State = state_of c.args.start.now.spot.now.table.known in
     let P : List ℕ → Type 0 = λ board. AreHandRanks st board c.hand_ranks-held.result in
-    c.add_rank.ensures (union st.board c.args.taken) (subst P c.union-board.ensures c.hand_ranks-held.ensures)
+    c.add_rank.ensures (union st.board c.args.start.now.taken) (subst P c.union-board.ensures c.hand_ranks-held.ensures)
 
 pub loop-high-preserved : goal.loop-high-preserved
 loop-high-preserved c =
-    let st : State = state_of c.args.table.now.known in
-    let deal : Showdown = deal_of c.args.table.now in
+    let st : State = state_of c.args.start.now.spot.now.table.known in
+    let deal : Showdown = deal_of c.args.start.now.spot.now.table in
     let was = c.loop-high.invariant in
     let e = c.put_ends.ensures in
     let low : ℕ = c.loop-low.low in
@@ -59,12 +59,12 @@ loop-high-preserved c =
             let same : k ≡ place = omega arith in
             let first : k / 13 ≡ low = omega arith in
             let second : k % 13 ≡ high = omega arith in
-            let P : ℕ → Type 0 = λ i. IsDealtWith st c.args.ranks i (k % 13) runout in
-            let R : ℕ → Type 0 = λ i. IsDealtWith st c.args.ranks low i runout in
+            let P : ℕ → Type 0 = λ i. IsDealtWith st c.args.start.now.ranks i (k % 13) runout in
+            let R : ℕ → Type 0 = λ i. IsDealtWith st c.args.start.now.ranks low i runout in
             let Q : ℕ → Type 0 = λ i. IsBestAt deal pot runout row i in
-            let dealt' : IsDealtWith st c.args.ranks low high runout = subst R second (subst P first dealt) in
+            let dealt' : IsDealtWith st c.args.start.now.ranks low high runout = subst R second (subst P first dealt) in
             subst Q (sym same) (e.here pot row runout lt at
-            (worths_after st c.args.taken c.args.ranks low high runout c.worths_with.new.worths c.requires.dealt c.rising.ensures.set c.rising-2.ensures.set c.requires.first c.requires.ranks dealt' c.worths_with.ensures.highs c.worths_with.ensures.lows))
+            (worths_after st c.args.start.now.taken c.args.start.now.ranks low high runout c.worths_with.new.worths c.args.start.now.spot.now.dealt c.rising.ensures.set c.rising-2.ensures.set c.args.start.now.first c.args.start.now.ranks_are dealt' c.worths_with.ensures.highs c.worths_with.ensures.lows))
       ];
       away = λ i away. e.away i away ∙ was.away i away;
     }
@@ -87,12 +87,3 @@ returns-clause-names c = c.loop-low.invariant.names
 
 pub returns-clause-away : goal.returns-clause-away
 returns-clause-away c = c.loop-low.invariant.away
-
-pub worths_with-requires-clause-dealt : goal.worths_with-requires-clause-dealt
-worths_with-requires-clause-dealt c = c.requires.dealt
-
-pub worths_with-requires-clause-first : goal.worths_with-requires-clause-first
-worths_with-requires-clause-first c = c.requires.first
-
-pub worths_with-requires-clause-own : goal.worths_with-requires-clause-own
-worths_with-requires-clause-own c = c.requires.own

@@ -10,10 +10,10 @@ use Rattle.board_runouts.proofs.coded_rows.CodedRows.put.Goals as goal
 
 pub returns-clause-right : goal.returns-clause-right
 returns-clause-right c =
-    let deal : Showdown = deal_of c.args.spot.now.table in
+    let deal : Showdown = deal_of c.args.start.now.spot.now.table in
     let e = c.fill.ensures in
     all_set (AreCodes deal) c.args.self.now.list.items c.args.place c.fill.new.self c.requires.right (λ is. code_right deal c.fill.new.self c.args.rows.now c.requires.pots (λ pot row at.
-    let R : List ℕ → Type 0 = λ ranks. IsSideRow deal pot ranks c.args.least row.mains row.lows row.tops in
+    let R : List ℕ → Type 0 = λ ranks. IsSideRow deal pot ranks c.args.start.now.least row.mains row.lows row.tops in
     let L : ℕ → Type 0 = λ least. IsSideRow deal pot c.fill.new.self.ranks least row.mains row.lows row.tops in
     subst L (sym e.least) (subst R (sym e.ranks) (c.requires.rows pot row at)))
     (let C : ℕ → Type 0 = λ least. AreCodesAt c.fill.new.self.adds c.fill.new.self.ends c.args.rows.now least in subst C (sym e.least) (e.codes is)))

@@ -7,7 +7,7 @@ pub put-requires-clause-rows : goal.put-requires-clause-rows
 put-requires-clause-rows c = c.requires.rows
 
 pub put-requires-clause-right : goal.put-requires-clause-right
-put-requires-clause-right c = c.reach.ensures.right (deal_of c.args.spot.now.table) c.requires.right
+put-requires-clause-right c = c.reach.ensures.right (deal_of c.args.start.now.spot.now.table) c.requires.right
 
 pub returns-clause-right : goal.returns-clause-right
 returns-clause-right c = c.put.ensures.right
@@ -23,4 +23,4 @@ returns-then-are_for-clause-least c = λ codes at.
     ap (λ l. l.least) (sym kept) ∙ c.are_for.ensures.least c.if-are_for.true
 
 pub returns-then-are_for-clause-right : goal.returns-then-are_for-clause-right
-returns-then-are_for-clause-right c = c.reach.ensures.right (deal_of c.args.spot.now.table) c.requires.right
+returns-then-are_for-clause-right c = c.reach.ensures.right (deal_of c.args.start.now.spot.now.table) c.requires.right

@@ -5,9 +5,9 @@ use Rattle.board_runouts.proofs.rows.Rows.ready.Goals as goal
 
 pub returns-then-has_all-clause-rows : goal.returns-then-has_all-clause-rows
 returns-then-has_all-clause-rows c = λ pot row lt at.
-    row_for (deal_of c.args.table.now) pot c.args.taken c.args.ranks.now c.args.least row
+    row_for (deal_of c.args.start.now.spot.now.table) pot c.args.start.now.taken c.args.start.now.ranks c.args.start.now.least row
     (c.requires.right (c.from-base.result + pot) row at) (c.has_all.ensures.pot pot row c.if-has_all.true lt at) (c.has_all.ensures.ranks pot row c.if-has_all.true lt at) (c.has_all.ensures.least pot row c.if-has_all.true lt at)
-    c.requires.ranks c.requires.least
+    c.args.start.now.ranks_are c.args.start.now.from_least
 
 pub returns-then-has_all-clause-names : goal.returns-then-has_all-clause-names
 returns-then-has_all-clause-names c = λ pot row lt at. record {
@@ -16,23 +16,8 @@ returns-then-has_all-clause-names c = λ pot row lt at. record {
   least_is = c.has_all.ensures.least pot row c.if-has_all.true lt at;
 }
 
-pub put-requires-clause-dealt : goal.put-requires-clause-dealt
-put-requires-clause-dealt c = c.requires.dealt
-
 pub put-requires-clause-right : goal.put-requires-clause-right
 put-requires-clause-right c = c.requires.right
-
-pub put-requires-clause-first : goal.put-requires-clause-first
-put-requires-clause-first c = c.requires.first
-
-pub put-requires-clause-own : goal.put-requires-clause-own
-put-requires-clause-own c = c.requires.own
-
-pub put-requires-clause-ranks : goal.put-requires-clause-ranks
-put-requires-clause-ranks c = c.requires.ranks
-
-pub put-requires-clause-least : goal.put-requires-clause-least
-put-requires-clause-least c = c.requires.least
 
 pub returns-clause-rows : goal.returns-clause-rows
 returns-clause-rows c = c.put.ensures.rows
