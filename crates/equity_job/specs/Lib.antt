@@ -9,3 +9,4 @@ pub use Rattle.runout_ranges.specs.Shapes
 pub use Rattle.runout_ranges.specs.Slots
 pub use Rattle.runout_ranges.specs.Jobs
 pub mod Rooms
+pub mod CountedBlocks

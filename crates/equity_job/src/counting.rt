@@ -1,10 +1,11 @@
 //! The count of a job.
 
-ghost use Rattle.std.specs.Prelude.{◌≡◌, ◌+◌, ◌<◌, ◌≤◌, length};
+ghost use Rattle.std.specs.Prelude.{◌≡◌, ◌+◌, ◌<◌, length};
 ghost use Rattle.card_sets.specs.State.{state_of};
 ghost use Rattle.showdown_tally.specs.Deals.{deal_of};
 ghost use Rattle.showdown_tally.specs.Tallies.{Counts, runouts_after};
 ghost use Rattle.job_blocks.specs.Blocks.{blocks_below};
+ghost use Rattle.equity_job.specs.CountedBlocks.{IsWhole, runouts_of};
 
 use crate::{Scratch, fill_block};
 use job_blocks::Job;
@@ -16,13 +17,10 @@ use step_count::Steps;
 /// Adds to a tally of the first block of a job those of all others, one after another.
 #[inline(never)]
 fn add_others<L: Ledger>(job: &Job, scratch: &mut Scratch, total: &mut Tally, steps: &mut Steps<L>)
-    requires first { Counts (deal_of job.now.table)
-        (blocks_below (runouts_after (state_of job.now.table.known)) 1) total.old }
-    ensures counts { Counts (deal_of job.now.table)
-        (runouts_after (state_of job.now.table.known)) total.new }
-    ensures steps { steps.new
-        + length (blocks_below (runouts_after (state_of job.now.table.known)) 1)
-        ≡ steps.old + length (runouts_after (state_of job.now.table.known)) }
+    requires { Counts (deal_of job.now.table) (blocks_below (runouts_of job.now) 1) total.old }
+    ensures counts { Counts (deal_of job.now.table) (runouts_of job.now) total.new }
+    ensures steps { steps.new + length (blocks_below (runouts_of job.now) 1)
+        ≡ steps.old + length (runouts_of job.now) }
 {
     let mut tally = Tally::zero();
     for block in 1..job.blocks() {
@@ -56,9 +54,7 @@ fn count_on<L: Ledger>(job: &Job, scratch: &mut Scratch, total: &mut Tally, blan
     requires name { blank.name ≡ L.name }
     requires parts { blank.parts ≡ L.parts }
     requires some { 0 < blank.parts }
-    ensures counts { Counts (deal_of job.now.table)
-        (runouts_after (state_of job.now.table.known)) total.new }
-    ensures some { 0 < total.new.runouts }
+    ensures { IsWhole job.now total.new }
 {
     let mut steps = Steps::<L>::new(blank);
     count_blocks(job, scratch, total, &mut steps);

@@ -12,6 +12,7 @@
 mod blocks;
 mod counting;
 mod scratch;
+mod span;
 
 pub use blocks::{count_block, fill_block};
 pub use counting::{count_blocks, count_job};

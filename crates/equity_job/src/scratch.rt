@@ -1,6 +1,6 @@
 //! The room that counts work in.
 
-ghost use Rattle.std.specs.Prelude.{◌≡◌, ◌*◌, ◌<◌, ◌≤◌, length, IfOk, IsSome, IsTrue, OnErr, OnOk};
+ghost use Rattle.std.specs.Prelude.{◌≡◌, ◌*◌, ◌<◌, length, IfOk, IsSome, IsTrue, OnErr, OnOk};
 ghost use Rattle.equity_job.specs.Rooms.{HasRows, IsReady, newer};
 
 use crate::blocks::is_full;

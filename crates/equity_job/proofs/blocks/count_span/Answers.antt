@@ -1,4 +1,4 @@
-use Rattle.std.proofs.Common.{◌≡◌, ◌-◌, ◌≤◌, ℕ, List, [], arith, sym, subst}
+use Rattle.std.proofs.Common.{◌≡◌, ◌+◌, ◌-◌, ◌≤◌, ℕ, List, [], ap, ◌∙◌, arith, sym, subst}
 use Rattle.std.specs.List.{slice_range}
 use Rattle.showdown_tally.specs.Deals.{deal_of}
 use Rattle.showdown_tally.specs.Showdown.{Showdown}
@@ -19,13 +19,19 @@ grown_from_none deal all old new none grown = λ pot place side l has m.
 
 pub count_runouts_of-requires-clause-fits : goal.count_runouts_of-requires-clause-fits
 count_runouts_of-requires-clause-fits g c =
-    let runouts = c.args.span.end - c.args.span.first in
-    let P : Showdown → Type 0 = λ deal. CountsFit deal c.clear_counts.new.counts (c.args.span.end - c.args.span.first) in
-    subst P (sym c.requires.deal) (cleared_fit (deal_of c.args.job.now.table) c.clear_counts.new.counts runouts c.requires.few c.clear_counts.ensures.none)
+    let span = c.args.span.now in
+    let P : Showdown → Type 0 = λ deal. CountsFit deal c.clear_counts.new.counts (span.end - span.first) in
+    subst P (sym c.requires.deal) (cleared_fit (deal_of span.job.now.table) c.clear_counts.new.counts (span.end - span.first) span.few c.clear_counts.ensures.none)
 
-pub returns-clause-counts : goal.returns-clause-counts
-returns-clause-counts g c =
-    let deal = deal_of c.args.job.now.table in
-    let P : Showdown → Type 0 = λ d. CountsGrow d (slice_range (runouts_after d.state) c.args.span.first c.args.span.end) c.clear_counts.new.counts c.count_runouts_of.new.counts in
-    grown_from_none deal (slice_range (runouts_after deal.state) c.args.span.first c.args.span.end) c.clear_counts.new.counts c.count_runouts_of.new.counts c.clear_counts.ensures.none
-    (subst P c.requires.deal c.count_runouts_of.ensures.counts)
+pub returns : goal.returns
+returns g c =
+    let span = c.args.span.now in
+    let deal = deal_of span.job.now.table in
+    let P : Showdown → Type 0 = λ d. CountsGrow d (slice_range (runouts_after d.state) span.first span.end) c.clear_counts.new.counts c.count_runouts_of.new.counts in
+    let R : List (List (List ℕ)) → Type 0 = λ all. AreSideCounts deal all c.count_runouts_of.new.counts in
+    record {
+      right = subst R span.block (grown_from_none deal (slice_range (runouts_after deal.state) span.first span.end) c.clear_counts.new.counts c.count_runouts_of.new.counts c.clear_counts.ensures.none
+          (subst P c.requires.deal c.count_runouts_of.ensures.counts));
+      rows = c.count_runouts_of.ensures.places ∙ c.clear_counts.ensures.places;
+      steps = c.count_runouts_of.ensures.steps ∙ ap (λ n. c.args.steps.now + n) (sym span.size);
+    }
