@@ -1,3 +1,4 @@
+pub mod PlanFacts
 pub mod WriteFacts
 pub mod RunEnds
 pub mod RunFacts

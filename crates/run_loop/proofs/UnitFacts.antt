@@ -14,7 +14,7 @@ use Rattle.run_loop.specs.Laws.{has_blocks}
 use Rattle.run_loop.specs.Reading.{reported}
 use Rattle.run_loop.specs.Report.{blocks_in, is_rejected_spot, line_block, rejects_in, spots_from}
 use Rattle.run_loop.specs.UnitBlocks.{before, is_rejected_unit, block_kind_in, listed_kind, place_after, place_behind, rejected_units, unit_block, unit_blocks}
-use Rattle.run_loop.specs.Units.{is_whole, unit_kind}
+use Rattle.run_loop.specs.Units.{is_whole}
 use Rattle.run_loop.specs.Writing.{one_if}
 use Rattle.command_words.specs.declared.command.Command.{Command}
 use Rattle.command_words.specs.declared.command.Mode.{Mode}
@@ -193,15 +193,3 @@ listed_blocks mode.Settle listed e = refl
 listed_blocks mode.Totals listed e = none_some listed e
 listed_blocks mode.Balance listed e = none_some listed e
 listed_blocks mode.Made listed e = none_some listed e
-
-pub listed_unit_kind : (m : Mode) (listed : BlockKind) → block_kind_in m ≡ Some listed → unit_kind m ≡ listed_kind listed
-listed_unit_kind mode.Spots listed e = ap listed_kind (some_same (Spots Cards) listed e)
-listed_unit_kind mode.Ranges listed e = ap listed_kind (some_same (Spots Ranges) listed e)
-listed_unit_kind mode.Check listed e = ap listed_kind (some_same (Hands Verdict) listed e)
-listed_unit_kind mode.Audit listed e = ap listed_kind (some_same (Hands AllIn) listed e)
-listed_unit_kind mode.Streets listed e = ap listed_kind (some_same (Hands LaterStreets) listed e)
-listed_unit_kind mode.Results listed e = ap listed_kind (some_same Results listed e)
-listed_unit_kind mode.Settle listed e = ap listed_kind (some_same Settle listed e)
-listed_unit_kind mode.Totals listed e = none_some listed e
-listed_unit_kind mode.Balance listed e = none_some listed e
-listed_unit_kind mode.Made listed e = none_some listed e

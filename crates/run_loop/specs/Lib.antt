@@ -32,6 +32,7 @@ pub mod Laws
 pub mod Reading
 pub mod Writing
 pub mod Headline
+pub mod Plans
 pub mod Units
 pub mod UnitBlocks
 pub mod UnitSums

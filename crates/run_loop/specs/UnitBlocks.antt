@@ -1,40 +1,20 @@
 -- The blocks of the units of an input.
 use Rattle.std.specs.Prelude.{◌≡◌, ℕ, ◌+◌, Bool, true, false, if◌then◌else◌, List, [], ◌∷◌, count_by, Option, Some, None}
 use Rattle.hand_cuts.specs.Units.{UnitLines}
-use Rattle.hand_cuts.specs.declared.units.CutKind.{CutKind}
-use Rattle.hand_cuts.specs.declared.units.CutKind.TheVariants as cut
 use Rattle.report_sheet.specs.declared.form.Form.{Form}
 use Rattle.run_loop.specs.Histories.{hand_block, hand_results, hand_settlement, is_rejected_hand, tells_all_in}
 use Rattle.run_loop.specs.Report.{is_rejected_spot, line_block}
 use Rattle.command_words.specs.declared.command.Mode.{Mode}
-use Rattle.command_words.specs.declared.command.Mode.TheVariants.{Check, Audit, Streets, Totals, Balance, Made}
-use Rattle.command_words.specs.declared.command.Mode.TheVariants as mode
 use Rattle.run_loop.specs.declared.block_kinds.SpotKind.{SpotKind}
-use Rattle.run_loop.specs.declared.block_kinds.SpotKind.TheVariants.{Cards, Ranges}
-use Rattle.run_loop.specs.declared.block_kinds.Detail.TheVariants.{Verdict, AllIn, LaterStreets}
 use Rattle.run_loop.specs.declared.block_kinds.BlockKind.{BlockKind}
 use Rattle.run_loop.specs.declared.block_kinds.BlockKind.TheVariants.{Spots, Hands, Results, Settle}
+pub use Rattle.run_loop.specs.Plans.{listed_kind}
+use Rattle.run_loop.specs.Plans.{listed_in, plan_of}
 use Rattle.spot_text.specs.Words.{is_blank}
 
 -- what has a block each in the report of a mode
 abbrev pub block_kind_in : Mode → Option BlockKind
-block_kind_in mode.Spots = Some (Spots Cards)
-block_kind_in mode.Ranges = Some (Spots Ranges)
-block_kind_in Check = Some (Hands Verdict)
-block_kind_in Audit = Some (Hands AllIn)
-block_kind_in Streets = Some (Hands LaterStreets)
-block_kind_in mode.Results = Some Results
-block_kind_in mode.Settle = Some Settle
-block_kind_in Totals = None
-block_kind_in Balance = None
-block_kind_in Made = None
-
--- what it is cut from the input as
-abbrev pub listed_kind : BlockKind → CutKind
-listed_kind (Spots holding) = cut.Lines
-listed_kind (Hands told) = cut.Hands
-listed_kind Results = cut.Hands
-listed_kind Settle = cut.Hands
+block_kind_in mode = listed_in (plan_of mode)
 
 -- whether an equity may be counted for a block
 abbrev pub counts_equities : BlockKind → Bool

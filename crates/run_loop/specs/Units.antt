@@ -3,19 +3,17 @@ use Rattle.std.specs.Prelude.{◌≡◌, ℕ, ◌+◌, ◌-◌, ◌≤◌, Bool,
 use Rattle.hand_audit.specs.Departs.{begins_hand}
 use Rattle.hand_cuts.specs.Cutters.{new_cutter, seen}
 use Rattle.hand_cuts.specs.declared.units.CutKind.{CutKind}
-use Rattle.hand_cuts.specs.declared.units.CutKind.TheVariants.{Hands, Lines}
+use Rattle.hand_cuts.specs.declared.units.CutKind.TheVariants.{Hands}
 use Rattle.hand_cuts.specs.declared.units.Unit.{Unit as UnitPlace}
 use Rattle.command_words.specs.declared.command.Mode.{Mode}
-use Rattle.command_words.specs.declared.command.Mode.TheVariants.{Spots, Ranges}
+use Rattle.run_loop.specs.Plans.{cut_in, plan_of}
 use Rattle.run_loop.specs.declared.reading.Ending.{Ending}
 use Rattle.run_loop.specs.declared.reading.Ending.TheVariants.{Whole, Failed, TooLong, Open}
 use Rattle.run_loop.specs.declared.reading.Input.{Input}
 
 -- what the input of a mode is cut into
 abbrev pub unit_kind : Mode → CutKind
-unit_kind Spots = Lines
-unit_kind Ranges = Lines
-unit_kind _ = Hands
+unit_kind mode = cut_in (plan_of mode)
 
 -- whether the reading came to the end of the input
 abbrev pub is_whole : Ending → Bool

@@ -1,10 +1,5 @@
 //! What has a block each in a report.
 
-ghost use Rattle.std.specs.Prelude.{◌≡◌};
-ghost use Rattle.run_loop.specs.UnitBlocks.{block_kind_in};
-
-use command_words::Mode;
-
 /// How much is told of a hand.
 #[derive(Clone, Copy)]
 pub(crate) enum Detail {
@@ -58,28 +53,26 @@ pub(crate) struct UnitPosition {
     pub(crate) line: u32,
 }
 
-/// What has a block each in the report of a mode; none where the report is one block for all.
-pub(crate) fn block_kind_in(mode: Mode) -> Option<BlockKind>
-    ensures { result ≡ block_kind_in mode }
-{
-    match mode {
-        Mode::Spots => Some(BlockKind::Spots {
-            holding: SpotKind::Cards,
-        }),
-        Mode::Ranges => Some(BlockKind::Spots {
-            holding: SpotKind::Ranges,
-        }),
-        Mode::Check => Some(BlockKind::Hands {
-            told: Detail::Verdict,
-        }),
-        Mode::Audit => Some(BlockKind::Hands {
-            told: Detail::AllIn,
-        }),
-        Mode::Streets => Some(BlockKind::Hands {
-            told: Detail::LaterStreets,
-        }),
-        Mode::Results => Some(BlockKind::Results),
-        Mode::Settle => Some(BlockKind::Settle),
-        Mode::Totals | Mode::Balance | Mode::Made => None,
+impl BlockKind {
+    ghost use Rattle.std.specs.Prelude.{◌≡◌, not};
+    ghost use Rattle.run_loop.specs.UnitBlocks.{counts_equities};
+
+    /// Returns whether an equity may be counted for a block of this kind.
+    fn counts_equities(self) -> bool
+        ensures { result ≡ counts_equities self }
+    {
+        match self {
+            BlockKind::Hands { told } => told.tells_all_in(),
+            BlockKind::Spots { holding: _ } | BlockKind::Results => true,
+            BlockKind::Settle => false,
+        }
+    }
+
+    /// Returns whether a block of this kind may wait for the blocks after it. It may if none of them takes long, which is so if no
+    /// equity is counted for them.
+    pub(crate) fn may_wait(self) -> bool
+        ensures { result ≡ not (counts_equities self) }
+    {
+        !self.counts_equities()
     }
 }

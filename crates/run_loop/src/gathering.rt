@@ -1,16 +1,14 @@
 //! Blocks that are gathered and written together: those of the hands that one piece closes. All that was
 //! gathered is written before anything is read.
 
-ghost use Rattle.std.specs.Prelude.{◌≡◌, ℕ, List, [], false, not, OnOk};
+ghost use Rattle.std.specs.Prelude.{◌≡◌, ℕ, List, [], false, OnOk};
 ghost use Rattle.byte_ends.specs.Ends.{WritesOut};
 ghost use Rattle.hand_cuts.specs.Units.{UnitLines};
 ghost use Rattle.hand_cuts.specs.declared.units.CutKind.{CutKind};
 ghost use Rattle.run_loop.specs.Cutting.{Cuts};
 ghost use Rattle.run_loop.specs.Gathering.{AsksOne, Gathers, WritesRest};
-ghost use Rattle.run_loop.specs.UnitBlocks.{counts_equities};
 ghost use Rattle.run_loop.specs.declared.reading.Ending.TheVariants.{Open};
 
-use crate::block_kinds::BlockKind;
 use crate::reading::{Input, next_unit};
 use crate::write_fault::WriteFault;
 use byte_ends::{Failed, Sink, Source, write_all};
@@ -19,18 +17,6 @@ use hand_cuts::{INPUT_MAX, Unit};
 
 /// How many bytes of blocks are gathered before they are written, if nothing is to be read before.
 const GATHERED: usize = 65_536;
-
-/// Whether a block may wait for those after it. It may where none of them takes long: where no equity is
-/// counted.
-pub(crate) fn may_wait(listed: BlockKind) -> bool
-    ensures { result ≡ not (counts_equities listed) }
-{
-    match listed {
-        BlockKind::Hands { told } => !told.tells_all_in(),
-        BlockKind::Settle => true,
-        BlockKind::Spots { holding: _ } | BlockKind::Results => false,
-    }
-}
 
 /// Writes what was gathered.
 fn write_ready<K: Sink>(ready: &mut Vec<u8>, sink: &mut K) -> Result<(), Failed>

@@ -25,6 +25,7 @@ mod hands;
 mod later;
 mod made;
 mod memory_runs;
+mod plans;
 mod ranges;
 mod reading;
 mod report;

@@ -1,27 +1,30 @@
 //! The report of the input, written while it is read.
 
-ghost use Rattle.std.specs.Prelude.{◌≡◌, ◌<◌, ◌≤◌, ◌+◌, ◌^◌, [], true, IfOk, Some, None, length};
+ghost use Rattle.std.specs.Prelude.{◌≡◌, ◌<◌, ◌≤◌, ◌+◌, ◌^◌, [], true, IfOk, Some, length};
 ghost use Rattle.hand_audit.specs.Departs.{begins_hand};
 ghost use Rattle.hand_cuts.specs.declared.units.CutKind.TheVariants.{Hands};
 ghost use Rattle.line_text.specs.Lines.{lines};
-ghost use Rattle.command_words.specs.Command.{reads_input};
 ghost use Rattle.run_loop.specs.Order.{GoesOn};
 ghost use Rattle.run_loop.specs.Reporting.{told_status};
 ghost use Rattle.run_loop.specs.UnitBlocks.{MakesBlock, block_kind_in, counts_equities, listed_kind};
-ghost use Rattle.run_loop.specs.Units.{started, unit_kind};
+ghost use Rattle.run_loop.specs.Plans.{cut_of, plan_of};
+ghost use Rattle.run_loop.specs.Units.{started};
+ghost use Rattle.run_loop.specs.declared.plans.Plan.TheVariants.{Reads};
+ghost use Rattle.run_loop.specs.declared.plans.Prints.TheVariants.{Sums};
 ghost use Rattle.run_loop.specs.declared.reading.Ending.TheVariants.{Open};
 
-use crate::block_kinds::{BlockKind, UnitPosition, block_kind_in};
+use crate::block_kinds::{BlockKind, UnitPosition};
 use crate::counter::{Counter, EquityCounter};
-use crate::gathering::{gather, may_wait, next_written, write_rest};
+use crate::gathering::{gather, next_written, write_rest};
 use crate::hands::{write_lines, write_result_lines, write_settlement_lines};
+use crate::plans::{Prints, SumKind};
 use crate::reading::Input;
 use crate::spots::write_spot_line;
 use crate::totals::write_sums;
 use crate::write_fault::WriteFault;
 use byte_ends::{Sink, Source};
 use card_sets::Memory;
-use command_words::{Command, Mode};
+use command_words::Command;
 use hand_cuts::INPUT_MAX;
 use report_table::{Balance, Form, Totals};
 use std::alloc::Global;
@@ -101,7 +104,7 @@ fn write_blocks<C: Counter, S: Source, K: Sink>(
     ensures { GoesOn S.reads K.writes INPUT_MAX asked Open [] [] source.old sink.old
         (told_status input.new.ending result) source.new sink.new }
 {
-    let waits = may_wait(listed);
+    let waits = listed.may_wait();
     let mut block = Vec::new(alloc);
     let mut ready = Vec::new(alloc);
     let mut place = 1;
@@ -143,55 +146,50 @@ fn write_blocks<C: Counter, S: Source, K: Sink>(
 fn write_summed<C: Counter, S: Source, K: Sink>(
     alloc: Global,
     asked: Command,
+    kind: SumKind,
     source: &mut S,
     input: &mut Input,
     equities: &mut EquityCounter<C>,
     sink: &mut K,
 ) -> Result<u64, WriteFault>
     requires ready { C.ready }
-    requires reads { reads_input asked.mode ≡ true }
-    requires listed { block_kind_in asked.mode ≡ None }
-    requires start { input.old ≡ started (unit_kind asked.mode) }
+    requires plan { plan_of asked.mode ≡ Reads (Sums kind) }
+    requires start { input.old ≡ started Hands }
     ensures { GoesOn S.reads K.writes INPUT_MAX asked Open [] [] source.old sink.old
         (told_status input.new.ending result) source.new sink.new }
 {
-    match asked.mode {
-        Mode::Totals => {
+    match kind {
+        SumKind::Totals => {
             let mut totals = Totals::new(alloc);
             write_sums(alloc, asked, source, input, equities, sink, &mut totals)
         }
-        Mode::Balance => {
+        SumKind::Balance => {
             let mut balance = Balance::new(alloc);
             write_sums(alloc, asked, source, input, equities, sink, &mut balance)
         }
-        Mode::Check
-        | Mode::Audit
-        | Mode::Streets
-        | Mode::Results
-        | Mode::Settle
-        | Mode::Spots
-        | Mode::Ranges
-        | Mode::Made => unreachable!(),
     }
 }
 
-/// Writes the report of a command that reads its input. Answers how many spots or hands are rejected.
+/// Writes what a command prints of its input. Answers how many spots or hands are rejected.
 pub(crate) fn write_report<C: Counter, S: Source, K: Sink>(
     alloc: Global,
     asked: Command,
+    prints: Prints,
     source: &mut S,
     input: &mut Input,
     equities: &mut EquityCounter<C>,
     sink: &mut K,
 ) -> Result<u64, WriteFault>
     requires ready { C.ready }
-    requires reads { reads_input asked.mode ≡ true }
-    requires start { input.old ≡ started (unit_kind asked.mode) }
+    requires plan { plan_of asked.mode ≡ Reads prints }
+    requires start { input.old ≡ started (cut_of prints) }
     ensures { GoesOn S.reads K.writes INPUT_MAX asked Open [] [] source.old sink.old
         (told_status input.new.ending result) source.new sink.new }
 {
-    let Some(listed) = block_kind_in(asked.mode) else {
-        return write_summed(alloc, asked, source, input, equities, sink);
-    };
-    write_blocks(alloc, asked, listed, source, input, equities, sink)
+    match prints {
+        Prints::Blocks(listed) => {
+            write_blocks(alloc, asked, listed, source, input, equities, sink)
+        }
+        Prints::Sums(kind) => write_summed(alloc, asked, kind, source, input, equities, sink),
+    }
 }

@@ -1,22 +1,24 @@
 //! The top call.
 
-ghost use Rattle.std.specs.Prelude.{◌≡◌, ◌≤◌, [], ℕ, Result, Some, false, true, map, string_bytes};
-ghost use Rattle.command_words.specs.Command.{command, reads_input};
+ghost use Rattle.std.specs.Prelude.{◌≡◌, ◌≤◌, [], ℕ, Result, Some, map, string_bytes};
+ghost use Rattle.command_words.specs.Command.{command};
 ghost use Rattle.run_loop.specs.Headline.{IsRun, ends_of, written_status};
 ghost use Rattle.run_loop.specs.Order.{IsInOrder};
 ghost use Rattle.run_loop.specs.Report.{report, rejects};
 ghost use Rattle.run_loop.specs.Reporting.{WritesMade, WritesUsage, told_status};
-ghost use Rattle.run_loop.specs.Units.{unit_kind};
+ghost use Rattle.run_loop.specs.Plans.{plan_of};
+ghost use Rattle.run_loop.specs.declared.plans.Plan.TheVariants.{Makes, Reads};
 ghost use Rattle.run_loop.specs.declared.reading.Ending.TheVariants.{Whole};
 
 use crate::counter::{Counter, EquityCounter};
 use crate::made::write_made;
+use crate::plans::{Plan, Prints, plan_of};
 use crate::reading::{Ending, Input};
 use crate::report::write_report;
 use crate::write_fault::WriteFault;
 use byte_ends::{Sink, Source, write_all};
-use command_words::{Command, Mode, WordFault, read_words};
-use hand_cuts::{CutKind, INPUT_MAX};
+use command_words::{Command, WordFault, read_words};
+use hand_cuts::INPUT_MAX;
 use std::alloc::Global;
 
 /// The line that says how the program is called.
@@ -62,10 +64,9 @@ fn run_words<C: Counter, S: Source, K: Sink>(
         Err(WordFault::Memory) => return 6,
     };
     equities.workers = asked.workers;
-    if asked.mode.reads_input() {
-        run_reading(alloc, asked, equities, source, sink)
-    } else {
-        run_made(alloc, asked, equities, sink)
+    match plan_of(asked.mode) {
+        Plan::Reads(prints) => run_reading(alloc, asked, prints, equities, source, sink),
+        Plan::Makes => run_made(alloc, asked, equities, sink),
     }
 }
 
@@ -73,38 +74,22 @@ fn run_words<C: Counter, S: Source, K: Sink>(
 fn run_reading<C: Counter, S: Source, K: Sink>(
     alloc: Global,
     asked: Command,
+    prints: Prints,
     equities: &mut EquityCounter<C>,
     source: &mut S,
     sink: &mut K,
 ) -> u8
     requires ready { C.ready }
-    requires reads { reads_input asked.mode ≡ true }
+    requires plan { plan_of asked.mode ≡ Reads prints }
     requires few { asked.hands ≤ 10000 }
     ensures { IsInOrder S.reads K.writes INPUT_MAX (Some asked) result
         source.old sink.old source.new sink.new }
 {
-    let mut input = Input::start(alloc, unit_kind(asked.mode));
-    match write_report(alloc, asked, source, &mut input, equities, sink) {
+    let mut input = Input::start(alloc, prints.cut());
+    match write_report(alloc, asked, prints, source, &mut input, equities, sink) {
         Ok(rejected) => status_of(input.ending, rejected),
         Err(WriteFault::Failed) => 4,
         Err(WriteFault::Memory) => 6,
-    }
-}
-
-/// What the input of a mode is cut into.
-fn unit_kind(mode: Mode) -> CutKind
-    ensures { result ≡ unit_kind mode }
-{
-    match mode {
-        Mode::Spots | Mode::Ranges => CutKind::Lines,
-        Mode::Check
-        | Mode::Audit
-        | Mode::Streets
-        | Mode::Results
-        | Mode::Settle
-        | Mode::Totals
-        | Mode::Balance
-        | Mode::Made => CutKind::Hands,
     }
 }
 
@@ -116,7 +101,7 @@ fn run_made<C: Counter, K: Sink>(
     sink: &mut K,
 ) -> u8
     requires ready { C.ready }
-    requires makes { reads_input asked.mode ≡ false }
+    requires plan { plan_of asked.mode ≡ Makes }
     requires few { asked.hands ≤ 10000 }
     ensures { (outcome : Result ℕ WriteFault) × (result ≡ told_status Whole outcome)
         × WritesMade K.writes sink.old sink.new (report asked []) (rejects asked []) outcome }
