@@ -17,6 +17,7 @@ pub mod SeatChips
 pub mod Parts
 pub mod SplitHands
 pub mod Keeping
+pub mod HandReads
 pub mod Chips
 pub mod Passing
 pub mod CardsKnown

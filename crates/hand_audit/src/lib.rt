@@ -1,10 +1,11 @@
 //! The verdict on a hand: whether each line keeps to the rules, what became of the chips, and the all-in.
 //!
 //! `audit_hand` takes the lines of one hand, its header line first. It answers `Rejected` with the first line that departs and the cause,
-//! or `Accepted` with a `Settlement` and an `AllIn`. `later_streets` tells what is known on each street after a known all-in, and
-//! `audit_with_streets` answers both by one reading of the lines. `audit_with_chips` answers the verdict and what each player had and
-//! put in, and `audit_with_shares` the verdict and what each winner of a side of each part of a pot gets, also of a hand that is rejected
-//! for its payments alone. The types of these answers are those of `hand_verdict`.
+//! or `Accepted` with a `Settlement` and an `AllIn`. `later_streets` tells what is known on each street after a known all-in.
+//!
+//! `read_hand` reads the lines once and returns a `HandRead`, which returns more: its `later_streets`, the `chips` that each seat had and
+//! put in, the `parts` of each pot, and by `into_verdict` the verdict, with the settlement of a hand that is rejected for its payments
+//! alone. The types of these answers are those of `hand_verdict`.
 //!
 //! 1. *First pass* (`first_pass`). Each line is read once, and who plays and what he is called is noted. What the lines say is kept,
 //!    where they are fewer than 256.
@@ -30,6 +31,7 @@ mod all_in;
 mod at_point;
 mod audit;
 mod collections;
+mod ended;
 mod first_pass;
 mod follow;
 mod hand;
@@ -41,6 +43,7 @@ mod parts;
 mod payments;
 mod pot_names;
 mod pots;
+mod read;
 mod seat_chips;
 mod settling;
 mod shares;
@@ -49,11 +52,11 @@ mod streets;
 mod winners;
 mod worths;
 
-pub use audit::{audit_hand, audit_with_chips, audit_with_shares, audit_with_streets};
+pub use audit::{audit_hand, later_streets};
 pub use hand_cuts::{CutKind, Cutter, Unit};
 pub use hand_verdict::{
-    AllIn, AuditedChips, AuditedShares, AuditedStreets, Cause, HandAudit, PartShare, PartShares,
-    Payment, Payments, PotLine, PotLines, SeatChips, Settlement, SplitHand, StreetState,
+    AllIn, AuditedChips, Cause, HandAudit, PartShare, PartShares, Payment, Payments, PotLine,
+    PotLines, SeatChips, Settlement, SplitHand, StreetState, Verdict,
 };
 pub use laws::law_later_streets_know_no_less;
-pub use streets::later_streets;
+pub use read::{HandRead, read_hand};

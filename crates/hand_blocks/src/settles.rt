@@ -13,7 +13,7 @@ use card_sets::{Memory, PlayerSet};
 use even_luck::{got_of, payment_of};
 use hand_events::Names;
 use hand_verdict::{
-    AuditedShares, HandAudit, PartShare, PartShares, Payment, PotLine, Settlement, SplitHand,
+    HandAudit, PartShare, PartShares, Payment, PotLine, Settlement, SplitHand, Verdict,
 };
 use report_sheet::{Form, Sheet, side_word};
 use std::alloc::AllocError;
@@ -365,27 +365,31 @@ fn split_lines(
 
 /// The settlement of a hand.
 #[tactic(auto, using(report_sheet::proofs::CallerLemmas::lines_more))]
-fn settle_block(sheet: &mut Sheet, number: &[u8], hand: &AuditedShares) -> Result<(), AllocError>
+fn settle_block(
+    sheet: &mut Sheet,
+    number: &[u8],
+    verdict: &Verdict,
+    parts: &[PartShares],
+) -> Result<(), AllocError>
     requires { IsBetweenLines sheet.old }
     ensures { OnOk result (sheet.new ≡ with_lines sheet.old
-        (settle_block sheet.old.form number.now hand.now.audit hand.now.split
-        hand.now.parts.items)) }
+        (settle_block sheet.old.form number.now verdict.now.audit verdict.now.split parts.now)) }
 {
-    match &hand.audit {
+    match &verdict.audit {
         HandAudit::Rejected {
             line,
             cause,
             hundredths,
         } => {
             rejected_hand(sheet, number, *line, *hundredths, cause)?;
-            split_lines(sheet, &hand.split, &hand.parts)
+            split_lines(sheet, &verdict.split, parts)
         }
         HandAudit::Accepted {
             settlement,
             names,
             players,
             ..
-        } => accepted_settlement(sheet, number, settlement, names, *players, &hand.parts),
+        } => accepted_settlement(sheet, number, settlement, names, *players, parts),
     }
 }
 
@@ -394,19 +398,20 @@ fn settle_block(sheet: &mut Sheet, number: &[u8], hand: &AuditedShares) -> Resul
 /// it is known who wins it what each winner of a side of each part gets, and what each player is due and got; of
 /// another what each player got. After them stands, where it is known who wins each pot, what each player is still
 /// to get, or to give back. A hand whose names don't fit has the lines that `write_hand` writes of its payments, and
-/// one that is rejected for another cause no line more. The number is that of the hand's header, digit by digit. Out
-/// of memory leaves `out` as it was.
+/// one that is rejected for another cause no line more. The parts are those of its pots. The number is that of the hand's
+/// header, digit by digit. Out of memory leaves `out` as it was.
 pub fn write_settlement(
     out: &mut Vec<u8>,
     number: &[u8],
-    hand: &AuditedShares,
+    verdict: &Verdict,
+    parts: &[PartShares],
     form: Form,
 ) -> Result<(), Memory>
     ensures block { OnOk result (out.new.items ≡ out.old.items
-        ++ settle_block form number.now hand.now.audit hand.now.split hand.now.parts.items) }
+        ++ settle_block form number.now verdict.now.audit verdict.now.split parts.now) }
     ensures memory { OnErr result (out.new.items ≡ out.old.items) }
 {
     let mut sheet = Sheet::new(*out.allocator(), form);
-    settle_block(&mut sheet, number, hand)?;
+    settle_block(&mut sheet, number, verdict, parts)?;
     sheet.append_to(out)
 }

@@ -35,14 +35,11 @@ pub struct SplitHand {
     pub players: u16,
 }
 
-/// A verdict on a hand, and what the rules give of its pots.
+/// The verdict on a hand, and the settlement of a hand that is rejected for its payments alone.
 #[derive(Drop)]
-pub struct AuditedShares {
+pub struct Verdict {
     /// The verdict.
     pub audit: HandAudit,
-    /// What became of the chips of a hand that is rejected for its payments alone; none of another.
+    /// The settlement of a hand that is rejected for its payments alone; `None` for any other hand.
     pub split: Option<SplitHand>,
-    /// The shares of the parts of each pot of a hand that is accepted or rejected for its payments alone: none of
-    /// a pot of which it isn't known who wins it, or that one player alone may win.
-    pub parts: Vec<PartShares>,
 }

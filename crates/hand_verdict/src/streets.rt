@@ -1,6 +1,5 @@
 //! The later streets of a hand that is played out.
 
-use crate::verdicts::HandAudit;
 use hand_events::Street;
 use showdown_tally::Table;
 
@@ -12,13 +11,4 @@ pub struct StreetState {
     /// The cards known on it, of the contenders at the point, and the pots of the whole hand. None where
     /// the cards of a contender aren't known on it.
     pub table: Option<Table>,
-}
-
-/// A verdict on a hand, and its later streets.
-#[derive(Drop)]
-pub struct AuditedStreets {
-    /// The verdict.
-    pub audit: HandAudit,
-    /// What is known on the streets after the all-in point, in their order; none of a rejected hand.
-    pub streets: Vec<StreetState>,
 }

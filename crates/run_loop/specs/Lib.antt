@@ -5,6 +5,7 @@ pub use Rattle.hand_cuts.specs.Units as Cuts
 pub use Rattle.hand_cuts.specs.ClosedBytes
 pub use Rattle.hand_cuts.specs.CutterState
 pub use Rattle.hand_cuts.specs.Cutters
+pub use Rattle.hand_audit.specs.HandReads
 pub use Rattle.hand_audit.specs.Verdict
 pub use Rattle.hand_audit.specs.SeatChips
 pub use Rattle.hand_audit.specs.SplitHands

@@ -1,8 +1,11 @@
 //! The block of a hand.
 
-ghost use Rattle.std.specs.Prelude.{◌≡◌, ◌<◌, ◌≤◌, ◌+◌, ◌^◌, [], ◌++◌, All, IfOk, OnOk, IsTrue, Some, true, length, drop, slice_range};
+ghost use Rattle.std.specs.Prelude.{◌≡◌, ℕ, List, ◌<◌, ◌≤◌, ◌+◌, ◌^◌, [], ◌++◌, All, IfOk, OnOk, IsTrue, Some, true, length, drop, slice_range};
 ghost use Rattle.std.specs.List.{flat_map};
+ghost use Rattle.hand_audit.specs.HandReads.{IsReadOf};
+ghost use Rattle.hand_audit.specs.SeatChips.{chips_of};
 ghost use Rattle.hand_audit.specs.Verdict.{audit_of};
+ghost use Rattle.hand_verdict.specs.declared.verdicts.HandAudit.{HandAudit};
 ghost use Rattle.even_luck.specs.Equities.{IsOfHand, is_asked};
 ghost use Rattle.hand_blocks.specs.Streets.{IsCountedStreet, has_counted, street_block, street_blocks};
 ghost use Rattle.hand_audit.specs.Departs.{begins_hand};
@@ -15,10 +18,7 @@ use crate::block_kinds::Detail;
 use crate::counter::{Counter, EquityCounter};
 use crate::later::law_later_streets_are_counted;
 use card_sets::Memory;
-use hand_audit::{
-    AuditedStreets, HandAudit, StreetState, audit_hand, audit_with_chips, audit_with_shares,
-    audit_with_streets,
-};
+use hand_audit::{AuditedChips, HandAudit, HandRead, StreetState, read_hand};
 use history_text::hand_number;
 use line_text::next_line;
 use report_table::{Form, has_counted, write_hand, write_results, write_settlement, write_street};
@@ -95,25 +95,30 @@ fn write_streets<C: Counter>(
     write_states(form, audit, states, equities, block)
 }
 
-/// The verdict on a hand, with its later streets where they are told: one reading gives both.
-fn read_hand(alloc: Global, told: Detail, text: &[u8], first: u32) -> Result<AuditedStreets, Memory>
-    requires header { IsTrue (begins_hand (lines text.now)) }
-    requires numbers { first + length (lines text.now) < 2 ^ 32 }
-    ensures verdict { IfOk result (λ both.
-        audit_of first (lines text.now) ≡ Some both.audit) }
-    ensures streets { IfOk result (λ both.
-        HasStreets told (lines text.now) both.audit both.streets.items) }
+/// Returns the later streets of a hand that was read, if they are told; otherwise none.
+fn streets_if(alloc: Global, told: Detail, hand: &HandRead) -> Result<Vec<StreetState>, Memory>
+    ensures { IfOk result (λ states. (first : ℕ) (all : List (List ℕ)) (audit : HandAudit)
+        → IsReadOf hand.now all → audit_of first all ≡ Some audit
+        → HasStreets told all audit states.items) }
 {
     match told {
-        Detail::Verdict | Detail::AllIn => {
-            let audit = audit_hand(alloc, text, first)?;
-            Ok(AuditedStreets {
-                audit,
-                streets: Vec::new(alloc),
-            })
-        }
-        Detail::LaterStreets => audit_with_streets(alloc, text, first),
+        Detail::Verdict | Detail::AllIn => Ok(Vec::new(alloc)),
+        Detail::LaterStreets => hand.later_streets(alloc),
     }
+}
+
+/// Returns the verdict on a hand, and what each of its seats had and put in. The bytes are the lines of the hand, its header
+/// line first, which has the number `first`.
+pub(crate) fn audit_chips(alloc: Global, bytes: &[u8], first: u32) -> Result<AuditedChips, Memory>
+    requires header { IsTrue (begins_hand (lines bytes.now)) }
+    requires numbers { first + length (lines bytes.now) < 2 ^ 32 }
+    ensures verdict { IfOk result (λ both. audit_of first (lines bytes.now) ≡ Some both.audit) }
+    ensures chips { IfOk result (λ both. both.chips ≡ chips_of both.audit (lines bytes.now)) }
+{
+    let hand = read_hand(alloc, bytes)?;
+    let chips = hand.chips();
+    let audit = hand.into_verdict(first).audit;
+    Ok(AuditedChips { audit, chips })
 }
 
 /// Appends what is told of a hand after the block of its verdict and its all-in. The last equity is
@@ -121,27 +126,28 @@ fn read_hand(alloc: Global, told: Detail, text: &[u8], first: u32) -> Result<Aud
 fn write_told<C: Counter>(
     form: Form,
     told: Detail,
-    hand: &AuditedStreets,
+    audit: &HandAudit,
+    states: &[StreetState],
     equities: &mut EquityCounter<C>,
     block: &mut Vec<u8>,
 ) -> Result<(), Memory>
     // The equity was asked for where it is told, and is that of the hand.
     requires ready { C.ready }
     requires asked { is_asked equities.old.equity ≡ tells_all_in told }
-    requires equity { IsOfHand hand.now.audit equities.old.equity }
+    requires equity { IsOfHand audit.now equities.old.equity }
 
     // Where its all-in is counted, so are the streets that are told.
-    requires counted { told ≡ Detail.LaterStreets → has_counted hand.now.audit ≡ true
-        → All IsCountedStreet hand.now.streets.items }
+    requires counted { told ≡ Detail.LaterStreets → has_counted audit.now ≡ true
+        → All IsCountedStreet states.now }
 
     // What is told of its streets stands after what there was.
-    ensures { (unit : UnitLines) → HasStreets told unit.lines hand.now.audit hand.now.streets.items
+    ensures { (unit : UnitLines) → HasStreets told unit.lines audit.now states.now
         → OnOk result (block.new.items
-        ≡ block.old.items ++ streets_told form told unit hand.now.audit) }
+        ≡ block.old.items ++ streets_told form told unit audit.now) }
 {
     match told {
         Detail::Verdict | Detail::AllIn => Ok(()),
-        Detail::LaterStreets => write_streets(form, &hand.audit, &hand.streets, equities, block),
+        Detail::LaterStreets => write_streets(form, audit, states, equities, block),
     }
 }
 
@@ -166,18 +172,15 @@ pub(crate) fn write_lines<C: Counter>(
     ensures rejected { IfOk result (λ rejected. rejected
         ≡ is_rejected_hand (record { first = first; lines = lines bytes.now })) }
 {
-    let hand = read_hand(alloc, told, bytes, first)?;
-    equities.ask_hand(told.tells_all_in(), &hand.audit)?;
-    write_hand(
-        block,
-        number_text(bytes),
-        &hand.audit,
-        &equities.equity,
-        form,
-    )?;
-    law_later_streets_are_counted(&hand.audit, &hand.streets);
-    write_told(form, told, &hand, equities, block)?;
-    Ok(is_rejection(&hand.audit))
+    let hand = read_hand(alloc, bytes)?;
+    let list = streets_if(alloc, told, &hand)?;
+    let states = list.as_slice();
+    let audit = hand.into_verdict(first).audit;
+    equities.ask_hand(told.tells_all_in(), &audit)?;
+    write_hand(block, number_text(bytes), &audit, &equities.equity, form)?;
+    law_later_streets_are_counted(&audit, states);
+    write_told(form, told, &audit, states, equities, block)?;
+    Ok(is_rejection(&audit))
 }
 
 /// Appends the results of a hand, and answers whether the hand is rejected. The bytes are the lines of the
@@ -200,7 +203,7 @@ pub(crate) fn write_result_lines<C: Counter>(
     ensures rejected { IfOk result (λ rejected. rejected
         ≡ is_rejected_hand (record { first = first; lines = lines bytes.now })) }
 {
-    let hand = audit_with_chips(alloc, bytes, first)?;
+    let hand = audit_chips(alloc, bytes, first)?;
     equities.ask_hand(true, &hand.audit)?;
     let number = number_text(bytes);
     write_results(
@@ -230,8 +233,10 @@ pub(crate) fn write_settlement_lines(
     ensures rejected { IfOk result (λ rejected. rejected
         ≡ is_rejected_hand (record { first = first; lines = lines bytes.now })) }
 {
-    let hand = audit_with_shares(alloc, bytes, first)?;
-    let number = number_text(bytes);
-    write_settlement(block, number, &hand, form)?;
-    Ok(is_rejection(&hand.audit))
+    let hand = read_hand(alloc, bytes)?;
+    let list = hand.parts(alloc)?;
+    let parts = list.as_slice();
+    let verdict = hand.into_verdict(first);
+    write_settlement(block, number_text(bytes), &verdict, parts, form)?;
+    Ok(is_rejection(&verdict.audit))
 }

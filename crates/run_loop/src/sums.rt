@@ -15,11 +15,12 @@ ghost use Rattle.run_loop.specs.UnitSums.{SumsInOrder, few_told};
 ghost use Rattle.run_loop.specs.Units.{started};
 
 use crate::counter::{Counter, EquityCounter};
+use crate::hands::audit_chips;
 use crate::reading::{Input, next_unit};
 use crate::text_source::TextSource;
 use byte_ends::Source;
 use card_sets::Memory;
-use hand_audit::{audit_hand, audit_with_chips};
+use hand_audit::audit_hand;
 use hand_cuts::{CutKind, INPUT_MAX};
 use report_table::{Balance, Form, MadeSums, Totals};
 use std::alloc::Global;
@@ -112,7 +113,7 @@ impl HandSums for Balance {
         first: u32,
         equities: &mut EquityCounter<C>,
     ) -> Result<(), Memory> {
-        let hand = audit_with_chips(alloc, bytes, first)?;
+        let hand = audit_chips(alloc, bytes, first)?;
         equities.ask_hand(true, &hand.audit)?;
         self.add(&hand, &equities.equity)
     }

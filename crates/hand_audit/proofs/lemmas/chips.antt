@@ -1,4 +1,4 @@
--- What each seat had and put in: `audit_with_chips`; and who collected.
+-- What each seat had and put in: `HandRead::chips`; and who collected.
 pub mod SummaryEvents
 pub mod Collected
 pub mod SumOfPaid

@@ -7,3 +7,4 @@ pub mod FollowWalk
 pub mod HandVerdict
 pub mod AcceptedLines
 pub mod AcceptedHand
+pub mod ReadHands

@@ -309,13 +309,18 @@ const CHIPS: [[u64; 2]; 7] = [
 
 /// The verdict on a hand and the chips of its seats.
 fn audit_chips(alloc: Global, bytes: &[u8]) -> Option<AuditedChips> {
-    if !is_hand(bytes) || count_lines(bytes) > 99 {
+    if !is_hand(bytes) {
         return None;
     }
-    match audit_with_chips(alloc, bytes, 1) {
-        Ok(both) => Some(both),
-        Err(_) => None,
+    let Ok(hand) = read_hand(alloc, bytes) else {
+        return None;
+    };
+    if hand.lines > 99 {
+        return None;
     }
+    let chips = hand.chips();
+    let audit = hand.into_verdict(1).audit;
+    Some(AuditedChips { audit, chips })
 }
 
 /// Whether the seats from one on had and put in so much.

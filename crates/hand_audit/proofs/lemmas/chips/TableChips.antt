@@ -1,4 +1,4 @@
--- What a table has at a seat is what the events say that the seat had and put in: `audit_with_chips`.
+-- What a table has at a seat is what the events say that the seat had and put in: `HandRead::chips`.
 use Rattle.std.proofs.Common.{◌≡◌, ℕ, ◌+◌, ◌<◌, ◌^◌, List, [], ◌∷◌, refl, sym, ap, ◌∙◌, subst, Bool, true, false, ◌==◌, ◌&&◌, length, arith}
 use Rattle.std.specs.Prelude.{if◌then◌else◌, Ok}
 use Rattle.hand_events.specs.declared.events.Header.{Header}

@@ -1,4 +1,4 @@
-use Rattle.std.proofs.Common.{◌++◌, sym, ap, ◌∙◌}
+use Rattle.std.proofs.Common.{◌++◌, arith, sym, ap, ◌∙◌}
 use Rattle.hand_audit.specs.SplitHands.{split_of}
 use Rattle.hand_cuts.specs.Units.{UnitLines}
 use Rattle.line_text.specs.Lines.{lines}
@@ -6,18 +6,24 @@ use Rattle.hand_blocks.specs.Settles.{settle_block}
 use Rattle.run_loop.specs.Histories.{hand_settlement, is_rejected_by, is_rejected_hand, number_text, settlement_by, verdict_of}
 use Rattle.run_loop.proofs.hands.write_settlement_lines.Goals as goal
 
+pub into_verdict-verdict-requires : goal.into_verdict-verdict-requires
+into_verdict-verdict-requires c = record { numbers = (let few = c.in_ok-hand.ensures.read.few in let n = c.requires.numbers in omega (arith, few, n)) }
+
 pub returns-clause-block : goal.returns-clause-block
 unfolding hand_settlement verdict_of
 returns-clause-block c =
-    let unit : UnitLines = record { first = c.args.first; lines = lines c.args.bytes.now } in
+    let all = lines c.args.bytes.now in
+    let unit : UnitLines = record { first = c.args.first; lines = all } in
     let items = c.args.block.now.items in
-    let hand = c.in_ok-hand.hand in
+    let verdict = c.into_verdict-verdict.result in
+    let read = c.in_ok-hand.ensures.read in
+    let known = c.into_verdict-verdict.ensures.audit all read in
     c.in_ok-write_settlement.ensures.block
-    ∙ ap (λ n. items ++ settle_block c.args.form n hand.audit hand.split hand.parts.items) c.number_text-number.ensures
-    ∙ ap (λ split. items ++ settle_block c.args.form (number_text unit.lines) hand.audit split hand.parts.items) c.in_ok-hand.ensures.split
-    ∙ ap (λ parts. items ++ settle_block c.args.form (number_text unit.lines) hand.audit (split_of hand.audit unit.lines) parts) c.in_ok-hand.ensures.parts
-    ∙ ap (λ v. items ++ settlement_by c.args.form unit v) (sym c.in_ok-hand.ensures.verdict)
+    ∙ ap (λ n. items ++ settle_block c.args.form n verdict.audit verdict.split c.as_slice-parts.result.now) c.number_text.ensures
+    ∙ ap (λ split. items ++ settle_block c.args.form (number_text all) verdict.audit split c.as_slice-parts.result.now) (c.into_verdict-verdict.ensures.split all read)
+    ∙ ap (λ parts. items ++ settle_block c.args.form (number_text all) verdict.audit (split_of verdict.audit all) parts) (c.as_slice-parts.ensures.value ∙ c.in_ok-list.ensures c.args.first all verdict.audit read known)
+    ∙ ap (λ v. items ++ settlement_by c.args.form unit v) (sym known)
 
 pub returns-clause-rejected : goal.returns-clause-rejected
 unfolding is_rejected_hand verdict_of
-returns-clause-rejected c = c.is_rejection.ensures ∙ ap is_rejected_by (sym c.in_ok-hand.ensures.verdict)
+returns-clause-rejected c = c.is_rejection.ensures ∙ ap is_rejected_by (sym (c.into_verdict-verdict.ensures.audit (lines c.args.bytes.now) c.in_ok-hand.ensures.read))

@@ -1,7 +1,7 @@
 use Rattle.std.proofs.Common.{◌≡◌, ℕ, List, refl}
 use Rattle.hand_verdict.specs.declared.parts.SplitHand.{SplitHand}
 use Rattle.hand_verdict.specs.declared.settlement.Settlement.{Settlement}
-use Rattle.hand_audit.proofs.audit.split_hand.Goals as goal
+use Rattle.hand_audit.proofs.read.split_hand.Goals as goal
 
 same_hand : (a b : Settlement) (m n : List (ℕ × List ℕ)) (players : ℕ) → a ≡ b → m ≡ n
     → let one : SplitHand = record { settlement = a; names = m; players = players } in let other : SplitHand = record { settlement = b; names = n; players = players } in one ≡ other

@@ -10,7 +10,7 @@ use Rattle.hand_audit.specs.PotSeats.{eligible_of}
 use Rattle.hand_audit.specs.Settle.{Settled}
 use Rattle.hand_audit.specs.Showings.{paid_in, showing_of}
 use Rattle.hand_audit.proofs.lemmas.tables.SettlementPots.{settled_same, paid_shown}
-use Rattle.hand_audit.proofs.audit.accepted.Goals as goal
+use Rattle.hand_audit.proofs.read.accepted.Goals as goal
 
 same_accepted : (a b : Settlement) (x y : AllIn) (m n : List (ℕ × List ℕ)) (players : ℕ) → a ≡ b → x ≡ y → m ≡ n → Accepted a x m players ≡ Accepted b y n players
 same_accepted a b x y m n players e f g = rw (e, f, g) refl

@@ -3,7 +3,7 @@ use Rattle.betting_replay.specs.Table.{is_twice}
 use Rattle.hand_audit.specs.Settle.{Settled, settled}
 use Rattle.hand_audit.specs.Showings.{rake, showing_of}
 use Rattle.hand_audit.specs.Verdict.{settlement_by}
-use Rattle.hand_audit.proofs.audit.settlement_of.Goals as goal
+use Rattle.hand_audit.proofs.read.settlement_of.Goals as goal
 
 pub returns : goal.returns
 returns c players so_far k made =
