@@ -109,7 +109,7 @@ fn full_even(
     requires fits { settlement.now.fits ≡ true }
     requires full { IsFull (deal_of table.now) tally.now }
     ensures value { result ≡ known_even settlement.now seats.now (deal_of table.now) seat }
-    ensures bound { IfSome result (λ even. length settlement.now.pots ≤ 10 → even ≤ 2 ^ 95) }
+    ensures bound { IfSome result (λ even. even ≤ 2 ^ 95) }
 {
     if tally.runouts() == 0 {
         return None;
@@ -130,7 +130,7 @@ fn known_even(
 ) -> Option<u128>
     requires { IsEquityOf (deal_of table.now) equity.now }
     ensures value { result ≡ known_even settlement.now seats.now (deal_of table.now) seat }
-    ensures bound { IfSome result (λ even. length settlement.now.pots ≤ 10 → even ≤ 2 ^ 95) }
+    ensures bound { IfSome result (λ even. even ≤ 2 ^ 95) }
 {
     if !settlement.fits {
         return None;
@@ -148,7 +148,7 @@ pub fn even_of(settlement: &Settlement, all_in: &AllIn, equity: &Equity, seat: u
     requires asked { is_asked equity.now ≡ true }
     requires equity { IsOfAllIn all_in.now equity.now }
     ensures value { result ≡ even_of settlement.now all_in.now seat }
-    ensures bound { IfSome result (λ even. length settlement.now.pots ≤ 10 → even ≤ 2 ^ 95) }
+    ensures bound { IfSome result (λ even. even ≤ 2 ^ 95) }
 {
     match all_in {
         AllIn::None => Some(got_of(settlement, seat)),

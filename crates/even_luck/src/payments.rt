@@ -1,6 +1,6 @@
 //! What a seat got of a hand.
 
-ghost use Rattle.std.specs.Prelude.{◌≡◌, ◌+◌, ◌*◌, ◌^◌, ◌≤◌, ◌==◌, find, length};
+ghost use Rattle.std.specs.Prelude.{◌≡◌, ◌^◌, ◌≤◌, ◌==◌, find};
 ghost use Rattle.std.specs.Option.{option_copied};
 ghost use Rattle.even_luck.specs.Figures.{paid_from};
 ghost use Rattle.hand_verdict.specs.SeatSums.{got_by, got_of};
@@ -37,7 +37,7 @@ pub fn got_from(pots: &[PotLine], k: u8, seat: u8) -> u64
 /// All that a seat got of a hand.
 pub fn got_of(settlement: &Settlement, seat: u8) -> u128
     ensures value { result ≡ got_of settlement.now seat }
-    ensures bound { result ≤ (length settlement.now.pots + 1) * 2 ^ 64 }
+    ensures bound { result ≤ 2 ^ 95 }
 {
     let pots = settlement.pots.items();
     let _count = pots.len();

@@ -26,6 +26,8 @@ pub use Rattle.hand_audit.proofs.lemmas.marks.FiveNumbers.{best_below}
 pub use Rattle.hand_audit.proofs.lemmas.splits.PartShares.{nobody_shares, order_alone, order_nobody, some_alone}
 pub use Rattle.hand_audit.proofs.lemmas.splits.SettledPots.{each_of_fits}
 pub use Rattle.hand_audit.proofs.lemmas.tables.SettlementPots.{paid_shown, settled_same}
+-- A hand has at most ten pots.
+pub use Rattle.hand_audit.proofs.lemmas.tables.FewPots.{few_pots}
 -- What a table of known cards is made of and knows, and which of its hands may win a pot.
 pub use Rattle.hand_audit.proofs.lemmas.all_ins.KnownCards.{IsMade, known_is, known_made, made_at, made_of, some_is}
 pub use Rattle.hand_audit.proofs.lemmas.tables.EligibleHands.{places_small}

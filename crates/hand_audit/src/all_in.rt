@@ -14,7 +14,7 @@ use crate::at_point::AtPoint;
 use crate::known_tables::{known_table, seats_of};
 use betting_replay::Replay;
 use card_sets::{CardSet, Game, PlayerSet};
-use hand_verdict::{AllIn, PotLine};
+use hand_verdict::{AllIn, PotLines};
 use history_text::Street;
 
 /// Whether the cards of each seat of a set are known.
@@ -30,7 +30,7 @@ fn are_all_known(cards: &[Option<CardSet>; 11], seats: PlayerSet) -> bool
 }
 
 /// The all-in of what is known at a point, and the pots of the hand.
-fn all_in_at(point: &AtPoint, lines: &[PotLine]) -> AllIn
+fn all_in_at(point: &AtPoint, lines: &PotLines) -> AllIn
     ensures { result ≡ all_in_at point.now (eligible_of lines.now) }
 {
     if !are_all_known(&point.cards, point.contenders) {
@@ -73,14 +73,14 @@ fn known_there(game: Game, replay: &Replay, street: Street) -> AtPoint
 }
 
 /// What the all-in of a hand would be if its point lay on a street.
-pub(crate) fn all_in_on(game: Game, replay: &Replay, street: Street, lines: &[PotLine]) -> AllIn
+pub(crate) fn all_in_on(game: Game, replay: &Replay, street: Street, lines: &PotLines) -> AllIn
     ensures { result ≡ all_in_at (known_there game replay.now street) (eligible_of lines.now) }
 {
     all_in_at(&known_there(game, replay, street), lines)
 }
 
 /// The all-in of a hand, by its replay and what its pots hold.
-pub(crate) fn all_in_by(game: Game, replay: &Replay, lines: &[PotLine]) -> AllIn
+pub(crate) fn all_in_by(game: Game, replay: &Replay, lines: &PotLines) -> AllIn
     ensures { eligible_of lines.now ≡ eligible_in (pots (paid_in replay.now))
         → result ≡ all_in_by game replay.now }
 {

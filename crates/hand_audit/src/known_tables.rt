@@ -10,7 +10,7 @@ ghost use Rattle.hand_audit.specs.AllIns.{cards_or_none, bare_of};
 
 use crate::at_point::AtPoint;
 use card_sets::{CardSet, Game, Known, PlayerSet, are_disjoint};
-use hand_verdict::PotLine;
+use hand_verdict::{PotLine, PotLines};
 use showdown_tally::Table;
 
 /// A seat's cards, and none where they are unknown.
@@ -143,12 +143,10 @@ fn holds(
 }
 
 /// The table of what is known at a point and the pots, where there can be one.
-pub(crate) fn known_table(point: &AtPoint, pots: &[PotLine]) -> Option<Table>
+pub(crate) fn known_table(point: &AtPoint, pots: &PotLines) -> Option<Table>
     ensures { result ≡ table_from (bare_of point.now (eligible_of pots.now)) }
 {
-    if 10 < pots.len() {
-        return None;
-    }
+    let pots = pots.items();
     let count = point.contenders.seats().count();
     let hands = hands_of(&point.cards, point.contenders);
     let eligible = eligible_of(pots, point.contenders);

@@ -106,7 +106,7 @@ fn accepted(
         → IsOfHand (showing_of header.now players so_far.events) settled
         → result ≡ accepted_by header.now players so_far }
 {
-    let all_in = all_in_by(header.game, &state.replay, settled.pots.items());
+    let all_in = all_in_by(header.game, &state.replay, &settled.pots);
     HandAudit::Accepted {
         settlement: settlement_of(header, state, settled),
         all_in,

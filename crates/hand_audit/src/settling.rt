@@ -92,7 +92,9 @@ fn settle_pots(
     requires ready { IsReady standings.now }
     requires each { each_taken count number layers.now all.now ≡ true }
     requires numbers { number + length layers.now < 2 ^ 64 }
-    ensures { IfOk result (λ first. (s : Showing) → Tells standings.now s → AreDecided s layers.now
+    ensures count { IfOk result (λ _. length lines.new.items
+        ≡ length lines.old.items + length layers.now) }
+    ensures settled { IfOk result (λ first. (s : Showing) → Tells standings.now s → AreDecided s layers.now
         → s.collections ≡ all.now
         → AreOfPots s count number layers.now lines.old.items lines.new.items first) }
 {
@@ -134,6 +136,7 @@ pub(crate) fn settle(
 ) -> Result<HandSettled, Memory>
     requires ready { IsReady standings.now }
     requires taken { taken_from (counts_from Source.Any) all.now < 2 ^ 64 }
+    requires few { length layers.now ≤ 10 }
     ensures { IfOk result (λ one. (s : Showing) → Tells standings.now s → AreDecided s layers.now
         → s.collections ≡ all.now → pots s.paid ≡ layers.now → IsOfHand s one) }
 {

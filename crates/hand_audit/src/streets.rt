@@ -1,7 +1,6 @@
 //! The later streets of a hand that is played out.
 
-ghost use Rattle.std.specs.Prelude.{◌≡◌, ℕ, ◌≤◌, ◌∷◌, ◌++◌, [], IfOk, OnOk, map};
-ghost use Rattle.hand_audit.specs.AllIns.{all_in_at, known_there};
+ghost use Rattle.std.specs.Prelude.{◌≡◌, ℕ, ◌∷◌, ◌++◌, [], IfOk, OnOk, map};
 ghost use Rattle.hand_audit.specs.Streets.{table_in, state_on, states_of};
 ghost use Rattle.hand_audit.specs.Keeping.{Keeps};
 ghost use Rattle.hand_audit.specs.Lines.{SoFar};
@@ -14,7 +13,7 @@ use crate::hand::AuditState;
 use crate::settling::HandSettled;
 use betting_replay::Replay;
 use card_sets::Game;
-use hand_verdict::{AllIn, PotLine, StreetState};
+use hand_verdict::{AllIn, PotLines, StreetState};
 use history_text::{Header, Street};
 use showdown_tally::Table;
 use std::alloc::{AllocError, Global};
@@ -30,7 +29,7 @@ fn table_in(all_in: AllIn) -> Option<Table>
 }
 
 /// What is known on a street.
-fn state_on(game: Game, replay: &Replay, lines: &[PotLine], street: Street) -> StreetState
+fn state_on(game: Game, replay: &Replay, lines: &PotLines, street: Street) -> StreetState
     ensures { result ≡ state_on game replay.now (eligible_of lines.now) street }
 {
     StreetState {
@@ -52,7 +51,7 @@ fn add_states(
     states: &mut Vec<StreetState>,
     game: Game,
     replay: &Replay,
-    lines: &[PotLine],
+    lines: &PotLines,
     streets: &[Street],
 ) -> Result<(), AllocError>
     ensures { OnOk result (states.new.items
@@ -72,7 +71,7 @@ fn states_on(
     alloc: Global,
     game: Game,
     replay: &Replay,
-    lines: &[PotLine],
+    lines: &PotLines,
     streets: &[Street],
 ) -> Result<Vec<StreetState>, AllocError>
     ensures { IfOk result (λ states. states.items
@@ -99,7 +98,7 @@ pub(crate) fn states_of(
         alloc,
         header.game,
         &state.replay,
-        settled.pots.items(),
+        &settled.pots,
         &state.streets,
     )
 }

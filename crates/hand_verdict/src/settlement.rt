@@ -1,6 +1,7 @@
 //! What each pot holds, and who got what of it.
 
 use card_sets::{Game, Items};
+use std::marker::Model;
 
 /// What a seat got, and what the rules give it.
 #[derive(Clone, Copy)]
@@ -31,8 +32,43 @@ pub struct PotLine {
     pub paid: Payments,
 }
 
-/// The pots of a hand, the main pot first. Clauses see the list of them.
-pub type PotLines = Items<PotLine>;
+/// The pots of a hand, the main pot first: at most ten, one for each player. Clauses see the list of them.
+#[derive(Drop)]
+pub struct PotLines {
+    /// The pots, at most ten.
+    list: Vec<PotLine>,
+}
+
+impl Model for PotLines {
+    ghost use Rattle.std.specs.Prelude.{List, length, ◌≤◌};
+    ghost use Rattle.hand_verdict.specs.declared.settlement.PotLine.{PotLine};
+
+    ghost Value = { List PotLine };
+
+    ghost view = { λ pots. pots.list.items };
+
+    ghost invariant = { λ pots. length pots.list.items ≤ 10 };
+}
+
+impl PotLines {
+    ghost use Rattle.std.specs.Prelude.{◌≡◌, ◌≤◌, length};
+
+    /// Wraps a list of at most ten pots.
+    pub fn of(list: Vec<PotLine>) -> PotLines
+        requires few { length list.items ≤ 10 }
+        ensures { result ≡ list.items }
+    {
+        PotLines { list }
+    }
+
+    /// Returns the pots.
+    pub fn items(&self) -> &[PotLine]
+        ensures items { result.now ≡ self.now }
+        ensures few { length result.now ≤ 10 }
+    {
+        self.list.as_slice()
+    }
+}
 
 /// What became of the chips of a hand.
 #[derive(Drop)]

@@ -16,9 +16,6 @@ use report_sheet::Form;
 use std::alloc::Global;
 use std::marker::Model;
 
-/// The most pots that a hand has: one for each player.
-const POTS_MAX: usize = 10;
-
 /// What each player won and lost over all hands of a run: how many hands there are, and for each name in each
 /// unit, in the order of their first seat lines, what it got and put in, and what it would have got with even
 /// luck. Clauses see it as plain records.
@@ -76,8 +73,7 @@ impl Balance {
     }
 
     /// Adds a hand, by its verdict with the chips of its seats and the equity of its all-in. Out of memory it
-    /// leaves the balance as it was. A hand of more than ten pots, which no call of `hand_audit` answers, is
-    /// refused as if memory lacked, so that the sums always have room.
+    /// leaves the balance as it was.
     pub fn add(&mut self, hand: &AuditedChips, equity: &Equity) -> Result<(), Memory>
         requires asked { is_asked equity.now ≡ true }
         requires equity { IsOfHand hand.now.audit equity.now }
@@ -96,9 +92,6 @@ impl Balance {
             self.rejected += 1;
             return Ok(());
         };
-        if settlement.pots.items().len() > POTS_MAX {
-            return Err(Memory);
-        }
         let lineup = Lineup {
             hundredths: settlement.hundredths,
             names,

@@ -1,6 +1,6 @@
 //! What a hand gives one of its players towards his balance.
 
-ghost use Rattle.std.specs.Prelude.{◌≡◌, ◌≤◌, length, true};
+ghost use Rattle.std.specs.Prelude.{◌≡◌, true};
 ghost use Rattle.hand_verdict.specs.SeatSums.{chips_at};
 ghost use Rattle.player_totals.specs.Balance.{balance_line, no_balance, seat_balance};
 ghost use Rattle.player_totals.specs.BalanceSeen.{AreOfSeats, balance_is_sums, both};
@@ -86,8 +86,7 @@ pub(crate) struct SettledHand<'a> {
 }
 
 impl<'a> Gives<BalanceSums> for SettledHand<'a> {
-    ghost IsWhole = { λ hand. (length hand.settlement.now.pots ≤ 10) × (is_asked hand.equity.now ≡ true)
-        × IsOfAllIn hand.all_in.now hand.equity.now };
+    ghost IsWhole = { λ hand. (is_asked hand.equity.now ≡ true) × IsOfAllIn hand.all_in.now hand.equity.now };
 
     ghost share = { λ hand. seat_balance hand.settlement.now hand.all_in.now hand.chips.now };
 

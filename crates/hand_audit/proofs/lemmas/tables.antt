@@ -3,3 +3,4 @@ pub mod TableFacts
 pub mod EligibleHands
 pub mod PointTable
 pub mod SettlementPots
+pub mod FewPots

@@ -19,7 +19,7 @@ returns-clause-value c =
     let few = c.pot_count.ensures.few in
     let count = c.pot_count.ensures.value in
     let units = λ (seats : List ℕ) (pots : List PotLine) (n : ℕ). expected_units sums.runouts (given_to (shared_pots seats pots) (tally_figures sums) hand n) in
-    c.even_units.ensures.value ∙ ap (λ pots. units c.contenders.result.now pots c.pot_count.result) c.items.ensures
+    c.even_units.ensures.value ∙ ap (λ pots. units c.contenders.result.now pots c.pot_count.result) c.items.ensures.items
     ∙ ap (λ seats. units seats s.pots c.pot_count.result) c.contenders.ensures.value
     ∙ ap (λ n. units (contenders c.args.seats.now deal) s.pots n) count
     ∙ expected_full (record s { pots = shared_pots (contenders c.args.seats.now deal) s.pots }) deal sums hand c.requires.full c.requires.hand (omega (arith, few, count))

@@ -1,6 +1,6 @@
 -- The table of what is known at a point, and the all-in that has it.
-use Rattle.std.proofs.Common.{◌≡◌, ℕ, ◌<◌, List, [], ◌∷◌, refl, sym, ap, ◌∙◌, true, false, length, map, arith}
-use Rattle.std.specs.Prelude.{Some, None, nat_le, is_some, slice_index_or}
+use Rattle.std.proofs.Common.{◌≡◌, ℕ, List, [], ◌∷◌, refl, sym, ap, ◌∙◌, true, false, length, map}
+use Rattle.std.specs.Prelude.{Some, None, is_some, slice_index_or}
 use Rattle.std.specs.List.{list_all}
 use Rattle.std.proofs.lemmas.List.{length-map}
 use Rattle.card_sets.specs.PlayerSets.{seats_in}
@@ -16,7 +16,6 @@ use Rattle.hand_audit.specs.PotSeats.{eligible_of}
 use Rattle.hand_audit.specs.AllIns.{cards_or_none, bare_of, all_in_at, known_with, known_there, eligible_in, all_in_on, all_in_by}
 use Rattle.hand_audit.specs.declared.at_point.AtPoint.{AtPoint}
 use Rattle.hand_verdict.specs.declared.verdicts.AllIn.TheVariants.{None as NoAllIn, Unknown}
-use Rattle.hand_audit.proofs.lemmas.tables.TableFacts.{many_pots}
 
 map_twice : (f : ℕ → ℕ) (pots : List PotLine) → map (λ pot. f pot.eligible) pots ≡ map f (eligible_of pots)
 map_twice f [] = refl
@@ -30,14 +29,6 @@ same_bare point pots b game count hands board dead number eligible =
     let n : b.pots ≡ length (eligible_of pots) = number ∙ sym (length-map pots (λ pot. pot.eligible)) in
     let e : b.eligible ≡ ten 0 (map (places_in (seats_in point.contenders)) (eligible_of pots)) = eligible ∙ ap (ten 0) (map_twice (places_in (seats_in point.contenders)) pots) in
     rw (game, count, hands, board, dead, n, e) refl
-
--- there is no table of more than ten pots
-pub too_many : (point : AtPoint) (pots : List PotLine) → 10 < length pots → None ≡ table_from (bare_of point (eligible_of pots))
-unfolding bare_of
-too_many point pots many =
-    let n : length (eligible_of pots) ≡ length pots = length-map pots (λ pot. pot.eligible) in
-    let above : nat_le (length (eligible_of pots)) 10 ≡ false = grind (arith, n, many) in
-    many_pots (bare_of point (eligible_of pots)) above
 
 pub unknown_at : (point : AtPoint) (pots : List ℕ) → list_all (λ p. is_some (slice_index_or point.cards p None)) (seats_in point.contenders) ≡ false → Unknown ≡ all_in_at point pots
 unfolding all_in_at

@@ -1,10 +1,7 @@
 -- A table holds what is put into it, and there is none where that doesn't hold.
-use Rattle.std.proofs.Common.{drop, ◌≡◌, ◌&&◌, ◌∷◌, refl, ap, ◌∙◌, Bool, true, false, arith}
+use Rattle.std.proofs.Common.{◌≡◌, refl, ap, ◌∙◌, Bool, true, false, arith}
 use Rattle.std.specs.Prelude.{Some, None, nat_le}
 use Rattle.std.proofs.Props.{props}
-use Rattle.card_sets.specs.PlayerSets.{all_within}
-use Rattle.card_sets.specs.Disjoint.{all_apart, all_empty}
-use Rattle.card_sets.specs.Games.{all_fit}
 use Rattle.showdown_tally.specs.declared.table.Table.{Table}
 use Rattle.hand_audit.specs.KnownTables.{Bare, Holds, holds, with_facts, table_if, table_from, all_hold}
 
@@ -41,13 +38,3 @@ no_table b fails = by (holds b) refl
     by : (known : Bool) (is : holds b ≡ known) → None ≡ table_if b known is
     by true is = cc
     by false is = refl
-
-pub many_pots : (b : Bare) → nat_le b.pots 10 ≡ false → None ≡ table_from b
-many_pots b many = no_table b (rw many (off (nat_le b.count 10) (all_apart (b.board ∷ b.dead ∷ b.hands)) (all_empty (drop b.count b.hands)) (all_fit b.game b.board b.hands) (all_within b.count b.eligible)))
-  where
-    off : (a b c d e : Bool) → (a && b && c && d && false && e) ≡ false
-    off true true true true e = refl
-    off true true true false e = refl
-    off true true false d e = refl
-    off true false c d e = refl
-    off false b c d e = refl

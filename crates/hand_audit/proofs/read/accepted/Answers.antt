@@ -20,8 +20,8 @@ returns c so_far k named made =
     let g = c.args.header.now in
     let h = so_far.events in
     let s = showing_of g c.args.players h in
-    let pots_same : eligible_of c.items.result.now ≡ eligible_in (pots (paid_in c.args.state.now.replay))
-    = ap eligible_of c.items.ensures ∙ ap (λ (x : Settled). eligible_of x.pots) made.settled ∙ settled_same s ∙ ap (λ (ps : List Paid). eligible_in (pots ps)) (paid_shown g c.args.players h)
+    let pots_same : eligible_of c.args.settled.pots ≡ eligible_in (pots (paid_in c.args.state.now.replay))
+    = ap (λ (x : Settled). eligible_of x.pots) made.settled ∙ settled_same s ∙ ap (λ (ps : List Paid). eligible_in (pots ps)) (paid_shown g c.args.players h)
     ∙ ap (λ (t : ReplayState). eligible_in (pots (paid_in t))) (sym k.stands.is) in
     same_accepted _ _ _ _ _ _ c.args.players (c.settlement_of.ensures c.args.players so_far k made)
     (c.all_in_by-all_in.ensures pots_same ∙ ap (all_in_by g.game) k.stands.is) named

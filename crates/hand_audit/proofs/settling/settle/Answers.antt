@@ -17,7 +17,7 @@ settle_pots-requires-clause-each c =
 pub returns : goal.returns
 returns c s t d same are =
     let some : fits c.args.layers.now c.args.all.now ≡ true = grind (arith, c.fits.ensures, c.if-not-fits.false) in
-    let made = c.in_ok-beyond.ensures s t d same in
+    let made = c.in_ok-beyond.ensures.settled s t d same in
     let count = length c.args.layers.now in
     let done = fit_hand s c.args.layers.now c.args.all.now c.of-2.result c.in_ok-beyond.beyond same are some
     (c.of-2.ensures ∙ made.lines ∙ ap (λ xs. xs ++ pot_lines s count 0 c.args.layers.now) c.new-lines.ensures.items) made.beyond in

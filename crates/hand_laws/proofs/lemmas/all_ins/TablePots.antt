@@ -26,8 +26,7 @@ use Rattle.hand_verdict.specs.declared.verdicts.AllIn.TheVariants.{Known}
 use Rattle.hand_verdict.specs.declared.settlement.PotLine.{PotLine}
 use Rattle.hand_verdict.specs.declared.verdicts.HandAudit.TheVariants.{Accepted}
 use Rattle.hand_verdict.specs.declared.settlement.Settlement.{Settlement}
-use Rattle.hand_laws.proofs.lemmas.all_ins.FewPots.{few_pots}
-use Rattle.hand_audit.proofs.CallerLemmas.{IsMade, made_at, in_ten, in_map, settled_same, paid_shown, accepted_is}
+use Rattle.hand_audit.proofs.CallerLemmas.{IsMade, accepted_is, few_pots, in_map, in_ten, made_at, paid_shown, settled_same}
 
 -- a pot by its number
 record IsAt (lines : List PotLine) (number : ℕ) (pot : PotLine) : Type 0 where

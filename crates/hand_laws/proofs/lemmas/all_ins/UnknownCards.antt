@@ -32,8 +32,7 @@ use Rattle.hand_verdict.specs.declared.verdicts.HandAudit.TheVariants.{Accepted}
 use Rattle.hand_verdict.specs.declared.settlement.Settlement.{Settlement}
 use Rattle.hand_audit.specs.Lines.{nothing}
 use Rattle.hand_audit.specs.Verdict.{audit_of, events_of}
-use Rattle.hand_laws.proofs.lemmas.all_ins.FewPots.{few_pots}
-use Rattle.hand_audit.proofs.CallerLemmas.{some_is, few_seats, same_all, sound_all, start, accepted_is}
+use Rattle.hand_audit.proofs.CallerLemmas.{accepted_is, few_pots, few_seats, same_all, some_is, sound_all, start}
 use Rattle.hand_laws.proofs.lemmas.all_ins.KnownTable.{Stands, stands, empty_behind, within_ten}
 
 -- what stands together makes a table

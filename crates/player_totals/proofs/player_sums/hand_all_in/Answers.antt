@@ -14,6 +14,6 @@ returns-clause-value c =
     let few = c.pot_count.ensures.few in
     let count = c.pot_count.ensures.value in
     let collected = c.collected_by.ensures.value ∙ ap (λ n. collected_by c.args.settlement.now n c.args.seat) count in
-    let expected = c.expected_by.ensures.value ∙ ap (λ pots. expected_units c.args.tally.now.runouts (given_to pots (tally_figures c.args.tally.now) c.args.hand (length deal.pots))) c.items.ensures
+    let expected = c.expected_by.ensures.value ∙ ap (λ pots. expected_units c.args.tally.now.runouts (given_to pots (tally_figures c.args.tally.now) c.args.hand (length deal.pots))) c.items.ensures.items
     ∙ expected_full c.args.settlement.now deal c.args.tally.now c.args.hand c.requires.full c.requires.hand (omega arith) in
     λ i. record { hands = 1; all_ins = 1; collected = collected i; expected = expected i }
