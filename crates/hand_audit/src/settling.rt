@@ -35,7 +35,9 @@ pub(crate) struct HandSettled {
 /// What became of the chips of a pot, and its first payment that is beyond its tolerance.
 #[derive(Drop)]
 struct PotSettled {
+    /// The pot with its payments.
     line: PotLine,
+    /// The first payment beyond its tolerance, if there is one.
     beyond: Option<Payment>,
 }
 

@@ -30,9 +30,13 @@ use std::alloc::AllocError;
 /// of the table's hands, hand by hand, and the table.
 #[derive(Clone, Copy)]
 pub(crate) struct Shown<'a> {
+    /// The settlement of the hand.
     pub(crate) settlement: &'a Settlement,
+    /// The seats and names of the hand.
     pub(crate) names: &'a Names,
+    /// The seat of each hand of the table.
     pub(crate) seats: &'a [u8; 10],
+    /// The cards that are known, and the pots.
     pub(crate) table: &'a Table,
 }
 

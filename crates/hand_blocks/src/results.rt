@@ -20,10 +20,15 @@ use std::alloc::AllocError;
 /// its seats, and what each seat had and put in.
 #[derive(Clone, Copy)]
 struct Played<'a> {
+    /// The settlement of the hand.
     settlement: &'a Settlement,
+    /// The all-in of the hand.
     all_in: &'a AllIn,
+    /// The equity of the all-in.
     equity: &'a Equity,
+    /// The seats and names of the hand.
     names: &'a Names,
+    /// The chips that each seat had and put in, by its number.
     chips: &'a [SeatChips; 11],
 }
 

@@ -21,8 +21,11 @@ use std::marker::Model;
 /// luck. Clauses see it as plain records.
 #[derive(Drop)]
 pub struct Balance {
+    /// Number of accepted hands.
     accepted: u64,
+    /// Number of rejected hands.
     rejected: u64,
+    /// The sums of each name in each unit.
     players: Players<BalanceSums>,
 }
 

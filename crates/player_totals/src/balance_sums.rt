@@ -79,9 +79,13 @@ fn put_of(chips: &[SeatChips; 11], seat: u8) -> u64
 /// had and put in.
 #[derive(Clone, Copy)]
 pub(crate) struct SettledHand<'a> {
+    /// The settlement of the hand.
     pub(crate) settlement: &'a Settlement,
+    /// The all-in of the hand.
     pub(crate) all_in: &'a AllIn,
+    /// The equity of the all-in.
     pub(crate) equity: &'a Equity,
+    /// The chips that each seat had and put in, by its number.
     pub(crate) chips: &'a [SeatChips; 11],
 }
 

@@ -110,8 +110,11 @@ fn all_in_sums(all_in: &AllIn, equity: &Equity) -> AllInSums
 /// see them as a plain record.
 #[derive(Drop)]
 pub struct MadeSums {
+    /// Number of hands.
     hands: u64,
+    /// Number of accepted hands.
     accepted: u64,
+    /// Sums over their counted all-ins.
     all_ins: AllInSums,
 }
 

@@ -78,8 +78,11 @@ impl Sums for PlayerSums {
 /// A hand in which no line departs: its settlement, and its all-in with the equity of that.
 #[derive(Clone, Copy)]
 pub(crate) struct PlayedHand<'a> {
+    /// The settlement of the hand.
     pub(crate) settlement: &'a Settlement,
+    /// The all-in of the hand.
     pub(crate) all_in: &'a AllIn,
+    /// The equity of the all-in.
     pub(crate) equity: &'a Equity,
 }
 

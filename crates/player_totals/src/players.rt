@@ -25,8 +25,11 @@ fn key_of(alloc: Global, hundredths: bool, name: &[u8]) -> Result<PlayerKey, All
 /// Who plays in a hand, and the unit of its money.
 #[derive(Clone, Copy)]
 pub(crate) struct Lineup<'a> {
+    /// Whether a unit is a hundredth of the currency, not a chip.
     pub(crate) hundredths: bool,
+    /// The seats and names of the hand.
     pub(crate) names: &'a Names,
+    /// The players: bit s is set if seat s plays.
     pub(crate) players: u16,
 }
 

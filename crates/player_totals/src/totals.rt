@@ -20,8 +20,11 @@ use std::marker::Model;
 /// order of their first seat lines. Clauses see them as plain records.
 #[derive(Drop)]
 pub struct Totals {
+    /// Number of accepted hands.
     accepted: u64,
+    /// Number of rejected hands.
     rejected: u64,
+    /// The sums of each name in each unit.
     players: Players<PlayerSums>,
 }
 

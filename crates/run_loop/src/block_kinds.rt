@@ -49,7 +49,9 @@ pub(crate) enum BlockKind {
 /// its first line.
 #[derive(Clone, Copy)]
 pub(crate) struct UnitPosition {
+    /// Place of the block among those of the report, from 1.
     pub(crate) place: u64,
+    /// Number of its first line in the input, from 1.
     pub(crate) line: u32,
 }
 

@@ -31,7 +31,9 @@ pub(crate) enum Ending {
 /// The input: what is held of it, and how its reading ended.
 #[derive(Drop)]
 pub(crate) struct Input {
+    /// The bytes that are held, and what is cut off them.
     pub(crate) cutter: Cutter,
+    /// How the reading ended, if it has.
     pub(crate) ending: Ending,
 }
 

@@ -8,6 +8,7 @@ use byte_ends::{Failed, Source};
 /// A source of the bytes of a text. No read of it fails.
 #[derive(Drop)]
 pub(crate) struct TextSource<'a> {
+    /// Bytes of the text that are still to be read.
     pub(crate) left: &'a [u8],
 }
 
