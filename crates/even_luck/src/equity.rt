@@ -1,7 +1,12 @@
 //! What is known of how the runouts of a table end.
 
+ghost use Rattle.std.specs.Prelude.{◌≡◌, ◌<◌, IfSome, is_some};
+ghost use Rattle.even_luck.specs.Equities.{IsEquityOf, IsFull};
+ghost use Rattle.even_luck.specs.Figures.{is_counted};
+ghost use Rattle.showdown_tally.specs.Deals.{deal_of};
+
 use runout_ranges::JobFault;
-use showdown_tally::Tally;
+use showdown_tally::{Table, Tally};
 
 /// What is known of an equity.
 #[derive(Drop)]
@@ -27,4 +32,32 @@ impl Equity {
             Equity::Refused(_) | Equity::Counted(_) => true,
         }
     }
+
+    /// Returns the tally of a table with this equity, if the equity is counted and the table has a runout. Otherwise fewer cards
+    /// may come than are lacking, or there are too many runouts.
+    pub fn counted(&self, table: &Table) -> Option<&Tally>
+        requires { IsEquityOf (deal_of table.now) self.now }
+        ensures counted { is_some result ≡ is_counted (deal_of table.now) }
+        ensures full { IfSome result (λ tally. IsFull (deal_of table.now) tally.now) }
+        ensures some { IfSome result (λ tally. 0 < tally.now.runouts) }
+    {
+        match self {
+            Equity::Counted(tally) => with_runout(table, tally),
+            Equity::Refused(_) => None,
+            Equity::NotAsked => unreachable!(),
+        }
+    }
+}
+
+/// Returns a tally of all runouts of a table, if there is one. With none, fewer cards may come than are lacking.
+fn with_runout<'a>(_table: &Table, tally: &'a Tally) -> Option<&'a Tally>
+    requires { IsFull (deal_of _table.now) tally.now }
+    ensures counted { is_some result ≡ is_counted (deal_of _table.now) }
+    ensures full { IfSome result (λ tally. IsFull (deal_of _table.now) tally.now) }
+    ensures some { IfSome result (λ tally. 0 < tally.now.runouts) }
+{
+    if tally.runouts() == 0 {
+        return None;
+    }
+    Some(tally)
 }

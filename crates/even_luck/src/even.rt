@@ -97,9 +97,8 @@ fn even_got(
     )
 }
 
-/// What a seat would have got with even luck, by a tally of all runouts of its hand's all-in; with none, fewer
-/// cards may come than are lacking.
-fn full_even(
+/// Returns what a seat would have got with even luck, by a tally of all runouts of its hand's all-in.
+fn counted_even(
     settlement: &Settlement,
     seats: &[u8; 10],
     table: &Table,
@@ -107,13 +106,11 @@ fn full_even(
     seat: u8,
 ) -> Option<u128>
     requires fits { settlement.now.fits ≡ true }
+    requires some { 0 < tally.now.runouts }
     requires full { IsFull (deal_of table.now) tally.now }
     ensures value { result ≡ known_even settlement.now seats.now (deal_of table.now) seat }
     ensures bound { IfSome result (λ even. even ≤ 2 ^ 95) }
 {
-    if tally.runouts() == 0 {
-        return None;
-    }
     match hand_at(seats, table, seat) {
         Some(hand) => Some(even_got(settlement, seats, table, tally, hand)),
         None => Some(got_of(settlement, seat)),
@@ -135,10 +132,9 @@ fn known_even(
     if !settlement.fits {
         return None;
     }
-    match equity {
-        Equity::Counted(tally) => full_even(settlement, seats, table, tally, seat),
-        Equity::Refused(_) => None,
-        Equity::NotAsked => unreachable!(),
+    match equity.counted(table) {
+        Some(tally) => counted_even(settlement, seats, table, tally, seat),
+        None => None,
     }
 }
 

@@ -2,8 +2,8 @@
 //! are known.
 
 ghost use Rattle.std.specs.Prelude.{◌≡◌, ◌<◌, [], ◌∷◌, ◌++◌, true, unwrap_or, OnOk, OnErr};
-ghost use Rattle.even_luck.specs.Equities.{IsCountOf, IsEquityOf, IsFull, IsOfAllIn, IsOfHand, is_asked};
-ghost use Rattle.even_luck.specs.Figures.{full_figures, is_counted, tally_figures};
+ghost use Rattle.even_luck.specs.Equities.{IsCountOf, IsOfAllIn, IsOfHand, is_asked};
+ghost use Rattle.even_luck.specs.Figures.{full_figures, tally_figures};
 ghost use Rattle.report_sheet.specs.Sheets.{IsBetweenLines, with_line, with_lines, with_words};
 ghost use Rattle.hand_blocks.specs.Streets.{IsOfStreet, IsOfTable, counted_street, has_counted, is_counted_all_in, street_block, street_line, street_name, table_street, word_line};
 ghost use Rattle.hand_blocks.specs.Words.{later_word};
@@ -16,7 +16,7 @@ use even_luck::Equity;
 use hand_events::{Names, Street};
 use hand_verdict::{AllIn, HandAudit, Settlement, StreetState};
 use report_sheet::{Form, Sheet};
-use showdown_tally::{Table, Tally};
+use showdown_tally::Tally;
 use std::alloc::AllocError;
 
 /// How a street after an all-in is written.
@@ -29,30 +29,6 @@ fn later_text(street: Street) -> &'static str
     }
 }
 
-/// Whether an equity is counted that is a tally of all runouts; with none, fewer cards may come than are
-/// lacking.
-fn is_full_counted(table: &Table, tally: &Tally) -> bool
-    requires { IsFull (deal_of table.now) tally.now }
-    ensures { result ≡ is_counted (deal_of table.now) }
-{
-    if tally.runouts() == 0 {
-        return false;
-    }
-    true
-}
-
-/// Whether the equity of a table is counted.
-fn is_counted(table: &Table, equity: &Equity) -> bool
-    requires { IsEquityOf (deal_of table.now) equity.now }
-    ensures { result ≡ is_counted (deal_of table.now) }
-{
-    match equity {
-        Equity::Counted(tally) => is_full_counted(table, tally),
-        Equity::Refused(_) => false,
-        Equity::NotAsked => unreachable!(),
-    }
-}
-
 /// Whether the equity of an all-in is counted.
 fn is_counted_all_in(all_in: &AllIn, equity: &Equity) -> bool
     requires asked { is_asked equity.now ≡ true }
@@ -61,7 +37,7 @@ fn is_counted_all_in(all_in: &AllIn, equity: &Equity) -> bool
 {
     match all_in {
         AllIn::None | AllIn::Unknown => false,
-        AllIn::Known { table, .. } => is_counted(table, equity),
+        AllIn::Known { table, .. } => equity.counted(table).is_some(),
     }
 }
 

@@ -63,15 +63,13 @@ fn seat_units(seats: &[u8; 10], table: &Table, tally: &Tally, seat: u8) -> u128
     }
 }
 
-/// A hand with a tally of all runouts of its all-in; with none, fewer cards may come than are lacking.
-fn full_all_in(seats: &[u8; 10], table: &Table, tally: &Tally) -> AllInSums
-    requires { IsFull (deal_of table.now) tally.now }
+/// Returns what a hand with a counted all-in gives, by a tally of all its runouts.
+fn counted_all_in(seats: &[u8; 10], table: &Table, tally: &Tally) -> AllInSums
+    requires some { 0 < tally.now.runouts }
+    requires full { IsFull (deal_of table.now) tally.now }
     ensures value { result ≡ known_all_in seats.now (deal_of table.now) }
     ensures small { AreSmall 1 result }
 {
-    if tally.runouts() == 0 {
-        return NO_ALL_IN;
-    }
     AllInSums {
         runouts: u128::from(tally.runouts()),
         first: seat_units(seats, table, tally, 1),
@@ -85,10 +83,9 @@ fn known_all_in(seats: &[u8; 10], table: &Table, equity: &Equity) -> AllInSums
     ensures value { result ≡ known_all_in seats.now (deal_of table.now) }
     ensures small { AreSmall 1 result }
 {
-    match equity {
-        Equity::Counted(tally) => full_all_in(seats, table, tally),
-        Equity::Refused(_) => NO_ALL_IN,
-        Equity::NotAsked => unreachable!(),
+    match equity.counted(table) {
+        Some(tally) => counted_all_in(seats, table, tally),
+        None => NO_ALL_IN,
     }
 }
 

@@ -2,7 +2,7 @@
 
 ghost use Rattle.std.specs.Prelude.{◌≡◌, ◌<◌, ◌≤◌, ◌^◌, true};
 ghost use Rattle.even_luck.specs.Equities.{IsEquityOf, IsFull, IsOfAllIn, is_asked};
-ghost use Rattle.player_totals.specs.Totals.{collected_by, hand_alone, hand_all_in, known_sums, no_sums, seat_sums, total_line};
+ghost use Rattle.player_totals.specs.Totals.{collected_by, hand_all_in, known_sums, no_sums, seat_sums, total_line};
 ghost use Rattle.player_totals.specs.TotalsSeen.{AreOfHands, plus, totals_are_sums};
 ghost use Rattle.showdown_tally.specs.Deals.{deal_of};
 
@@ -131,21 +131,19 @@ fn hand_all_in(
     }
 }
 
-/// A hand with a tally of all runouts of its all-in; with none, fewer cards may come than are lacking.
-fn full_sums(
+/// Returns what a hand with a counted all-in gives a seat, by a tally of all its runouts.
+fn counted_sums(
     settlement: &Settlement,
     seats: &[u8; 10],
     table: &Table,
     tally: &Tally,
     seat: u8,
 ) -> PlayerSums
-    requires { IsFull (deal_of table.now) tally.now }
+    requires some { 0 < tally.now.runouts }
+    requires full { IsFull (deal_of table.now) tally.now }
     ensures value { result ≡ known_sums settlement.now seats.now (deal_of table.now) seat }
     ensures small { AreOfHands 1 result }
 {
-    if tally.runouts() == 0 {
-        return PlayerSums::HAND_ALONE;
-    }
     match hand_at(seats, table, seat) {
         Some(hand) => hand_all_in(settlement, table, tally, seat, hand),
         None => PlayerSums::HAND_ALONE,
@@ -164,10 +162,9 @@ fn known_sums(
     ensures value { result ≡ known_sums settlement.now seats.now (deal_of table.now) seat }
     ensures small { AreOfHands 1 result }
 {
-    match equity {
-        Equity::Counted(tally) => full_sums(settlement, seats, table, tally, seat),
-        Equity::Refused(_) => PlayerSums::HAND_ALONE,
-        Equity::NotAsked => unreachable!(),
+    match equity.counted(table) {
+        Some(tally) => counted_sums(settlement, seats, table, tally, seat),
+        None => PlayerSums::HAND_ALONE,
     }
 }
 
