@@ -5,6 +5,7 @@ pub use Rattle.showdown_tally.specs.Deals
 pub use Rattle.showdown_tally.specs.Showdown
 pub use Rattle.showdown_tally.specs.Tallies
 pub mod Equities
+pub mod AllInEquities
 pub mod Figures
 pub mod Seats
 pub mod EvenLuck

@@ -1,13 +1,14 @@
 //! What a player would have got of a hand with even luck.
 
 ghost use Rattle.std.specs.Prelude.{◌≡◌, ℕ, ◌*◌, ◌<◌, ◌≤◌, ◌^◌, IfSome, length, true};
-ghost use Rattle.even_luck.specs.Equities.{IsEquityOf, IsFull, IsOfAllIn, is_asked};
+ghost use Rattle.even_luck.specs.Equities.{IsEquityOf, IsFull};
 ghost use Rattle.even_luck.specs.EvenLuck.{even_got, even_of, known_even, shared_pots};
 ghost use Rattle.even_luck.specs.Figures.{expected_units, given_to, gross_of, tally_figures};
 ghost use Rattle.runout_ranges.specs.declared.limits.TheConstants.{RUNOUT_MAX};
 ghost use Rattle.showdown_tally.specs.Cells.{units_at};
 ghost use Rattle.showdown_tally.specs.Deals.{deal_of};
 
+use crate::asked::AskedAllIn;
 use crate::equity::Equity;
 use crate::payments::{got_from, got_of};
 use crate::seats::{contenders, hand_at};
@@ -140,15 +141,15 @@ fn known_even(
 
 /// What a seat would have got with even luck, with the equity of its hand's all-in. None where the hand has an
 /// all-in that isn't counted or whose pots' names don't fit.
-pub fn even_of(settlement: &Settlement, all_in: &AllIn, equity: &Equity, seat: u8) -> Option<u128>
-    requires asked { is_asked equity.now ≡ true }
-    requires equity { IsOfAllIn all_in.now equity.now }
-    ensures value { result ≡ even_of settlement.now all_in.now seat }
+pub fn even_of(settlement: &Settlement, asked: &AskedAllIn, seat: u8) -> Option<u128>
+    ensures value { result ≡ even_of settlement.now asked.now.all_in.now seat }
     ensures bound { IfSome result (λ even. even ≤ 2 ^ 95) }
 {
-    match all_in {
+    match asked.all_in {
         AllIn::None => Some(got_of(settlement, seat)),
         AllIn::Unknown => None,
-        AllIn::Known { seats, table, .. } => known_even(settlement, seats, table, equity, seat),
+        AllIn::Known { seats, table, .. } => {
+            known_even(settlement, seats, table, asked.equity, seat)
+        }
     }
 }

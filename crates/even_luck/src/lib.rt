@@ -9,6 +9,7 @@
 //! memory: equities come with what they are of.
 #![tactic(auto)]
 
+mod asked;
 mod equity;
 mod even;
 mod expected;
@@ -16,6 +17,7 @@ mod payments;
 mod seats;
 mod tables;
 
+pub use asked::AskedAllIn;
 pub use equity::Equity;
 pub use even::even_of;
 pub use expected::expected_by;

@@ -1,7 +1,7 @@
 //! The block of a hand.
 
-ghost use Rattle.std.specs.Prelude.{◌≡◌, [], ◌∷◌, ◌++◌, true, codes, OnOk, OnErr};
-ghost use Rattle.even_luck.specs.Equities.{IsOfAllIn, IsOfHand, is_asked};
+ghost use Rattle.std.specs.Prelude.{◌≡◌, [], ◌∷◌, ◌++◌, codes, OnOk, OnErr};
+ghost use Rattle.even_luck.specs.Equities.{IsOfHand, is_asked};
 ghost use Rattle.hand_blocks.specs.HandEquities.{all_in_block, hand_block};
 ghost use Rattle.report_sheet.specs.Lines.{plain};
 ghost use Rattle.report_sheet.specs.Sheets.{IsBetweenLines, with_line, with_lines};
@@ -9,7 +9,7 @@ ghost use Rattle.report_sheet.specs.Sheets.{IsBetweenLines, with_line, with_line
 use crate::hand_equities::{Shown, known_all_in};
 use crate::hands::{accepted_hand, rejected_hand};
 use card_sets::Memory;
-use even_luck::Equity;
+use even_luck::{AskedAllIn, Equity};
 use hand_events::Names;
 use hand_verdict::{AllIn, HandAudit, Settlement};
 use report_sheet::{Form, Sheet};
@@ -31,16 +31,13 @@ fn all_in_block(
     sheet: &mut Sheet,
     settlement: &Settlement,
     names: &Names,
-    all_in: &AllIn,
-    equity: &Equity,
+    asked: &AskedAllIn,
 ) -> Result<(), AllocError>
     requires between { IsBetweenLines sheet.old }
-    requires asked { is_asked equity.now ≡ true }
-    requires equity { IsOfAllIn all_in.now equity.now }
     ensures { OnOk result (sheet.new ≡ with_lines sheet.old
-        (all_in_block sheet.old.form settlement.now names.now all_in.now)) }
+        (all_in_block sheet.old.form settlement.now names.now asked.now.all_in.now)) }
 {
-    match all_in {
+    match asked.all_in {
         AllIn::None => all_in_word(sheet, "none"),
         AllIn::Unknown => all_in_word(sheet, "unknown"),
         AllIn::Known {
@@ -54,7 +51,7 @@ fn all_in_block(
                 seats,
                 table,
             };
-            known_all_in(sheet, &shown, *street, equity)
+            known_all_in(sheet, &shown, *street, asked.equity)
         }
     }
 }
@@ -88,7 +85,7 @@ fn hand_block(
             if !equity.is_asked() {
                 return Ok(());
             }
-            all_in_block(sheet, settlement, names, all_in, equity)
+            all_in_block(sheet, settlement, names, &AskedAllIn { all_in, equity })
         }
     }
 }

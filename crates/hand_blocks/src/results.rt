@@ -4,28 +4,25 @@
 ghost use Rattle.std.specs.Prelude.{◌≡◌, ◌<◌, [], ◌∷◌, ◌++◌, true, OnOk, OnErr};
 ghost use Rattle.std.specs.List.{flat_map};
 ghost use Rattle.card_sets.specs.PlayerSets.{seats_in};
-ghost use Rattle.even_luck.specs.Equities.{IsOfAllIn, IsOfHand, is_asked};
+ghost use Rattle.even_luck.specs.Equities.{IsOfHand, is_asked};
 ghost use Rattle.hand_blocks.specs.Results.{accepted_results, even_word, net_words, player_result, result_line, result_title, results_block};
 ghost use Rattle.report_sheet.specs.Sheets.{IsBetweenLines, with_line, with_lines, with_words};
 
 use crate::hands::{accepted_line, name_text, rejected_hand};
 use card_sets::{Memory, PlayerSet};
-use even_luck::{Equity, even_of, got_of};
+use even_luck::{AskedAllIn, Equity, even_of, got_of};
 use hand_events::Names;
-use hand_verdict::{AllIn, HandAudit, SeatChips, Settlement};
+use hand_verdict::{HandAudit, SeatChips, Settlement};
 use report_sheet::{Form, Sheet};
 use std::alloc::AllocError;
 
-/// An accepted hand as its results are shown: its settlement, its all-in with the equity of that, the names of
-/// its seats, and what each seat had and put in.
+/// An accepted hand as its results are shown.
 #[derive(Clone, Copy)]
 struct Played<'a> {
     /// The settlement of the hand.
     settlement: &'a Settlement,
-    /// The all-in of the hand.
-    all_in: &'a AllIn,
-    /// The equity of the all-in.
-    equity: &'a Equity,
+    /// The all-in of the hand, with its equity.
+    all_in: AskedAllIn<'a>,
     /// The seats and names of the hand.
     names: &'a Names,
     /// The chips that each seat had and put in, by its number.
@@ -94,37 +91,27 @@ fn result_line(
 fn player_result(sheet: &mut Sheet, played: &Played, seat: u8) -> Result<(), AllocError>
     requires between { IsBetweenLines sheet.old }
     requires seat { seat < 11 }
-    requires asked { is_asked played.now.equity.now ≡ true }
-    requires equity { IsOfAllIn played.now.all_in.now played.now.equity.now }
     ensures { OnOk result (sheet.new ≡ with_lines sheet.old
-        (player_result sheet.old.form played.now.settlement.now played.now.all_in.now
+        (player_result sheet.old.form played.now.settlement.now played.now.all_in.all_in.now
         played.now.names.now played.now.chips.now seat)) }
 {
-    let Played {
-        settlement,
-        all_in,
-        equity,
-        names,
-        chips,
-    } = *played;
+    let settlement = played.settlement;
     result_line(
         sheet,
         settlement.hundredths,
-        chips[usize::from(seat)],
+        played.chips[usize::from(seat)],
         got_of(settlement, seat),
-        even_of(settlement, all_in, equity, seat),
-        name_text(names, seat),
+        even_of(settlement, &played.all_in, seat),
+        name_text(played.names, seat),
     )
 }
 
 /// The lines of all players, by rising seat.
 fn player_results(sheet: &mut Sheet, played: &Played, players: PlayerSet) -> Result<(), AllocError>
     requires between { IsBetweenLines sheet.old }
-    requires asked { is_asked played.now.equity.now ≡ true }
-    requires equity { IsOfAllIn played.now.all_in.now played.now.equity.now }
     ensures { OnOk result (sheet.new ≡ with_lines sheet.old
         (flat_map (player_result sheet.old.form played.now.settlement.now
-        played.now.all_in.now played.now.names.now played.now.chips.now)
+        played.now.all_in.all_in.now played.now.names.now played.now.chips.now)
         (seats_in players))) }
 {
     for seat in 1..11u8 {
@@ -145,11 +132,9 @@ fn accepted_results(
     players: u16,
 ) -> Result<(), AllocError>
     requires between { IsBetweenLines sheet.old }
-    requires asked { is_asked played.now.equity.now ≡ true }
-    requires equity { IsOfAllIn played.now.all_in.now played.now.equity.now }
     ensures { OnOk result (sheet.new ≡ with_lines sheet.old
         (accepted_results sheet.old.form number.now played.now.settlement.now
-        played.now.all_in.now played.now.names.now players played.now.chips.now)) }
+        played.now.all_in.all_in.now played.now.names.now players played.now.chips.now)) }
 {
     accepted_line(sheet, number, played.settlement)?;
     player_results(sheet, played, PlayerSet::of(players))
@@ -183,8 +168,7 @@ fn results_block(
         } => {
             let played = Played {
                 settlement,
-                all_in,
-                equity,
+                all_in: AskedAllIn { all_in, equity },
                 names,
                 chips,
             };

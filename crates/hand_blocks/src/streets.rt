@@ -2,7 +2,7 @@
 //! are known.
 
 ghost use Rattle.std.specs.Prelude.{◌≡◌, ◌<◌, [], ◌∷◌, ◌++◌, true, unwrap_or, OnOk, OnErr};
-ghost use Rattle.even_luck.specs.Equities.{IsCountOf, IsOfAllIn, IsOfHand, is_asked};
+ghost use Rattle.even_luck.specs.Equities.{IsCountOf, IsOfHand, is_asked};
 ghost use Rattle.even_luck.specs.Figures.{full_figures, tally_figures};
 ghost use Rattle.report_sheet.specs.Sheets.{IsBetweenLines, with_line, with_lines, with_words};
 ghost use Rattle.hand_blocks.specs.Streets.{IsOfStreet, IsOfTable, counted_street, has_counted, is_counted_all_in, street_block, street_line, street_name, table_street, word_line};
@@ -12,7 +12,7 @@ ghost use Rattle.showdown_tally.specs.Deals.{deal_of};
 use crate::hand_equities::{Shown, pot_equities};
 use crate::words::later_word;
 use card_sets::Memory;
-use even_luck::Equity;
+use even_luck::{AskedAllIn, Equity};
 use hand_events::{Names, Street};
 use hand_verdict::{AllIn, HandAudit, Settlement, StreetState};
 use report_sheet::{Form, Sheet};
@@ -30,14 +30,12 @@ fn later_text(street: Street) -> &'static str
 }
 
 /// Whether the equity of an all-in is counted.
-fn is_counted_all_in(all_in: &AllIn, equity: &Equity) -> bool
-    requires asked { is_asked equity.now ≡ true }
-    requires equity { IsOfAllIn all_in.now equity.now }
-    ensures { result ≡ is_counted_all_in all_in.now }
+fn is_counted_all_in(asked: &AskedAllIn) -> bool
+    ensures { result ≡ is_counted_all_in asked.now.all_in.now }
 {
-    match all_in {
+    match asked.all_in {
         AllIn::None | AllIn::Unknown => false,
-        AllIn::Known { table, .. } => equity.counted(table).is_some(),
+        AllIn::Known { table, .. } => asked.equity.counted(table).is_some(),
     }
 }
 
@@ -49,7 +47,7 @@ pub fn has_counted(audit: &HandAudit, equity: &Equity) -> bool
 {
     match audit {
         HandAudit::Rejected { .. } => false,
-        HandAudit::Accepted { all_in, .. } => is_counted_all_in(all_in, equity),
+        HandAudit::Accepted { all_in, .. } => is_counted_all_in(&AskedAllIn { all_in, equity }),
     }
 }
 

@@ -10,7 +10,7 @@ use crate::player_rows::Players;
 use crate::players::{Lineup, add_hand};
 use crate::total_lines::write_sums;
 use card_sets::Memory;
-use even_luck::Equity;
+use even_luck::{AskedAllIn, Equity};
 use hand_verdict::{AuditedChips, HandAudit};
 use report_sheet::Form;
 use std::alloc::Global;
@@ -102,8 +102,7 @@ impl Balance {
         };
         let settled = SettledHand {
             settlement,
-            all_in,
-            equity,
+            all_in: AskedAllIn { all_in, equity },
             chips: &hand.chips,
         };
         add_hand(&mut self.players, &lineup, &settled)?;

@@ -1,16 +1,15 @@
 //! What a hand gives one of its players towards his balance.
 
-ghost use Rattle.std.specs.Prelude.{◌≡◌, true};
+ghost use Rattle.std.specs.Prelude.{◌≡◌};
 ghost use Rattle.hand_verdict.specs.SeatSums.{chips_at};
 ghost use Rattle.player_totals.specs.Balance.{balance_line, no_balance, seat_balance};
 ghost use Rattle.player_totals.specs.BalanceSeen.{AreOfSeats, balance_is_sums, both};
-ghost use Rattle.even_luck.specs.Equities.{IsOfAllIn, is_asked};
 
 use crate::balance_lines::balance_line;
 use crate::player_key::PlayerKey;
 use crate::sums::{Gives, Sums};
-use even_luck::{Equity, even_of, got_of};
-use hand_verdict::{AllIn, SeatChips, Settlement};
+use even_luck::{AskedAllIn, even_of, got_of};
+use hand_verdict::{SeatChips, Settlement};
 use report_sheet::Sheet;
 use std::alloc::AllocError;
 
@@ -81,23 +80,19 @@ fn put_of(chips: &[SeatChips; 11], seat: u8) -> u64
 pub(crate) struct SettledHand<'a> {
     /// The settlement of the hand.
     pub(crate) settlement: &'a Settlement,
-    /// The all-in of the hand.
-    pub(crate) all_in: &'a AllIn,
-    /// The equity of the all-in.
-    pub(crate) equity: &'a Equity,
+    /// The all-in of the hand, with its equity.
+    pub(crate) all_in: AskedAllIn<'a>,
     /// The chips that each seat had and put in, by its number.
     pub(crate) chips: &'a [SeatChips; 11],
 }
 
 impl<'a> Gives<BalanceSums> for SettledHand<'a> {
-    ghost IsWhole = { λ hand. (is_asked hand.equity.now ≡ true) × IsOfAllIn hand.all_in.now hand.equity.now };
-
-    ghost share = { λ hand. seat_balance hand.settlement.now hand.all_in.now hand.chips.now };
+    ghost share = { λ hand. seat_balance hand.settlement.now hand.all_in.all_in.now hand.chips.now };
 
     fn sums(&self, seat: u8) -> BalanceSums {
         let got = got_of(self.settlement, seat);
         let put = u128::from(put_of(self.chips, seat));
-        match even_of(self.settlement, self.all_in, self.equity, seat) {
+        match even_of(self.settlement, &self.all_in, seat) {
             Some(even) => BalanceSums {
                 hands: 1,
                 got,

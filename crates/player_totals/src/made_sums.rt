@@ -2,7 +2,7 @@
 
 ghost use Rattle.std.specs.Prelude.{◌≡◌, ℕ, ◌<◌, ◌≤◌, ◌*◌, ◌^◌, List, [], ◌∷◌, ◌++◌, true, OnOk, OnErr};
 ghost use Rattle.hand_verdict.specs.declared.verdicts.HandAudit.{HandAudit};
-ghost use Rattle.even_luck.specs.Equities.{IsEquityOf, IsFull, IsOfAllIn, IsOfHand, is_asked};
+ghost use Rattle.even_luck.specs.Equities.{IsEquityOf, IsFull, IsOfHand, is_asked};
 ghost use Rattle.even_luck.specs.Figures.{full_figures, tally_figures};
 ghost use Rattle.report_sheet.specs.Lines.{line_in};
 ghost use Rattle.player_totals.specs.Made.{all_in_sums, hand_units, known_all_in, made_columns, made_line, made_sums, made_title, seat_units};
@@ -11,7 +11,7 @@ ghost use Rattle.report_sheet.specs.Sheets.{IsBetweenLines, with_line, with_word
 ghost use Rattle.showdown_tally.specs.Deals.{deal_of};
 
 use card_sets::Memory;
-use even_luck::{Equity, hand_at, pot_count};
+use even_luck::{AskedAllIn, Equity, hand_at, pot_count};
 use hand_verdict::{AllIn, HandAudit};
 use report_sheet::{Form, Sheet};
 use showdown_tally::{Table, Tally};
@@ -90,15 +90,13 @@ fn known_all_in(seats: &[u8; 10], table: &Table, equity: &Equity) -> AllInSums
 }
 
 /// What a hand in which no line departs gives, with the equity of its all-in.
-fn all_in_sums(all_in: &AllIn, equity: &Equity) -> AllInSums
-    requires asked { is_asked equity.now ≡ true }
-    requires equity { IsOfAllIn all_in.now equity.now }
-    ensures value { result ≡ all_in_sums all_in.now }
+fn all_in_sums(asked: &AskedAllIn) -> AllInSums
+    ensures value { result ≡ all_in_sums asked.now.all_in.now }
     ensures small { AreSmall 1 result }
 {
-    match all_in {
+    match asked.all_in {
         AllIn::None | AllIn::Unknown => NO_ALL_IN,
-        AllIn::Known { seats, table, .. } => known_all_in(seats, table, equity),
+        AllIn::Known { seats, table, .. } => known_all_in(seats, table, asked.equity),
     }
 }
 
@@ -154,7 +152,7 @@ impl MadeSums {
     {
         self.hands += 1;
         if let HandAudit::Accepted { all_in, .. } = audit {
-            let more = all_in_sums(all_in, equity);
+            let more = all_in_sums(&AskedAllIn { all_in, equity });
             self.accepted += 1;
             self.all_ins.runouts += more.runouts;
             self.all_ins.first += more.first;

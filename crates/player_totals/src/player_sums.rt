@@ -1,7 +1,7 @@
 //! What a hand gives one of its players.
 
-ghost use Rattle.std.specs.Prelude.{◌≡◌, ◌<◌, ◌≤◌, ◌^◌, true};
-ghost use Rattle.even_luck.specs.Equities.{IsEquityOf, IsFull, IsOfAllIn, is_asked};
+ghost use Rattle.std.specs.Prelude.{◌≡◌, ◌<◌, ◌≤◌, ◌^◌};
+ghost use Rattle.even_luck.specs.Equities.{IsEquityOf, IsFull};
 ghost use Rattle.player_totals.specs.Totals.{collected_by, hand_all_in, known_sums, no_sums, seat_sums, total_line};
 ghost use Rattle.player_totals.specs.TotalsSeen.{AreOfHands, plus, totals_are_sums};
 ghost use Rattle.showdown_tally.specs.Deals.{deal_of};
@@ -9,7 +9,7 @@ ghost use Rattle.showdown_tally.specs.Deals.{deal_of};
 use crate::player_key::PlayerKey;
 use crate::sums::{Gives, Sums};
 use crate::total_lines::total_line;
-use even_luck::{Equity, expected_by, got_by, got_from, hand_at, pot_count};
+use even_luck::{AskedAllIn, Equity, expected_by, got_by, got_from, hand_at, pot_count};
 use hand_verdict::{AllIn, Settlement};
 use report_sheet::Sheet;
 use showdown_tally::{Table, Tally};
@@ -80,19 +80,15 @@ impl Sums for PlayerSums {
 pub(crate) struct PlayedHand<'a> {
     /// The settlement of the hand.
     pub(crate) settlement: &'a Settlement,
-    /// The all-in of the hand.
-    pub(crate) all_in: &'a AllIn,
-    /// The equity of the all-in.
-    pub(crate) equity: &'a Equity,
+    /// The all-in of the hand, with its equity.
+    pub(crate) all_in: AskedAllIn<'a>,
 }
 
 impl<'a> Gives<PlayerSums> for PlayedHand<'a> {
-    ghost IsWhole = { λ hand. (is_asked hand.equity.now ≡ true) × IsOfAllIn hand.all_in.now hand.equity.now };
-
-    ghost share = { λ hand. seat_sums hand.settlement.now hand.all_in.now };
+    ghost share = { λ hand. seat_sums hand.settlement.now hand.all_in.all_in.now };
 
     fn sums(&self, seat: u8) -> PlayerSums {
-        seat_sums(self.settlement, self.all_in, self.equity, seat)
+        seat_sums(self.settlement, &self.all_in, seat)
     }
 }
 
@@ -169,14 +165,14 @@ fn known_sums(
 }
 
 /// What a hand in which no line departs gives a seat that plays, with the equity of its all-in.
-fn seat_sums(settlement: &Settlement, all_in: &AllIn, equity: &Equity, seat: u8) -> PlayerSums
-    requires asked { is_asked equity.now ≡ true }
-    requires equity { IsOfAllIn all_in.now equity.now }
-    ensures value { result ≡ seat_sums settlement.now all_in.now seat }
+fn seat_sums(settlement: &Settlement, asked: &AskedAllIn, seat: u8) -> PlayerSums
+    ensures value { result ≡ seat_sums settlement.now asked.now.all_in.now seat }
     ensures small { AreOfHands 1 result }
 {
-    match all_in {
+    match asked.all_in {
         AllIn::None | AllIn::Unknown => PlayerSums::HAND_ALONE,
-        AllIn::Known { seats, table, .. } => known_sums(settlement, seats, table, equity, seat),
+        AllIn::Known { seats, table, .. } => {
+            known_sums(settlement, seats, table, asked.equity, seat)
+        }
     }
 }

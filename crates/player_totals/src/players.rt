@@ -169,7 +169,6 @@ fn add_sums<S: Sums, H: Gives<S>>(
     lineup: &Lineup,
     hand: &H,
 )
-    requires whole { H.IsWhole hand.now }
 
     // Each name of the seat lines has its key.
     requires keys { map player_of keys.now
@@ -198,7 +197,6 @@ pub(crate) fn add_hand<S: Sums, H: Gives<S>>(
     lineup: &Lineup,
     hand: &H,
 ) -> Result<(), Memory>
-    requires whole { H.IsWhole hand.now }
 
     // The sums have room for one hand more.
     requires sums { AllAreOf S.AreOf (2 ^ 32) players.old }

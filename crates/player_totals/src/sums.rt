@@ -48,15 +48,11 @@ pub(crate) trait Sums: Copy {
 
 /// A hand in which no line departs, as it gives sums to its players.
 pub(crate) trait Gives<S: Sums> {
-    /// Whether all that it goes by is of one hand.
-    ghost IsWhole: { Self → Type 0 };
-
     /// What it gives a seat that plays.
     ghost share: { Self → ℕ → S };
 
     /// What it gives a seat that plays.
     fn sums(&self, seat: u8) -> S
-        requires { IsWhole self.now }
         ensures value { result ≡ share self.now seat }
         ensures small { S.AreOf 1 result };
 }

@@ -10,7 +10,7 @@ use crate::player_sums::{PlayedHand, PlayerSums};
 use crate::players::{Lineup, add_hand};
 use crate::total_lines::write_sums;
 use card_sets::Memory;
-use even_luck::Equity;
+use even_luck::{AskedAllIn, Equity};
 use hand_verdict::HandAudit;
 use report_sheet::Form;
 use std::alloc::Global;
@@ -101,8 +101,7 @@ impl Totals {
         };
         let hand = PlayedHand {
             settlement,
-            all_in,
-            equity,
+            all_in: AskedAllIn { all_in, equity },
         };
         add_hand(&mut self.players, &lineup, &hand)?;
         self.accepted += 1;

@@ -7,8 +7,8 @@ use Rattle.hand_blocks.proofs.results.player_results.Given as goal
 
 abbrev pub invariant-loop-seat : goal.invariant-loop-seat
 invariant-loop-seat l = record {
-  written : with_lines l.sheet (flat_map (player_result l.fn.sheet.form l.played.settlement.now l.played.all_in.now l.played.names.now l.played.chips.now) (players_from l.players l.seat (11 - l.seat)))
-      ≡ with_lines l.fn.sheet (flat_map (player_result l.fn.sheet.form l.played.settlement.now l.played.all_in.now l.played.names.now l.played.chips.now) (seats_in l.players));
+  written : with_lines l.sheet (flat_map (player_result l.fn.sheet.form l.played.settlement.now l.played.all_in.all_in.now l.played.names.now l.played.chips.now) (players_from l.players l.seat (11 - l.seat)))
+      ≡ with_lines l.fn.sheet (flat_map (player_result l.fn.sheet.form l.played.settlement.now l.played.all_in.all_in.now l.played.names.now l.played.chips.now) (seats_in l.players));
   form : l.sheet.form ≡ l.fn.sheet.form;
   between : IsBetweenLines l.sheet;
 }

@@ -6,10 +6,10 @@ use Rattle.player_totals.proofs.BalanceFacts.{accepted_more, hand_of}
 use Rattle.player_totals.proofs.LineupFacts.{small_more}
 use Rattle.player_totals.proofs.balance.Balance.add.Goals as goal
 
-pub add_hand-requires-clause-sums : goal.add_hand-requires-clause-sums
-add_hand-requires-clause-sums c =
+pub add_hand-requires : goal.add_hand-requires
+add_hand-requires c =
     let few = c.self.invariant.0 in
-    small_more balance_is_sums c.self.inside.accepted (2 ^ 32) c.self.inside.players (omega arith) c.self.invariant.1
+    record { sums = small_more balance_is_sums c.self.inside.accepted (2 ^ 32) c.self.inside.players (omega arith) c.self.invariant.1 }
 
 pub invariant_of-self-2 : goal.invariant_of-self-2
 invariant_of-self-2 c =

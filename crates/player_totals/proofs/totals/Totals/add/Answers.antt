@@ -5,10 +5,10 @@ use Rattle.player_totals.proofs.LineupFacts.{small_more}
 use Rattle.player_totals.proofs.RunFacts.{accepted_more}
 use Rattle.player_totals.proofs.totals.Totals.add.Goals as goal
 
-pub add_hand-requires-clause-sums : goal.add_hand-requires-clause-sums
-add_hand-requires-clause-sums c =
+pub add_hand-requires : goal.add_hand-requires
+add_hand-requires c =
     let few = c.self.invariant.0 in
-    small_more totals_are_sums c.self.inside.accepted (2 ^ 32) c.self.inside.players (omega arith) c.self.invariant.1
+    record { sums = small_more totals_are_sums c.self.inside.accepted (2 ^ 32) c.self.inside.players (omega arith) c.self.invariant.1 }
 
 pub invariant_of-self-2 : goal.invariant_of-self-2
 invariant_of-self-2 c =
