@@ -1,27 +1,25 @@
 # shellcheck shell=bash
 # Shared by ./equity, page/build, and sums.sh, which source this file. It names the crates below one crate, and copies them without
-# their must-fail edits into a folder of their own, where one `rt ci` passes them.
+# their must-fail edits into a folder of their own, where one `rt ci` passes them. No function sets a variable of its caller.
 
-# A crate and the crates of the repository that it stands on, and of each in crates.txt what follows its name, and the crates below it.
-needed=()
-declare -A kind=() below=()
-
-# read_needed ROOT CRATE
-read_needed() {
-    local line name more lower at
-    declare -A seen=(["$2"]=1)
+# needed_lines ROOT CRATE: prints the line `NAME[ KIND]: LOWER ..` of crates.txt for a crate, and then for each crate of the repository
+# that it stands on, each crate once
+needed_lines() {
+    local line name kind lower at needed=("$2")
+    local -A lines=() seen=(["$2"]=1)
     while IFS= read -r line; do
         line="${line%%#*}"
         [[ "$line" == *:* ]] || continue
-        read -r name more <<<"${line%%:*}"
-        kind["$name"]="${more:+ $more}"
-        below["$name"]="${line#*:}"
+        read -r name kind <<<"${line%%:*}"
+        lines["$name"]="$name${kind:+ $kind}:${line#*:}"
     done <"$1/crates.txt"
-    needed=("$2")
     for ((at = 0; at < ${#needed[@]}; at++)); do
-        for lower in ${below[${needed[at]}]-}; do
-            if [ -z "${below[$lower]+there}" ] || [ -n "${seen[$lower]-}" ]; then continue; fi
-            seen[$lower]=1
+        line="${lines[${needed[at]}]-}"
+        [ -n "$line" ] || return 1
+        printf '%s\n' "$line"
+        for lower in ${line#*:}; do
+            if [ -z "${lines[$lower]-}" ] || [ -n "${seen[$lower]-}" ]; then continue; fi
+            seen["$lower"]=1
             needed+=("$lower")
         done
     done
@@ -34,27 +32,29 @@ kit_line() {
     cat "$(dirname "$(readlink -f "$rt")")/../KIT-ID" 2>/dev/null
 }
 
-# sum_of FOLDER: prints a checksum of the files in that folder from which the needed crates are built
+# sum_of ROOT CRATE: prints a checksum of the files from which a crate and those below it are built
 sum_of() {
-    local name part parts=()
-    for name in "${needed[@]}"; do
-        for part in "crates/$name"/{src,specs,proofs}; do
+    local lines line part parts=()
+    lines="$(needed_lines "$1" "$2")" || return 1
+    while IFS= read -r line; do
+        for part in "crates/${line%%[ :]*}"/{src,specs,proofs}; do
             [ ! -d "$1/$part" ] || parts+=("$part")
         done
-    done
+    done <<<"$lines"
     (
         cd "$1" || exit 1
-        for name in "${needed[@]}"; do printf '%s%s:%s\n' "$name" "${kind[$name]}" "${below[$name]}"; done
+        printf '%s\n' "$lines"
         find HANDLES "${parts[@]}" -type f -print0 | LC_ALL=C sort -z | xargs -0 sha256sum
     ) | sha256sum | cut -d' ' -f1
 }
 
-# lay_out ROOT TREE: copies what is needed. A folder .git makes the tree the top of a repository
+# lay_out ROOT TREE LINE..: copies the crates that these lines name. A folder .git makes the tree the top of a repository
 lay_out() {
-    local name part
+    local name part line
     mkdir -p "$2/.git" "$2/crates" && cp "$1/HANDLES" "$2" || return 1
-    for name in "${needed[@]}"; do
-        printf '%s%s:%s\n' "$name" "${kind[$name]}" "${below[$name]}" >>"$2/crates.txt"
+    for line in "${@:3}"; do
+        name="${line%%[ :]*}"
+        printf '%s\n' "$line" >>"$2/crates.txt"
         mkdir "$2/crates/$name" || return 1
         for part in src specs proofs args stdin stdout status data; do
             [ ! -e "$1/crates/$name/$part" ] || cp -R "$1/crates/$name/$part" "$2/crates/$name" || return 1
@@ -77,7 +77,7 @@ pass() {
     cd "$1" && RT_JOBS="${RT_JOBS-$(lanes 2>/dev/null)}" TMPDIR="$2" exec rt ci
 }
 
-# told FILE: copies what the prover says to the file, and says at a terminal how far it is
+# told FILE COUNT: copies to the file what the prover prints, and at a terminal prints how many of the crates are proved
 told() {
     local line done=0
     while IFS= read -r line; do
@@ -87,7 +87,7 @@ told() {
             done=$((done + 1))
             if [ -t 2 ]; then
                 line="${line#rt: }"
-                printf 'proved %s, %d of %d, after %d:%02d minutes\n' "${line%% *}" "$done" "${#needed[@]}" $((SECONDS / 60)) $((SECONDS % 60)) >&2
+                printf 'proved %s, %d of %d, after %d:%02d minutes\n' "${line%% *}" "$done" "$2" $((SECONDS / 60)) $((SECONDS % 60)) >&2
             fi
             ;;
         esac

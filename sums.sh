@@ -67,14 +67,14 @@ dist_hash() {
 
 # Prints the checksum of the program's sources.
 program_sum() {
-    read_needed "$here" equity_main && sum_of "$here"
+    sum_of "$here" equity_main
 }
 
 # Prints the checksum of all files that page/build reads.
 page_sum() {
     (
-        read_needed "$here" equity_page && cd "$here" || exit 1
-        sum_of .
+        cd "$here" || exit 1
+        sum_of . equity_page
         page/build --files | LC_ALL=C sort | tr '\n' '\0' | xargs -0 sha256sum
     ) | sha256sum | cut -d' ' -f1
 }
