@@ -1,0 +1,31 @@
+"""The checks of docs/check. Each is a function that yields a sentence for each difference, and whose docstring says what must hold."""
+from . import claims, documents, layout, printed, scripts, style, usage
+
+# what docs/check tries without a name
+ON = [
+    claims.edits,
+    claims.calls,
+    claims.readme,
+    layout.crates,
+    layout.imports,
+    usage.options,
+    usage.modes,
+    usage.causes,
+    usage.version,
+    documents.specs,
+    documents.links,
+    documents.pages,
+    documents.sizes,
+    scripts.scripts,
+    printed.printed,
+    printed.archive,
+]
+# what it tries by name only, because it doesn't hold yet
+LATER = [
+    layout.layers,
+    documents.repeats,
+    style.words,
+    style.asserts,
+]
+# what --verbose adds to a check
+VERBOSE = {"sizes": documents.all_sizes}
