@@ -8,7 +8,7 @@ ghost use Rattle.showdown_tally.specs.SideCounts.{CountsFit, CountsGrow};
 ghost use Rattle.showdown_tally.specs.Tallies.{runouts_after};
 ghost use Rattle.runout_walk.specs.Listing.{last_count};
 
-use crate::branch::Branch;
+use crate::branch::{Branch, Places};
 use crate::leaf::{Leaf, OpenSlot};
 use crate::range::count_range;
 use card_sets::CardSet;
@@ -72,5 +72,6 @@ pub fn count_runouts_of<F: Leaf, L: Ledger>(
         },
     };
     let mut sets = [CardSet::empty(); 11];
-    count_range(leaf, counts, &mut sets, &branch, lo, hi, steps);
+    let between = Places { lo, hi };
+    count_range(leaf, counts, &mut sets, &branch, between, steps);
 }

@@ -18,3 +18,12 @@ pub(crate) struct Branch<'a> {
     /// What it has, and what may come to it.
     pub(crate) tail: OpenSlot,
 }
+
+/// Some of the runouts that go on from a branch: those of their listing from one place to another.
+#[derive(Clone, Copy)]
+pub(crate) struct Places {
+    /// The first place.
+    pub(crate) lo: u64,
+    /// The place after the last.
+    pub(crate) hi: u64,
+}

@@ -5,7 +5,7 @@
 //! numbers for each side of each pot, the high's row before the low's: [`clear_counts`] makes them 0.
 //!
 //! **One by one** ([`Plain`]: any deal). It is handed whole runouts. Each hand's value on a side is computed once a runout, for all pots.
-//! Leaves that count many runouts at once are crates of their own above this one: `board_runouts` and `draw_runouts`.
+//! Leaves that deal several cards and go through the runouts in one loop are crates above this one: `board_runouts` and `draw_runouts`.
 //!
 //! What leaves have in common stands here too. It says nothing of a game.
 //!

@@ -8,7 +8,7 @@ ghost use Rattle.showdown_tally.specs.SideCounts.{CountsFit, CountsGrow};
 ghost use Rattle.runout_walk.specs.Branches.{IsAt};
 ghost use Rattle.runout_walk.specs.Listing.{going_on};
 
-use crate::branch::Branch;
+use crate::branch::{Branch, Places};
 use crate::leaf::{Leaf, OpenSlot, Span};
 use card_sets::CardSet;
 use runout_ranges::{Slot, count_choices, count_ways};
@@ -60,8 +60,7 @@ pub(crate) fn count_range<F: Leaf, L: Ledger>(
     counts: &mut [[u32; 2048]],
     sets: &mut [CardSet],
     branch: &Branch<'_>,
-    lo: u64,
-    hi: u64,
+    between: Places,
     steps: &mut Steps<L>,
 )
     // The sets dealt before lead to this branch, and after them there is room for those of the later slots.
@@ -71,32 +70,34 @@ pub(crate) fn count_range<F: Leaf, L: Ledger>(
     requires room { branch.now.slot + length branch.now.later.now ≤ length sets.old }
 
     // There is something between the places, and they lie in the listing of the ways to go on.
-    requires order { lo < hi }
-    requires inside { hi ≤ length
+    requires order { between.lo < between.hi }
+    requires inside { between.hi ≤ length
         (going_on branch.now.unseen branch.now.tail.taken branch.now.tail.rest branch.now.tail.left
         (counts_of branch.now.later.now)) }
 
     // Each pot has its two rows, and each of their counts has room for all that are counted.
     requires places { 2 * length (F.deal leaf.old).pots ≤ length counts.old }
-    requires fits { CountsFit (F.deal leaf.old) counts.old (hi - lo) }
+    requires fits { CountsFit (F.deal leaf.old) counts.old (between.hi - between.lo) }
 
     // The ways to go on that are between the places are counted, each after the sets dealt before, and no others.
     ensures counts { CountsGrow (F.deal leaf.old)
         (map (λ more. take branch.now.slot sets.old ++ more)
         (slice_range
         (going_on branch.now.unseen branch.now.tail.taken branch.now.tail.rest branch.now.tail.left
-        (counts_of branch.now.later.now)) lo hi))
+        (counts_of branch.now.later.now)) between.lo between.hi))
         counts.old counts.new }
 
     // Sizes, the sets dealt before and the deal stay, and the steps are as many as the runouts.
     ensures places { length counts.new ≡ length counts.old }
     ensures front { take branch.now.slot sets.new ≡ take branch.now.slot sets.old }
     ensures room { length sets.new ≡ length sets.old }
-    ensures steps { steps.new ≡ steps.old + (hi - lo) }
+    ensures steps { steps.new ≡ steps.old + (between.hi - between.lo) }
     ensures deal { F.deal leaf.new ≡ F.deal leaf.old }
 {
     branch.unseen.rising();
     let tail = branch.tail;
+    let lo = between.lo;
+    let hi = between.hi;
     if is_last(branch.later, tail.left, leaf.depth()) {
         let front = &sets[..branch.slot];
         let span = Span {
@@ -126,7 +127,7 @@ pub(crate) fn count_range<F: Leaf, L: Ledger>(
                 left: count,
             },
         };
-        count_range(leaf, counts, sets, &inner, lo, hi, steps);
+        count_range(leaf, counts, sets, &inner, between, steps);
         return;
     }
     let Some(card) = tail.rest.first() else {
@@ -144,7 +145,7 @@ pub(crate) fn count_range<F: Leaf, L: Ledger>(
         ..*branch
     };
     if hi <= with_card {
-        count_range(leaf, counts, sets, &with, lo, hi, steps);
+        count_range(leaf, counts, sets, &with, between, steps);
         return;
     }
     let without = Branch {
@@ -156,12 +157,18 @@ pub(crate) fn count_range<F: Leaf, L: Ledger>(
         ..*branch
     };
     if with_card <= lo {
-        let start = lo - with_card;
-        let end = hi - with_card;
-        count_range(leaf, counts, sets, &without, start, end, steps);
+        let later = Places {
+            lo: lo - with_card,
+            hi: hi - with_card,
+        };
+        count_range(leaf, counts, sets, &without, later, steps);
         return;
     }
-    count_range(leaf, counts, sets, &with, lo, with_card, steps);
-    let end = hi - with_card;
-    count_range(leaf, counts, sets, &without, 0, end, steps);
+    let first = Places { lo, hi: with_card };
+    count_range(leaf, counts, sets, &with, first, steps);
+    let rest = Places {
+        lo: 0,
+        hi: hi - with_card,
+    };
+    count_range(leaf, counts, sets, &without, rest, steps);
 }

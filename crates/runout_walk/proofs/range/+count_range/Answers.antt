@@ -21,7 +21,7 @@ pub unreachable-requires-in_default-first : goal.unreachable-requires-in_default
 unreachable-requires-in_default-first g t c =
     let b = c.args.branch.now in
     let none : length b.tail.rest ≡ 0 = nothing b.tail.rest (sym c.first.ensures.value ∙ c.in_default-first.is) in
-    let enough = enough_cards b.unseen b.tail.taken b.tail.rest (counts_of b.later.now) b.tail.left b.each c.args.lo c.args.hi c.rising.ensures.set c.requires.at.branch c.requires.order c.requires.inside in
+    let enough = enough_cards b.unseen b.tail.taken b.tail.rest (counts_of b.later.now) b.tail.left b.each c.args.between.lo c.args.between.hi c.rising.ensures.set c.requires.at.branch c.requires.order c.requires.inside in
     let some : 0 < b.tail.left = positive b.tail.left c.if-tail-eq0.false in
     omega arith
 
@@ -29,7 +29,7 @@ pub count_first-with_card-requires-clause-within : goal.count_first-with_card-re
 count_first-with_card-requires-clause-within g t c =
     let b = c.args.branch.now in
     let longer = longer_rest b.tail.taken b.tail.rest c.without-others.result c.in-Some.card c.first.result c.requires.at.branch.above c.first.ensures.set c.first.ensures.value c.in-Some.is c.without-others.ensures in
-    let enough = enough_cards b.unseen b.tail.taken b.tail.rest (counts_of b.later.now) b.tail.left b.each c.args.lo c.args.hi c.rising.ensures.set c.requires.at.branch c.requires.order c.requires.inside in
+    let enough = enough_cards b.unseen b.tail.taken b.tail.rest (counts_of b.later.now) b.tail.left b.each c.args.between.lo c.args.between.hi c.rising.ensures.set c.requires.at.branch c.requires.order c.requires.inside in
     omega (arith, longer, c.count-2.ensures.value)
 
 pub count_first-with_card-requires-clause-fits : goal.count_first-with_card-requires-clause-fits
@@ -60,7 +60,7 @@ returns-then-hi-with_card-clause-counts g t c =
     let A = going_on b.unseen c.with-more.result c.without-others.result (b.tail.left - 1) (counts_of b.later.now) in
     let B = going_on b.unseen b.tail.taken c.without-others.result b.tail.left (counts_of b.later.now) in
     let w : c.count_first-with_card.result ≡ length A = s.weighed in
-    grown_with deal front all A B c.args.lo c.args.hi c.args.counts.now c.count_range-then-hi-with_card.new.counts s.parts (omega arith) c.count_range-then-hi-with_card.ensures.counts
+    grown_with deal front all A B c.args.between.lo c.args.between.hi c.args.counts.now c.count_range-then-hi-with_card.new.counts s.parts (omega arith) c.count_range-then-hi-with_card.ensures.counts
 
 pub count_range-requires-then-with_card-lo : goal.count_range-requires-then-with_card-lo
 count_range-requires-then-with_card-lo g t c =
@@ -76,7 +76,7 @@ count_range-requires-then-with_card-lo g t c =
     let shorter : length b.tail.rest ≡ suc (length c.without-others.result) = s.shorter in
     let order = c.requires.order in
     let inside = c.requires.inside in
-    λ κs lives. (omega arith, (lives.0, (lives.1, (s.hasnt, (c.requires.room, (omega arith, (omega arith, (c.requires.places, room_less deal c.args.counts.now (c.args.hi - c.args.lo) _ (omega arith) c.requires.fits))))))))
+    λ κs lives. (omega arith, (lives.0, (lives.1, (s.hasnt, (c.requires.room, (omega arith, (omega arith, (c.requires.places, room_less deal c.args.counts.now (c.args.between.hi - c.args.between.lo) _ (omega arith) c.requires.fits))))))))
 
 pub returns-then-with_card-lo-clause-counts : goal.returns-then-with_card-lo-clause-counts
 returns-then-with_card-lo-clause-counts g t c =
@@ -89,7 +89,7 @@ returns-then-with_card-lo-clause-counts g t c =
     let A = going_on b.unseen c.with-more.result c.without-others.result (b.tail.left - 1) (counts_of b.later.now) in
     let B = going_on b.unseen b.tail.taken c.without-others.result b.tail.left (counts_of b.later.now) in
     let w : c.count_first-with_card.result ≡ length A = s.weighed in
-    grown_without deal front all A B c.args.lo c.args.hi c.count_first-with_card.result c.args.counts.now c.count_range-then-with_card-lo.new.counts s.parts w (omega arith) c.count_range-then-with_card-lo.ensures.counts
+    grown_without deal front all A B c.args.between.lo c.args.between.hi c.count_first-with_card.result c.args.counts.now c.count_range-then-with_card-lo.new.counts s.parts w (omega arith) c.count_range-then-with_card-lo.ensures.counts
 
 pub count_range-requires-2 : goal.count_range-requires-2
 count_range-requires-2 g t c =
@@ -100,7 +100,7 @@ count_range-requires-2 g t c =
     let A = going_on b.unseen c.with-more.result c.without-others.result (b.tail.left - 1) (counts_of b.later.now) in
     let w : c.count_first-with_card.result ≡ length A = s.weighed in
     let shorter : length b.tail.rest ≡ suc (length c.without-others.result) = s.shorter in
-    λ κs lives. (omega arith, (lives.0, (lives.1, (s.has, (c.requires.room, (omega arith, (omega arith, (c.requires.places, room_less deal c.args.counts.now (c.args.hi - c.args.lo) _ (omega arith) c.requires.fits))))))))
+    λ κs lives. (omega arith, (lives.0, (lives.1, (s.has, (c.requires.room, (omega arith, (omega arith, (c.requires.places, room_less deal c.args.counts.now (c.args.between.hi - c.args.between.lo) _ (omega arith) c.requires.fits))))))))
 
 pub count_range-requires-3 : goal.count_range-requires-3
 count_range-requires-3 g t c =
@@ -119,12 +119,12 @@ count_range-requires-3 g t c =
     let inside = c.requires.inside in
     let same : g.F.Leaf.deal c.count_range-2.new.leaf ≡ deal = c.count_range-2.ensures.deal in
     let again : take b.slot c.count_range-2.new.sets ≡ front = c.count_range-2.ensures.front in
-    let here = map (λ more. front ++ more) (slice_range A c.args.lo c.count_first-with_card.result) in
-    let few : length here ≡ c.count_first-with_card.result - c.args.lo = length-map (slice_range A c.args.lo c.count_first-with_card.result) (λ more. front ++ more) ∙ length-range A c.args.lo c.count_first-with_card.result (omega arith) (omega arith) in
-    let left : CountsFit deal c.count_range-2.new.counts (c.args.hi - c.count_first-with_card.result - 0) = room_left deal here c.args.counts.now c.count_range-2.new.counts (c.args.hi - c.args.lo) _ (omega arith) c.requires.fits c.count_range-2.ensures.counts in
+    let here = map (λ more. front ++ more) (slice_range A c.args.between.lo c.count_first-with_card.result) in
+    let few : length here ≡ c.count_first-with_card.result - c.args.between.lo = length-map (slice_range A c.args.between.lo c.count_first-with_card.result) (λ more. front ++ more) ∙ length-range A c.args.between.lo c.count_first-with_card.result (omega arith) (omega arith) in
+    let left : CountsFit deal c.count_range-2.new.counts (c.args.between.hi - c.count_first-with_card.result - 0) = room_left deal here c.args.counts.now c.count_range-2.new.counts (c.args.between.hi - c.args.between.lo) _ (omega arith) c.requires.fits c.count_range-2.ensures.counts in
     let P : Showdown → Type 0 = λ d. IsAt d (g.F.Leaf.depth d) (take b.slot c.count_range-2.new.sets) b.unseen b.tail.taken c.without-others.result b.tail.left b.later.now b.each in
     let Q : List (List ℕ) → Type 0 = λ f. IsAt deal (g.F.Leaf.depth deal) f b.unseen b.tail.taken c.without-others.result b.tail.left b.later.now b.each in
-    let R : Showdown → Type 0 = λ d. CountsFit d c.count_range-2.new.counts (c.args.hi - c.count_first-with_card.result - 0) in
+    let R : Showdown → Type 0 = λ d. CountsFit d c.count_range-2.new.counts (c.args.between.hi - c.count_first-with_card.result - 0) in
     let pots : length (g.F.Leaf.deal c.count_range-2.new.leaf).pots ≡ length deal.pots = ap (λ (d : Showdown). length d.pots) same in
     λ κs lives. (omega arith, (lives.0, (lives.1, (subst P (sym same) (subst Q (sym again) s.hasnt), ((let r = c.requires.room in omega (arith, c.count_range-2.ensures.room)), (omega arith, (omega arith, ((let q = c.requires.places in omega (arith, c.count_range-2.ensures.places)), subst R (sym same) left))))))))
 
@@ -141,9 +141,9 @@ returns-clause-counts g t c =
     let w : c.count_first-with_card.result ≡ length A = s.weighed in
     let same : g.F.Leaf.deal c.count_range-2.new.leaf ≡ deal = c.count_range-2.ensures.deal in
     let again : take b.slot c.count_range-2.new.sets ≡ front = c.count_range-2.ensures.front in
-    let P : Showdown → Type 0 = λ d. CountsGrow d (map (λ more. take b.slot c.count_range-2.new.sets ++ more) (slice_range B 0 (c.args.hi - c.count_first-with_card.result))) c.count_range-2.new.counts c.count_range-3.new.counts in
-    let Q : List (List ℕ) → Type 0 = λ f. CountsGrow deal (map (λ more. f ++ more) (slice_range B 0 (c.args.hi - c.count_first-with_card.result))) c.count_range-2.new.counts c.count_range-3.new.counts in
-    grown_both deal front all A B c.args.lo c.args.hi c.count_first-with_card.result c.args.counts.now c.count_range-2.new.counts c.count_range-3.new.counts s.parts w (omega arith) (omega arith) c.count_range-2.ensures.counts (subst Q again (subst P same c.count_range-3.ensures.counts))
+    let P : Showdown → Type 0 = λ d. CountsGrow d (map (λ more. take b.slot c.count_range-2.new.sets ++ more) (slice_range B 0 (c.args.between.hi - c.count_first-with_card.result))) c.count_range-2.new.counts c.count_range-3.new.counts in
+    let Q : List (List ℕ) → Type 0 = λ f. CountsGrow deal (map (λ more. f ++ more) (slice_range B 0 (c.args.between.hi - c.count_first-with_card.result))) c.count_range-2.new.counts c.count_range-3.new.counts in
+    grown_both deal front all A B c.args.between.lo c.args.between.hi c.count_first-with_card.result c.args.counts.now c.count_range-2.new.counts c.count_range-3.new.counts s.parts w (omega arith) (omega arith) c.count_range-2.ensures.counts (subst Q again (subst P same c.count_range-3.ensures.counts))
 
 pub overflow_sub-count : goal.overflow_sub-count
 overflow_sub-count g t c =
@@ -195,7 +195,7 @@ returns-then-tail-eq0-clause-counts g t c =
     let put : take (b.slot + 1) (set c.args.sets.now b.slot b.tail.taken) ≡ front ++ b.tail.taken ∷ [] = take_set b.slot c.args.sets.now b.tail.taken (omega arith) in
     let here = going_on c.minus-cards.result c.empty.result c.minus-cards.result c.from-count.result (counts_of last) in
     let whole = s.parts ∙ ap (λ e. map (λ sets. b.tail.taken ∷ sets) (going_on c.minus-cards.result e c.minus-cards.result c.from-count.result (counts_of last))) (sym c.empty.ensures) in
-    grown_next deal front (take (b.slot + 1) (set c.args.sets.now b.slot b.tail.taken)) b.tail.taken (going_on b.unseen b.tail.taken b.tail.rest b.tail.left (counts_of b.later.now)) here c.args.lo c.args.hi c.args.counts.now c.count_range.new.counts put whole c.count_range.ensures.counts
+    grown_next deal front (take (b.slot + 1) (set c.args.sets.now b.slot b.tail.taken)) b.tail.taken (going_on b.unseen b.tail.taken b.tail.rest b.tail.left (counts_of b.later.now)) here c.args.between.lo c.args.between.hi c.args.counts.now c.count_range.new.counts put whole c.count_range.ensures.counts
 
 pub returns-then-tail-eq0-clause-front : goal.returns-then-tail-eq0-clause-front
 returns-then-tail-eq0-clause-front g t c =
@@ -246,7 +246,7 @@ returns-then-is_last-clause-counts g t c =
     let deal = g.F.Leaf.deal c.args.leaf.now in
     let front = take b.slot c.args.sets.now in
     let s = last_slot (g.F.Leaf.deal c.args.leaf.now) (g.F.Leaf.depth (g.F.Leaf.deal c.args.leaf.now)) (take b.slot c.args.sets.now) b.unseen b.tail.taken b.tail.rest b.tail.left b.later.now b.each last.0 c.requires.at in
-    grown_last deal front b.tail.taken (going_on b.unseen b.tail.taken b.tail.rest b.tail.left (counts_of b.later.now)) (choose b.tail.left b.tail.rest) c.args.lo c.args.hi c.args.counts.now c.count.new.counts s.parts c.count.ensures.counts
+    grown_last deal front b.tail.taken (going_on b.unseen b.tail.taken b.tail.rest b.tail.left (counts_of b.later.now)) (choose b.tail.left b.tail.rest) c.args.between.lo c.args.between.hi c.args.counts.now c.count.new.counts s.parts c.count.ensures.counts
 
 pub returns-then-with_card-lo-clause-steps : goal.returns-then-with_card-lo-clause-steps
 returns-then-with_card-lo-clause-steps g t c = omega (arith, c.count_range-then-with_card-lo.ensures.steps, c.if-with_card-lo.true)
