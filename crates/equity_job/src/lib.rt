@@ -2,7 +2,8 @@
 //!
 //! A `Job` of `job_blocks` is a table whose runouts are few enough. To count it is to settle each of its runouts once, and to add them up in
 //! one `Tally`. The runouts stand in blocks of `BLOCK`, in the order of their listing, and `count_block` counts one of them,
-//! so that a job can be counted in parts. `count_job` counts them all. Only [`Scratch::ready`] asks for memory.
+//! so that a job can be counted in parts. `count_job` counts them all. Only [`Scratch::ready`] and
+//! [`Scratch::ready_for_boards`] ask for memory.
 //!
 //! A block is counted in the [`Scratch`] that is lent: by what is lacking a leaf of `board_runouts`, of `draw_runouts` or of
 //! `runout_walk` is chosen, which says how often each set of hands wins, and of that the block's tally is made. What the scratch

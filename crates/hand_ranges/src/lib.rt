@@ -10,8 +10,8 @@
 //! 3. *Choices* (`showdowns`, `versus`). Beside a board one hand is taken from each range in turn, and a hand that
 //!    shares a card with one taken before leads nowhere. Each hand of the last range is compared with the best of
 //!    those taken: two numbers and two sets of cards a choice.
-//! 4. *Before the flop* (`counts`). There are millions of boards and few choices, so there each choice is a job of
-//!    `equity_job`.
+//! 4. *Choice by choice* (`counts`). Before the flop there are millions of boards and few choices. There, and on a flop
+//!    with few choices, each choice is a job of `equity_job`.
 //!
 //! The crate knows Texas Hold'em alone, and neither histories nor workers. It counts on the thread that calls
 //! it, in a room that it is lent.
