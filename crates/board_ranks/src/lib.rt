@@ -35,4 +35,4 @@ pub use sieve::{PAIRS_MAX, Sieve};
 pub use sieves::Sieves;
 pub use suits::{most_of, most_with, one_of, suits_for};
 pub use threes::Threes;
-pub use worth::{Worth, worth_with};
+pub use worth::{HandWithBoard, Worth, worth_with};

@@ -19,77 +19,80 @@ pub struct Worth {
     pub low: Option<u32>,
 }
 
-/// What full own cards of a hand are worth with three cards of the board and one card of each of two ranks more, by a board of such
-/// cards. Where there is none the answer says nothing.
-fn worth_on_board(
-    threes: &Threes,
-    hand: usize,
-    game: Game,
-    own: CardSet,
-    board: CardSet,
-    low: u8,
-    high: u8,
-) -> Worth
-    // The game has a board, and these are all own cards of a hand.
-    requires game { IsTrue (has_board game) }
-    requires own { length own ≡ own_size game }
+/// A hand of a game with a board, and three cards of the board.
+#[derive(Clone, Copy)]
+pub struct HandWithBoard {
+    /// The place of the hand among those of its table, from 0.
+    pub hand: usize,
+    /// The game.
+    pub game: Game,
+    /// All own cards of the hand.
+    pub own: CardSet,
+    /// Three cards of the board.
+    pub board: CardSet,
+    /// The game has a board.
+    pub ghost dealt: { IsTrue (has_board game) },
+    /// The hand has all its own cards.
+    pub ghost full: { length own ≡ own_size game },
+    /// The board lacks two cards.
+    pub ghost three: { length board ≡ 3 },
+    /// None of its cards is an own card.
+    pub ghost apart: { IsTrue (apart own board) },
+}
 
-    // The board has three cards, none of which is an own card.
-    requires board { length board ≡ 3 }
-    requires apart { IsTrue (apart own board) }
-
+/// Returns what a hand is worth with the board and one card of each of two ranks more, by a full board of such cards. If there is no such
+/// board, the result means nothing.
+fn worth_on_board(threes: &Threes, held: &HandWithBoard, low: u8, high: u8) -> Worth
     // Any two ranks, or one twice.
     requires low { low < 13 }
     requires high { high < 13 }
 
     // Both numbers hold of each full board of such cards.
-    ensures { AreWorthWith game own board low high result.high result.low }
+    ensures { AreWorthWith held.now.game held.now.own held.now.board low high
+        result.high result.low }
 {
+    let game = held.game;
+    let own = held.own;
+    let board = held.board;
     own.rising();
     board.rising();
     let Some(full) = board_with(own, board, low, high) else {
         return Worth { high: 0, low: None };
     };
     Worth {
-        high: threes.plain_value(hand, game, own, full),
-        low: threes.low_value(hand, game, own, full),
+        high: threes.plain_value(held.hand, game, own, full),
+        low: threes.low_value(held.hand, game, own, full),
     }
 }
 
-/// What full own cards of a hand are worth with three cards of the board and one card of each of two ranks more, whichever cards these
-/// are: as a high, if there were no flushes, and as a low. Where there are no such cards the answer says nothing. Where any five make a
-/// hand it goes by how many cards there are of each rank, and no board is made.
+/// Returns what a hand is worth with the board and one card of each of two ranks more, whichever cards these are: as a high, if there were
+/// no flushes, and as a low. If there are no such cards, the result means nothing. If any five cards make a hand, `worth_with` goes by how
+/// many cards there are of each rank, and makes no board.
 pub fn worth_with(
     threes: &Threes,
-    hand: usize,
-    game: Game,
-    own: CardSet,
-    board: CardSet,
+    held: &HandWithBoard,
     ranks: &ByRank,
     low: u8,
     high: u8,
 ) -> Worth
-    // The game has a board, and these are all own cards of a hand.
-    requires game { IsTrue (has_board game) }
-    requires own { length own ≡ own_size game }
-
-    // The board has three cards, none of which is an own card. There are so many of each rank among them, with one card of the lower
-    // rank more.
-    requires board { length board ≡ 3 }
-    requires apart { IsTrue (apart own board) }
-    requires ranks { AreRanksAnd own board low ranks.now }
+    // There are so many cards of each rank in the hand and on the board, with one card of the lower rank more.
+    requires ranks { AreRanksAnd held.now.own held.now.board low ranks.now }
 
     // Any two ranks, or one twice.
     requires low { low < 13 }
     requires high { high < 13 }
 
     // Both numbers hold of each full board of such cards.
-    ensures { AreWorthWith game own board low high result.high result.low }
+    ensures { AreWorthWith held.now.game held.now.own held.now.board low high
+        result.high result.low }
 {
+    let game = held.game;
+    let own = held.own;
+    let board = held.board;
     own.rising();
     board.rising();
     match game {
-        Game::Omaha | Game::Omaha8 => worth_on_board(threes, hand, game, own, board, low, high),
+        Game::Omaha | Game::Omaha8 => worth_on_board(threes, held, low, high),
         Game::Holdem
         | Game::Stud
         | Game::Stud8

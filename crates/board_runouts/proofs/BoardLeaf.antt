@@ -1,31 +1,30 @@
 -- What a leaf of boards is given.
-use Rattle.std.proofs.Common.{Bool, true, false, cond, ◌≡◌, ℕ, suc, ◌*◌, ◌<◌, ◌≤◌, List, [], ◌∷◌, ◌++◌, length, map, refl, sym, ap, ◌∙◌, arith, subst}
-use Rattle.std.specs.Prelude.{nat_le}
+use Rattle.std.proofs.Common.{◌≡◌, ℕ, suc, ◌*◌, ◌<◌, ◌≤◌, List, [], ◌∷◌, ◌++◌, length, map, refl, sym, ap, ◌∙◌, arith, subst}
 use Rattle.std.specs.List.{slice_range}
 use Rattle.card_sets.specs.Choose.{choose}
-use Rattle.card_sets.specs.Games.{has_board, own_size}
+use Rattle.card_sets.specs.Games.{own_size}
 use Rattle.card_sets.specs.State.{State, state_of}
 use Rattle.runout_ranges.specs.Runouts.{HasMember}
-use Rattle.runout_ranges.specs.Shapes.{slots_of}
-use Rattle.runout_ranges.specs.Slots.{same_receiver, slots}
-use Rattle.runout_ranges.specs.declared.shapes.Receiver.TheVariants.{Board}
-use Rattle.runout_ranges.specs.declared.shapes.Shape.{Shape}
-use Rattle.runout_ranges.specs.declared.shapes.Slot.{Slot}
+use Rattle.runout_ranges.specs.Slots.{slots}
 use Rattle.showdown_tally.specs.Deals.{deal_of}
 use Rattle.showdown_tally.specs.SideCounts.{CountsFit, CountsGrow}
 use Rattle.showdown_tally.specs.Tallies.{runouts_after}
 use Rattle.showdown_tally.specs.declared.table.Table.{Table}
-use Rattle.std.proofs.lemmas.Bool.{and_parts}
 use Rattle.runout_ranges.proofs.CallerLemmas.{as_many}
 use Rattle.showdown_tally.proofs.CallerLemmas.{hand_of}
-use Rattle.board_runouts.specs.Boards.{AreFirst, IsBoardAlone, are_boards, board_lacks}
-use Rattle.runout_walk.specs.Listing.{IsEndOf, last_count, left_after}
-use Rattle.board_runouts.specs.Fronts.{HasRoom, HoldsFlushes, front_deal}
+use Rattle.board_runouts.specs.Boards.{AreFirst, IsBoardAlone}
+use Rattle.runout_walk.specs.Listing.{IsEndOf, left_after}
+use Rattle.board_ranks.specs.declared.pair.Pair.{Pair}
+use Rattle.board_runouts.specs.Fronts.{AddPairs, AreRunoutsWith, HasRoom, HoldsFlushes}
 use Rattle.board_runouts.specs.KeptFlushes.{AreFlushes}
+use Rattle.board_runouts.specs.KeptRows.{PairsGrow}
+use Rattle.board_runouts.specs.Pairs.{cards_of_pair}
 use Rattle.board_runouts.specs.declared.flushes.Flushes.{Flushes}
 use Rattle.board_runouts.specs.declared.front.Front.{Front}
 use Rattle.board_runouts.specs.declared.spot.BoardSpot.{BoardSpot}
 use Rattle.board_runouts.proofs.BoardDealt.{IsScene, first_cards, own_of, scene_of}
+use Rattle.board_runouts.proofs.BoardRunouts.{stretch-member}
+use Rattle.board_runouts.proofs.PairCounts.{grow_of}
 use Rattle.runout_walk.proofs.CallerLemmas.{some_member}
 
 -- no slot stands before the board's
@@ -74,23 +73,25 @@ leaf_grow spot table front taken rest left lo hi old new same none two grown =
     let L : ℕ → Type 0 = λ n. CountsGrow (deal_of table) (map (λ more. front ++ (taken ++ more) ∷ []) (slice_range (choose n rest) lo hi)) old new in
     subst L (sym two) (subst T same (subst F (sym none) grown))
 
--- a front of these first cards
-pub front_members : (front : Front) (spot : BoardSpot) (taken rest : List ℕ) → front.spot.now ≡ spot → front.taken ≡ taken → ((more : List ℕ) → HasMember (choose 2 rest) more → HasMember (runouts_after (state_of spot.table.known)) ((taken ++ more) ∷ []))
-    → (more : List ℕ) → HasMember (choose 2 rest) more → HasMember (runouts_after (state_of front.spot.now.table.known)) ((front.taken ++ more) ∷ [])
-front_members front spot taken rest s t all more m =
-    let S : BoardSpot → Type 0 = λ it. HasMember (runouts_after (state_of it.table.known)) ((front.taken ++ more) ∷ []) in
-    let T : List ℕ → Type 0 = λ cards. HasMember (runouts_after (state_of spot.table.known)) ((cards ++ more) ∷ []) in
-    subst S (sym s) (subst T (sym t) (all more m))
+-- a front of these first cards, with the pairs from one place of a listing to another
+pub front_members : (front : Front) (spot : BoardSpot) (taken rest : List ℕ) (some : List Pair) (lo hi : ℕ) → front.spot.now ≡ spot → front.taken ≡ taken → map cards_of_pair some ≡ slice_range (choose 2 rest) lo hi
+    → ((more : List ℕ) → HasMember (choose 2 rest) more → HasMember (runouts_after (state_of spot.table.known)) ((taken ++ more) ∷ [])) → AreRunoutsWith front some
+front_members front spot taken rest some lo hi s t is all pair m =
+    let S : BoardSpot → Type 0 = λ it. HasMember (runouts_after (state_of it.table.known)) ((front.taken ++ cards_of_pair pair) ∷ []) in
+    let T : List ℕ → Type 0 = λ cards. HasMember (runouts_after (state_of spot.table.known)) ((cards ++ cards_of_pair pair) ∷ []) in
+    subst S (sym s) (subst T (sym t) (all (cards_of_pair pair) (stretch-member some rest lo hi pair is m)))
 
-pub front_room : (front : Front) (spot : BoardSpot) (table : Table) (counts : List (List ℕ)) (more : ℕ) → front.spot.now ≡ spot → spot.table ≡ table → 2 * length (deal_of table).pots ≤ length counts → CountsFit (deal_of table) counts more → HasRoom front counts more
-front_room front spot table counts more s same rows fits =
+pub front_room : (front : Front) (spot : BoardSpot) (table : Table) (counts : List (List ℕ)) (some : List Pair) (more : ℕ) → front.spot.now ≡ spot → spot.table ≡ table → length some ≡ more → 2 * length (deal_of table).pots ≤ length counts → CountsFit (deal_of table) counts more
+    → HasRoom front counts (length some)
+front_room front spot table counts some more s same size rows fits =
     let R : Table → Type 0 = λ it. 2 * length (deal_of it).pots ≤ length counts in
-    let F : Table → Type 0 = λ it. CountsFit (deal_of it) counts more in
+    let F : Table → Type 0 = λ it. CountsFit (deal_of it) counts (length some) in
+    let Q : ℕ → Type 0 = λ n. CountsFit (deal_of table) counts n in
     let n = front.spot.now.pots in
     let is : front.spot.now.table ≡ table = ap (λ it. it.table) s ∙ same in
     record {
       rows = (let r : 2 * length (deal_of front.spot.now.table).pots ≤ length counts = subst R (sym is) rows in omega arith);
-      fits = subst F (sym is) fits;
+      fits = subst F (sym is) (subst Q (sym size) fits);
     }
 
 pub front_flushes : (front : Front) (spot : BoardSpot) (flushes : Flushes) → front.spot.now ≡ spot → AreFlushes (deal_of spot.table) flushes → HoldsFlushes front flushes
@@ -103,8 +104,9 @@ flushes_back front spot flushes s held =
     let S : BoardSpot → Type 0 = λ it. AreFlushes (deal_of it.table) flushes in
     subst S s held
 
-pub front_grow : (front : Front) (spot : BoardSpot) (taken : List ℕ) (all : List (List ℕ)) (old new : List (List ℕ)) → front.spot.now ≡ spot → front.taken ≡ taken → CountsGrow (front_deal front) (map (λ more. (front.taken ++ more) ∷ []) all) old new → CountsGrow (deal_of spot.table) (map (λ more. (taken ++ more) ∷ []) all) old new
-front_grow front spot taken all old new s t grown =
-    let S : BoardSpot → Type 0 = λ it. CountsGrow (deal_of it.table) (map (λ more. (front.taken ++ more) ∷ []) all) old new in
-    let T : List ℕ → Type 0 = λ cards. CountsGrow (deal_of spot.table) (map (λ more. (cards ++ more) ∷ []) all) old new in
-    subst T t (subst S s grown)
+pub front_grow : (front : Front) (spot : BoardSpot) (taken rest : List ℕ) (some : List Pair) (lo hi : ℕ) (old new : List (List ℕ)) → front.spot.now ≡ spot → front.taken ≡ taken → map cards_of_pair some ≡ slice_range (choose 2 rest) lo hi → AddPairs front some old new
+    → CountsGrow (deal_of spot.table) (map (λ more. (taken ++ more) ∷ []) (slice_range (choose 2 rest) lo hi)) old new
+front_grow front spot taken rest some lo hi old new s t is more =
+    let S : BoardSpot → Type 0 = λ it. PairsGrow (deal_of it.table) front.taken some old new in
+    let T : List ℕ → Type 0 = λ cards. PairsGrow (deal_of spot.table) cards some old new in
+    grow_of (deal_of spot.table) [] taken rest lo hi some old new refl is (subst T t (subst S s more.counted))

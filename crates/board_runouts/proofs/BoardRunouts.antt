@@ -1,6 +1,6 @@
 -- Runouts that deal the board alone.
-use Rattle.std.proofs.Common.{◌≡◌, ℕ, zero, suc, ◌+◌, ◌-◌, ◌<◌, ◌≤◌, ◌==◌, List, [], ◌∷◌, ◌++◌, length, map, refl, sym, ap, ◌∙◌, Bool, true, false, cond, arith, ◌||◌, subst, take, append_assoc}
-use Rattle.std.specs.List.{count_by, flat_map, slice_range}
+use Rattle.std.proofs.Common.{◌≡◌, ℕ, zero, suc, ◌+◌, ◌-◌, ◌<◌, ◌≤◌, ◌==◌, List, [], ◌∷◌, ◌++◌, length, map, refl, sym, ap, ◌∙◌, Bool, true, false, cond, arith, ◌||◌, subst, append_assoc}
+use Rattle.std.specs.List.{count_by, slice_range}
 use Rattle.std.proofs.lemmas.List.{length-map}
 use Rattle.std.proofs.lemmas.List.Sums.{sum_by-append}
 use Rattle.std.proofs.lemmas.List.Folds.{list_any-append}
@@ -9,7 +9,7 @@ use Rattle.card_sets.specs.Cards.{cards_where, cards_below, has_card, union, wit
 use Rattle.card_sets.specs.Choose.{choose}
 use Rattle.card_sets.specs.Rising.{IsRising-cards_where, rising_front, with_card-push}
 use Rattle.card_sets.specs.State.{State}
-use Rattle.runout_ranges.specs.Runouts.{HasMember, runouts}
+use Rattle.runout_ranges.specs.Runouts.{HasMember}
 use Rattle.runout_ranges.specs.Slots.{counts_of, slots, unseen, dealt}
 use Rattle.runout_ranges.specs.Ways.{Within}
 use Rattle.runout_ranges.specs.declared.shapes.Receiver.TheVariants.{Board, Hand}

@@ -1,6 +1,5 @@
 -- Pairs in the order of the listing of choices.
 use Rattle.std.proofs.Common.{◌≡◌, ℕ, zero, suc, ◌+◌, ◌-◌, ◌<◌, ◌≤◌, List, [], ◌∷◌, ◌++◌, length, length-append, map, take, drop, refl, sym, ap, ◌∙◌, arith, append_assoc, get_or, set}
-use Rattle.card_sets.specs.Cards.{IsRising, RisingFrom}
 use Rattle.std.specs.List.{slice_range}
 use Rattle.std.proofs.lemmas.List.{length-drop, length-map, map-append, take_all, take_more_set}
 use Rattle.card_sets.specs.Choose.{choose}

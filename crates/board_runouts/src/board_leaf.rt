@@ -1,4 +1,7 @@
-//! The last two cards of a board, pair by pair.
+//! The pairs that may be a flush, one by one.
+//!
+//! There are two loops. `count_pairs` counts a pair for every pot. `count_one_pot` serves the only pot of a game with one side, and adds to one
+//! row of counts without a loop over pots and sides. Without it, three hands before the flop take 1.6 times as long, and nine 1.4 times.
 
 ghost use Rattle.std.specs.Prelude.{◌≡◌, ℕ, ◌+◌, ◌^◌, ◌<◌, [], ◌∷◌, length, slice_index};
 ghost use Rattle.board_runouts.specs.Fronts.{AddPairs, AreRunoutsWith, HasRoom, HoldsFlushes, IsFlushWith, IsRunoutWith, front_deal};
@@ -16,7 +19,7 @@ use showdown_tally::law_values_keep_order;
 use std::sync::ledger::Ledger;
 use step_count::Steps;
 
-/// Counts a runout with a pair as the last two cards, with which somebody may have a flush, for each pot.
+/// Counts the runout with a pair for each pot, after the suit in which somebody may have a flush is known.
 #[inline(always)]
 fn count_suited(
     front: &Front,
@@ -31,7 +34,7 @@ fn count_suited(
     requires flushes { HoldsFlushes front.now flushes.old }
     requires room { HasRoom front.now counts.old 1 }
 
-    // The runout is counted for each pot, and what is kept stays right.
+    // The runout is counted for each pot, and the kept flushes stay right.
     ensures counts { AddPairs front.now (pair.now ∷ []) counts.old counts.new }
     ensures flushes { HoldsFlushes front.now flushes.new }
 {
@@ -45,14 +48,14 @@ fn count_suited(
     }
 }
 
-/// Counts a runout with a pair as the last two cards, for each pot.
+/// Counts the runout with a pair for each pot.
 #[inline]
 fn count_pair(front: &Front, flushes: &mut Flushes, pair: &Pair, counts: &mut [[u32; 2048]])
     requires member { IsRunoutWith front.now pair.now }
     requires flushes { HoldsFlushes front.now flushes.old }
     requires room { HasRoom front.now counts.old 1 }
 
-    // The pair is counted, and what is kept stays right.
+    // The pair is counted, and the kept flushes stay right.
     ensures counts { AddPairs front.now (pair.now ∷ []) counts.old counts.new }
     ensures flushes { HoldsFlushes front.now flushes.new }
 {
@@ -66,7 +69,7 @@ fn count_pair(front: &Front, flushes: &mut Flushes, pair: &Pair, counts: &mut [[
     count_suited(front, flushes, pair, &part, counts);
 }
 
-/// Counts first cards with each of some pairs as the last two, for each pot. It takes a step a pair.
+/// Counts the runout with each of some pairs for each pot. It takes a step a pair.
 #[inline(never)]
 fn count_pairs<L: Ledger>(
     front: &Front,
@@ -79,7 +82,7 @@ fn count_pairs<L: Ledger>(
     requires flushes { HoldsFlushes front.now flushes.old }
     requires room { HasRoom front.now counts.old (length pairs.now) }
 
-    // Each pair is counted for each pot, and what is kept stays right.
+    // Each pair is counted for each pot, and the kept flushes stay right.
     ensures counts { AddPairs front.now pairs.now counts.old counts.new }
     ensures flushes { HoldsFlushes front.now flushes.new }
     ensures steps { steps.new ≡ steps.old + length pairs.now }
@@ -90,14 +93,14 @@ fn count_pairs<L: Ledger>(
     }
 }
 
-/// Where a runout is counted for the only pot of a game with one side, with a pair as the last two cards.
+/// Returns where the runout with a pair is counted for the only pot of a game with one side.
 #[inline]
 fn one_place(front: &Front, flushes: &mut Flushes, pair: &Pair) -> u16
     requires pot { 0 < front.now.spot.now.table.pots }
     requires member { IsRunoutWith front.now pair.now }
     requires flushes { HoldsFlushes front.now flushes.old }
 
-    // It is the set that wins the high, as a place of the pot's row, and what is kept stays right.
+    // It is the set that wins the high, as a place of the pot's row, and the kept flushes stay right.
     ensures value { result
         ≡ pair_place (front_deal front.now) front.now.taken 0 Side.High pair.now }
     ensures small { result < 2048 }
@@ -115,7 +118,7 @@ fn one_place(front: &Front, flushes: &mut Flushes, pair: &Pair) -> u16
     suited_place(front, flush, 0, pair, &part).main
 }
 
-/// Counts first cards with each of some pairs as the last two, for the only pot of a game with one side. It takes a step a pair.
+/// Counts the runout with each of some pairs for the only pot of a game with one side. It takes a step a pair.
 #[inline(never)]
 fn count_one_pot<L: Ledger>(
     front: &Front,
@@ -133,7 +136,7 @@ fn count_one_pot<L: Ledger>(
     requires fits { (place : ℕ) → place < 2048
         → slice_index cells.old place + length pairs.now < 2 ^ 32 }
 
-    // Each pair is counted where the set that wins with it stands, and what is kept stays right.
+    // Each pair is counted where the set that wins with it stands, and the kept flushes stay right.
     ensures cells { CellsGrow
         (front_deal front.now) front.now.taken 0 Side.High pairs.now cells.old cells.new }
     ensures same { length cells.new ≡ 2048 }
@@ -147,8 +150,7 @@ fn count_one_pot<L: Ledger>(
     }
 }
 
-/// Counts first cards with each of some pairs as the last two, one by one: for the only pot of a game with one side, or for each. It takes
-/// a step a pair.
+/// Counts the runout with each of some pairs, for the only pot of a game with one side or for each pot. It takes a step a pair.
 #[inline]
 pub(crate) fn count_each<L: Ledger>(
     front: &Front,
@@ -161,7 +163,7 @@ pub(crate) fn count_each<L: Ledger>(
     requires flushes { HoldsFlushes front.now flushes.old }
     requires room { HasRoom front.now counts.old (length pairs.now) }
 
-    // Each pair is counted for each pot, and what is kept stays right.
+    // Each pair is counted for each pot, and the kept flushes stay right.
     ensures counts { AddPairs front.now pairs.now counts.old counts.new }
     ensures flushes { HoldsFlushes front.now flushes.new }
     ensures steps { steps.new ≡ steps.old + length pairs.now }

@@ -10,15 +10,17 @@ ghost use Rattle.board_runouts.specs.Codes.{AreAllCodes};
 ghost use Rattle.board_runouts.specs.KeptRows.{AreRows};
 ghost use Rattle.board_runouts.specs.KeptFlushes.{AreFlushes};
 
+use crate::board_leaf::count_each;
 use crate::coded_rows::CodedRows;
 use crate::deal::same_deal;
 use crate::flushes::Flushes;
 use crate::front::Front;
 use crate::pairs::Pairs;
+use crate::parts::count_parts;
 use crate::rows::Rows;
-use crate::sieve_leaf::{count_sieved, count_whole};
 use crate::spot::BoardSpot;
 use crate::start::Start;
+use board_ranks::most_with;
 use card_sets::{CardSet, Memory};
 use runout_ranges::{Receiver, Shape};
 use runout_walk::{Leaf, Span};
@@ -125,15 +127,22 @@ impl Leaf for Boards {
         let rows = self.rows.stretch(base, spot.table.pots);
         let flushes = &mut self.flushes;
         self.pairs.serve(self.cards);
-        let pairs = &mut self.pairs;
         if taken == CardSet::empty() {
-            let front = Front::of(&start, rows, None);
-            count_whole(&front, flushes, pairs, span, counts, steps);
+            let first = Front::of(&start, rows, None);
+            let front = first.with_own_suits();
+            let stretch = self.pairs.stretch(span.tail.rest, span.lo, span.hi);
+            let some = self.pairs.between(stretch);
+            count_each(&front, flushes, some, counts, steps);
             return;
         }
         let place = self.codes.ready(base, rows, &start);
         let codes = self.codes.codes_at(place).if_enough();
-        let front = Front::of(&start, rows, codes);
-        count_sieved(&front, flushes, pairs, span, counts, steps);
+        let first = Front::of(&start, rows, codes);
+        let most = most_with(first.spot.most, first.taken);
+        let sieve = self.pairs.ready(&most);
+        let stretch = self.pairs.stretch(span.tail.rest, span.lo, span.hi);
+        let parts = self.pairs.parts(sieve, stretch);
+        let front = first.with_suits(&parts.sieve.suits, !parts.flush.is_empty());
+        count_parts(&front, flushes, &parts, counts, steps);
     }
 }

@@ -1,7 +1,6 @@
 //! Codes that are kept from one count to the next.
 
-ghost use Rattle.std.specs.Prelude.{◌≡◌, ℕ, ◌<◌, ◌≤◌, ◌∷◌, ◌++◌, [], List, length, slice_get, vec_capacity, Some, IfOk, MatchOption, ⊤};
-ghost use Rattle.card_sets.specs.Cards.{IsRising, rank_of};
+ghost use Rattle.std.specs.Prelude.{◌≡◌, ℕ, ◌<◌, ◌≤◌, [], length, slice_get, vec_capacity, Some, IfOk};
 ghost use Rattle.showdown_tally.specs.Deals.{deal_of};
 ghost use Rattle.showdown_tally.specs.Showdown.{Showdown};
 ghost use Rattle.board_runouts.specs.Codes.{AreAllCodes};
@@ -12,13 +11,14 @@ ghost use Rattle.board_runouts.specs.declared.row.Row.{Row};
 use crate::codes::Codes;
 use crate::row::Row;
 use crate::start::Start;
-use card_sets::{CardSet, Memory};
+use card_sets::Memory;
 use std::alloc::Global;
 
-/// How many there is room for.
+/// How many codes there is room for: one for each row.
 const ROOM: usize = 192;
 
-/// Codes of groups of rows, each in the place of the group's first row. What stands there is looked at before it is used.
+/// The codes of groups of rows, each in the place of the group's first row. The codes in a place are compared with what is asked for before
+/// they are used.
 #[derive(Drop)]
 pub(crate) struct CodedRows {
     /// The codes.
@@ -28,7 +28,7 @@ pub(crate) struct CodedRows {
 }
 
 impl CodedRows {
-    /// No codes, and room for all.
+    /// Makes room for all codes, and keeps none.
     pub(crate) fn none(alloc: Global) -> Result<CodedRows, Memory>
         ensures { IfOk result (λ kept. (deal : Showdown) → AreAllCodes deal kept.list.items) }
     {
@@ -44,7 +44,7 @@ impl CodedRows {
         self.list.clear();
     }
 
-    /// Makes places up to one.
+    /// Makes the places up to one.
     fn reach(&mut self, place: usize)
         requires { place < 192 }
         ensures place { place < length self.new.list.items }
@@ -76,8 +76,7 @@ impl CodedRows {
         codes.fill(rows, start.ranks, start.least);
     }
 
-    /// Makes the codes of the rows of all pots for first cards stand in their place, where they aren't kept, and gives it. The rows
-    /// stand from a base on.
+    /// Returns the place of the codes of the rows of all pots. If the codes aren't kept, they are made. `base` is the place of the first row.
     #[inline]
     pub(crate) fn ready(&mut self, base: usize, rows: &[Row], start: &Start) -> usize
         // There is a row for each pot, for first cards of these ranks, and the codes are right.
@@ -104,7 +103,7 @@ impl CodedRows {
         place
     }
 
-    /// The codes in a place.
+    /// Returns the codes in a place.
     #[inline]
     pub(crate) fn codes_at(&self, place: usize) -> &Codes
         requires { place < length self.now.list.items }

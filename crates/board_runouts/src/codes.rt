@@ -1,7 +1,7 @@
 //! Who wins all pots for each pair of ranks of the last two cards, as a code.
 
 ghost use Rattle.std.specs.Option.{ForSome};
-ghost use Rattle.std.specs.Prelude.{◌≡◌, ◌≢◌, ℕ, ◌+◌, ◌*◌, ◌<◌, ◌≤◌, [], length, slice_index, slice_index_or, false, true, IsTrue, MatchOption, ⊤};
+ghost use Rattle.std.specs.Prelude.{◌≡◌, ℕ, ◌+◌, ◌*◌, ◌<◌, ◌≤◌, [], length, slice_index, slice_index_or, false, true, IsTrue, MatchOption, ⊤};
 ghost use Rattle.board_runouts.specs.Fields.{AreCodesAt, IsOutcome, field};
 
 use crate::row::{PLACES, Row};

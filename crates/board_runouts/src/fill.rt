@@ -1,18 +1,15 @@
 //! Filling in who wins both sides of each pot, for each pair of ranks of the last two cards of the board.
 
-ghost use Rattle.std.specs.Prelude.{◌≡◌, ℕ, ◌+◌, ◌<◌, ◌≤◌, [], List, length, slice_get, slice_index_or, Some, IsTrue};
-ghost use Rattle.card_sets.specs.Games.{has_board, own_size};
+ghost use Rattle.std.specs.Prelude.{◌≡◌, ℕ, ◌+◌, ◌<◌, ◌≤◌, List, length, slice_get, Some};
 ghost use Rattle.card_sets.specs.State.{state_of};
 ghost use Rattle.showdown_tally.specs.Deals.{deal_of};
-ghost use Rattle.board_runouts.specs.Boards.{AreFirst};
 ghost use Rattle.board_runouts.specs.KeptRows.{AreWorthsAfter, IsAway, IsBestAt, IsButAt, IsNamed};
-ghost use Rattle.board_runouts.specs.SideRows.{AreRanksOf, IsSideRow};
+ghost use Rattle.board_runouts.specs.SideRows.{IsSideRow};
 
 use crate::row::Row;
 use crate::sides::{Worths, add_rank, hand_ranks, pot_ends, worths_with};
 use crate::start::Start;
 use board_ranks::Threes;
-use card_sets::CardSet;
 use showdown_tally::Table;
 
 /// Names what the rows from a base on are to be for: first cards of these ranks, and each pot in turn.
@@ -88,7 +85,7 @@ pub(crate) fn fill_rows(rows: &mut [Row], base: usize, threes: &Threes, start: &
     for low in least..13 {
         add_rank(&table.known, &held, low, &mut more);
         for high in low..13 {
-            worths_with(threes, &table.known, &more, taken, low, high, &mut worths);
+            worths_with(threes, start, &more, low, high, &mut worths);
             let place = 13 * usize::from(low) + usize::from(high);
             put_ends(rows, base, table, place, &worths);
         }

@@ -13,11 +13,11 @@ pub(crate) struct Suited {
     pub(crate) cards: CardSet,
     /// The suit.
     pub(crate) suit: u8,
-    /// A number by which what is kept of these cards is found: the ranks of the cards as bits.
+    /// The ranks of these cards as bits, by which a kept flush is found.
     pub(crate) tag: u32,
 }
 
-/// The best flush of the hands of each pot with cards of one suit on the board.
+/// The best flush of each pot with some cards of one suit on the board.
 #[derive(Clone, Copy)]
 pub(crate) struct Flush {
     /// The cards of the suit on the board.
@@ -26,16 +26,16 @@ pub(crate) struct Flush {
     pub(crate) stamp: u32,
     /// The suit, from 0.
     pub(crate) suit: u8,
-    /// By the pot, the hands that have the best flush, as the number with their bits, where somebody has one.
+    /// By the pot, the hands that have the best flush, as the number with their bits. Only right if somebody has a flush.
     pub(crate) sets: [u16; 10],
-    /// By the pot, the number of the best flush, 0 where nobody has one.
+    /// By the pot, the number of the best flush, 0 if nobody has one.
     pub(crate) tops: [u32; 10],
-    /// So large may a set be.
+    /// A set is of up to ten hands.
     pub(crate) ghost few: { (pot : ℕ) → slice_index sets pot < 1024 },
 }
 
 impl Flush {
-    /// The flush of no deal.
+    /// Makes the flush of no deal.
     pub(crate) fn none() -> Flush
         ensures { result.stamp ≡ 0 }
     {
@@ -48,7 +48,7 @@ impl Flush {
         }
     }
 
-    /// Whether it is that of a deal with some cards of a suit on the board.
+    /// Returns whether this is the flush of a deal with some cards of a suit on the board.
     #[inline]
     pub(crate) fn is_of(&self, stamp: u32, part: &Suited) -> bool
         ensures stamp { IsTrue result → self.now.stamp ≡ stamp }

@@ -1,4 +1,4 @@
-//! The best flush of each pot with cards of one suit on the board.
+//! The best flushes that were asked for last, each with its cards of one suit on the board.
 
 ghost use Rattle.std.specs.Prelude.{◌≡◌, ℕ, ◌<◌, length, slice_get, Some, IfOk};
 ghost use Rattle.card_sets.specs.State.{state_of};
@@ -15,10 +15,11 @@ use runout_walk::{filled, pot_best, ten_places};
 use showdown_tally::Table;
 use std::alloc::Global;
 
-/// How many flushes are kept. First cards that follow one another ask for the same ones.
+/// How many flushes are kept. First cards that follow one another ask for the same ones. Before the flop three hands ask for 4,500 different
+/// flushes and work out 11,000. With 1,024 places they would work out 17,000, which costs more time than a smaller table saves.
 const FLUSHES: usize = 2048;
 
-/// What each hand is worth as a flush with some cards of a suit on the board, 0 where it has none.
+/// Returns what each hand is worth as a flush with some cards of a suit on the board, 0 if the hand has none.
 fn hand_flushes(table: &Table, part: &Suited) -> [u32; 10]
     requires { AreSuitedFor (state_of table.now.known) part.now.cards part.now.suit }
     ensures { AreFlushesOf (state_of table.now.known) part.now.cards part.now.suit result }
@@ -31,7 +32,7 @@ fn hand_flushes(table: &Table, part: &Suited) -> [u32; 10]
     values
 }
 
-/// The best flush of each pot with some cards of a suit on the board. What each hand is worth is worked out once for all pots.
+/// Returns the best flush of each pot with some cards of a suit on the board. Each hand is valued once for all pots.
 fn best_flushes(table: &Table, part: &Suited, stamp: u32) -> Flush
     requires { AreSuitedFor (state_of table.now.known) part.now.cards part.now.suit }
     ensures stamp { result.stamp ≡ stamp }
@@ -57,7 +58,7 @@ fn best_flushes(table: &Table, part: &Suited, stamp: u32) -> Flush
     }
 }
 
-/// The place of the flush with some cards on the board. Where two share one, the later takes it.
+/// Returns the place of the flush with some cards on the board. If two flushes share a place, the later one takes it.
 #[inline]
 fn flush_place(tag: u32, suit: u8) -> usize
     ensures { result < 2048 }
@@ -75,8 +76,7 @@ fn drop_all(list: &mut [Flush])
     list.fill(none);
 }
 
-/// The best flushes that were asked for last. They have the number of the deal, which is another for each, so those of the deals before
-/// needn't be cleared.
+/// The best flushes that were asked for last. Each has the number of its deal, so that those of earlier deals needn't be cleared.
 #[derive(Drop)]
 pub(crate) struct Flushes {
     /// The number of the deal.
@@ -86,7 +86,7 @@ pub(crate) struct Flushes {
 }
 
 impl Flushes {
-    /// No flushes.
+    /// Makes room for flushes, and keeps none.
     pub(crate) fn none(alloc: Global) -> Result<Flushes, Memory>
         ensures { IfOk result (λ flushes. (deal : Showdown) → AreFlushes deal flushes) }
     {
@@ -129,7 +129,7 @@ impl Flushes {
         self.list[place] = best_flushes(table, part, self.stamp);
     }
 
-    /// Makes the best flush of each pot with some cards of a suit on the board stand in its place, where it isn't kept, and gives that.
+    /// Returns the place of the best flush of each pot with some cards of a suit on the board. If it isn't kept, it is worked out.
     #[inline]
     pub(crate) fn ready(&mut self, table: &Table, part: &Suited) -> usize
         requires suited { AreSuitedFor (state_of table.now.known) part.now.cards part.now.suit }
@@ -149,7 +149,7 @@ impl Flushes {
         place
     }
 
-    /// The flush in a place.
+    /// Returns the flush in a place.
     #[inline]
     pub(crate) fn flush_at(&self, place: usize) -> &Flush
         requires { place < length self.now.list.items }

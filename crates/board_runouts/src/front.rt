@@ -1,4 +1,7 @@
-//! First cards of a board, with all that is looked up at a pair after them.
+//! The first cards of a board, with everything that is looked up at a pair after them.
+//!
+//! The type keeps the facts that connect its fields, so the functions that take a `Front` don't repeat them. `Start` is what is known before
+//! there are rows. `Front::of` adds the rows and codes, and `with_suits` or `with_own_suits` adds the suits that may make a flush.
 
 ghost use Rattle.std.specs.Option.{ForSome};
 ghost use Rattle.std.specs.Prelude.{◌≡◌, length, IsTrue};
@@ -14,36 +17,36 @@ use crate::start::Start;
 use board_ranks::suits_for;
 use card_sets::CardSet;
 
-/// First cards of a board, with all that is looked up at a pair after them.
+/// The first cards of a board, with everything that is looked up at a pair after them.
 #[derive(Clone, Copy)]
 pub(crate) struct Front<'a> {
     /// The table.
     pub(crate) spot: &'a BoardSpot,
-    /// The cards.
+    /// The first cards.
     pub(crate) taken: CardSet,
-    /// By the ranks of the pair, who wins each pot.
+    /// By the pot, who wins it for each pair of ranks.
     pub(crate) rows: &'a [Row],
-    /// The same as codes, where there is one for each outcome and they are asked for.
+    /// The outcomes of all pots as codes. `None` on a flop, or if there are more outcomes than codes.
     pub(crate) codes: Option<&'a Codes>,
-    /// The suit of which somebody may have a flush, at 4 times the suit of one of the last two and that of the other, or else 4.
+    /// At 4 times the suit of one of the last two cards plus that of the other: the suit in which somebody may have a flush, or 4.
     pub(crate) suits: [u8; 16],
-    /// For each suit the ranks of the board's cards so far, as bits, where pairs that may be a flush are to be counted.
+    /// By the suit, the ranks of the board's cards so far as bits. All 0 if no pair may be a flush.
     pub(crate) tags: [u32; 4],
-    /// Each row is for these cards,
+    /// Each row is for these cards.
     pub(crate) ghost rows_are: { AreRowsOf (deal_of spot.now.table) taken rows.now },
-    /// and each pot has one.
+    /// Each pot has a row.
     pub(crate) ghost pots: { length rows.now ≡ spot.now.table.pots },
     /// The codes are for these cards.
     pub(crate) ghost codes_are: { ForSome codes (λ c. AreCodesFor (deal_of spot.now.table) taken c.now) },
-    /// There is one for each outcome.
+    /// There is a code for each outcome.
     pub(crate) ghost enough: { ForSome codes (λ c. IsTrue c.now.enough) },
-    /// Where the table of suits names none, no two of these suits make anybody a flush.
+    /// If the table names no suit for two suits, two cards of these make nobody a flush.
     pub(crate) ghost fives: { AreFivesWith spot.now.most taken suits },
-    /// It has a place for each two suits.
+    /// The table has a place for each two suits.
     pub(crate) ghost places: { length suits ≡ 16 },
 }
 
-/// The ranks of some cards, as bits. They only say where to look for what is kept.
+/// Returns the ranks of some cards as bits. They only say where to look for a kept flush.
 #[inline]
 fn rank_bits(cards: CardSet) -> u32 {
     let mut bits = 0u32;
@@ -53,7 +56,7 @@ fn rank_bits(cards: CardSet) -> u32 {
     bits
 }
 
-/// The same of the cards of each suit.
+/// Returns the ranks of the cards of each suit as bits.
 fn suit_bits(cards: CardSet) -> [u32; 4] {
     [
         rank_bits(cards.of_suit(0)),
@@ -63,7 +66,7 @@ fn suit_bits(cards: CardSet) -> [u32; 4] {
     ]
 }
 
-/// The same where they are wanted.
+/// Returns the ranks of the cards of each suit as bits, or 0 for each suit if they aren't wanted.
 #[inline]
 fn wanted_bits(cards: CardSet, wanted: bool) -> [u32; 4] {
     if wanted {
@@ -73,7 +76,7 @@ fn wanted_bits(cards: CardSet, wanted: bool) -> [u32; 4] {
 }
 
 impl<'a> Front<'a> {
-    /// First cards, by whose ranks each pot has a row and the rows have codes. Any two more may make somebody a flush.
+    /// Makes the front of some first cards with rows and codes for their ranks. Any two cards after them may make somebody a flush.
     #[inline]
     pub(crate) fn of(start: &Start<'a>, rows: &'a [Row], codes: Option<&'a Codes>) -> Front<'a>
         requires rows { AreRowsOf (deal_of start.now.spot.now.table) start.now.taken rows.now }
@@ -94,7 +97,7 @@ impl<'a> Front<'a> {
         }
     }
 
-    /// The same with the table of suits for so many cards of each, where pairs that may be a flush are to be counted or aren't.
+    /// Returns this front with the suits that may make a flush after its cards. `flushes` says whether there are pairs of such suits.
     #[inline]
     pub(crate) fn with_suits(&self, suits: &[u8; 16], flushes: bool) -> Front<'a>
         requires fives { AreFivesWith self.now.spot.now.most self.now.taken suits.now }
@@ -114,7 +117,7 @@ impl<'a> Front<'a> {
         }
     }
 
-    /// The same with its own table of suits.
+    /// Returns this front with the suits that may make a flush after its cards, worked out here.
     #[inline]
     pub(crate) fn with_own_suits(&self) -> Front<'a>
         ensures spot { result.spot.now ≡ self.now.spot.now }

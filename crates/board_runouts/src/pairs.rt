@@ -1,6 +1,6 @@
 //! All pairs of the cards that may come, in the order of the listing of choices.
 
-ghost use Rattle.std.specs.Prelude.{◌≡◌, ℕ, ◌+◌, ◌-◌, ◌<◌, ◌≤◌, ◌++◌, [], ◌∷◌, List, length, map, slice_get, slice_index, take, Some, IfOk};
+ghost use Rattle.std.specs.Prelude.{◌≡◌, ℕ, ◌+◌, ◌-◌, ◌<◌, ◌≤◌, ◌++◌, [], ◌∷◌, length, map, slice_get, slice_index, take, Some, IfOk};
 ghost use Rattle.std.specs.List.{slice_range};
 ghost use Rattle.card_sets.specs.Choose.{choose};
 ghost use Rattle.runout_ranges.specs.Ways.{binomial};
@@ -9,6 +9,7 @@ ghost use Rattle.runout_walk.specs.Listing.{IsEndOf};
 ghost use Rattle.board_runouts.specs.Pairs.{cards_of_pair};
 ghost use Rattle.board_ranks.specs.declared.sieve.Sieve.{Sieve};
 
+use crate::parts::Parts;
 use board_ranks::{PAIRS_MAX, Pair, Sieve, Sieves};
 use card_sets::{Card, CardSet, Memory};
 use runout_ranges::count_choices;
@@ -43,6 +44,8 @@ pub(crate) struct Stretch {
     pub(crate) start: usize,
     /// The place after the last one.
     pub(crate) end: usize,
+    /// The end isn't before the start.
+    pub(crate) ghost order: { start ≤ end },
 }
 
 /// Puts the pairs of a card with each of some others after the first `used` ones, and gives how many there are then.
@@ -133,7 +136,6 @@ impl Pairs {
         requires end { IsEndOf rest self.now.cards }
         requires order { lo < hi }
         requires inside { hi ≤ length (choose 2 rest) }
-        ensures order { result.start ≤ result.end }
         ensures inside { result.end ≤ self.now.used }
         ensures pairs { map cards_of_pair
             (slice_range (take self.now.used self.now.pairs.items) result.start result.end)
@@ -167,13 +169,46 @@ impl Pairs {
         self.sieves.ready(listed, counts)
     }
 
+    /// The pairs of a stretch.
+    #[inline]
+    pub(crate) fn between(&self, stretch: Stretch) -> &[Pair]
+        requires { stretch.end ≤ self.now.used }
+        ensures { result.now
+            ≡ slice_range (take self.now.used self.now.pairs.items) stretch.start stretch.end }
+    {
+        let all = self.listed();
+        &all[stretch.start..stretch.end]
+    }
+
     /// The sieve in a place.
     #[inline]
-    pub(crate) fn sieve_at(&self, place: usize) -> &Sieve
+    fn sieve_at(&self, place: usize) -> &Sieve
         requires { place < length self.now.sieves.list.items }
         ensures there { slice_get self.now.sieves.list.items place ≡ Some result.now }
         ensures parted { IsSieve (take self.now.used self.now.pairs.items) result.now }
     {
         self.sieves.sieve_at(place)
+    }
+
+    /// The pairs of a stretch, parted by the sieve in a place.
+    #[inline]
+    pub(crate) fn parts(&self, place: usize, stretch: Stretch) -> Parts<'_>
+        requires place { place < length self.now.sieves.list.items }
+        requires inside { stretch.end ≤ self.now.used }
+        ensures sieve { slice_get self.now.sieves.list.items place ≡ Some result.sieve.now }
+        ensures pairs { result.pairs.now
+            ≡ slice_range (take self.now.used self.now.pairs.items) stretch.start stretch.end }
+    {
+        let sieve = self.sieve_at(place);
+        let all = self.listed();
+        let pairs = &all[stretch.start..stretch.end];
+        let plain = sieve.plain(all, stretch.start, stretch.end);
+        let flush = sieve.flush(all, stretch.start, stretch.end);
+        Parts {
+            sieve,
+            pairs,
+            plain,
+            flush,
+        }
     }
 }

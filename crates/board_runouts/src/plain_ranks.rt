@@ -1,4 +1,8 @@
-//! Pairs of last cards that make nobody a flush, by their ranks alone.
+//! The pairs of last cards that make nobody a flush, by their ranks alone.
+//!
+//! There are three loops. `sum_ranks` adds by codes, and is nearly all of the time of two hands. `count_rows` counts for every pot if there are
+//! more than seven outcomes. `count_mains` does the same for the only pot of a game with one side: without it, nine hands before the flop take
+//! 1.4 times as long. In each loop every pair is looked up, takes its step, and is added by itself.
 
 ghost use Rattle.std.specs.Prelude.{◌≡◌, ℕ, ◌+◌, ◌^◌, ◌<◌, length, slice_index};
 ghost use Rattle.std.specs.List.{sum_by};
@@ -19,7 +23,7 @@ use showdown_tally::law_values_keep_order;
 use std::sync::ledger::Ledger;
 use step_count::Steps;
 
-/// The sum of the ones in the fields of the codes of some ranks, each looked up and added by itself. It takes a step for each.
+/// Returns the sum of the ones in the fields of the codes of some ranks, each looked up and added by itself. It takes a step for each.
 #[inline(never)]
 fn sum_ranks<L: Ledger>(codes: &Codes, all: &[u8], steps: &mut Steps<L>) -> u64
     // The ranks are places, and have codes.
@@ -139,8 +143,7 @@ fn count_rows<L: Ledger>(
     }
 }
 
-/// Counts first cards with each of those of some pairs as the last two that make nobody a flush, whose ranks are given. It takes a step
-/// for each.
+/// Counts the runout with each of those pairs that make nobody a flush. `all` has the ranks of these pairs. It takes a step for each.
 #[inline]
 pub(crate) fn count_plain<L: Ledger>(
     front: &Front,

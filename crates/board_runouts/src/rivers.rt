@@ -1,6 +1,6 @@
 //! Boards that lack one card.
 
-ghost use Rattle.std.specs.Prelude.{◌≡◌, ℕ, ◌+◌, ◌*◌, ◌^◌, ◌<◌, ◌≤◌, ◌==◌, [], ◌∷◌, List, length, map, slice_index, slice_index_or, IsTrue};
+ghost use Rattle.std.specs.Prelude.{◌≡◌, ℕ, ◌+◌, ◌*◌, ◌<◌, ◌≤◌, ◌==◌, [], ◌∷◌, List, length, map, slice_index, slice_index_or, IsTrue};
 ghost use Rattle.card_sets.specs.Cards.{rank_of, union};
 ghost use Rattle.card_sets.specs.Disjoint.{apart};
 ghost use Rattle.card_sets.specs.Games.{has_board, own_size};

@@ -1,14 +1,9 @@
 //! Rows that are kept from one count to the next.
 
-ghost use Rattle.std.specs.Prelude.{◌≡◌, ℕ, ◌+◌, ◌<◌, ◌≤◌, ◌∷◌, ◌++◌, [], List, length, slice_get, slice_index, slice_index_or, vec_capacity, Some, IfOk, IsTrue};
-ghost use Rattle.card_sets.specs.Cards.{IsRising, rank_of};
-ghost use Rattle.card_sets.specs.Games.{has_board, own_size};
-ghost use Rattle.card_sets.specs.State.{state_of};
+ghost use Rattle.std.specs.Prelude.{◌≡◌, ℕ, ◌+◌, ◌<◌, ◌≤◌, [], length, slice_get, vec_capacity, Some, IfOk, IsTrue};
 ghost use Rattle.showdown_tally.specs.Deals.{deal_of};
 ghost use Rattle.showdown_tally.specs.Showdown.{Showdown};
-ghost use Rattle.board_runouts.specs.Boards.{AreFirst};
 ghost use Rattle.board_runouts.specs.KeptRows.{AreRows, AreRowsFor, IsAway, IsNamed};
-ghost use Rattle.board_runouts.specs.SideRows.{AreRanksOf};
 
 use crate::fill::fill_rows;
 use crate::row::Row;

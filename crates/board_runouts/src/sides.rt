@@ -1,19 +1,15 @@
 //! Who wins both sides of a pot by the ranks of the cards.
 
-ghost use Rattle.std.specs.Prelude.{◌≡◌, ℕ, ◌<◌, ◌≤◌, [], List, length, slice_index, slice_index_or, IsTrue};
+ghost use Rattle.std.specs.Prelude.{ℕ, ◌<◌, List};
 ghost use Rattle.card_sets.specs.Cards.{union};
-ghost use Rattle.card_sets.specs.Games.{has_board, own_size};
 ghost use Rattle.card_sets.specs.State.{state_of};
 ghost use Rattle.showdown_tally.specs.Deals.{deal_of};
-ghost use Rattle.showdown_tally.specs.Settling.{number_of};
-ghost use Rattle.board_runouts.specs.Boards.{AreFirst};
-ghost use Rattle.board_ranks.specs.BoardWith.{IsBoardWith, low_number};
-ghost use Rattle.board_runouts.specs.HandRanks.{AreHandRanks, AreHandRanksAnd};
-ghost use Rattle.board_ranks.specs.HighParts.{plain_number};
+ghost use Rattle.board_runouts.specs.HandRanks.{AreHandRanks, AreHandRanksAnd, AreWorthsWith};
 ghost use Rattle.board_runouts.specs.KeptRows.{AreWorthsAfter};
 ghost use Rattle.board_runouts.specs.SideRows.{IsBestOf};
 
-use board_ranks::{Threes, worth_with};
+use crate::start::Start;
+use board_ranks::{HandWithBoard, Threes, worth_with};
 use card_sets::{ByRank, CardSet, Known, Side};
 use runout_walk::{low_mark, pot_best, winners_on};
 use showdown_tally::Table;
@@ -74,55 +70,40 @@ pub(crate) fn add_rank(known: &Known, held: &[ByRank; 10], rank: u8, more: &mut 
 }
 
 /// Works out what each hand is worth with first cards of the board and one card of each of two ranks more, as a high if there were no
-/// flushes. How many cards of each rank it has with the first ones and one of the lower rank is given.
+/// flushes, and as a low. `ranks` has how many cards of each rank the hand has with the board, the first cards, and one of the lower rank.
 pub(crate) fn worths_with(
     threes: &Threes,
-    known: &Known,
+    start: &Start,
     ranks: &[ByRank; 10],
-    taken: CardSet,
     low: u8,
     high: u8,
     worths: &mut Worths,
 )
-    // The game has a board, which lacks two cards after the first ones, and each hand has all its own cards.
-    requires dealt { IsTrue (has_board known.now.game) }
-    requires first { AreFirst (state_of known.now) taken }
-    requires own { (h : ℕ) → h < length (state_of known.now).hands
-        → length (slice_index_or (state_of known.now).hands h []) ≡ own_size known.now.game }
-    requires ranks { AreHandRanksAnd (state_of known.now) (union (state_of known.now).board taken) low ranks.now }
+    requires ranks { AreHandRanksAnd (state_of start.now.spot.now.table.known)
+        (union (state_of start.now.spot.now.table.known).board start.now.taken) low ranks.now }
 
     // Any two ranks, or one twice.
     requires low { low < 13 }
     requires high { high < 13 }
 
-    // This holds of each full board of such cards, whichever they are; where there is none it says nothing.
-    ensures highs { (h : ℕ) (full : List ℕ) → h < length (state_of known.now).hands
-        → IsBoardWith (slice_index_or (state_of known.now).hands h [])
-        (union (state_of known.now).board taken) low high full
-        → slice_index worths.new.highs h
-        ≡ plain_number known.now.game (slice_index_or (state_of known.now).hands h []) full }
-    ensures lows { (h : ℕ) (full : List ℕ) → h < length (state_of known.now).hands
-        → IsBoardWith (slice_index_or (state_of known.now).hands h [])
-        (union (state_of known.now).board taken) low high full
-        → number_of worths.new.lows h
-        ≡ low_number known.now.game (slice_index_or (state_of known.now).hands h []) full }
+    // This holds of each full board of such cards, whichever they are. If there is none, it says nothing.
+    ensures { AreWorthsWith (state_of start.now.spot.now.table.known) start.now.taken low high worths.new }
 {
+    let known = &start.spot.table.known;
+    let taken = start.taken;
     known.board.rising();
     taken.rising();
     let board = known.board.union(taken);
     let hands = &known.hands[..known.count as usize];
     for (hand, own) in hands.iter().enumerate() {
         own.rising();
-        let worth = worth_with(
-            threes,
+        let held = HandWithBoard {
             hand,
-            known.game,
-            *own,
+            game: known.game,
+            own: *own,
             board,
-            &ranks[hand],
-            low,
-            high,
-        );
+        };
+        let worth = worth_with(threes, &held, &ranks[hand], low, high);
         worths.highs[hand] = worth.high;
         worths.lows[hand] = worth.low;
     }

@@ -13,7 +13,7 @@ ghost use Rattle.board_ranks.specs.Suits.{AreMost};
 
 use crate::deal::no_table;
 use board_ranks::most_of;
-use card_sets::{CardSet, Known};
+use card_sets::Known;
 use runout_ranges::Shape;
 use runout_walk::ten_places;
 use showdown_tally::Table;

@@ -13,21 +13,24 @@ use Rattle.board_ranks.specs.BoardWith.{AreRanksAnd, AreWorthWith, IsBoardWith}
 use Rattle.board_runouts.proofs.BoardDealt.{first_board, first_apart}
 use Rattle.board_runouts.proofs.sides.worths_with.Goals as goal
 
-pub worth_with-worth-requires-clause-board : goal.worth_with-worth-requires-clause-board
-worth_with-worth-requires-clause-board c = ap length c.union-board.ensures ∙ first_board (state_of c.args.known.now) c.args.taken c.rising.ensures.set c.rising-2.ensures.set c.requires.first
-
-pub worth_with-worth-requires-clause-apart : goal.worth_with-worth-requires-clause-apart
-worth_with-worth-requires-clause-apart c =
-    let st : State = state_of c.args.known.now in
+pub invariant_of-held : goal.invariant_of-held
+invariant_of-held c =
+    let st : State = state_of c.args.start.now.spot.now.table.known in
+    let known = c.args.start.now.spot.now.table.known in
     let own : c.index-hands-hand.result ≡ hand_of st c.loop-hand.hand = c.index-hands-hand.is ∙ index_default st.hands c.loop-hand.hand c.index-hands-hand.result [] c.loop-hand-test.true in
-    let sound : Sound st = known_sound c.args.known.now.game c.args.known.now.count c.args.known.now.hands c.args.known.now.board c.args.known.now.dead c.args.known.now.disjoint c.args.known.now.fitting in
-    ap (λ l. apart l c.union-board.result) own ∙ ap (apart (hand_of st c.loop-hand.hand)) c.union-board.ensures ∙ first_apart st c.args.taken c.loop-hand.hand sound c.loop-hand-test.true c.requires.first
+    let sound : Sound st = known_sound known.game known.count known.hands known.board known.dead known.disjoint known.fitting in
+    record {
+      dealt = c.args.start.now.spot.now.dealt;
+      full = ap length own ∙ c.args.start.now.own c.loop-hand.hand c.loop-hand-test.true;
+      three = ap length c.union-board.ensures ∙ first_board st c.args.start.now.taken c.rising.ensures.set c.rising-2.ensures.set c.args.start.now.first;
+      apart = ap (λ l. apart l c.union-board.result) own ∙ ap (apart (hand_of st c.loop-hand.hand)) c.union-board.ensures ∙ first_apart st c.args.start.now.taken c.loop-hand.hand sound c.loop-hand-test.true c.args.start.now.first;
+    }
 
 pub worth_with-worth-requires-clause-ranks : goal.worth_with-worth-requires-clause-ranks
 worth_with-worth-requires-clause-ranks c =
-    let st : State = state_of c.args.known.now in
+    let st : State = state_of c.args.start.now.spot.now.table.known in
     let own : c.index-hands-hand.result ≡ hand_of st c.loop-hand.hand = c.index-hands-hand.is ∙ index_default st.hands c.loop-hand.hand c.index-hands-hand.result [] c.loop-hand-test.true in
-    let count : c.loop-hand.hand < length c.args.ranks.now = omega (arith, length-take c.args.known.now.count c.args.known.now.hands, c.args.known.now.few, c.loop-hand-test.true) in
+    let count : c.loop-hand.hand < length c.args.ranks.now = omega (arith, length-take c.args.start.now.spot.now.table.known.count c.args.start.now.spot.now.table.known.hands, c.args.start.now.spot.now.table.known.few, c.loop-hand-test.true) in
     let ranks : ByRank = c.index-ranks-hand.result in
     let there : slice_get c.args.ranks.now c.loop-hand.hand ≡ Some ranks = slice_get-get_or c.args.ranks.now c.loop-hand.hand ranks count ∙ ap Some (sym c.index-ranks-hand.is) in
     let P : List ℕ → Type 0 = λ l. AreRanksAnd l c.union-board.result c.args.low ranks in
@@ -37,13 +40,13 @@ worth_with-worth-requires-clause-ranks c =
 
 pub loop-hand-preserved : goal.loop-hand-preserved
 loop-hand-preserved c =
-    let st : State = state_of c.args.known.now in
+    let st : State = state_of c.args.start.now.spot.now.table.known in
     let own : c.index-hands-hand.result ≡ hand_of st c.loop-hand.hand = c.index-hands-hand.is ∙ index_default st.hands c.loop-hand.hand c.index-hands-hand.result [] c.loop-hand-test.true in
-    let worth : AreWorthWith c.args.known.now.game (hand_of st c.loop-hand.hand) (union st.board c.args.taken) c.args.low c.args.high c.worth_with-worth.result.high c.worth_with-worth.result.low =
-    (let P : List ℕ → Type 0 = λ l. AreWorthWith c.args.known.now.game l (union st.board c.args.taken) c.args.low c.args.high c.worth_with-worth.result.high c.worth_with-worth.result.low in
-    let Q : List ℕ → Type 0 = λ b. AreWorthWith c.args.known.now.game c.index-hands-hand.result b c.args.low c.args.high c.worth_with-worth.result.high c.worth_with-worth.result.low in
+    let worth : AreWorthWith c.args.start.now.spot.now.table.known.game (hand_of st c.loop-hand.hand) (union st.board c.args.start.now.taken) c.args.low c.args.high c.worth_with-worth.result.high c.worth_with-worth.result.low =
+    (let P : List ℕ → Type 0 = λ l. AreWorthWith c.args.start.now.spot.now.table.known.game l (union st.board c.args.start.now.taken) c.args.low c.args.high c.worth_with-worth.result.high c.worth_with-worth.result.low in
+    let Q : List ℕ → Type 0 = λ b. AreWorthWith c.args.start.now.spot.now.table.known.game c.index-hands-hand.result b c.args.low c.args.high c.worth_with-worth.result.high c.worth_with-worth.result.low in
     subst P own (subst Q c.union-board.ensures c.worth_with-worth.ensures)) in
-    let count : c.loop-hand.hand < 10 = omega (arith, length-take c.args.known.now.count c.args.known.now.hands, c.args.known.now.few, c.loop-hand-test.true) in
+    let count : c.loop-hand.hand < 10 = omega (arith, length-take c.args.start.now.spot.now.table.known.count c.args.start.now.spot.now.table.known.hands, c.args.start.now.spot.now.table.known.few, c.loop-hand-test.true) in
     record {
       highs_size = rw length-set c.loop-hand.invariant.highs_size;
       lows_size = rw length-set c.loop-hand.invariant.lows_size;
@@ -52,7 +55,7 @@ loop-hand-preserved c =
         | inr ge ↦
             let same : h ≡ c.loop-hand.hand = omega arith in
             let inside : c.loop-hand.hand < length c.loop-hand.worths.highs = omega (arith, count, c.loop-hand.invariant.highs_size) in
-            let P : ℕ → Type 0 = λ i. IsBoardWith (hand_of st i) (union st.board c.args.taken) c.args.low c.args.high full in
+            let P : ℕ → Type 0 = λ i. IsBoardWith (hand_of st i) (union st.board c.args.start.now.taken) c.args.low c.args.high full in
             rw (same, get_or-set_same) (worth.as_high full (subst P same is))
       ];
       lows = λ h full lt is. elim (cases_lt h c.loop-hand.hand) [
@@ -60,13 +63,7 @@ loop-hand-preserved c =
         | inr ge ↦
             let same : h ≡ c.loop-hand.hand = omega arith in
             let inside : c.loop-hand.hand < length c.loop-hand.worths.lows = omega (arith, count, c.loop-hand.invariant.lows_size) in
-            let P : ℕ → Type 0 = λ i. IsBoardWith (hand_of st i) (union st.board c.args.taken) c.args.low c.args.high full in
+            let P : ℕ → Type 0 = λ i. IsBoardWith (hand_of st i) (union st.board c.args.start.now.taken) c.args.low c.args.high full in
             rw (same, get_or-set_same) (worth.as_low full (subst P same is))
       ];
     }
-
-pub worth_with-worth-requires-clause-own : goal.worth_with-worth-requires-clause-own
-worth_with-worth-requires-clause-own c =
-    let st : State = state_of c.args.known.now in
-    let own : c.index-hands-hand.result ≡ hand_of st c.loop-hand.hand = c.index-hands-hand.is ∙ index_default st.hands c.loop-hand.hand c.index-hands-hand.result [] c.loop-hand-test.true in
-    ap length own ∙ c.requires.own c.loop-hand.hand c.loop-hand-test.true

@@ -11,8 +11,8 @@ abbrev pub invariant-loop-hand : goal.invariant-loop-hand
 invariant-loop-hand l = record {
   highs_size : length l.worths.highs ≡ 10;
   lows_size : length l.worths.lows ≡ 10;
-  highs : (h : ℕ) (full : List ℕ) → h < l.hand → IsBoardWith (slice_index_or (state_of l.known).hands h []) (union (state_of l.known).board l.fn.taken) l.low l.high full
-      → get_or l.worths.highs h 0 ≡ plain_number l.known.game (slice_index_or (state_of l.known).hands h []) full;
-  lows : (h : ℕ) (full : List ℕ) → h < l.hand → IsBoardWith (slice_index_or (state_of l.known).hands h []) (union (state_of l.known).board l.fn.taken) l.low l.high full
-      → number_of l.worths.lows h ≡ low_number l.known.game (slice_index_or (state_of l.known).hands h []) full;
+  highs : (h : ℕ) (full : List ℕ) → h < l.hand → IsBoardWith (slice_index_or (state_of l.start.spot.now.table.known).hands h []) (union (state_of l.start.spot.now.table.known).board l.start.taken) l.low l.high full
+      → get_or l.worths.highs h 0 ≡ plain_number l.start.spot.now.table.known.game (slice_index_or (state_of l.start.spot.now.table.known).hands h []) full;
+  lows : (h : ℕ) (full : List ℕ) → h < l.hand → IsBoardWith (slice_index_or (state_of l.start.spot.now.table.known).hands h []) (union (state_of l.start.spot.now.table.known).board l.start.taken) l.low l.high full
+      → number_of l.worths.lows h ≡ low_number l.start.spot.now.table.known.game (slice_index_or (state_of l.start.spot.now.table.known).hands h []) full;
 }

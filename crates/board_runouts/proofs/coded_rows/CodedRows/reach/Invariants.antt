@@ -1,4 +1,4 @@
-use Rattle.std.proofs.Common.{ℕ, suc, ◌-◌, length}
+use Rattle.std.proofs.Common.{suc, ◌-◌, length}
 use Rattle.showdown_tally.specs.Showdown.{Showdown}
 use Rattle.board_runouts.specs.Codes.{AreAllCodes}
 use Rattle.board_runouts.proofs.coded_rows.CodedRows.reach.Given as goal

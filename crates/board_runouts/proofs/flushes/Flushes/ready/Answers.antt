@@ -1,4 +1,4 @@
-use Rattle.std.proofs.Common.{◌≡◌, sym, ap, ◌∙◌, arith}
+use Rattle.std.proofs.Common.{◌≡◌, sym, ap, ◌∙◌}
 use Rattle.std.proofs.lemmas.Option.{get_or_from_slice_get}
 use Rattle.showdown_tally.specs.Deals.{deal_of}
 use Rattle.board_runouts.specs.declared.flush.Flush.{Flush}

@@ -27,9 +27,6 @@ last_pairs-requires-clause-inside c =
     let few : binomial c.count.result 2 ≡ length (choose 2 c.args.rest) = ap (λ n. binomial n 2) c.count.ensures.value ∙ sym (length_choose 2 c.args.rest) in
     omega (arith, few, c.requires.inside)
 
-pub returns-clause-order : goal.returns-clause-order
-returns-clause-order c = (let s = c.last_pairs.ensures.start in let e = c.last_pairs.ensures.end in let o = c.requires.order in omega arith)
-
 pub returns-clause-inside : goal.returns-clause-inside
 returns-clause-inside c =
     let all : List Pair = take c.args.self.now.used c.args.self.now.pairs.items in
