@@ -11,7 +11,7 @@ BESIDE_THE_PROGRAM = re.compile(r"\w+_rows|run_cases|best_five|equity_main")
 
 
 class Claim(NamedTuple):
-    """A row of docs/CLAIMS.md: its crate, and the words between backquotes of its last columns but the state."""
+    """A row of docs/CLAIMS.md: its crate, and the words between backquotes of its other columns."""
     crate: str
     calls: list[str]
     clauses: list[str]
@@ -23,7 +23,7 @@ def claims():
     for heading, head, cells in tables("docs/CLAIMS.md"):
         crate = re.search(r": `([a-z_]+)`$", heading)
         if heading.startswith("## ") and crate and head[0] == "Claim":
-            yield Claim(crate[1], *(quoted(cell) for cell in cells[-4:-1]))
+            yield Claim(crate[1], *(quoted(cell) for cell in cells[1:4]))
 
 
 def last_name(word):
