@@ -68,13 +68,7 @@ fn worth_on_board(threes: &Threes, held: &HandWithBoard, low: u8, high: u8) -> W
 /// Returns what a hand is worth with the board and one card of each of two ranks more, whichever cards these are: as a high, if there were
 /// no flushes, and as a low. If there are no such cards, the result means nothing. If any five cards make a hand, `worth_with` goes by how
 /// many cards there are of each rank, and makes no board.
-pub fn worth_with(
-    threes: &Threes,
-    held: &HandWithBoard,
-    ranks: &ByRank,
-    low: u8,
-    high: u8,
-) -> Worth
+pub fn worth_with(threes: &Threes, held: &HandWithBoard, ranks: &ByRank, low: u8, high: u8) -> Worth
     // There are so many cards of each rank in the hand and on the board, with one card of the lower rank more.
     requires ranks { AreRanksAnd held.now.own held.now.board low ranks.now }
 

@@ -141,12 +141,12 @@ fn accepted_results(
 }
 
 /// The results of a hand.
-fn results_block(
+fn results_block<'a>(
     sheet: &mut Sheet,
     number: &[u8],
-    audit: &HandAudit,
-    chips: &[SeatChips; 11],
-    equity: &Equity,
+    audit: &'a HandAudit,
+    chips: &'a [SeatChips; 11],
+    equity: &'a Equity,
 ) -> Result<(), AllocError>
     requires between { IsBetweenLines sheet.old }
     requires asked { is_asked equity.now ≡ true }
