@@ -1,4 +1,4 @@
-//! The leaf of draws: the last slot is a hand's, and all its draws are counted at once.
+//! The leaf of draws: the last slot is a hand's, and one loop goes through its draws.
 
 ghost use Rattle.std.specs.Prelude.{◌≡◌, ℕ, ◌+◌, ◌-◌, ◌<◌, ◌≤◌, [], List, true, false, length, map, take, if◌then◌else◌, nat_lt, slice_index, slice_index_or, IsTrue};
 ghost use Rattle.std.specs.List.{slice_range};
@@ -18,7 +18,7 @@ ghost use Rattle.draw_runouts.specs.Worth.{AreNumbers, full_worth, number_of};
 
 use crate::last::{DRAWS, Range, TWOS, put_draws};
 use crate::numbers::{Numbers, PLANES, full_worth};
-use crate::rivals::{count_pots, count_sides};
+use crate::rivals::{Others, count_pots, count_sides};
 use card_sets::{Card, CardSet, Game, Known, Memory, Side};
 use runout_ranges::{Receiver, Shape, Slot};
 use runout_walk::{CardList, Leaf, Span, filled, side_row, ten_places};
@@ -80,8 +80,8 @@ fn has_two_sides(game: Game) -> bool
     game.has_side(Side::High) && game.has_side(Side::Low)
 }
 
-/// How many cards the last hand may draw, so that its draws are counted at once: of a game for both sides two, as there is room for no more
-/// lows.
+/// Returns how many cards the last hand may draw for its draws to be counted in one loop: three, or two in a game for both sides, because
+/// there is no room for the lows of more.
 #[inline]
 fn most_draw(game: Game) -> u8
     ensures { result ≡ most_draw game }
@@ -89,7 +89,7 @@ fn most_draw(game: Game) -> u8
     if has_two_sides(game) { 2 } else { 3 }
 }
 
-/// Whether the runouts of a table end with a draw that can be counted at once: a game without a board, in which somebody lacks cards, and
+/// Whether the runouts of a table end with a draw that one loop can go through: a game without a board, in which somebody lacks cards, and
 /// the last hand that does lacks one to three, or to two in a game that is played for both sides.
 pub fn are_draws(table: &Table, shape: &Shape) -> bool
     ensures { result ≡ are_draws table.now shape.now }
@@ -301,28 +301,21 @@ impl Leaf for Draws {
             let all_lows = self.low_values.as_slice();
             let values = &all_highs[..range.hi - range.lo];
             let low_values = &all_lows[..range.hi - range.lo];
-            count_sides(
-                &self.table,
-                self.last,
-                &numbers,
-                &lows,
-                values,
-                low_values,
-                counts,
-                steps,
-            );
+            let others = Others {
+                last: self.last,
+                numbers,
+                lows,
+            };
+            count_sides(&self.table, &others, values, low_values, counts, steps);
         } else {
             let all = self.values.as_slice();
             let values = &all[..range.hi - range.lo];
-            count_pots(
-                &self.table,
-                side_row(side),
-                self.last,
-                &numbers,
-                values,
-                counts,
-                steps,
-            );
+            let others = Others {
+                last: self.last,
+                numbers,
+                lows: [0; 10],
+            };
+            count_pots(&self.table, side_row(side), &others, values, counts, steps);
         }
     }
 }

@@ -1,4 +1,5 @@
-//! Runouts that end with a draw, all draws of the last hand at once: a leaf of the walk of `runout_walk` for games without a board.
+//! Counts the runouts that end with a draw: a leaf of the walk of `runout_walk` for games without a board. It goes through the draws of the
+//! last hand in one loop, each by itself.
 //!
 //! **Draws** ([`Draws`]: games without a board whose last slot takes one to three cards, or one or two where there are two sides). What
 //! the last hand is worth with each draw stands in a table, filled once a spot. The numbers of a whole range are copied into a row. Each

@@ -50,8 +50,8 @@ pub(crate) struct PairOrders {
     pub(crate) above: Orders,
 }
 
-/// Adds a draw for each of the first pots, by how its high and its low stand to the greatest of the others there. There is no branch in it,
-/// so that the compiler can take several draws at once.
+/// Adds a draw for each of the first pots, by how its high and its low compare with the greatest of the others there. It has no branch, so
+/// the compiler can use instructions for several numbers.
 #[inline(always)]
 fn add_pair(
     highs: &[Winners],

@@ -125,20 +125,30 @@ fn pot_rivals(table: &Table, last: u8, values: &[u32; 10], qualify: bool) -> [Wi
     all
 }
 
-/// Counts who wins each pot where the last hand has each of some numbers and the others have theirs, in the row of a side. It takes a
-/// step a number, where that is added.
+/// Which hand gets its cards last, and what the others are worth.
+#[derive(Clone, Copy)]
+pub(crate) struct Others {
+    /// The last hand, from 0.
+    pub(crate) last: u8,
+    /// What each other hand is worth on the only side of the game, or as a high.
+    pub(crate) numbers: [u32; 10],
+    /// What it is worth as a low, in a game for both sides.
+    pub(crate) lows: [u32; 10],
+}
+
+/// Counts who wins each pot if the last hand has each of some numbers and the others have theirs, in the row of a side. It takes a
+/// step a number, in the loop that adds it.
 pub(crate) fn count_pots<L: Ledger>(
     table: &Table,
     row: usize,
-    last: u8,
-    numbers: &[u32; 10],
+    others: &Others,
     values: &[u32],
     counts: &mut [[u32; 2048]],
     steps: &mut Steps<L>,
 )
     // The high's row of each pot or the low's, and a hand of the table.
     requires row { row < 2 }
-    requires last { last < table.now.known.count }
+    requires last { others.now.last < table.now.known.count }
 
     // Each pot has its two rows, and each count has room for all of the numbers.
     requires few { length values.now < 2 ^ 32 }
@@ -152,12 +162,12 @@ pub(crate) fn count_pots<L: Ledger>(
         → slice_index (slice_index_or counts.new (2 * pot + row) []) set
         ≡ slice_index (slice_index_or counts.old (2 * pot + row) []) set
         + count_by
-        (λ value. best_set (value_with numbers.now last value)
+        (λ value. best_set (value_with others.now.numbers others.now.last value)
         (eligible_in (deal_of table.now) pot) == set) values.now }
     ensures places { length counts.new ≡ length counts.old }
     ensures steps { steps.new ≡ steps.old + length values.now }
 {
-    let rivals = pot_rivals(table, last, numbers, false);
+    let rivals = pot_rivals(table, others.last, &others.numbers, false);
     let sums = compare_pots(&rivals, table.pots, values, steps);
     for pot in 0..table.pots {
         let at = usize::from(pot);
@@ -173,13 +183,11 @@ pub(crate) fn count_pots<L: Ledger>(
     }
 }
 
-/// Counts who wins both sides of each pot where the last hand has each of some numbers as a high and as a low, and the others have theirs.
-/// It takes a step for each two numbers, where they are added.
+/// Counts who wins both sides of each pot if the last hand has each of some numbers as a high and as a low, and the others have theirs.
+/// It takes a step for each two numbers, in the loop that adds them.
 pub(crate) fn count_sides<L: Ledger>(
     table: &Table,
-    last: u8,
-    highs: &[u32; 10],
-    lows: &[u32; 10],
+    others: &Others,
     values: &[u32],
     low_values: &[u32],
     counts: &mut [[u32; 2048]],
@@ -187,7 +195,7 @@ pub(crate) fn count_sides<L: Ledger>(
 )
     // The game is played for both sides, and the last hand is of the table.
     requires two { has_two_sides table.now.known.game ≡ true }
-    requires last { last < table.now.known.count }
+    requires last { others.now.last < table.now.known.count }
 
     // Its numbers are few, and each as a high has one as a low.
     requires few { length values.now < 2 ^ 32 }
@@ -205,14 +213,14 @@ pub(crate) fn count_sides<L: Ledger>(
         → count_at counts.new pot side place ≡ count_at counts.old pot side place
         + count_both
         (λ value low. set_place side
-        (best_set (value_with highs.now last value) (eligible_in (deal_of table.now) pot))
-        (some_set (value_with lows.now last low) (eligible_in (deal_of table.now) pot))
+        (best_set (value_with others.now.numbers others.now.last value) (eligible_in (deal_of table.now) pot))
+        (some_set (value_with others.now.lows others.now.last low) (eligible_in (deal_of table.now) pot))
         == place) values.now low_values.now }
     ensures same { length counts.new ≡ length counts.old }
     ensures steps { steps.new ≡ steps.old + length values.now }
 {
-    let high_sets = pot_rivals(table, last, highs, false);
-    let low_sets = pot_rivals(table, last, lows, true);
+    let high_sets = pot_rivals(table, others.last, &others.numbers, false);
+    let low_sets = pot_rivals(table, others.last, &others.lows, true);
     let sums = compare_pairs(&high_sets, &low_sets, table.pots, values, low_values, steps);
     for pot in 0..table.pots {
         let at = usize::from(pot);

@@ -41,14 +41,14 @@ loop-pot-preserved g c =
     let counts : List (List ℕ) = c.loop-pot.counts in
     let new : List ℕ = c.put_orders.new.row in
     let inside : 2 * p + row < length counts = (let q = c.requires.places in let e = was.places in let s = c.requires.row in omega arith) in
-    let win : ℕ → ℕ = λ value. best_set (value_with c.args.numbers.now c.args.last value) (eligible_in (deal_of table) p) in
+    let win : ℕ → ℕ = λ value. best_set (value_with c.args.others.now.numbers c.args.others.now.last value) (eligible_in (deal_of table) p) in
     record {
       done = λ pot place l m. elim (cases_lt pot p) [
         | inl lt ↦ other_row counts (2 * p + row) (2 * pot + row) place new (λ e. omega arith) ∙ was.done pot place (omega arith) m
         | inr ge ↦
             let here : pot ≡ p = omega arith in
             let P : ℕ → Type 0 = λ k. slice_index (slice_index_or (set counts (2 * p + row) new) (2 * k + row) []) place ≡ slice_index (slice_index_or c.args.counts.now (2 * k + row) []) place
-            + count_by (λ value. best_set (value_with c.args.numbers.now c.args.last value) (eligible_in (deal_of table) k) == place) values in
+            + count_by (λ value. best_set (value_with c.args.others.now.numbers c.args.others.now.last value) (eligible_in (deal_of table) k) == place) values in
             let old : slice_index (slice_index_or counts (2 * p + row) []) place ≡ slice_index (slice_index_or c.args.counts.now (2 * p + row) []) place = was.later p place (omega (arith, at)) in
             let won : times_at r.below o.result.below place + times_at r.equal o.result.equal place + times_at r.above o.result.above place ≡ count_by (λ value. win value == place) values =
             orders_won rivals p place r win values o.result.below o.result.equal o.result.above found (λ value. c.pot_rivals-rivals.ensures.winners p value there) o.ensures.below o.ensures.equal o.ensures.above in

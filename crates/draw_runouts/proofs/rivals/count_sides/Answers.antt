@@ -77,8 +77,8 @@ loop-pot-preserved g c =
     let high_more : ℕ → ℕ = λ place. marked_times r.below q o.below place + marked_times r.equal q o.equal place + marked_times r.above q o.above place in
     let low_more : ℕ → ℕ = λ place. times_of q.below q.equal q.above o.all place in
     let put : ArePut counts p high_more low_more new = rows_put counts p c.put_highs.new.row c.put_orders.new.row high_more low_more inside c.put_highs.ensures.counts c.put_orders.ensures.counts in
-    let win : ℕ → ℕ = λ value. best_set (value_with c.args.highs.now c.args.last value) (eligible_in (deal_of table) p) in
-    let low_win : ℕ → ℕ = λ low. some_set (value_with c.args.lows.now c.args.last low) (eligible_in (deal_of table) p) in
+    let win : ℕ → ℕ = λ value. best_set (value_with c.args.others.now.numbers c.args.others.now.last value) (eligible_in (deal_of table) p) in
+    let low_win : ℕ → ℕ = λ low. some_set (value_with c.args.others.now.lows c.args.others.now.last low) (eligible_in (deal_of table) p) in
     record {
       done = λ pot place side l. elim (cases_lt pot p) [
         | inl lt ↦
@@ -88,7 +88,7 @@ loop-pot-preserved g c =
         | inr ge ↦
             let here : pot ≡ p = omega arith in
             let P : ℕ → Type 0 = λ k. count_at new k side place ≡ count_at c.args.counts.now k side place
-            + count_both (λ value low. set_place side (best_set (value_with c.args.highs.now c.args.last value) (eligible_in (deal_of table) k)) (some_set (value_with c.args.lows.now c.args.last low) (eligible_in (deal_of table) k)) == place) values low_values in
+            + count_both (λ value low. set_place side (best_set (value_with c.args.others.now.numbers c.args.others.now.last value) (eligible_in (deal_of table) k)) (some_set (value_with c.args.others.now.lows c.args.others.now.last low) (eligible_in (deal_of table) k)) == place) values low_values in
             let more : count_at new p side place ≡ count_at counts p side place + count_both (λ v w. set_place side (won_at highs p v) (won_at lows p w) == place) values low_values =
             both_put counts new p high_more low_more highs lows values low_values put
             (λ place. high_won highs lows p values low_values o r q place found found_low c.pair_orders_at-orders.ensures) (λ place. low_won highs lows p values low_values o q place found_low c.pair_orders_at-orders.ensures) place side in
