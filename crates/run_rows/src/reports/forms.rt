@@ -136,7 +136,12 @@ fn behind(report: &[u8], word: &str) -> &[u8] {
 
 /// Whether a run of the mode wrote so: `check` that report, `audit` and `streets` what goes on from it, `results` and `settle` the
 /// same line of each hand, and `totals` and `balance` what begins with these sums.
-fn is_told(alloc: Global, mode: &str, verdict: &Verdict, written: &[u8]) -> Result<bool, AllocError> {
+fn is_told(
+    alloc: Global,
+    mode: &str,
+    verdict: &Verdict,
+    written: &[u8],
+) -> Result<bool, AllocError> {
     let told = match mode {
         "check" => written == verdict.report,
         "totals" => written.starts_with(verdict.sums),
