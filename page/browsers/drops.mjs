@@ -40,7 +40,8 @@ const files = async (tab, drop, begin) => {
     const { run } = tab;
     await tab.fresh();
     await drop(inFolder(rows.mixed(session), 'mixed'));
-    const missed = await run('[...document.querySelectorAll("#missed-files li")].map((it) => it.textContent)');
+    await tab.view('files');
+    const missed = await run('[...document.querySelectorAll("#missed-files tbody tr")].map((it) => it.textContent)');
     const named = ['gg.txt', 'wide.txt', 'some.zip'].every((name) => missed.some((it) => it.startsWith(name)));
     expect(missed.length === 3 && named, `three files are named: ${missed.join(' | ')}`);
     await tab.shoot('mixed.png');
@@ -59,14 +60,15 @@ const files = async (tab, drop, begin) => {
     await run('(document.getElementById("back").click(), page.store.drawn())');
     expect(await tab.count() === 4 * month.length, 'own hands come back after the example');
     await run('(document.getElementById("clear-all").click(), page.store.drawn())');
-    expect(await tab.count() === 0 && await run('document.getElementById("shown").hidden'), 'Clear forgets all hands');
+    expect(await tab.count() === 0 && await run('page.views.view') === 'home', 'Clear forgets all hands');
 
     const cashed = { 'cash-out.txt': rows.cashedOut(session), 'more.txt': rows.renumbered(session, '73', '74') };
     await drop(inFolder(cashed, 'left'));
     await tab.choose('player', 'max');
-    expect(await tab.text('left') === 'without 1 rejected hand, which was cashed out', `left out: ${await tab.text('left')}`);
+    const left = await tab.text('left-text');
+    expect(left === 'Without 1 rejected hand of max: 1 cashed out.', `left out: ${left}`);
     await run('(document.getElementById("left").click(), page.store.drawn())');
-    const listed = await run('document.querySelectorAll("#list tbody tr").length');
+    const listed = await run('document.querySelectorAll("#list tbody tr[data-at]").length');
     expect(listed === 1 && (await tab.text('list')).includes('cashed out'), 'a click shows the hand that is left out');
     await tab.shoot('left-out.png');
 };

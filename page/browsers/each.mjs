@@ -5,6 +5,7 @@ import { readFileSync, readdirSync } from 'node:fs';
 import { join } from 'node:path';
 import { examples, expect, inFolder, own, runAll, tabOf } from './tab.mjs';
 import * as rows from './rows.mjs';
+import { views } from './views.mjs';
 
 const engine = process.argv[5];
 const { open } = await import(`../drive/${engine}.mjs`);
@@ -45,14 +46,16 @@ await runAll(engine, async () => {
 
         // files without a hand, a hand, a spot, and the way back
         await tab.give(inFolder(rows.mixed(session), 'mixed'));
-        expect(await run('document.querySelectorAll("#missed-files li").length') === 3, 'three files without a hand are named');
+        await tab.view('files');
+        expect(await run('document.querySelectorAll("#missed-files tbody tr").length') === 3, 'three files without a hand are named');
         await tab.give([join(examples, 'dispute.txt')]);
         await tab.open('7202');
         expect((await tab.text('sheet')).includes('sam is to get 325.'), 'a sheet says who is to get what');
         expect(/SHA-256 of the file: [0-9a-f]{64}/.test(await tab.text('sheet')), 'a sheet has the checksum of the file');
         expect(await run('location.hash') === '#hand', 'the address has the name of the view');
         await run('(history.back(), 0)');
-        expect(await tab.until('!document.getElementById("hand").open'), 'Back closes the hand');
+        expect(await tab.until('page.views.view === "files"'), 'Back closes the hand');
+        await views(tab, engine, session);
         const line = 'holdem As Ah - Ks Kh -- 2c 7d 9h 4s';
         await run(`(document.getElementById('spot').value = ${JSON.stringify(line)}, page.answer())`);
         expect(await tab.text('answer') === own(`${line}\n`, 'spots').stdout.toString(), 'a spot is answered');

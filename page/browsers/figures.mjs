@@ -1,6 +1,6 @@
 // node figures.mjs PAGE.html EQUITY EXAMPLES : sums, tables, and reports of the page beside native runs, in Chromium; see page/test
 
-import { existsSync, readFileSync } from 'node:fs';
+import { existsSync, readFileSync, readdirSync, writeFileSync } from 'node:fs';
 import { join } from 'node:path';
 import { open } from '../drive/chromium.mjs';
 import { examples, expect, own, runAll, tabOf, work } from './tab.mjs';
@@ -40,16 +40,17 @@ const showdowns = async ({ run }) => {
 /** The all-ins with most luck have the program's figures of their pots. */
 const luck = async ({ run }, player) => {
     await run(`new Promise((done) => {
-        const look = () => [...document.querySelectorAll('#luck tbody tr')].every((it) => it.children[5].textContent) ? done(0) : setTimeout(look, 20);
+        const look = () => [...document.querySelectorAll('#luck tbody tr')].every((it) => it.children[3].textContent !== '…') ? done(0) : setTimeout(look, 20);
         look();
     })`);
-    const listed = await run(`[...document.querySelectorAll('#luck tbody tr')].map((it) => [...it.children].map((cell) => cell.textContent))`);
+    const listed = await run(`[...document.querySelectorAll('#luck tbody tr')].map((it) => [it.querySelector('button').title.slice(5), ...[...it.children].map((cell) => cell.textContent)])`);
     expect(listed.length > 0, 'there are all-ins');
-    for (const [number, , , , , street, pots, parts] of listed) {
+    for (const [number, , , street, parts, won] of listed) {
         const records = recordsOf(handOf(number), 'audit'), theirs = records.filter((it) => it[2] === 'ev' && it[12] === player);
-        const gross = theirs.map((it) => records.find((pot) => pot[2] === 'gross' && pot[1] === it[1])[3]).join(', ');
-        const there = [records.find((it) => it[0] === 'all-in')[1], gross, theirs.map((it) => it[3]).join(', ')];
-        expect([street, pots, parts].join(' ') === there.join(' '), `the all-in of ${number}: ${there}`);
+        const there = [records.find((it) => it[0] === 'all-in')[1], theirs.map((it) => `${(Number(it[3]) * 100).toFixed(1)}%`).join(' · ')];
+        expect([street, parts].join(' ') === there.join(' '), `the all-in of ${number}: ${street} ${parts}, and ${there}`);
+        const [row] = recordsOf(handOf(number), 'results').filter((it) => it[0] === 'result' && it[12] === player);
+        expect(won.replace('\u2212', '-').replace(/[+,]/g, '') === row[8], `what was won in ${number}: ${won} and ${row[8]}`);
         const kept = await run(`(() => { const { hands } = page.choose(), at = hands.numbers.indexOf(${JSON.stringify(number)}); return hands.texts[hands.columns.street[at]]; })()`);
         expect(kept === street, `the street of ${number} in the filters: ${kept}`);
     }
@@ -77,14 +78,14 @@ const tables = async ({ run }, player, balance) => {
 /** Each option of each filter leaves as many hands as it says. */
 const filters = async ({ run }) => {
     const wrong = await run(`(async () => {
-        const wrong = [], bar = document.getElementById('filters');
+        const wrong = [], bar = document.getElementById('picks');
         for (const { name } of [...bar.querySelectorAll('select')]) {
             const find = () => bar.querySelector('select[name="' + name + '"]');
-            for (const { value, text } of [...find().options].slice(1)) {
+            for (const { value, text } of [...find().options].slice(1).filter((it) => it.value !== 'span' && !it.disabled)) {
                 find().value = value;
                 find().onchange();
                 await page.store.drawn();
-                if (!text.endsWith('(' + page.choose().played.length + ')')) wrong.push(name + ': ' + text);
+                if (!text.replace(/,/g, '').endsWith('(' + page.choose().entries.length + ')')) wrong.push(name + ': ' + text);
             }
             find().value = '';
             find().onchange();
@@ -95,14 +96,44 @@ const filters = async ({ run }) => {
     expect(wrong > 1, `options leave what they say: ${wrong}`);
 };
 
+/** Next and Back go through the list, and after a reload nothing is left of an opened hand. */
+const trail = async (driver, tab) => {
+    const { run } = tab, isAt = (place) => tab.until(`document.getElementById('place').textContent.startsWith('${place} of ')`);
+    await tab.view('hands');
+    await run('page.open(page.choose().listed[0].hand)');
+    await run('document.getElementById("after").click()');
+    expect(await isAt(2), 'Next opens the next hand');
+    await run('(history.back(), 0)');
+    expect(await isAt(1), 'Back opens the one before');
+    await run('(globalThis.isOld = true, 0)');
+    await driver.send('Page.reload');
+    const isFirst = 'globalThis.isOld === undefined && globalThis.page && location.hash === "" && page.views.view === "home" && !document.getElementById("view-home").hidden';
+    expect(await tab.until(isFirst), 'after a reload the page shows first sight');
+};
+
+/** The graph is kept as a picture that stands alone, with the same colors. */
+const picture = async (tab, player) => {
+    await tab.view('overview');
+    await tab.run(`document.getElementById('keep-graph').click()`);
+    const found = () => readdirSync(work).find((it) => it.startsWith(`winnings-${player}`) && it.endsWith('.svg'));
+    for (let tries = 0; tries < 100 && !found(); tries++) await new Promise((done) => { setTimeout(done, 100); });
+    await new Promise((done) => { setTimeout(done, 200); });
+    const svg = readFileSync(join(work, found() || ''), 'utf8'), count = await tab.run('document.querySelectorAll("#graph path[class^=line]").length');
+    expect(svg.includes('xmlns="http://www.w3.org/2000/svg"') && !/var\(--|class="mark"/.test(svg), 'the graph is a picture that stands alone');
+    expect(count === 4 && (svg.match(/<path class="line/g) || []).length === count && /stroke="rgb\(/.test(svg), `the picture has ${count} lines, with colors`);
+    expect(svg.includes('Non-showdown winnings') && svg.includes('clip-path="url(#luck'), 'the picture has names and the band of luck');
+    if (process.env.SHOTS) writeFileSync(join(process.env.SHOTS, 'graph.svg'), svg);
+};
+
 await runAll('figures', async () => {
     const driver = await open({ flags: ['--window-size=1100,1500'] }), tab = tabOf(driver), { run } = tab;
     try {
         await driver.send('Browser.setDownloadBehavior', { behavior: 'allow', downloadPath: work });
         await tab.fresh();
+        await run('page.picture');
         await tab.shoot('empty.png');
         await tab.give(histories);
-        expect(!await run('document.getElementById("shown").hidden'), 'the hands are shown');
+        expect(await run('page.views.view') === 'overview', 'the figures are shown');
         const kept = await run(`page.keep('audit', 'text').then((parts) => btoa(parts.map((it) => Array.from(it, (byte) => String.fromCharCode(byte)).join('')).join('')))`);
         const there = Buffer.concat(histories.map((it) => own(readFileSync(it), 'audit').stdout));
         expect(Buffer.from(kept, 'base64').equals(there), 'the report that is kept is that of the native program');
@@ -112,6 +143,7 @@ await runAll('figures', async () => {
         await luck(tab, player);
         await tables(tab, player, balance);
         await filters(tab);
+        await picture(tab, player);
         await tab.shoot('dropped.png');
         for (const scheme of ['light', 'dark']) {
             await driver.send('Emulation.setEmulatedMedia', { features: [{ name: 'prefers-color-scheme', value: scheme }] });
@@ -119,6 +151,7 @@ await runAll('figures', async () => {
             await tab.shoot(`narrow-${scheme}.png`);
             expect(await run('document.documentElement.scrollWidth <= 361'), 'nothing is wider than 360 pixels');
         }
+        await trail(driver, tab);
     } finally {
         await driver.close();
     }

@@ -31,7 +31,7 @@ const sheets = async (name, tab, print) => {
     await tab.give(files);
     for (const number of NUMBERS) for (const top of [0, 1e6]) {
         await tab.open(number);
-        await tab.run(`(document.getElementById('hand').scrollTop = ${top}, scrollTo(0, ${top}), 0)`);
+        await tab.run(`(scrollTo(0, ${top}), 0)`);
         const where = `${name}-sheet-${number}${top ? '-scrolled' : ''}`, pages = pagesOf(await print(), where);
         if (pages) checkPages(pages, number, where);
         await tab.close();
@@ -49,10 +49,11 @@ const sheets = async (name, tab, print) => {
     await tab.shoot(`${name}-hand.png`);
     await tab.close();
     // with no open hand, the figures, the graph, and the sums
+    await tab.view('overview');
     const pages = pagesOf(await print(), `${name}-page`), whole = pages ? pages.join('\n') : '';
     if (pages) {
-        expect(whole.includes('won') && whole.includes('Sums'), `${name}: the page prints figures and sums`);
-        expect(!whole.includes('Reports to keep') && !whole.includes('Drop hand histories'), `${name}: and nothing else`);
+        expect(whole.includes('Won') && whole.includes('Sums'), `${name}: the page prints figures and sums`);
+        expect(!whole.includes('Keep as') && !whole.includes('Drop hand histories'), `${name}: and nothing else`);
         expect(pages.every((it) => it.trim().length > LEAST_TEXT), `${name}: no page of it is empty`);
     }
 };

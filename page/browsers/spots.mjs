@@ -16,6 +16,7 @@ await runAll('spots', async () => {
     })()`);
     try {
         await tab.fresh();
+        await tab.view('spots');
         for (const [line, mode] of [['holdem As Ah - Ks Kh -- 2c 7d 9h 4s', 'spots'], ['holdem TT+ - AsAh -- 2c 7d 9h', 'ranges']]) {
             await run(`(document.getElementById('spot').value = ${JSON.stringify(line)}, page.answer())`);
             expect(await answered(line, mode), `the answer to ${line}`);
@@ -46,19 +47,9 @@ await runAll('spots', async () => {
         expect(await answered(line, 'ranges'), 'the answer to the line of the picture');
         await tab.shoot('ranges.png');
 
-        // one global, and a hand that is opened leaves nothing behind after a reload
+        // one global
         const globals = await run('Object.keys(globalThis).filter((it) => ["page", "engine", "Dygraph", "equity"].includes(it)).join()');
         expect(globals === 'page', `the bundle has one global: ${globals}`);
-        await run('page.takeExample().then(() => page.open(page.choose().order[0]))');
-        await run('document.getElementById("after").click()');
-        const isAt = (place) => tab.until(`document.getElementById('body').textContent.startsWith('${place} of ')`);
-        expect(await isAt(2), 'Next opens the next hand');
-        await run('(history.back(), 0)');
-        expect(await isAt(1), 'Back opens the one before');
-        await run('(globalThis.isOld = true, 0)');
-        await driver.send('Page.reload');
-        const isFirst = 'globalThis.isOld === undefined && globalThis.page && location.hash === "" && document.getElementById("shown").hidden';
-        expect(await tab.until(isFirst), 'after a reload the page shows first sight');
     } finally {
         await driver.close();
     }

@@ -81,7 +81,7 @@ export const tabOf = (driver) => {
         /** Resolves once nothing is read or drawn. */
         idle: () => run(`new Promise((done) => {
             const look = () => page.isBusy() ? setTimeout(look, 20) : done(0);
-            setTimeout(look, 150);
+            setTimeout(look, 600);
         })`),
         /** Gives the page files by a script, where the driver has no drop. */
         give: async (files) => {
@@ -104,6 +104,8 @@ export const tabOf = (driver) => {
             return false;
         },
         count: () => run('page.choose().order.length'),
+        /** Shows a view, and waits until it is drawn. */
+        view: (name) => run(`(page.views.go(${JSON.stringify(name)}), new Promise((done) => requestAnimationFrame(() => done(page.store.drawn()))))`),
         /** The points of the graph: x, and what was won. */
         series: (by) => run(`(() => {
             const { hands, played } = page.choose();

@@ -2,34 +2,84 @@
 
 import { $ } from './dom.mjs';
 import { saveSums } from './figures.mjs';
-import { SHOWN, WHICH } from './list.mjs';
-import { fill } from './panels.mjs';
+import { saveGraph } from './graph.mjs';
+import { drawnOf, fill } from './panels.mjs';
+import { EVERYBODY } from './played.mjs';
 import { GROUPS } from './sums.mjs';
 
+/** A search waits until nobody types, in milliseconds. */
+const PAUSE = 120;
+
 /**
- * Connects the lists of choices with the state.
+ * Connects the fields with the state. Returns what clears filters and words.
  * @param {ReturnType<typeof import('./store.mjs').makeStore>} store
  * @param {() => import('./store.mjs').Choice} choose
- * @param {(text: string, isBad?: boolean) => void} say
+ * @param {{ say: (text: string, isBad?: boolean) => void, go: (view: string) => void }} page
  */
-export const connectControls = ({ state, set }, choose, say) => {
+export const connectControls = ({ state, set }, choose, { say, go }) => {
     fill($('group'), GROUPS.map((it) => [it, it]), state.group);
-    fill($('which'), Object.entries(WHICH), state.which);
     // filters are of the player before, who may have played at other tables
-    const pick = (/** @type {string} */ player) => set({ player, unit: '', filters: {}, listed: SHOWN });
+    const pick = (/** @type {string} */ player) => set({ player, unit: '', filters: {}, which: 'all' });
     $('player').onchange = () => pick($('player').value);
     $('other').onchange = () => {
         const name = $('other').value.trim();
         if (choose().names.some((it) => it.name === name)) pick(name);
         else say(`There is no ${name} in these hands.`, true);
     };
-    $('unit').onchange = () => set({ unit: $('unit').value, filters: {}, listed: SHOWN });
+    $('unit').onchange = () => set({ unit: $('unit').value, filters: {} });
     $('by').onchange = () => set({ by: $('by').value });
-    $('group').onchange = () => set({ group: $('group').value, sortBy: 0, isRising: true });
-    $('which').onchange = () => set({ which: $('which').value, listed: SHOWN });
-    $('left').onclick = () => {
-        set({ which: 'left', listed: SHOWN });
-        $('hands').scrollIntoView({ block: 'nearest' });
+    $('group').onchange = () => {
+        fill($('group'), GROUPS.map((it) => [it, it]), $('group').value);
+        set({ group: $('group').value, sortBy: 0, isRising: true });
     };
-    $('keep-sums').onclick = () => saveSums(choose(), state);
+    $('left').onclick = () => {
+        set({ which: 'rejected', words: '' });
+        $('find').value = '';
+        go('hands');
+    };
+    $('all-ins').onclick = () => {
+        set({ which: 'all-in', order: 'luck', isUp: false });
+        go('hands');
+    };
+    /** @type {ReturnType<typeof setTimeout> | undefined} */
+    let soon;
+    $('find').oninput = () => {
+        clearTimeout(soon);
+        soon = setTimeout(() => set({ words: $('find').value }), PAUSE);
+    };
+    $('filters-open').onclick = () => {
+        const isOpen = $('filters').classList.toggle('opened');
+        $('filters-open').setAttribute('aria-expanded', String(isOpen));
+        document.documentElement.style.setProperty('--above', `${$('filters').offsetHeight}px`);
+    };
+    const clearFilters = () => set({ filters: {} });
+    $('filters-clear').onclick = clearFilters;
+    const graph = () => {
+        if (choose().player !== EVERYBODY && choose().played.length)
+            saveGraph(document.body, drawnOf(choose(), state), choose().player);
+        else say('There is no graph of everybody. Choose a player.', true);
+    };
+    const sums = () => {
+        if (choose().player !== EVERYBODY) saveSums(choose(), state);
+        else say('Sums are of one player. Choose a player.', true);
+    };
+    for (const id of ['keep-graph', 'keep-graph-too']) $(id).onclick = graph;
+    for (const id of ['keep-sums', 'keep-all-sums']) $(id).onclick = sums;
+    return {
+        clearFilters,
+        clear: () => {
+            $('find').value = '';
+            set({ filters: {}, words: '', which: 'all' });
+        },
+        /** Shows the hands of a group alone. */
+        pick: (/** @type {string} */ group, /** @type {string} */ key) => {
+            const none = /^no\b/.test(key), { filters } = choose(), isDay = group === 'day';
+            const name = group === 'month' || isDay ? 'dates' : group, isText = ['table', 'tournament'].includes(name);
+            const options = (filters.find((it) => it.name === name) || { options: [] }).options;
+            const value = none ? isText ? '' : 'none' : isDay ? `${key}..${key}` : group === 'session'
+                ? (options.find((it) => it.value.startsWith(key)) || { value: '' }).value : key;
+            if (isDay || options.some((it) => it.value === value))
+                set({ filters: { ...state.filters, [name]: value } });
+        }
+    };
 };

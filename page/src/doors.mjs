@@ -9,7 +9,7 @@ import { filesOfDrop, filesOfField } from './dropped.mjs';
  *     say: (text: string, isBad?: boolean) => void, isReading: () => boolean }} page
  */
 export const openDoors = ({ take, takeExample, say, isReading }) => {
-    for (const id of ['files', 'folder']) {
+    for (const id of ['files', 'folder', 'more-files', 'more-folder']) {
         $(id).onchange = () => {
             take(filesOfField($(id)));
             // the same file chosen again is a choice too
@@ -20,13 +20,13 @@ export const openDoors = ({ take, takeExample, say, isReading }) => {
     for (const name of ['dragenter', 'dragover']) {
         addEventListener(name, (event) => {
             event.preventDefault();
-            $('drop').classList.add('over');
+            document.body.classList.add('over');
         });
     }
-    addEventListener('dragleave', (event) => { if (!event.relatedTarget) $('drop').classList.remove('over'); });
+    addEventListener('dragleave', (event) => { if (!event.relatedTarget) document.body.classList.remove('over'); });
     addEventListener('drop', async (event) => {
         event.preventDefault();
-        $('drop').classList.remove('over');
+        document.body.classList.remove('over');
         if (!event.dataTransfer) return;
         if (!isReading()) say('Listing the files …');
         try {

@@ -1,85 +1,173 @@
 // The figures of the chosen player, what they leave out, and the sums of groups.
 
-import { node, save } from './dom.mjs';
 import { shownTable } from './books.mjs';
-import { many } from './progress.mjs';
-import { MONEY } from './part.mjs';
+import { causeOf } from './causes.mjs';
+import { sessions } from './clock.mjs';
+import { button, head, node, save } from './dom.mjs';
+import { CASHED, LIMIT } from './part.mjs';
+import { counted, many } from './progress.mjs';
 import { written } from './reports.mjs';
-import { byKey, keysOf, sumOf, sumsBy } from './sums.mjs';
-import { showTable, table } from './table.mjs';
+import { byKey, hundredsOf, keysOf, sumsBy } from './sums.mjs';
+import { showTable } from './table.mjs';
+import { dayText, gameText, monthText, ratioText, signOf, stakesText, sumText, toneOf, unitText } from './words.mjs';
 
 /** @typedef {import('./sums.mjs').Sum} Sum */
 /** @typedef {import('./store.mjs').Choice} Choice */
 
-export const WORDS =
-    ['hands', 'won', 'all-in adjusted', 'luck', 'with showdown', 'without showdown', 'rake paid', 'luck unknown'];
-
-/** @param {Sum} sum */
-const valuesOf =
-    (sum) => [sum.hands, sum.net, sum.even, sum.net - sum.even, sum.shown, sum.net - sum.shown, sum.rake, sum.unknown];
+/** @param {Choice} choice */
+export const isMoneyOf = ({ unit }) => unit.startsWith('money');
 
 /**
- * Returns the figures of a sum as texts, in the order of `WORDS`.
- * @param {Sum} sum
- * @param {boolean} isMoney
+ * What a hundred hands are counted in: big blinds, in fixed limit big bets, or both.
+ * @param {Choice} choice
  */
-export const textsOf = (sum, isMoney) => valuesOf(sum).map((it, at) => typeof it === 'bigint' ? written(it, isMoney)
-    : WORDS[at] !== 'rake paid' ? String(it) : isMoney ? (it / 100).toFixed(2) : it.toFixed(0));
-
-/** @param {Choice} choice */
-export const isMoneyOf = ({ hands, played }) =>
-    played.length > 0 && (hands.columns.flags[played[0].hand] & MONEY) !== 0;
+export const bigWord = ({ hands, played }) => {
+    const { flags, big } = hands.columns;
+    let hasBlinds = false, hasBets = false;
+    for (const { hand } of played) {
+        if (big[hand] > 0) flags[hand] & LIMIT ? hasBets = true : hasBlinds = true;
+        if (hasBlinds && hasBets) break;
+    }
+    return hasBlinds && hasBets ? 'bb or big bets/100' : hasBets ? 'big bets/100' : 'bb/100';
+};
 
 /**
  * Returns what the figures leave out, as a sentence, or an empty text.
- * @param {{ hands: number[], cashed: number }} left
+ * @param {Choice} choice
  */
-export const leftSentence = ({ hands, cashed }) => !hands.length ? '' : `without ${many(hands.length, 'rejected hand')}`
-    + `${cashed === 0 ? '' : hands.length === 1 ? ', which was cashed out' : `, ${cashed} of them cashed out`}`;
+export const leftSentence = ({ hands, left, player }) => {
+    if (!left.length) return '';
+    const { columns, texts } = hands, counts = new Map(), plain = (/** @type {string} */ it) => it;
+    for (const { hand } of left) {
+        const isCashed = (columns.flags[hand] & CASHED) !== 0;
+        const { short } = causeOf(texts[columns.cause[hand]], { say: plain, seat: plain, isCashed });
+        counts.set(short, (counts.get(short) || 0) + 1);
+    }
+    const causes = [...counts].sort((a, b) => b[1] - a[1]).map(([short, count]) => `${counted(count)} ${short}`);
+    return `Without ${many(left.length, 'rejected hand')} of ${player}: ${causes.join(', ')}.`;
+};
+
+/**
+ * Returns a figure: its name, its value, and what stands below.
+ * @param {string} name
+ * @param {string} value
+ * @param {{ tone?: string, isFirst?: boolean, more?: string }} form
+ */
+export const figure = (name, value, { tone = '', isFirst = false, more = '' }) =>
+    node(isFirst ? 'div.fig.first' : 'div.fig', node('dt', name), node(tone ? `dd.${tone}` : 'dd', value),
+        ...more ? [node('dd.more', more)] : []);
 
 /**
  * @param {HTMLElement} place
  * @param {Choice} choice
  */
 export const showFigures = (place, choice) => {
-    const texts = textsOf(sumOf(choice.hands, choice.played), isMoneyOf(choice));
-    place.replaceChildren(...WORDS.flatMap((word, at) => [node('dt', word), node('dd', texts[at])]));
+    const { hands, played, unit, sum } = choice, per = hundredsOf(sum), word = bigWord(choice);
+    const isMoney = isMoneyOf(choice), form = { isMoney, sign: signOf(unit) }, luck = sum.net - sum.even;
+    const say = (/** @type {bigint} */ it, plus = false) => sumText(it, { ...form, plus });
+    const hundred = (/** @type {number | undefined} */ it) => it === undefined ? '' : `${ratioText(it)} ${word}`;
+    const count = new Set(sessions(played.map(({ hand }) => hands.columns.clock[hand])).filter(Boolean)).size;
+    const first = (/** @type {bigint} */ it, /** @type {string} */ more) =>
+        ({ tone: toneOf(it), isFirst: true, more });
+    place.replaceChildren(
+        figure('Won', say(sum.net), first(sum.net, hundred(per?.net))),
+        figure('All-in adjusted', say(sum.even), first(sum.even, hundred(per?.even))),
+        figure('Luck at all-ins', say(luck, true), first(luck,
+            sum.unknown ? `not known of ${many(sum.unknown, 'hand')}` : 'won less adjusted')),
+        figure('Hands', counted(sum.hands), { more: many(count, 'session') }),
+        figure('Rake paid', say(BigInt(Math.round(sum.rake))), { more: hundred(per?.rake) }),
+        figure('Showdown winnings', say(sum.shown), { tone: toneOf(sum.shown), more: 'blue line' }),
+        figure('Non-showdown winnings', say(sum.net - sum.shown), { tone: toneOf(sum.net - sum.shown),
+            more: 'red line' }));
+};
+
+/** @typedef {{ group: string, sortBy: number, isRising: boolean }} Grouped */
+
+/** The columns of the sums after the group. Some are hidden on a phone. */
+export const HEADS = ['hands', 'won', 'adjusted', 'luck', 'bb/100', 'adj. bb/100'];
+
+/**
+ * @param {Sum} sum
+ * @returns {(bigint | number)[]}
+ */
+const valuesOf = (sum) => {
+    const per = hundredsOf(sum);
+    return [sum.hands, sum.net, sum.even, sum.net - sum.even, per ? per.net : NaN, per ? per.even : NaN];
 };
 
 /**
- * Returns the rows of the sums by a group, sorted by a column.
+ * Returns the sums by a group, sorted by a column.
  * @param {Choice} choice
- * @param {{ group: string, sortBy: number, isRising: boolean }} state
+ * @param {Grouped} state
  */
-export const sumRows = (choice, { group, sortBy, isRising }) => {
-    const isMoney = isMoneyOf(choice),
-          sums = sumsBy(choice.hands, choice.played, keysOf(choice.hands, choice.played, group));
-    const rows = [...sums].map(([key, sum]) =>
-        ({ key, values: valuesOf(sum), texts: [key, ...textsOf(sum, isMoney)] }));
-    return rows.sort((a, b) => {
+const groupsOf = ({ hands, played }, { group, sortBy, isRising }) => {
+    const all = [...sumsBy(hands, played, keysOf(hands, played, group))]
+        .map(([key, sum]) => ({ key, sum, values: valuesOf(sum) }));
+    return all.sort((a, b) => {
         const one = a.values[sortBy - 1], other = b.values[sortBy - 1];
         return (sortBy === 0 ? byKey(a.key, b.key) : one < other ? -1 : one > other ? 1 : 0) * (isRising ? 1 : -1);
-    }).map((row) => row.texts);
+    });
 };
 
 /**
+ * @param {string} group
+ * @param {string} key
+ */
+export const groupText = (group, key) => {
+    if (/^no\b/.test(key)) return key;
+    if (group === 'month') return monthText(key);
+    if (group === 'day') return dayText(Date.parse(key) / 1000);
+    if (group === 'session') return `${dayText(Date.parse(key.slice(0, 10)) / 1000)} ${key.slice(11)}`;
+    return group === 'stakes' ? stakesText(key, true) : group === 'game' ? gameText(key) : key;
+};
+
+/**
+ * Shows the sums by a group. A click on a group shows its hands alone.
  * @param {HTMLElement} place
  * @param {Choice} choice
- * @param {{ group: string, sortBy: number, isRising: boolean }} state
- * @param {(column: number) => void} sort
+ * @param {Grouped} state
+ * @param {{ sort: (column: number) => void, pick: (key: string) => void }} ask
  */
-export const showSums = (place, choice, state, sort) => {
-    const arrow = state.isRising ? '↑' : '↓', heads =
-        [state.group, ...WORDS].map((word, at) => at === state.sortBy ? `${word} ${arrow}` : word);
-    const sorted = { column: state.sortBy, isRising: state.isRising };
-    showTable(place, table(heads, sumRows(choice, state), { sorted, sort }));
+export const showSums = (place, choice, state, { sort, pick }) => {
+    const { unit } = choice, isMoney = isMoneyOf(choice), groups = groupsOf(choice, state), word = bigWord(choice);
+    const phone = ['', '.hide-s', '', '', '.hide-s', '.hide-s'];
+    const cells = (/** @type {Sum} */ sum) => valuesOf(sum).map((value, at) => {
+        const tone = at === 1 || at === 3 ? toneOf(value) : '';
+        const text = at === 0 ? counted(Number(value)) : at === 4 || at === 5 ? isNaN(Number(value)) ? '' :
+            ratioText(Number(value)) : sumText(BigInt(value), { isMoney, plus: at === 3 });
+        return node(`td.number${phone[at]}${tone && `.${tone}`}`, text);
+    });
+    const names = HEADS.map((it, at) => at > 0 && at < 4 ? `${it}, ${unitText(unit)}` : it.replace('bb/100', word));
+    const top = [state.group, ...names].map((text, at) => {
+        const it = head('col', at ? `th.number${phone[at - 1]}` : 'th',
+            button(text.startsWith('bb') ? text : text[0].toUpperCase() + text.slice(1), () => sort(at)));
+        if (at === state.sortBy) it.setAttribute('aria-sort', state.isRising ? 'ascending' : 'descending');
+        return it;
+    });
+    const rows = groups.map(({ key, sum }) => {
+        const name = button(groupText(state.group, key), () => pick(key), 'button.link');
+        name.title = 'Show these hands alone';
+        return node('tr', head('row', 'th', name), ...cells(sum));
+    });
+    const foot = node('tfoot', node('tr', head('row', 'th', 'All'), ...cells(choice.sum)));
+    showTable(place, /** @type {HTMLTableElement} */ (node('table.t', node('thead', node('tr', ...top)),
+        node('tbody', ...rows), ...rows.length > 1 ? [foot] : [])));
 };
+
+/** What a table for a spreadsheet has of a group beside the columns that are shown. */
+const MORE = ['showdown winnings', 'non-showdown winnings', 'luck unknown', 'rake paid'];
 
 /**
  * @param {Choice} choice
- * @param {{ group: string, sortBy: number, isRising: boolean }} state
+ * @param {Grouped} state
  */
 export const saveSums = (choice, state) => {
-    const text = shownTable([state.group, ...WORDS], sumRows(choice, state));
+    const isMoney = isMoneyOf(choice), textOf = (/** @type {bigint | number} */ it) =>
+        typeof it === 'bigint' ? written(it, isMoney) : Number.isInteger(it) ? String(it) : isNaN(it) ? ''
+            : it.toFixed(2);
+    const rows = groupsOf(choice, state).map(({ key, sum }) => [key, ...valuesOf(sum).map(textOf),
+        written(sum.shown, isMoney), written(sum.net - sum.shown, isMoney), String(sum.unknown),
+        written(BigInt(Math.round(sum.rake)), isMoney)]);
+    const text = shownTable([state.group, ...HEADS, ...MORE], rows);
     save(`sums-${choice.player}-${state.group}.csv`.replace(/[\\/:*?"<>|]/g, '_'), 'text/csv', [text]);
 };

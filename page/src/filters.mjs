@@ -1,71 +1,155 @@
 // Filters over the hands of a player, and how many hands each option of each filter would leave.
 
-import { dayNames } from './clock.mjs';
-import { positionName } from './positions.mjs';
+import { dayNames, dayOf, sessions, timeOf } from './clock.mjs';
+import { SHOWDOWN, SHOWN } from './part.mjs';
+import { NO_ROW } from './played.mjs';
+import { POSITIONS, POSITION_WORDS } from './positions.mjs';
+import { byKey } from './sums.mjs';
+import { dayText, gameText, momentText, monthText, stakesText } from './words.mjs';
 
 /** @typedef {import('./hands.mjs').Hands} Hands */
 /** @typedef {import('./played.mjs').Played} Played */
 
-export const FILTERS = ['stakes', 'game', 'table', 'tournament', 'position', 'all-in', 'month'];
+export const FILTERS = [
+    'dates', 'stakes', 'game', 'table', 'tournament', 'position', 'players', 'session', 'all-in', 'showdown'
+];
 
 /**
- * A filter over some hands: its options, and for each hand the place of its option.
- * @typedef {{ name: string, options: string[], codes: Uint32Array }} Coded
+ * An option of a filter: what the state has of it, its text, and the codes of the hands that it leaves.
+ * @typedef {{ value: string, text: string, codes: number[] }} Option
+ *
+ * A filter over some hands: its values, for each hand the code of its value, and its options. An option can leave hands
+ * of several values, as a month has several days.
+ * @typedef {{ name: string, values: (string | number)[], codes: Uint32Array, options: Option[] }} Coded
  */
 
+const DAY = 86400;
+
 /**
- * Returns for each hand the number of its value, and the values by their numbers.
+ * Returns for each hand the code of its value, and the values by their codes.
  * @param {number} count
- * @param {(at: number) => number} valueOf
- * @param {(value: number) => string} nameOf
+ * @param {(at: number) => string | number} valueOf
  */
-const coded = (count, valueOf, nameOf) => {
-    const codes = new Uint32Array(count), options = /** @type {string[]} */ ([]);
-    const byValue = new Map(), byName = new Map();
+const coded = (count, valueOf) => {
+    const codes = new Uint32Array(count), values = /** @type {(string | number)[]} */ ([]), byValue = new Map();
     for (let at = 0; at < count; at++) {
         const value = valueOf(at);
         let code = byValue.get(value);
-        if (code === undefined) {
-            const name = nameOf(value);
-            code = byName.get(name);
-            if (code === undefined) byName.set(name, code = options.push(name) - 1);
-            byValue.set(value, code);
-        }
+        if (code === undefined) byValue.set(value, code = values.push(value) - 1);
         codes[at] = code;
     }
-    return { codes, options };
+    return { codes, values };
 };
 
 /**
- * Returns the filters over the hands of a player.
+ * Returns one option for each value, sorted by their texts, or in the order of some values.
+ * @param {(string | number)[]} values
+ * @param {(value: any) => string} textOf
+ * @param {(string | number)[]} [order]
+ * @returns {Option[]}
+ */
+const optionsOf = (values, textOf, order) => {
+    const all = values.map((value, code) => ({ value: String(value), text: textOf(value), codes: [code] }));
+    return order ? all.sort((a, b) => order.indexOf(values[a.codes[0]]) - order.indexOf(values[b.codes[0]]))
+                 : all.sort((a, b) => byKey(a.text, b.text));
+};
+
+/**
+ * Returns the codes of the days of a span, both ends included. An end that is left out is open.
+ * @param {(string | number)[]} days  as 2026-03-02
+ * @param {string} span  as 2026-03-02..2026-03-09
+ */
+export const daysOf = (days, span) => {
+    const [from, to] = span.split('..');
+    return days.flatMap((day, code) => day && (!from || day >= from) && (!to || day <= to) ? [code] : []);
+};
+
+/** The last days before the last hand, and the months, the last one first. */
+const datesOf = (/** @type {(string | number)[]} */ values) => {
+    const days = values.map(String), dated = days.filter(Boolean).sort(), months = new Map();
+    days.forEach((day, code) => {
+        if (day) months.set(day.slice(0, 7), [...months.get(day.slice(0, 7)) || [], code]);
+    });
+    const last = dated.length ? Date.parse(dated[dated.length - 1]) / 1000 : 0;
+    const lastDays = [7, 30].map((count) => ({
+        value: `last ${count}`, text: `last ${count} days`, codes: daysOf(days, `${dayOf(last - (count - 1) * DAY)}..`)
+    }));
+    const byMonth = [...months].sort((a, b) => a[0] < b[0] ? 1 : -1)
+        .map(([month, codes]) => ({ value: month, text: monthText(month), codes }));
+    const without = days.indexOf('');
+    return [...dated.length ? lastDays : [], ...byMonth,
+        ...without < 0 ? [] : [{ value: 'none', text: 'no date', codes: [without] }]];
+};
+
+/** A street, any street, or none. */
+const streetsOf = (/** @type {(string | number)[]} */ values) => {
+    const streets = optionsOf(values, (it) => it || 'none'), some = streets.filter(({ value }) => value);
+    return [...some.length > 1 ? [{ value: 'any', text: 'any street', codes: some.flatMap((it) => it.codes) }] : [],
+        ...streets.map((it) => ({ ...it, value: it.value || 'none' }))];
+};
+
+/**
+ * Returns the filters over some hands.
  * @param {Hands} hands
- * @param {Played[]} played
+ * @param {Played[]} entries  in order
  * @returns {Coded[]}
  */
-export const codedFilters = (hands, played) => {
-    const { columns, texts } = hands, { clock, first, position } = columns, DAY = 86400, MANY = 1000;
-    const day = dayNames();
-    // the position, and behind it how many play
-    const seatOf = (/** @type {number} */ at) => {
-        const { hand, row } = played[at];
-        let players = first[hand + 1] - first[hand], hasButton = false;
-        for (let other = first[hand]; other < first[hand + 1]; other++) if (position[other] === 0) hasButton = true;
-        if (!hasButton) players++;
-        return position[row] * MANY + players;
+export const codedFilters = (hands, entries) => {
+    const { columns, texts } = hands, { clock, first, position, flags, marks, street } = columns, day = dayNames();
+    const { length } = entries, handOf = (/** @type {number} */ at) => entries[at].hand;
+    const make = (/** @type {string} */ name, /** @type {(at: number) => string | number} */ valueOf,
+        /** @type {(values: (string | number)[]) => Option[]} */ options) => {
+        const { codes, values } = coded(length, valueOf);
+        return { name, codes, values, options: options(values) };
     };
-    return FILTERS.map((name) => {
-        const { length } = played;
-        if (name === 'position') {
-            return { name, ...coded(length, seatOf, (it) => positionName(Math.floor(it / MANY), it % MANY)) };
-        }
-        if (name === 'month') {
-            const dayOf = (/** @type {number} */ at) => Math.floor(clock[played[at].hand] / DAY);
-            return { name, ...coded(length, dayOf, (it) => day(it * DAY).slice(0, 7) || 'no date') };
-        }
-        const column = name === 'all-in' ? columns.street : /** @type {any} */ (columns)[name];
-        const none = name === 'all-in' ? 'no all-in' : `no ${name}`;
-        return { name, ...coded(length, (at) => column[played[at].hand], (it) => texts[it] || none) };
-    });
+    const byText = (/** @type {string} */ name, /** @type {(text: string) => string} */ textOf) => {
+        const column = /** @type {any} */ (columns)[name];
+        return make(name, (at) => texts[column[handOf(at)]], (values) => optionsOf(values, textOf));
+    };
+    const isShown = (/** @type {number} */ at) => {
+        const { hand, row } = entries[at];
+        return row === NO_ROW ? (flags[hand] & SHOWDOWN) !== 0 : (marks[row] & SHOWN) !== 0;
+    };
+    const numbers = sessions(entries.map(({ hand }) => clock[hand])), begins = new Map();
+    numbers.forEach((number, at) => { if (!begins.has(number)) begins.set(number, clock[handOf(at)]); });
+    const stakes = byText('stakes', (it) => it);
+    const games = new Set(stakes.values.map((it) => String(it).replace(/ ?\S*$/, '')));
+    for (const it of stakes.options) it.text = stakesText(it.value, games.size > 1);
+    const rows = (/** @type {number} */ at) => first[handOf(at) + 1] - first[handOf(at)];
+    return [
+        make('dates', (at) => day(clock[handOf(at)]), datesOf), stakes, byText('game', gameText),
+        byText('table', (it) => it || 'no table'), byText('tournament', (it) => it || 'no tournament'),
+        make('position', (at) => entries[at].row === NO_ROW ? '' : POSITIONS[position[entries[at].row]],
+            (values) => optionsOf(values, (it) => it ? `${it}, ${POSITION_WORDS[it]}` : 'none', POSITIONS)
+                .map((it) => ({ ...it, value: it.value || 'none' }))),
+        make('players', rows, (values) => optionsOf(values, String)),
+        make('session', (at) => numbers[at], (values) => optionsOf(values,
+            (it) => it ? momentText(begins.get(it)) : 'no date', [...values].sort((a, b) => Number(b) - Number(a)))
+            .map((it) => ({ ...it, value: it.value === '0' ? 'none' : timeOf(begins.get(Number(it.value))) }))),
+        // a player who folded before isn't in the all-in
+        make('all-in', (at) => entries[at].row === NO_ROW || isShown(at) ? texts[street[handOf(at)]] : '', streetsOf),
+        make('showdown', (at) => isShown(at) ? 'yes' : 'no', (values) => optionsOf(values, String, ['yes', 'no']))
+    ];
+};
+
+/**
+ * Returns the codes that an option of a filter leaves. Of the dates a span is an option too.
+ * @param {Coded} filter
+ * @param {string} value
+ */
+const codesOf = ({ name, values, options }, value) => name === 'dates' && value.includes('..') ? daysOf(values, value)
+    : (options.find((it) => it.value === value) || { codes: [] }).codes;
+
+/**
+ * Returns the text of what is chosen in a filter.
+ * @param {Coded} filter
+ * @param {string} value
+ */
+export const chosenText = ({ options }, value) => {
+    const option = options.find((it) => it.value === value), [from, to] = value.split('..');
+    if (option) return option.text;
+    const textOf = (/** @type {string} */ day) => day ? dayText(Date.parse(day) / 1000) : '';
+    return to === undefined ? value : `${textOf(from)} – ${textOf(to)}`.trim();
 };
 
 /**
@@ -77,15 +161,19 @@ export const codedFilters = (hands, played) => {
  * @param {number} count  how many hands there are
  */
 export const filtered = (filters, chosen, count) => {
-    const wanted = filters.map(({ name, options }) => chosen[name] === undefined ? -1 : options.indexOf(chosen[name]));
-    const isSet = filters.map(({ name }) => chosen[name] !== undefined);
-    const counts = filters.map(({ options }) => new Uint32Array(options.length)), places = new Uint32Array(count);
+    const set = filters.map((filter, at) => ({ filter, at })).filter(({ filter }) => chosen[filter.name] !== undefined);
+    const masks = set.map(({ filter }) => {
+        const mask = new Uint8Array(filter.values.length);
+        for (const code of codesOf(filter, chosen[filter.name])) mask[code] = 1;
+        return mask;
+    });
+    const counts = filters.map(({ values }) => new Uint32Array(values.length)), places = new Uint32Array(count);
     let passed = 0;
     for (let at = 0; at < count; at++) {
         let failed = -1, fails = 0;
-        for (let it = 0; it < filters.length && fails < 2; it++) {
-            if (isSet[it] && filters[it].codes[at] !== wanted[it]) {
-                failed = it;
+        for (let it = 0; it < set.length && fails < 2; it++) {
+            if (!masks[it][set[it].filter.codes[at]]) {
+                failed = set[it].at;
                 fails++;
             }
         }
@@ -94,5 +182,7 @@ export const filtered = (filters, chosen, count) => {
             for (let it = 0; it < filters.length; it++) counts[it][filters[it].codes[at]]++;
         } else if (fails === 1) counts[failed][filters[failed].codes[at]]++;
     }
-    return { places: places.subarray(0, passed), counts };
+    const ofOptions = filters.map(({ options }, it) =>
+        options.map(({ codes }) => codes.reduce((sum, code) => sum + counts[it][code], 0)));
+    return { places: places.subarray(0, passed), counts: ofOptions };
 };

@@ -1,114 +1,90 @@
-// Draws the graph. A pointer or the arrow keys read it point by point; dragging zooms, and a double click shows all
-// again.
+// The graph on the page. A pointer or the arrow keys read it point by point; dragging zooms, and a double click shows
+// all again.
 
-import { nearest, placeOf, thin, ticks } from './axis.mjs';
+import { nearest } from './axis.mjs';
 import { dayOf } from './clock.mjs';
-import { node, shape } from './dom.mjs';
-import { counted, grouped } from './progress.mjs';
+import { node, save } from './dom.mjs';
+import { amountText, drawPlot } from './picture.mjs';
+import { counted, many } from './progress.mjs';
 import { LINES } from './series.mjs';
+import { dayText, momentText } from './words.mjs';
 
-const HEIGHT = 340, LEFT = 64, RIGHT = 14, TOP = 10, BOTTOM = 26, DAY = 86400, LEAST_WIDTH = 120, LEAST_ZOOM = 12;
+/** @typedef {import('./picture.mjs').Drawn} Drawn */
+
+const LEAST_WIDTH = 120, LEAST_ZOOM = 12, DAY = 86400;
 
 /** @type {{ [key: string]: number }} */
 const STEPS = { ArrowLeft: -1, ArrowRight: 1, PageUp: -50, PageDown: 50 };
 
 /**
- * What a graph shows: its points, what x counts, which lines are drawn, and the decimals of amounts.
- * @typedef {{ series: import('./series.mjs').Series, by: string, isShown: boolean[], digits: number }} Drawn
- */
-
-/**
- * Returns the label of an x.
- * @param {string} by
- * @param {number} x
- */
-const labelOf = (by, x) => by === 'day' ? dayOf(x * DAY) : counted(x);
-
-/**
- * Returns the picture of a graph, and what turns values into places and back.
+ * Returns which point is read: the hand, the day, or the session.
  * @param {Drawn} drawn
- * @param {[number, number]} bounds  the least and the greatest x
- * @param {number} width
+ * @param {number} at
  */
-const pictureOf = ({ series, by, isShown }, [from, to], width) => {
-    const { x, lines } = series, some = LINES.map((line, key) => key).filter((key) => isShown[key]);
-    const first = placeOf(x, from), end = placeOf(x, to + 1e-9);
-    let low = 0, high = 0;
-    for (const key of some) {
-        for (let at = first; at < end; at++) {
-            low = Math.min(low, lines[key][at]);
-            high = Math.max(high, lines[key][at]);
-        }
-    }
-    if (low === high) high = low + 1;
-    const toX = (/** @type {number} */ value) => LEFT + (value - from) / (to - from) * (width - LEFT - RIGHT);
-    const fromX = (/** @type {number} */ place) => from + (place - LEFT) / (width - LEFT - RIGHT) * (to - from);
-    const toY = (/** @type {number} */ value) => TOP + (high - value) / (high - low) * (HEIGHT - TOP - BOTTOM);
-    const svg = shape('svg', { viewBox: `0 0 ${width} ${HEIGHT}`, width, height: HEIGHT, 'aria-hidden': 'true' });
-    for (const value of ticks(low, high, 6)) {
-        const y = toY(value);
-        svg.append(shape('line', { class: value ? 'grid' : 'zero', x1: LEFT, x2: width - RIGHT, y1: y, y2: y }));
-        svg.append(shape('text', { x: LEFT - 8, y: y + 4, 'text-anchor': 'end' }, grouped(String(value))));
-    }
-    for (const value of ticks(from, to, Math.max(2, Math.floor(width / 160))).filter(Number.isInteger)) {
-        svg.append(shape('text', { x: toX(value), y: HEIGHT - 6, 'text-anchor': 'middle' }, labelOf(by, value)));
-    }
-    for (const key of some) {
-        const places = thin(first, end, (at) => Math.round(toX(x[at])), lines[key]);
-        const path = places.map((at) => `${toX(x[at]).toFixed(1)} ${toY(lines[key][at]).toFixed(1)}`);
-        // the line begins at 0, before the first hand or session
-        if (by !== 'day' && first === 0 && from === 0) path.unshift(`${toX(0).toFixed(1)} ${toY(0).toFixed(1)}`);
-        if (path.length)
-            svg.append(shape('path', { class: `line${key}`, d: `M${path.join('L')}${path.length > 1 ? '' : 'h3'}` }));
-    }
-    const cross = shape('line', { class: 'cross', y1: TOP, y2: HEIGHT - BOTTOM, visibility: 'hidden' });
-    svg.append(cross);
-    return { svg, cross, toX, fromX };
-};
+const pointText = ({ series: { x, hands }, clocks, by }, at) => by === 'hand'
+    ? [`Hand ${counted(x[at])}`, momentText(clocks[at])]
+    : [by === 'day' ? dayText(x[at] * DAY) : `Session ${counted(x[at])}`,
+        [by === 'day' ? '' : dayText(clocks[at]), many(hands[at], 'hand')].filter(Boolean).join(', ')];
 
 /**
- * Makes a graph in a place, and returns a function that draws anew.
+ * Makes a graph in a place. `open` opens the hand at a place of those that are drawn.
  * @param {HTMLElement} place
  * @param {HTMLElement} legend
+ * @param {(at: number) => void} open
  */
-export const makeGraph = (place, legend) => {
+export const makeGraph = (place, legend, open) => {
     /** @type {Drawn | null} */
     let drawn = null;
-    /** @type {ReturnType<typeof pictureOf> | null} */
+    /** @type {ReturnType<typeof drawPlot> | null} */
     let picture = null;
     /** @type {[number, number] | null} */
     let zoom = null;
     let at = -1, width = 0, pressed = -1;
 
-    /** Writes the values of a point into the legend, and marks the point. */
-    const read = (/** @type {number} */ index, isMarked = true) => {
+    const hint = () => {
+        const bars = drawn && drawn.by !== 'hand' ? `Bars: won or lost each ${drawn.by}. ` : '';
+        legend.replaceChildren(node('span', `${bars}The shaded distance between won and all-in adjusted is luck.`));
+    };
+    /** Writes the values of a point below the graph, and marks the point. */
+    const read = (/** @type {number} */ index) => {
         if (!drawn || !picture) return;
-        const { series: { x, lines }, by, isShown, digits } = drawn;
-        at = isMarked ? index : -1;
-        const values =
-            LINES.map((line, key) => node(`span.line${key}`, `${line} ${grouped(lines[key][index].toFixed(digits))}`));
-        legend.replaceChildren(
-            node('span', `${by} ${labelOf(by, x[index])}: `), ...values.filter((it, key) => isShown[key]));
-        if (!isMarked) return;
-        for (const end of ['x1', 'x2']) picture.cross.setAttribute(end, String(picture.toX(x[index])));
+        at = index;
+        const it = drawn, { series: { x, lines } } = it, [name, when] = pointText(it, index);
+        const value = (/** @type {string} */ word, /** @type {number} */ amount) =>
+            node('span', `${word} `, node('b', amountText(amount, it)));
+        legend.replaceChildren(node('b', name), node('span', when),
+            ...LINES.map((word, key) => value(word, lines[key][index])).filter((line, key) => it.isShown[key]),
+            value('luck', lines[0][index] - lines[1][index]));
+        const [line, dot] = /** @type {any} */ (picture.cross).children, across = String(picture.toX(x[index]));
+        for (const end of ['x1', 'x2']) line.setAttribute(end, across);
+        dot.setAttribute('cx', across);
+        dot.setAttribute('cy', String(picture.toY(lines[0][index])));
         picture.cross.setAttribute('visibility', 'visible');
     };
 
     const draw = () => {
         place.replaceChildren();
-        legend.replaceChildren();
         picture = null;
         width = place.clientWidth;
-        if (!drawn || !drawn.series.count || width < LEAST_WIDTH) return;
+        if (!drawn || !drawn.series.count || width < LEAST_WIDTH) {
+            legend.replaceChildren(...drawn && !drawn.series.count ? [node('span', 'No hand to draw.')] : []);
+            return;
+        }
         const { x, count } = drawn.series, first = drawn.by === 'day' ? x[0] : 0;
-        picture = pictureOf(drawn, zoom || [first, Math.max(x[count - 1], first + 1)], width);
+        picture = drawPlot(drawn, zoom || [first, Math.max(x[count - 1], first + 1)], width, place.clientHeight);
         place.append(picture.svg);
-        read(at < 0 ? count - 1 : at, at >= 0);
+        if (at >= 0) read(at);
+        else hint();
     };
 
     const pixelOf = (/** @type {MouseEvent} */ event) => event.clientX - place.getBoundingClientRect().left;
     place.onpointermove = (event) => {
         if (drawn && picture) read(nearest(drawn.series.x, picture.fromX(pixelOf(event))));
+    };
+    place.onpointerleave = () => {
+        at = -1;
+        if (picture) picture.cross.setAttribute('visibility', 'hidden');
+        hint();
     };
     place.onpointerdown = (event) => { pressed = event.pointerType === 'touch' ? -1 : pixelOf(event); };
     place.onpointerup = (event) => {
@@ -125,7 +101,9 @@ export const makeGraph = (place, legend) => {
     };
     place.onkeydown = (event) => {
         const step = STEPS[event.key];
-        if (!step || !drawn || !drawn.series.count) return;
+        if (!drawn || !drawn.series.count) return;
+        if (event.key === 'Enter' && at >= 0 && drawn.by === 'hand') open(drawn.series.at[at]);
+        if (!step) return;
         event.preventDefault();
         const { count } = drawn.series;
         read(Math.max(0, Math.min(count - 1, (at < 0 ? count - 1 : at) + step)));
@@ -140,4 +118,36 @@ export const makeGraph = (place, legend) => {
         drawn = next;
         draw();
     };
+};
+
+const KEPT = ['fill', 'stroke', 'stroke-width', 'stroke-dasharray', 'stroke-linejoin', 'font', 'text-anchor'];
+
+/**
+ * Hands a graph to the user as a picture that stands alone: 1,200 by 500, with its colors and a ground. A place of the
+ * page must show it, because the browser computes its styles.
+ * @param {HTMLElement} place
+ * @param {Drawn} drawn
+ * @param {string} player
+ */
+export const saveGraph = (place, drawn, player) => {
+    const { x, count } = drawn.series, first = drawn.by === 'day' ? x[0] : 0;
+    const { svg } = drawPlot(drawn, [first, Math.max(x[count - 1], first + 1)], 1200, 500);
+    svg.querySelectorAll('.mark').forEach((it) => it.remove());
+    place.append(svg);
+    for (const it of svg.querySelectorAll('*')) {
+        const style = getComputedStyle(it);
+        for (const key of KEPT) if (!it.closest('clipPath')) it.setAttribute(key, style.getPropertyValue(key));
+        const font = style.getPropertyValue('font-family');
+        if (it.nodeName === 'text') it.setAttribute('style', `font: ${style.fontWeight} 12px ${font}`);
+        it.removeAttribute('font');
+    }
+    const ground = document.createElementNS('http://www.w3.org/2000/svg', 'rect');
+    for (const [key, value] of Object.entries({ width: '100%', height: '100%',
+        fill: getComputedStyle(document.documentElement).getPropertyValue('--paper').trim() }))
+        ground.setAttribute(key, value);
+    svg.prepend(ground);
+    svg.remove();
+    const last = dayOf(drawn.clocks[count - 1]), name = `winnings-${player}${last && `-${last}`}.svg`;
+    save(name.replace(/[\\/:*?"<>|]/g, '_'), 'image/svg+xml',
+        [`<?xml version="1.0" encoding="UTF-8"?>\n${new XMLSerializer().serializeToString(svg)}\n`]);
 };

@@ -1,71 +1,158 @@
-// The list of hands.
+// The list of hands: sorted by any column, and drawn as one scrolls, so a hundred thousand hands are in reach.
 
-import { causeOf } from './causes.mjs';
-import { timeOf } from './clock.mjs';
-import { button, node } from './dom.mjs';
-import { handAt } from './played.mjs';
-import { ACCEPTED, OWED } from './part.mjs';
-import { counted, many } from './progress.mjs';
-import { sayer } from './settling.mjs';
-import { showTable, table } from './table.mjs';
+import { codesIn } from './cards.mjs';
+import { button, having, head, node } from './dom.mjs';
+import { rowNode } from './listrow.mjs';
+import { scrollTo, windowOf } from './sorting.mjs';
+import { unitText } from './words.mjs';
 
 /** @typedef {import('./store.mjs').Choice} Choice */
+/** @typedef {import('./played.mjs').Played} Played */
 
-/** So many hands are listed at once. */
-export const SHOWN = 200;
+/** The columns, each with its name in the state. Those with a 1 have numbers. */
+const COLUMNS = [
+    ['time', 'Time'], ['stakes', 'Stakes'], ['cards', 'Cards'], ['board', 'Board'], ['position', 'Pos.'],
+    ['pot', 'Pot', 1], ['net', 'Net', 1], ['luck', 'Luck', 1], ['all-in', 'All-in'], ['verdict', 'Verdict'],
+    ['number', 'Number', 1]
+];
+const OF_UNIT = ['pot', 'net', 'luck'], ROW = 34, TALL_ROW = 58, NARROW = 520, PRINTED = 2000, FEW_CARDS = 2;
 
-/** What the list can show. */
-export const WHICH = {
-    all: 'all',
-    rejected: 'rejected',
-    owed: 'not paid exactly by the rules',
-    own: 'of the player',
-    left: 'left out of the figures'
-};
-
-/**
- * Returns the hands that the list shows.
- * @param {Choice} choice
- * @param {string} which
- * @returns {ArrayLike<number>}
- */
-export const handsFor = ({ hands, order, played, left }, which) => {
-    const { flags } = hands.columns;
-    if (which === 'rejected') return order.filter((hand) => !(flags[hand] & ACCEPTED));
-    if (which === 'owed') return order.filter((hand) => flags[hand] & OWED);
-    if (which === 'own') return played.map(({ hand }) => hand);
-    return which === 'left' ? left.hands : order;
-};
+/** @type {{ [key: string]: number }} */
+const STEPS = { ArrowDown: 1, ArrowUp: -1, PageDown: 15, PageUp: -15, Home: -Infinity, End: Infinity };
 
 /**
- * Returns a hand's verdict in a few words.
- * @param {ReturnType<typeof handAt>} it
- */
-export const verdictOf = (it) => {
-    if (it.isAccepted) return 'accepted';
-    const cause = causeOf(it.cause, { say: sayer(it.unit), seat: (number) => `Seat ${number}`, isCashed: it.isCashed });
-    return `rejected: ${cause.short}${cause.isAtEnd ? '' : `, line ${it.departs}`}`;
-};
-
-/**
+ * Makes the list in a place. `open` opens a hand, `sort` sorts by a column, and `clear` clears filters and words.
  * @param {HTMLElement} place
- * @param {HTMLElement} more
- * @param {Choice} choice
- * @param {{ which: string, listed: number }} state
- * @param {{ open: (hand: number) => void, showMore: () => void }} ask
+ * @param {{ open: (hand: number) => void, sort: (column: string) => void, clear: () => void }} ask
  */
-export const showList = (place, more, choice, { which, listed }, { open, showMore }) => {
-    const all = handsFor(choice, which),
-          some = Array.from({ length: Math.min(listed, all.length) }, (it, at) => handAt(choice.hands, all[at]));
-    const rows = some.map(
-        (it) => [button(it.number, () => open(it.hand)), timeOf(it.clock) || 'no date', it.stakes, verdictOf(it),
-            it.isAccepted ? '' : it.settle.map(({ name, amount }) => `${name} ${sayer(it.unit)(amount)}`).join(', '),
-            it.source.path]);
-    const shown = table(['hand', 'time', 'stakes', 'verdict', 'still to settle', 'file'], rows, { left: true });
-    some.forEach((it, at) => { if (!it.isAccepted) shown.tBodies[0].rows[at].className = 'rejected'; });
-    showTable(place, shown);
-    const rest = all.length - some.length;
-    more.replaceChildren(rest ? `The first ${counted(some.length)} of ${many(all.length, 'hand')} are listed. `
-                              : many(all.length, 'hand'),
-        ...rest ? [button(`List ${counted(Math.min(SHOWN, rest))} more`, showMore)] : [node('span')]);
+export const makeList = (place, { open, sort, clear }) => {
+    /** @type {Choice | null} */
+    let choice = null;
+    /** @type {Played[]} */
+    let rows = [];
+    /** @type {HTMLElement | null} */
+    let body = null;
+    let current = 0, opened = -1, isWhole = false;
+
+    const shape = () => ({ count: rows.length, size: place.clientWidth <= NARROW ? TALL_ROW : ROW,
+        scroll: place.scrollTop, height: place.clientHeight });
+    const gap = (/** @type {number} */ height) => {
+        const cell = node('td');
+        cell.style.height = `${height}px`;
+        return having(node('tr.gap', cell), { 'aria-hidden': 'true' });
+    };
+    const focusedRow = () => {
+        const it = document.activeElement && document.activeElement.closest('tr[data-at]');
+        return it instanceof HTMLElement && place.contains(it) ? Number(it.dataset.at) : -1;
+    };
+    const rowAt = (/** @type {number} */ at) =>
+        /** @type {HTMLElement | null} */ (place.querySelector(`tr[data-at="${at}"]`));
+
+    const paint = () => {
+        if (!body || !choice) return;
+        const it = choice, { from, to, above, below } = isWhole
+            ? { from: 0, to: Math.min(rows.length, PRINTED), above: 0, below: 0 } : windowOf(shape());
+        const focused = focusedRow();
+        body.replaceChildren(gap(above), ...rows.slice(from, to).map((entry, index) => {
+            const at = from + index;
+            return having(rowNode(it, entry), {
+                'data-at': at, 'aria-rowindex': at + 2, tabindex: at === current ? 0 : -1,
+                'aria-selected': String(entry.hand === opened)
+            });
+        }), gap(below));
+        if (focused < 0) return;
+        const again = rowAt(focused);
+        if (again) again.focus({ preventScroll: true });
+        // a row that was scrolled away takes the focus with it, so the list has it
+        else place.focus({ preventScroll: true });
+    };
+    const goTo = (/** @type {number} */ at) => {
+        current = Math.max(0, Math.min(rows.length - 1, at));
+        place.scrollTop = scrollTo(shape(), current);
+        paint();
+        const row = rowAt(current);
+        if (row) row.focus({ preventScroll: true });
+    };
+    const placeOf = (/** @type {Event} */ event) => {
+        const row = event.target instanceof Element ? event.target.closest('tr[data-at]') : null;
+        return row instanceof HTMLElement ? Number(row.dataset.at) : -1;
+    };
+    let isAsked = false;
+    place.tabIndex = -1;
+    place.onscroll = () => {
+        if (isAsked) return;
+        isAsked = true;
+        requestAnimationFrame(() => { isAsked = false; paint(); });
+    };
+    place.onclick = (event) => {
+        const at = placeOf(event);
+        if (at >= 0) {
+            current = at;
+            open(rows[at].hand);
+        }
+    };
+    place.onkeydown = (event) => {
+        const at = event.target === place ? current : placeOf(event), step = STEPS[event.key];
+        if (at < 0) return;
+        if (event.key === 'Enter' && rows[at]) open(rows[at].hand);
+        if (step === undefined) return;
+        event.preventDefault();
+        goTo(at + step);
+    };
+    new ResizeObserver(paint).observe(place);
+    for (const [name, whole] of /** @type {[string, boolean][]} */ ([['beforeprint', true], ['afterprint', false]]))
+        addEventListener(name, () => { isWhole = whole; paint(); });
+
+    const headOf = (/** @type {string} */ order, /** @type {boolean} */ isUp) => node('tr',
+        ...COLUMNS.map(([column, name, isNumber]) => {
+            const unit = choice && choice.unit && OF_UNIT.includes(String(column)) ? `, ${unitText(choice.unit)}` : '';
+            const it = head('col', `th.col-${column}${isNumber ? '.number' : ''}`,
+                button(`${name}${unit}`, () => sort(String(column))));
+            if (column === order) it.setAttribute('aria-sort', isUp ? 'ascending' : 'descending');
+            return it;
+        }));
+
+    /**
+     * Shows a list anew, from its first row.
+     * @param {Choice} next
+     * @param {{ order: string, isUp: boolean }} state
+     */
+    const show = (next, { order, isUp }) => {
+        const before = document.activeElement && document.activeElement.closest('th');
+        const column = before && place.contains(before) ? before.className.split(' ')[0] : '';
+        choice = next;
+        rows = next.listed;
+        current = 0;
+        place.classList.toggle('every', next.isEvery);
+        place.classList.toggle('wide-cards', rows.slice(0, PRINTED).some(({ row }) => row >= 0
+            && codesIn(next.hands.columns.cards[row]).length > FEW_CARDS));
+        if (!rows.length) {
+            body = null;
+            place.replaceChildren(node('p.empty', 'No hand fits. ', button('Clear filters and words', clear,
+                'button.link')));
+            return;
+        }
+        body = node('tbody');
+        place.replaceChildren(having(node('table', node('thead', headOf(order, isUp)), body),
+            { 'aria-rowcount': rows.length + 1, 'aria-label': 'Hands' }));
+        place.scrollTop = 0;
+        paint();
+        const again = column && place.querySelector(`.${column} button`);
+        if (again instanceof HTMLElement) again.focus();
+    };
+    return {
+        show,
+        /** Marks an opened hand, and scrolls to it. */
+        mark: (/** @type {number} */ hand) => {
+            opened = hand;
+            const at = rows.findIndex((it) => it.hand === hand);
+            if (at >= 0 && place.clientHeight) {
+                current = at;
+                place.scrollTop = scrollTo(shape(), at);
+            }
+            paint();
+        },
+        /** Puts the focus on the row of the hand that was opened last. */
+        focus: () => { if (rows.length) goTo(current); }
+    };
 };

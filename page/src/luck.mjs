@@ -1,12 +1,14 @@
 // The dozen all-ins in which the cards did most for or against the chosen player.
 
-import { handAt } from './played.mjs';
+import { unpacked } from './cards.mjs';
+import { button, head, node } from './dom.mjs';
 import { UNKNOWN } from './part.mjs';
-import { allInOf, written } from './reports.mjs';
-import { boardOf, cardsOf } from './streets.mjs';
-import { button, node } from './dom.mjs';
-import { showTable, table } from './table.mjs';
+import { inLine } from './play.mjs';
+import { handAt } from './played.mjs';
+import { allInOf } from './reports.mjs';
 import { isMoneyOf } from './figures.mjs';
+import { showTable } from './table.mjs';
+import { sumText, toneOf, unitText } from './words.mjs';
 
 /** @typedef {import('./store.mjs').Choice} Choice */
 /** @typedef {import('./played.mjs').Played} Played */
@@ -29,49 +31,62 @@ export const luckiest = ({ hands, played }) => {
     for (const it of played) {
         const luck = size(it);
         if (luck === 0n || most.length === DOZEN && luck <= most[DOZEN - 1].luck) continue;
-        most.splice(most.findIndex((other) => other.luck < luck) < 0 ? most.length
-                                                                     : most.findIndex((other) => other.luck < luck),
-            0, { it, luck });
+        const place = most.findIndex((other) => other.luck < luck);
+        most.splice(place < 0 ? most.length : place, 0, { it, luck });
         most.length = Math.min(most.length, DOZEN);
     }
     return most.map(({ it }) => it);
 };
 
 /**
- * Makes the table of all-ins. `textOf` returns a hand's text and `report` the program's report of it.
- * @param {HTMLElement} place
- * @param {{ textOf: (hand: number) => Promise<string>, report: (hand: number, mode: string) => Promise<string>, open:
- *     (hand: number) => void }} ask
+ * Returns the equities of a player in the pots of an all-in: 71.4% in one pot, and 24.7% · 30.4% in two.
+ * @param {string} audit
+ * @param {string} player
  */
-export const makeLuck = (place, { textOf, report, open }) => {
+export const equityText = (audit, player) => {
+    const allIn = allInOf(audit), parts = allIn && allIn.parts.get(player) || [];
+    return parts.map(({ part }) => `${(Number(part) * 100).toFixed(1)}%`).join(' · ');
+};
+
+/**
+ * Makes the table of all-ins. `report` returns the program's report of a hand.
+ * @param {HTMLElement} place
+ * @param {{ report: (hand: number, mode: string) => Promise<string>, open: (hand: number, among: number[]) => void }}
+ *     ask
+ */
+export const makeLuck = (place, { report, open }) => {
     let shown = 0;
     return async (/** @type {Choice} */ choice) => {
-        const number = ++shown, { hands, player } = choice, most = luckiest(choice), isMoney = isMoneyOf(choice),
-              { net, even } = hands.columns;
-        const heads = ['hand', 'luck', 'won', 'cards', 'board', 'all-in', 'pots', 'equity in each'];
-        const it = table(heads,
-            most.map(({ hand, row }) => [button(handAt(hands, hand).number, () => open(hand)),
-                         written(net[row] - even[row], isMoney), written(net[row], isMoney), '', '', '', '', '']),
-            {});
-        if (most.length)
-            showTable(place, it);
-        else
-            place.replaceChildren(node('p', 'No counted all-in.'));
+        const number = ++shown, { hands, player, unit } = choice, most = luckiest(choice), { columns } = hands;
+        if (!most.length) {
+            place.replaceChildren(node('p.empty', 'No counted all-in.'));
+            return;
+        }
+        const isMoney = isMoneyOf(choice), say = (/** @type {bigint} */ sum) => sumText(sum, { isMoney, plus: true });
+        const among = most.map(({ hand }) => hand), word = unitText(unit);
+        const rows = most.map(({ hand, row }) => {
+            const cards = unpacked(columns.cards[row]), { net, even } = columns, luck = net[row] - even[row];
+            const go = button('', () => open(hand, among), 'button.link');
+            go.append(...cards.length ? inLine(cards) : [handAt(hands, hand).number]);
+            go.title = `Hand ${handAt(hands, hand).number}`;
+            return node('tr', head('row', 'th.cards', go), node('td.cards', ...inLine(unpacked(columns.board[hand]))),
+                node('td.hide-s.soft', hands.texts[columns.street[hand]]), node('td.hide-s.number', '…'),
+                node('td.number', say(net[row])), node(`td.number.${toneOf(luck)}`, say(luck)));
+        });
+        const heads = [['Cards', ''], ['Board', ''], ['All-in', '.hide-s'], ['Equity', '.hide-s.number'],
+            [`Won, ${word}`, '.number'], [`Luck, ${word}`, '.number']];
+        showTable(place, /** @type {HTMLTableElement} */ (node('table.t',
+            node('thead', node('tr', ...heads.map(([text, classes]) => head('col', `th${classes}`, text)))),
+            node('tbody', ...rows))));
         for (const [at, { hand }] of most.entries()) {
-            const cells = it.tBodies[0].rows[at].cells;
+            let text = '';
             try {
-                const text = await textOf(hand), allIn = allInOf(await report(hand, 'audit'));
-                if (number !== shown) return;
-                const parts = allIn && allIn.parts.get(player) || [];
-                [cardsOf(text).get(player) || '', boardOf(text), allIn ? allIn.street : '',
-                    parts.map(({ gross }) => gross).join(', '), parts.map(({ part }) => part).join(', ')]
-                    .forEach((value, column) => {
-                        cells[3 + column].textContent = value;
-                    });
+                text = equityText(await report(hand, 'audit'), player);
             } catch (error) {
-                if (number !== shown) return;
-                cells[3].textContent = error instanceof Error ? error.message : String(error);
+                text = error instanceof Error ? error.message : String(error);
             }
+            if (number !== shown) return;
+            rows[at].children[3].textContent = text;
         }
     };
 };

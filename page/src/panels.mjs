@@ -1,31 +1,39 @@
 // The panels of the page, each drawn when a part of the state changes from which it draws.
 
 import { $, node } from './dom.mjs';
-import { isMoneyOf, leftSentence, showFigures, showSums } from './figures.mjs';
+import { figure, isMoneyOf, leftSentence, showFigures, showSums } from './figures.mjs';
 import { showFilters } from './filterbar.mjs';
 import { makeGraph } from './graph.mjs';
-import { SHOWN, showList } from './list.mjs';
+import { drawList } from './listpanel.mjs';
 import { makeLuck } from './luck.mjs';
-import { many } from './progress.mjs';
+import { ACCEPTED } from './part.mjs';
+import { EVERYBODY } from './played.mjs';
+import { counted, many } from './progress.mjs';
 import { LINES, seriesOf } from './series.mjs';
 import { showHeads } from './status.mjs';
+import { signOf, sumText, unitText } from './words.mjs';
 
 const NAMES = 200;
 const HANDS = ['version', 'collection', 'isPartial'], PLAYER = [...HANDS, 'player', 'unit'];
-const CHOSEN = [...PLAYER, 'filters'];
+export const CHOSEN = [...PLAYER, 'filters'];
+const OVERVIEW = ['overview'], BOTH = ['overview', 'hands', 'hand'];
 
 /**
- * Fills a list of choices, and chooses one.
+ * Fills a list of choices, chooses one, and shows it.
  * @param {HTMLSelectElement} place
  * @param {[string, string][]} options  values with their texts
  * @param {string} value
+ * @param {string} [shown]
  */
-export const fill = (place, options, value) => {
+export const fill = (place, options, value, shown = value) => {
     place.replaceChildren(...options.map(([it, text]) => new Option(text, it)));
     place.value = value;
+    const text = place.parentElement && place.parentElement.querySelector('b');
+    if (text) text.textContent = shown;
 };
 
-/** @typedef {{ open: (hand: number) => void, textOf: (hand: number) => Promise<string>,
+/** @typedef {import('./store.mjs').Choice} Choice */
+/** @typedef {{ open: (hand: number, among?: number[]) => void,
  *     report: (hand: number, mode: string) => Promise<string> }} Ask */
 
 /** Makes the boxes that say which lines of the graph are drawn. */
@@ -34,8 +42,8 @@ const fillLines = (/** @type {boolean[]} */ isShown, /** @type {(at: number, isS
         const box = /** @type {HTMLInputElement} */ (node('input'));
         box.type = 'checkbox';
         box.checked = isShown[at];
-        const label = node(`label.line${at}`, box, ` ${line}`),
-              mark = () => label.classList.toggle('off', !box.checked);
+        const label = node('label', box, node(`i.swatch.line${at}`), line[0].toUpperCase() + line.slice(1));
+        const mark = () => label.classList.toggle('is-on', box.checked);
         box.onchange = () => {
             mark();
             choose(at, box.checked);
@@ -45,54 +53,107 @@ const fillLines = (/** @type {boolean[]} */ isShown, /** @type {(at: number, isS
     });
 };
 
+/** Shows what there is of everybody's hands. */
+const showEverybody = (/** @type {Choice} */ { hands, entries, unit }) => {
+    const { flags, rake, pot } = hands.columns;
+    let rejected = 0, owed = 0, raked = 0n, pots = 0n;
+    for (const { hand } of entries) {
+        raked += rake[hand];
+        pots += pot[hand];
+        if (flags[hand] & ACCEPTED) continue;
+        rejected++;
+        if (hands.owed.has(hand)) owed++;
+    }
+    const form = { isMoney: unit.startsWith('money'), sign: signOf(unit) };
+    $('all-figures').replaceChildren(...[['Hands', counted(entries.length)],
+        ['Rejected', counted(rejected)], ['To settle', counted(owed)], ...unit ? [['Pots', sumText(pots, form)],
+            ['Rake', sumText(raked, form)]] : []].map(([name, value]) => figure(name, value, {})));
+};
+
+/** What the graph draws. */
+export const drawnOf = (/** @type {Choice} */ choice, /** @type {import('./store.mjs').State} */ state) => {
+    const { hands, played, unit } = choice, series = seriesOf(hands, played, state.by);
+    const clocks = Float64Array.from(series.at, (at) => hands.columns.clock[played[at].hand]);
+    return { series, clocks, by: state.by, isShown: state.lines, sign: signOf(unit),
+        digits: isMoneyOf(choice) ? 2 : 0 };
+};
+
 /**
  * Draws all panels from now on, when what they draw from changes.
  * @param {ReturnType<typeof import('./store.mjs').makeStore>} store
- * @param {() => import('./store.mjs').Choice} choose
+ * @param {() => Choice} choose
  * @param {Ask} ask
+ * @param {{ clear: () => void, pick: (group: string, key: string) => void }} filter
  */
-export const drawPanels = ({ state, set, panel }, choose, ask) => {
-    const showRejected = () => set({ which: 'rejected', listed: SHOWN });
-    panel(HANDS, () => showHeads($('heads'), choose(), state.isPartial, showRejected));
+export const drawPanels = (store, choose, ask, filter) => {
+    const { state, set, panel } = store;
+    panel(HANDS, () => {
+        showHeads($('heads'), choose(), state.isPartial);
+        $('hands-count').textContent = counted(choose().order.length);
+    });
 
     panel(PLAYER, () => {
-        const { names, player, units, unit } = choose(), some = names.slice(0, NAMES);
-        if (player && !some.some((it) => it.name === player)) some.unshift(...names.filter((it) => it.name === player));
-        fill($('player'), some.map(({ name, count }) => [name, `${name} (${count})`]), player);
+        const { names, player, units, unit, order, isEvery } = choose(), some = names.slice(0, NAMES);
+        if (!isEvery && player && !some.some((it) => it.name === player))
+            some.unshift(...names.filter((it) => it.name === player));
+        fill($('player'), [...some.map(({ name, count }) =>
+            /** @type {[string, string]} */ ([name, `${name} (${counted(count)})`])),
+        [EVERYBODY, `everybody (${counted(order.length)})`]], player, isEvery ? 'everybody' : player);
+        $('player').parentElement.classList.toggle('set', isEvery);
         $('others').hidden = names.length <= NAMES;
-        fill($('unit'), units.map((it) => [it, it]), unit);
+        const any = isEvery ? [['', 'any']] : [];
+        fill($('unit'), /** @type {[string, string][]} */ ([...any, ...units.map((it) => [it, it])]), unit,
+            unitText(unit) || (unit ? unit : 'any'));
     });
-
-    const filter = (/** @type {import('./filterbar.mjs').Chosen} */ filters) => set({ filters, listed: SHOWN });
-    panel(CHOSEN, () => showFilters($('filters'), choose(), state.filters, filter));
 
     panel(CHOSEN, () => {
-        const choice = choose(), left = leftSentence(choice.left);
-        showFigures($('figures'), choice);
-        $('left').hidden = !left;
-        $('left').textContent = left;
-    });
+        showFilters($('picks'), choose(), state.filters, (filters) => set({ filters }));
+        const count = Object.keys(state.filters).length;
+        $('filters-clear').hidden = !count;
+        $('filters-open').textContent = count ? `Filters (${count})` : 'Filters';
+        document.documentElement.style.setProperty('--above', `${$('filters').offsetHeight}px`);
+    }, BOTH);
 
-    const draw = makeGraph($('graph'), $('legend'));
+    panel(CHOSEN, () => {
+        const choice = choose(), { isEvery } = choice;
+        $('everybody').hidden = !isEvery;
+        $('shown').hidden = isEvery || !choice.order.length;
+        if (isEvery) {
+            showEverybody(choice);
+            return;
+        }
+        showFigures($('figures'), choice);
+        const left = leftSentence(choice);
+        $('left-out').hidden = !left;
+        $('left-text').textContent = left;
+    }, OVERVIEW);
+
+    const draw = makeGraph($('graph'), $('legend'), (at) => ask.open(choose().played[at].hand,
+        choose().played.map(({ hand }) => hand)));
     panel([...CHOSEN, 'by', 'lines'], () => {
-        const choice = choose(), series = seriesOf(choice.hands, choice.played, state.by), { without } = series;
-        draw({ series, by: state.by, isShown: state.lines, digits: isMoneyOf(choice) ? 2 : 0 });
-        const verb = without === 1 ? 'has' : 'have';
+        if (choose().isEvery) return;
+        const drawn = drawnOf(choose(), state), { without } = drawn.series, verb = without === 1 ? 'has' : 'have';
+        fill($('by'), [['hand', 'hand'], ['day', 'day'], ['session', 'session']], state.by);
+        draw(drawn);
         $('without').textContent = without ? `The graph is without ${many(without, 'hand')} that ${verb} no date.` : '';
-    });
+    }, OVERVIEW);
     fillLines(state.lines, (at, isShown) => set({ lines: state.lines.map((it, key) => key === at ? isShown : it) }));
 
     const sort = (/** @type {number} */ column) =>
         set({ sortBy: column, isRising: state.sortBy === column ? !state.isRising : column === 0 });
-    panel([...CHOSEN, 'group', 'sortBy', 'isRising'], () => showSums($('groups'), choose(), state, sort));
+    panel([...CHOSEN, 'group', 'sortBy', 'isRising'], () => {
+        if (!choose().isEvery)
+            showSums($('groups'), choose(), state, { sort, pick: (key) => filter.pick(state.group, key) });
+    }, OVERVIEW);
 
     // all-ins are counted again, so not while files are read
     const luck = makeLuck($('luck'), ask);
-    panel(CHOSEN, () => { if (!state.isPartial) luck(choose()); });
+    panel(CHOSEN, () => {
+        if (state.isPartial || choose().isEvery) return;
+        const { hands, played } = choose(), count = played.filter(({ hand }) => hands.columns.street[hand]).length;
+        $('all-ins').textContent = `All ${many(count, 'all-in')}`;
+        luck(choose());
+    }, OVERVIEW);
 
-    panel([...CHOSEN, 'which', 'listed'], () => {
-        $('which').value = state.which;
-        const showMore = () => set({ listed: state.listed + SHOWN });
-        showList($('list'), $('more'), choose(), state, { open: ask.open, showMore });
-    });
+    return drawList(store, choose, ask, filter.clear);
 };

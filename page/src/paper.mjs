@@ -1,6 +1,8 @@
 // The sheet for a dispute: an element of its own that is printed, so nothing in it scrolls and nothing is cut.
 
-import { node } from './dom.mjs';
+import { cardsIn } from './cards.mjs';
+import { head, icon, node } from './dom.mjs';
+import { inLine } from './play.mjs';
 import { table } from './table.mjs';
 
 /** @typedef {import('./sheet.mjs').Sheet} Sheet */
@@ -25,12 +27,36 @@ export const potNodes = ({ pots, board, paid }) => [...board ? [node('p', `Board
 ];
 
 /**
+ * Returns the pots of a hand as one table, with the rules that give them.
+ * @param {Sheet} sheet
+ */
+export const potTable = ({ pots, paid }) => {
+    const heads = [['Pot', ''], ['Player', ''], ['Due', '.number'], ['Got', '.number'], ['Difference', '.number']];
+    const rows = pots.flatMap(({ name, gross, rake, shares }) => (shares.length ? shares : [null]).map((share, at) =>
+        node('tr', head('row', 'th', ...at ? [node('span.vh', name)] : [name, node('span.soft', ` ${gross}`),
+            ...rake ? [node('span.faint', `, rake ${rake}`)] : []]),
+        node('td.name', share ? share.name : '', ' ', ...share ? inLine(cardsIn(share.cards)) : []),
+        node('td.number', share ? share.due : ''), node('td.number', share ? share.got : ''),
+        node(share && share.due !== share.got && share.gap ? 'td.number.bad' : 'td.number.faint',
+            share ? share.gap.replace(/^-/, '\u2212') : ''))));
+    const paidRows = paid.map(({ name, got }) => node('tr', head('row', 'th', 'Paid'), node('td.name', name),
+        node('td.number', ''), node('td.number', got), node('td.number', '')));
+    const rules = [...new Set(pots.flatMap((it) => it.rules))];
+    return node('div.scrolls', node('table.t', node('thead',
+        node('tr', ...heads.map(([text, classes]) => head('col', `th${classes}`, text)))),
+    node('tbody', ...rows, ...paidRows)),
+    node('div.pots', ...pots.flatMap((it) => it.winners.map((winner) =>
+        node('p', pots.length > 1 ? `${it.name}. ` : '', winner))), node('p.rule', rules.join(' '))));
+};
+
+/**
  * Returns the verdict and what is to be settled.
  * @param {Sheet} sheet
  */
-export const findingNode = ({ finding, orders }) => node('div.finding', node('p.verdict', finding.title),
-    ...finding.sentence ? [node('p', `${finding.sentence} ${finding.at}`)] : [],
-    ...orders.sentences.map((it) => node(orders.isNeeded ? 'p.settle' : 'p', it)));
+export const findingNode = ({ isAccepted, finding, orders }) => node(isAccepted ? 'div.finding' : 'div.finding.is-bad',
+    icon(isAccepted ? 'check' : 'warn'), node('div', node('p.verdict', finding.title),
+        ...finding.sentence ? [node('p', `${finding.sentence} ${finding.at}`)] : [],
+        ...orders.sentences.map((it) => node(orders.isNeeded ? 'p.settle' : 'p', it))));
 
 /**
  * Returns the text of a hand with the line numbers of its file.

@@ -1,13 +1,14 @@
 // A part of a file as columns: what the proved program says of its hands, and what their texts say beside that.
 // A worker makes it, so the page's own thread only puts columns together.
 
-import { NOWHERE, positionsOf } from './positions.mjs';
-import { handsOf, settlementsOf } from './reports.mjs';
-import { allInStreet } from './streets.mjs';
-import { cut, facts, unitOf } from './texts.mjs';
+import { packed } from './cards.mjs';
+import { positionsOf } from './positions.mjs';
+import { handsOf, settlementsOf, units } from './reports.mjs';
+import { allInStreet, boardOf, cardsOf } from './streets.mjs';
+import { bigOf, cut, facts, unitOf, wordOf } from './texts.mjs';
 
-/** Flags of a hand. */
-export const ACCEPTED = 1, MONEY = 2, TWICE = 4, OWED = 8, CASHED = 16, UNIT_KNOWN = 32;
+/** Flags of a hand. In a LIMIT hand the unit of a hundred hands is a big bet. */
+export const ACCEPTED = 1, MONEY = 2, TWICE = 4, OWED = 8, CASHED = 16, UNIT_KNOWN = 32, SHOWDOWN = 64, LIMIT = 128;
 
 /** Flags of a player of a hand. A SEATED row is of a rejected hand, of which only the seat line is known. */
 export const UNKNOWN = 1, SHOWN = 2, DEALT = 4, SEATED = 8;
@@ -23,9 +24,10 @@ export const UNKNOWN = 1, SHOWN = 2, DEALT = 4, SEATED = 8;
  * @typedef {{ numbers: string[], texts: string[], newlines: number, first: Uint32Array, owed: Owed[] }} Bare
  * @typedef {{ clock: Float64Array, line: Uint32Array, start: Uint32Array, end: Uint32Array, departs: Uint32Array,
  *     flags: Uint8Array, unit: Uint32Array, stakes: Uint32Array, game: Uint32Array, table: Uint32Array,
- *     tournament: Uint32Array, street: Uint32Array, cause: Uint32Array, rake: BigInt64Array }} OfHands
+ *     tournament: Uint32Array, street: Uint32Array, cause: Uint32Array, rake: BigInt64Array, pot: BigInt64Array,
+ *     big: Float64Array, board: Float64Array }} OfHands
  * @typedef {{ name: Uint32Array, net: BigInt64Array, even: BigInt64Array, got: BigInt64Array, position: Uint8Array,
- *     marks: Uint8Array }} OfRows
+ *     marks: Uint8Array, cards: Float64Array }} OfRows
  * @typedef {Bare & OfHands & OfRows} Part
  */
 
@@ -35,7 +37,8 @@ export const UNKNOWN = 1, SHOWN = 2, DEALT = 4, SEATED = 8;
  */
 
 /**
- * The columns of hands, with the kind of each.
+ * The columns of hands, with the kind of each. `pot` is what all pots hold, and `big` the big blind or the big bet, in
+ * whole units; 0 if there is none.
  * @type {{ [column: string]: ColumnKind }}
  */
 export const HAND_COLUMNS = {
@@ -52,7 +55,10 @@ export const HAND_COLUMNS = {
     tournament: Uint32Array,
     street: Uint32Array,
     cause: Uint32Array,
-    rake: BigInt64Array
+    rake: BigInt64Array,
+    pot: BigInt64Array,
+    big: Float64Array,
+    board: Float64Array
 };
 
 /**
@@ -65,7 +71,8 @@ export const ROW_COLUMNS = {
     even: BigInt64Array,
     got: BigInt64Array,
     position: Uint8Array,
-    marks: Uint8Array
+    marks: Uint8Array,
+    cards: Float64Array
 };
 
 /** The columns whose values are indices of texts. */
@@ -136,24 +143,27 @@ export const readPart = (report, bytes) => {
         const isUneven = pots.some((pot) => pot.shares.some(({ due, got }) => due !== null && due !== got));
         const flags = [[ACCEPTED, hand.isAccepted], [MONEY, isMoney], [TWICE, hand.isTwice],
             [OWED, settle.length > 0 || isUneven], [CASHED, text.isCashed],
-            [UNIT_KNOWN, hand.isAccepted || text.isMoney !== null]];
-        const game = hand.game || text.game;
+            [UNIT_KNOWN, hand.isAccepted || text.isMoney !== null], [SHOWDOWN, text.hasShowdown],
+            [LIMIT, text.limit === 'Limit']];
+        const game = hand.game || wordOf(text.game), cards = cardsOf(whole);
         hands.add({
             clock: text.clock, line, start, end, departs: hand.line, rake: hand.rake, cause: number(hand.cause),
             flags: flags.reduce((all, [flag, isSet]) => isSet ? all | Number(flag) : all, 0),
             unit: number(unitOf(isMoney, text.currency)), game: number(game),
             stakes: number(`${game} ${text.limit} ${text.stakes}`.trim()), table: number(text.table),
-            tournament: number(text.tournament), street: number(allInStreet(whole))
+            tournament: number(text.tournament), street: number(allInStreet(whole)),
+            pot: pots.reduce((sum, { gross }) => sum + units(gross), 0n), big: bigOf({ ...text, isMoney }),
+            board: packed(boardOf(whole))
         });
         for (const { name, amount } of settle) owed.push({ hand: at, name, amount });
         const players = playersOf(hand, text);
-        const positions = positionsOf(text.seats, text.button, players.map(({ name }) => name));
+        const positions = positionsOf(whole, text.seats, text.button, players.map(({ name }) => name));
         for (const { name, net, even, got } of players) {
-            const isShown = hand.isAccepted && text.hasShowdown && !text.folded.has(name), seat = positions.get(name);
+            const isShown = text.hasShowdown && !text.folded.has(name);
             const marks = (even === null ? UNKNOWN : 0) | (isShown ? SHOWN : 0) | (text.dealt.has(name) ? DEALT : 0)
                 | (hand.isAccepted ? 0 : SEATED);
             rows.add({ name: number(name), net, even: even === null ? net : even, got, marks,
-                position: seat === undefined ? NOWHERE : seat });
+                position: positions.get(name) || 0, cards: packed(cards.get(name) || '') });
         }
         first.push(rows.columns.name.length);
     });

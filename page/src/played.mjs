@@ -71,26 +71,49 @@ export const playedBy = (hands, order, name, unit) => {
     return played;
 };
 
+/** The player who stands for all players, as a desk wants them. */
+export const EVERYBODY = '*';
+
+/** The row of a hand that is looked at without a player. */
+export const NO_ROW = -1;
+
 /**
- * Returns the rejected hands at which a name is seated and which may be of a unit: its figures leave them out.
+ * Returns the hands of a name in a unit, in order, each with the row of the player: the accepted ones, and the rejected
+ * ones at which the name is seated and which may be of the unit. Of everybody, these are all hands of the unit, or all
+ * hands if no unit is given.
  * @param {Hands} hands
  * @param {Uint32Array} order
  * @param {string} name
  * @param {string} unit
  */
-export const leftOut = (hands, order, name, unit) => {
-    const { flags, first, name: names, unit: units } = hands.columns;
-    const id = hands.ids.get(name), own = hands.ids.get(unit),
-                                            found = [];
+export const entriesOf = (hands, order, name, unit) => {
+    const { flags, first, name: names, unit: units } = hands.columns, id = hands.ids.get(name),
+                               own = hands.ids.get(unit), isEvery = name === EVERYBODY;
+    /** @type {Played[]} */
+    const entries = [];
     for (const hand of order) {
-        if (flags[hand] & ACCEPTED || flags[hand] & UNIT_KNOWN && units[hand] !== own) continue;
-        for (let row = first[hand]; row < first[hand + 1]; row++)
-            if (names[row] === id) {
-                found.push(hand);
-                break;
-            }
+        const isOther = flags[hand] & UNIT_KNOWN && units[hand] !== own;
+        if (isOther && (!isEvery || unit)) continue;
+        if (isEvery) entries.push({ hand, row: NO_ROW });
+        else for (let row = first[hand]; row < first[hand + 1]; row++)
+            if (names[row] === id) entries.push({ hand, row });
     }
-    return { hands: found, cashed: found.filter((hand) => flags[hand] & CASHED).length };
+    return entries;
+};
+
+/**
+ * Returns those of some hands that are rejected, and those that are in sums.
+ * @param {Hands} hands
+ * @param {Played[]} entries
+ */
+export const parted = (hands, entries) => {
+    const { flags } = hands.columns;
+    /** @type {Played[]} */
+    const played = [];
+    /** @type {Played[]} */
+    const left = [];
+    for (const it of entries) (flags[it.hand] & ACCEPTED ? played : left).push(it);
+    return { played, left };
 };
 
 /**
@@ -115,15 +138,18 @@ export const namesOf = (hands, order) => {
 };
 
 /**
- * Returns the units in which a name has accepted hands, the most frequent first.
+ * Returns the units in which a name, or everybody, has accepted hands, the most frequent first.
  * @param {Hands} hands
  * @param {Uint32Array} order
  * @param {string} name
  */
 export const unitsOf = (hands, order, name) => {
     const { flags, first, name: names, unit } = hands.columns, id = hands.ids.get(name), counts = new Map();
-    for (const hand of order) if (flags[hand] & ACCEPTED) for (let row = first[hand]; row < first[hand + 1]; row++) {
-        if (names[row] === id) counts.set(unit[hand], (counts.get(unit[hand]) || 0) + 1);
+    const add = (/** @type {number} */ hand) => counts.set(unit[hand], (counts.get(unit[hand]) || 0) + 1);
+    for (const hand of order) {
+        if (!(flags[hand] & ACCEPTED)) continue;
+        if (name === EVERYBODY) add(hand);
+        else for (let row = first[hand]; row < first[hand + 1]; row++) if (names[row] === id) add(hand);
     }
     return [...counts].sort((a, b) => b[1] - a[1]).map(([it]) => hands.texts[it]);
 };

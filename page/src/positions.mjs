@@ -1,36 +1,48 @@
-// Where a player sits, as seen from the button.
-
-/** The position is unknown, because the text names no button. */
-export const NOWHERE = 255;
-
-const SEATS = 10;
+// Where a player sits, by who posted the blinds and by the line that names the button's seat.
 
 /**
- * Returns how many seats that play are between the button and each name, going left: 0 is the button.
+ * The names of positions. A column has their places in this list. The first is of players without one, as in a stud
+ * game.
+ */
+export const POSITIONS = ['', 'BTN', 'SB', 'BB', 'UTG', 'MP', 'HJ', 'CO'];
+
+/** @type {{ [position: string]: string }} */
+export const POSITION_WORDS = {
+    '': 'no position', BTN: 'button', SB: 'small blind', BB: 'big blind', UTG: 'under the gun', MP: 'middle position',
+    HJ: 'hijack', CO: 'cutoff'
+};
+
+const [NONE, BTN, SB, BB, UTG, MP, HJ, CO] = POSITIONS.keys();
+const SEATS = 10;
+
+/** @param {string} text */
+const posterOf = (text) => ({
+    small: (/^(.*): posts small blind /m.exec(text) || ['', ''])[1],
+    big: (/^(.*): posts big blind /m.exec(text) || ['', ''])[1]
+});
+
+/**
+ * Returns the position of each player. The small and the big blind are those who post them first. The others are
+ * counted back from the button, whether its seat plays or not: cutoff, hijack, and so on up to the first left of the
+ * blinds, who is under the gun if there are three or more. With two players the button posts the small blind, and is
+ * the button. If the text has no button or no big blind, nobody has a position.
+ * @param {string} text
  * @param {Map<number, string>} seats
  * @param {number} button  its seat, or 0
  * @param {string[]} names  who plays
  */
-export const positionsOf = (seats, button, names) => {
+export const positionsOf = (text, seats, button, names) => {
+    const { small, big } = posterOf(text), positions = new Map(names.map((name) => [name, NONE]));
+    if (!button || !big) return positions;
     const playing = new Set(names), around = [...seats].filter(([, name]) => playing.has(name))
-        .map(([seat, name]) => ({ name, after: (seat - button + SEATS) % SEATS }));
-    around.sort((a, b) => a.after - b.after);
-    // if the seat of the button doesn't play, the first player left of it is in position 1
-    const shift = around.length && around[0].after === 0 ? 0 : 1;
-    return new Map(around.map(({ name }, at) => [name, button ? at + shift : NOWHERE]));
-};
-
-/**
- * Returns the name of a position.
- * @param {number} position
- * @param {number} players  how many play, and one more if the button's seat doesn't
- */
-export const positionName = (position, players) => {
-    if (position === NOWHERE) return 'no button';
-    if (position === 0) return 'button';
-    if (players === 2 || position === 2) return 'big blind';
-    if (position === 1) return 'small blind';
-    if (position === players - 1) return 'cutoff';
-    if (position === players - 2) return 'hijack';
-    return position === 3 ? 'under the gun' : 'middle position';
+        .map(([seat, name]) => ({ name, after: (seat - button + SEATS) % SEATS })).sort((a, b) => a.after - b.after);
+    if (positions.has(small)) positions.set(small, SB);
+    if (positions.has(big)) positions.set(big, BB);
+    if (around.length && around[0].after === 0) positions.set(around[0].name, BTN);
+    const others = around.filter(({ name }) => positions.get(name) === NONE), { length } = others;
+    others.forEach(({ name }, at) => {
+        const back = length - at, place = back === 1 ? CO : back === 2 ? HJ : at === 0 ? UTG : MP;
+        positions.set(name, place);
+    });
+    return positions;
 };

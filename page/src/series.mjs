@@ -1,5 +1,5 @@
-// The points of the graph: what a player won, would have won with average luck, the difference, and what they won with
-// a showdown and without, summed up by hand, by day, or by session. x always rises.
+// The points of the graph: what a player won, would have won with average luck, and what they won with a showdown and
+// without, summed up by hand, by day, or by session. x always rises.
 
 import { sessions } from './clock.mjs';
 import { MONEY, SHOWN } from './part.mjs';
@@ -7,12 +7,13 @@ import { MONEY, SHOWN } from './part.mjs';
 /** @typedef {import('./hands.mjs').Hands} Hands */
 /** @typedef {import('./played.mjs').Played} Played */
 
-export const LINES = ['won', 'all-in adjusted', 'luck', 'with showdown', 'without showdown'];
+export const LINES = ['won', 'all-in adjusted', 'showdown winnings', 'non-showdown winnings'];
 
 /**
- * The points of a graph in columns: x, and the value of each line there. `without` counts the hands that are in no
- * point.
- * @typedef {{ count: number, x: Float64Array, lines: Float64Array[], without: number }} Series
+ * The points of a graph in columns: x, the value of each line there, the place of its last hand, and how many hands it
+ * has. `without` counts the hands that are in no point.
+ * @typedef {{ count: number, x: Float64Array, lines: Float64Array[], at: Uint32Array, hands: Uint32Array,
+ *     without: number }} Series
  */
 
 const DAY = 86400;
@@ -26,10 +27,11 @@ const DAY = 86400;
  * @returns {Series}
  */
 export const seriesOf = (hands, played, by) => {
-    const { clock, net, even, marks, flags } = hands.columns;
+    const { clock, net, even, marks, flags } = hands.columns, size = played.length;
     const of = played.length && flags[played[0].hand] & MONEY ? 100 : 1;
     const numbers = by === 'session' ? sessions(played.map(({ hand }) => clock[hand])) : [];
-    const x = new Float64Array(played.length), lines = LINES.map(() => new Float64Array(played.length));
+    const x = new Float64Array(size), lines = LINES.map(() => new Float64Array(size)), places = new Uint32Array(size),
+          sizes = new Uint32Array(size);
     let won = 0n, adjusted = 0n, shown = 0n, without = 0, count = 0;
     played.forEach(({ hand, row }, at) => {
         if (by !== 'hand' && Number.isNaN(clock[hand])) {
@@ -42,10 +44,14 @@ export const seriesOf = (hands, played, by) => {
         const here = by === 'hand' ? at + 1 : by === 'day' ? Math.floor(clock[hand] / DAY) : numbers[at];
         // a later hand of a day or a session takes the place of the one before
         if (count && x[count - 1] === here) count--;
+        else sizes[count] = 0;
         x[count] = here;
-        const sums = [Number(won), Number(adjusted), Number(won - adjusted), Number(shown), Number(won - shown)];
+        places[count] = at;
+        sizes[count]++;
+        const sums = [Number(won), Number(adjusted), Number(shown), Number(won - shown)];
         for (let line = 0; line < sums.length; line++) lines[line][count] = sums[line] / of;
         count++;
     });
-    return { count, x: x.subarray(0, count), lines: lines.map((it) => it.subarray(0, count)), without };
+    return { count, x: x.subarray(0, count), lines: lines.map((it) => it.subarray(0, count)),
+        at: places.subarray(0, count), hands: sizes.subarray(0, count), without };
 };

@@ -1,5 +1,6 @@
 // What the rules give of each pot, and who is still to get or to give back what. Every figure is the program's.
 
+import { grouped } from './progress.mjs';
 import { units } from './reports.mjs';
 
 /** @typedef {import('./reports.mjs').Settlement} Settlement */
@@ -16,7 +17,8 @@ export const sayer = (unit) => {
     const currency = unit.startsWith('money ') ? unit.slice(6) : '', sign = SIGNS.get(currency) || '';
     return (amount) => {
         const isBelow = amount.startsWith('-'), size = isBelow ? amount.slice(1) : amount;
-        return `${isBelow ? '-' : ''}${sign}${size}${currency && !sign && size.includes('.') ? ` ${currency}` : ''}`;
+        const code = currency && !sign && size.includes('.') ? ` ${currency}` : '';
+        return `${isBelow ? '-' : ''}${sign}${grouped(size)}${code}`;
     };
 };
 

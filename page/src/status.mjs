@@ -1,6 +1,5 @@
-// What the page is at: how far the reading is, what was read, and which files have no hand.
+// What the page is at: how far the reading is, what was read, and how many hands there are.
 
-import { button, node } from './dom.mjs';
 import { ACCEPTED } from './part.mjs';
 import { counted, many, progressOf } from './progress.mjs';
 
@@ -21,23 +20,8 @@ export const readingSentence = (reading, hands, now) => {
     if (reading.isStopped) return `Stopped. ${many(hands, 'hand')} were read, and stay.`;
     const failed = reading.missed.filter((it) => it.isFailed).length, empty = reading.missed.length - failed;
     return `${many(reading.files, 'file')} read in ${seconds.toFixed(1)} s.${
-               empty ? ` ${many(empty, 'file')} without a hand: see below.` : ''}` +
-        `${failed ? ` ${many(failed, 'file')} not read to the end: see below.` : ''}`;
-};
-
-/**
- * Shows the files without a hand, each with the likely reason.
- * @param {HTMLDetailsElement} place
- * @param {HTMLElement} list
- * @param {Reading['missed']} missed
- */
-export const showMissed = (place, list, missed) => {
-    const wasHidden = place.hidden;
-    place.hidden = !missed.length;
-    if (wasHidden) place.open = missed.length <= 12;
-    /** @type {HTMLElement} */ (place.querySelector('summary')).textContent =
-        `${many(missed.length, 'file')} without a hand, or not read to the end`;
-    list.replaceChildren(...missed.map(({ path, reason }) => node('li', node('b', path), `: ${reason}.`)));
+               empty ? ` ${many(empty, 'file')} without a hand: see Files.` : ''}` +
+        `${failed ? ` ${many(failed, 'file')} not read to the end: see Files.` : ''}`;
 };
 
 /**
@@ -45,12 +29,21 @@ export const showMissed = (place, list, missed) => {
  * @param {HTMLElement} place
  * @param {import('./store.mjs').Choice} choice
  * @param {boolean} isPartial
- * @param {() => void} showRejected
  */
-export const showHeads = (place, { hands, order }, isPartial, showRejected) => {
+export const showHeads = (place, { hands, order }, isPartial) => {
     let rejected = 0;
     for (const hand of order) if (!(hands.columns.flags[hand] & ACCEPTED)) rejected++;
-    place.replaceChildren(`${many(order.length, 'hand')}${isPartial ? ' so far' : ''}, `,
-        rejected ? button(`${counted(rejected)} of them rejected`, showRejected) : 'none of them rejected', '.',
-        hands.again ? ` ${many(hands.again, 'duplicate')} ignored.` : '');
+    place.textContent = `${many(order.length, 'hand')}${isPartial ? ' so far' : ''}, ${
+        rejected ? `${counted(rejected)} of them rejected` : 'none of them rejected'}.${
+        hands.again ? ` ${many(hands.again, 'duplicate')} ignored.` : ''}`;
+};
+
+/**
+ * Shows how far the reading is as a bar over the bytes of all files.
+ * @param {HTMLProgressElement} place
+ * @param {Reading} reading
+ */
+export const barOf = (place, { isReading, bytes, bytesDone }) => {
+    place.hidden = !isReading;
+    place.value = bytes ? Math.min(1, bytesDone / bytes) : 0;
 };

@@ -2,37 +2,76 @@
 
 import { dayNames, sessions, timeOf } from './clock.mjs';
 import { SHOWN, UNKNOWN } from './part.mjs';
+import { POSITIONS } from './positions.mjs';
 
 /** @typedef {import('./hands.mjs').Hands} Hands */
 /** @typedef {import('./played.mjs').Played} Played */
 /**
- * @typedef {{ hands: number, got: bigint, net: bigint, even: bigint, shown: bigint, unknown: number, rake: number }}
- * Sum
+ * What was won in hands of one big blind or big bet.
+ * @typedef {{ hands: number, net: bigint, even: bigint, rake: number }} OfBig
+ *
+ * Sums of hands. `bigs` has those of each big blind, and no hand of a stud game or a tournament.
+ * @typedef {{ hands: number, got: bigint, net: bigint, even: bigint, shown: bigint, unknown: number, rake: number,
+ *     bigs: Map<number, OfBig> }} Sum
  */
 
 /** @returns {Sum} */
-export const none = () => ({ hands: 0, got: 0n, net: 0n, even: 0n, shown: 0n, unknown: 0, rake: 0 });
+export const none = () =>
+    ({ hands: 0, got: 0n, net: 0n, even: 0n, shown: 0n, unknown: 0, rake: 0, bigs: new Map() });
 
 /**
- * Adds a hand of a player. Of the rake the player has the part that they have of what all players got.
+ * Returns the rake that a player paid: of the rake of a hand they have the part that they have of what all got.
+ * @param {Hands} hands
+ * @param {Played} played
+ */
+const rakeOf = (hands, { hand, row }) => {
+    const { rake, got, first } = hands.columns;
+    if (!(rake[hand] > 0n && got[row] > 0n)) return 0;
+    let all = 0n;
+    for (let at = first[hand]; at < first[hand + 1]; at++) all += got[at];
+    return Number(rake[hand]) * Number(got[row]) / Number(all);
+};
+
+/**
+ * Adds a hand of a player.
  * @param {Hands} hands
  * @param {Sum} sum
  * @param {Played} played
  */
-export const add = (hands, sum, { hand, row }) => {
-    const { net, even, got, marks, rake, first } = hands.columns;
+export const add = (hands, sum, played) => {
+    const { hand, row } = played, { net, even, got, marks, big } = hands.columns, rake = rakeOf(hands, played);
     sum.hands++;
     sum.got += got[row];
     sum.net += net[row];
     sum.even += even[row];
+    sum.rake += rake;
     if (marks[row] & SHOWN) sum.shown += net[row];
     if (marks[row] & UNKNOWN) sum.unknown++;
-    if (rake[hand] > 0n && got[row] > 0n) {
-        let all = 0n;
-        for (let at = first[hand]; at < first[hand + 1]; at++) all += got[at];
-        sum.rake += Number(rake[hand]) * Number(got[row]) / Number(all);
+    if (big[hand] > 0) {
+        let it = sum.bigs.get(big[hand]);
+        if (!it) sum.bigs.set(big[hand], it = { hands: 0, net: 0n, even: 0n, rake: 0 });
+        it.hands++;
+        it.net += net[row];
+        it.even += even[row];
+        it.rake += rake;
     }
     return sum;
+};
+
+/**
+ * Returns how many big blinds, or in limit big bets, were won in a hundred hands, and with average luck, and how many
+ * the rake was. Returns null if no hand has one.
+ * @param {Sum} sum
+ */
+export const hundredsOf = ({ bigs }) => {
+    let hands = 0, net = 0, even = 0, rake = 0;
+    for (const [big, it] of bigs) {
+        hands += it.hands;
+        net += Number(it.net) / big;
+        even += Number(it.even) / big;
+        rake += it.rake / big;
+    }
+    return hands ? { net: net / hands * 100, even: even / hands * 100, rake: rake / hands * 100, hands } : null;
 };
 
 /**
@@ -42,7 +81,7 @@ export const add = (hands, sum, { hand, row }) => {
 export const sumOf = (hands, played) => played.reduce((sum, it) => add(hands, sum, it), none());
 
 /** What hands can be grouped by. */
-export const GROUPS = ['month', 'day', 'session', 'stakes', 'game', 'table', 'tournament'];
+export const GROUPS = ['month', 'day', 'session', 'stakes', 'game', 'position', 'table', 'tournament'];
 
 /**
  * Returns the key of each played hand for a group.
@@ -64,6 +103,7 @@ export const keysOf = (hands, played, group) => {
         const day = dayNames();
         return clocks.map((clock) => day(clock).slice(0, group === 'day' ? 10 : 7) || 'no date');
     }
+    if (group === 'position') return played.map(({ row }) => POSITIONS[columns.position[row]] || 'none');
     const column = /** @type {any} */ (columns)[group];
     return played.map(({ hand }) => texts[column[hand]] || `no ${group}`);
 };
@@ -85,9 +125,11 @@ export const sumsBy = (hands, played, keys) => {
     return sums;
 };
 
+const COLLATOR = new Intl.Collator('en', { numeric: true });
+
 /**
  * Compares keys so that 2/4 comes before 10/20: numbers in a text count as numbers.
  * @param {string} a
  * @param {string} b
  */
-export const byKey = (a, b) => new Intl.Collator('en', { numeric: true }).compare(a, b);
+export const byKey = (a, b) => COLLATOR.compare(a, b);

@@ -6,6 +6,10 @@ import { readClock } from './clock.mjs';
 const HEADER = /^(\uFEFF)?PokerStars [A-Za-z ]*(Hand|Game) #[0-9]/;
 const GAMES = ['Hold\'em', 'Omaha Hi/Lo', 'Omaha', '7 Card Stud Hi/Lo', '7 Card Stud', 'Razz',
     'Single Draw 2-7 Lowball', 'Triple Draw 2-7 Lowball', '5 Card Draw'];
+/** The games as reports name them. */
+const WORDS = new Map([['Hold\'em', 'holdem'], ['Omaha', 'omaha'], ['Omaha Hi/Lo', 'omaha8'], ['7 Card Stud', 'stud'],
+    ['7 Card Stud Hi/Lo', 'stud8'], ['Razz', 'razz'], ['5 Card Draw', 'draw5'],
+    ['Single Draw 2-7 Lowball', 'lowball27'], ['Triple Draw 2-7 Lowball', 'triple27']]);
 const LIMITS = ['No Limit', 'Pot Limit', 'Limit'];
 const AMOUNTS = /(?:\(|, )([$€£]?)([0-9]+(?:\.[0-9][0-9])?)\/[$€£]?([0-9]+(?:\.[0-9][0-9])?)(?: ([A-Z]{3})\))?/;
 const SIGNS = new Map([['$', 'USD'], ['€', 'EUR'], ['£', 'GBP']]);
@@ -98,6 +102,22 @@ export const stakesOf = (header) => {
         isMoney: it[1] !== '' || it[2].includes('.') || it[3].includes('.')
     };
 };
+
+/**
+ * Returns a game of a header as reports name it.
+ * @param {string} game
+ */
+export const wordOf = (game) => WORDS.get(game) || game;
+
+const STUD = new Set(['7 Card Stud Hi/Lo', '7 Card Stud', 'Razz']);
+
+/**
+ * Returns what winnings of a hundred hands are counted in: the big blind, or in fixed limit the big bet, each the
+ * second stake of the header, in whole units. Returns 0 for a tournament, a stud game, and a header without stakes.
+ * @param {{ game: string, stakes: string, tournament: string, isMoney: boolean | null }} text
+ */
+export const bigOf = ({ game, stakes, tournament, isMoney }) =>
+    tournament || STUD.has(game) || !stakes ? 0 : Math.round(Number(stakes.split('/')[1]) * (isMoney ? 100 : 1));
 
 /**
  * Returns the unit in which a hand is counted, "chips" or "money USD", as far as the text says it.

@@ -4,41 +4,24 @@ import { $ } from './dom.mjs';
 import { connectControls } from './controls.mjs';
 import { openDoors } from './doors.mjs';
 import { startEngines } from './engines.mjs';
-import { noHands } from './hands.mjs';
+import { showFiles } from './filesview.mjs';
+import { showPicture } from './home.mjs';
 import { makeKeep } from './keepers.mjs';
-import { SHOWN } from './list.mjs';
+import { connectKeys } from './keys.mjs';
 import { connectHand } from './opened.mjs';
 import { drawPanels } from './panels.mjs';
 import { handAt, playedBy, unitsOf } from './played.mjs';
-import { makeReader } from './reader.mjs';
 import { written } from './reports.mjs';
-import { LINES, seriesOf } from './series.mjs';
+import { seriesOf } from './series.mjs';
+import { bytesOf } from './source.mjs';
 import { makeSpots } from './spots.mjs';
-import { readingSentence, showMissed } from './status.mjs';
-import { makeChoice, makeStore } from './store.mjs';
+import { firstState, makeChoice, makeStore } from './store.mjs';
 import { sumOf } from './sums.mjs';
+import { makeTakes } from './takes.mjs';
+import { numbered } from './texts.mjs';
+import { makeViews } from './views.mjs';
 
-/** @typedef {import('./dropped.mjs').Source} Source */
-
-/** While files are read, the figures so far are drawn at most so often, in milliseconds. */
-const OFTEN = 500;
-
-const store = makeStore({
-    collections: { own: noHands(), example: noHands() },
-    collection: 'own',
-    version: 0,
-    isPartial: false,
-    player: '',
-    unit: '',
-    filters: {},
-    by: 'hand',
-    lines: LINES.map((line) => line !== 'luck'),
-    group: 'month',
-    sortBy: 0,
-    isRising: true,
-    which: 'all',
-    listed: SHOWN
-});
+const store = makeStore(firstState());
 const { state, set } = store, choose = makeChoice(state);
 
 /**
@@ -49,11 +32,12 @@ const { state, set } = store, choose = makeChoice(state);
 const say = (text, isBad = false) => {
     $('note').textContent = text;
     $('note').className = isBad ? 'bad' : '';
+    $('reading').hidden = !text;
 };
+$('dismiss').onclick = () => say('');
 
 /** Resolves once the program can run. */
 export const ready = startEngines();
-
 ready.then(() => say(''), () => {
     say('This browser can\'t run the program. Chrome and Edge from 109 on can, Firefox from 115 on, and Safari ' +
         'from 16.4 on.',
@@ -62,108 +46,15 @@ ready.then(() => say(''), () => {
     $('ask').hidden = true;
 });
 
-/** @typedef {ReturnType<typeof makeReader>} Reader */
-/** @type {{ [collection: string]: Reader }} */
-const readers = {};
-let drawn = 0;
-
-/**
- * Shows how far the reading of a collection is.
- * @param {'own' | 'example'} collection
- */
-const follow = (collection) => () => {
-    // a reader that was cleared may still end a piece
-    if (!readers[collection]) return;
-    const { reading } = readers[collection], { count } = state.collections[collection], now = performance.now();
-    if (collection === 'own') $('stop').hidden = !reading.isReading;
-    if (collection === 'own' || !readers.own || !readers.own.reading.isReading)
-        say(readingSentence(reading, count, now));
-    if (reading.isReading && (store.isDrawing() || now - drawn < OFTEN)) return;
-    showMissed($('missed'), $('missed-files'), readers.own ? readers.own.reading.missed : []);
-    if (state.collection === collection && (count || !reading.isReading)) {
-        set({ version: state.version + 1, isPartial: reading.isReading });
-        $('shown').hidden = !count;
-        store.drawn().then(() => { drawn = performance.now(); });
-    }
-};
-
-/** @param {'own' | 'example'} collection */
-const readerOf = async (collection) => {
-    const { files } = await ready;
-    if (!readers[collection])
-        readers[collection] = makeReader(state.collections[collection], files, follow(collection));
-    return readers[collection];
-};
-
-/**
- * Shows the hands of a collection.
- * @param {'own' | 'example'} collection
- */
-const show = (collection) => {
-    const isExample = collection === 'example';
-    set({ collection, version: state.version + 1, player: '', unit: '', filters: {}, which: 'all', listed: SHOWN });
-    $('shown').hidden = !state.collections[collection].count;
-    $('is-example').hidden = !isExample;
-    $('back').hidden = !state.collections.own.count;
-};
-
-/**
- * Reads some files, after those that are being read.
- * @param {Source[]} sources
- */
-export const take = async (sources) => {
-    if (!sources.length) return;
-    const reader = await readerOf('own');
-    if (state.collection === 'example') show('own');
-    $('clear-all').hidden = false;
-    await reader.add(sources);
-    await store.drawn();
-};
-
-/** Shows the example, whose hands are kept apart from the user's own. */
-export const takeExample = async () => {
-    const reader = await readerOf('example');
-    show('example');
-    if (state.collections.example.count) {
-        await store.drawn();
-        return;
-    }
-    await reader.add(
-        [{ path: 'example.txt', file: new File([$('histories').textContent.replace(/^\n/, '')], 'example.txt') }]);
-    show('example');
-    await store.drawn();
-};
-
-export const stop = () => Object.values(readers).forEach((reader) => reader.stop());
-
-/** Forgets all hands of the user. */
-export const clear = () => {
-    stop();
-    state.collections.own = noHands();
-    delete readers.own;
-    $('clear-all').hidden = true;
-    showMissed($('missed'), $('missed-files'), []);
-    show('own');
-    say('');
-};
-
 /** Runs the program for one hand or one spot. Of spots the latest line alone is counted. */
 export const run = async (/** @type {string} */ mode, /** @type {string} */ form, /** @type {Uint8Array} */ input,
     /** @type {'spots' | 'hands'} */ pool = 'hands') => {
     const engines = await ready;
     return engines[pool].run({ mode, form, input }, [input.buffer]);
 };
-const decoded = async (/** @type {Promise<{ report: Uint8Array }>} */ answer) =>
-    new TextDecoder().decode((await answer).report);
-
-const report = (/** @type {string} */ mode, /** @type {string} */ form, /** @type {Uint8Array} */ input) =>
-    decoded(run(mode, form, input));
-
-const ask = connectHand(state, choose, { report, say });
-export const { open } = ask;
-
-drawPanels(store, choose, ask);
-connectControls(store, choose, say);
+const report = async (/** @type {string} */ mode, /** @type {string} */ form, /** @type {Uint8Array} */ input,
+    /** @type {'spots' | 'hands'} */ pool = 'hands') =>
+    new TextDecoder().decode((await run(mode, form, input, pool)).report);
 
 export const answer = makeSpots({
     field: $('spot'),
@@ -174,19 +65,73 @@ export const answer = makeSpots({
     chosen: $('chosen'),
     report: async (mode, input) => {
         (await ready).spots.stop();
-        return decoded(run(mode, 'text', input, 'spots'));
+        return report(mode, 'text', input, 'spots');
     }
 });
 
-export const keep = makeKeep(state, choose, ready);
+/** Asks a line as a spot, as if somebody typed it. */
+const ask = (/** @type {string} */ line) => {
+    views.go('spots');
+    $('spot').value = line;
+    $('spot').dispatchEvent(new Event('input', { bubbles: true }));
+};
+const hand = connectHand(choose, { report, ask, say, views: () => views });
+export const { open } = hand;
+const controls = connectControls(store, choose, { say, go: (view) => views.go(view) });
+const list = drawPanels(store, choose, hand, controls);
 
-$('back').onclick = () => show('own');
-$('stop').onclick = stop;
-$('clear-all').onclick = clear;
-export const isReading = () => Object.values(readers).some((reader) => reader.reading.isReading);
+/** Shows the bars above a view: filters, and whose hands these are. */
+const showBars = () => {
+    const { view, collection, collections } = state, isWide = matchMedia('(min-width: 1680px)').matches;
+    $('filters').hidden = !['overview', 'hands'].includes(view) && !(isWide && view === 'hand');
+    $('is-example').hidden = collection !== 'example' || ['home', 'spots'].includes(view);
+    $('back').hidden = !collections.own.count;
+};
+export const views = makeViews({
+    onView: (view) => {
+        // one field for spots: first sight has it too
+        $(view === 'home' ? 'ask-home' : 'ask-spots').append($('ask'));
+        set({ view });
+        showBars();
+        if (view !== 'hand' && view !== 'sheet') hand.hide();
+        if (view === 'hands') store.drawn().then(() => list.focus());
+    },
+    onHand: (it, at, count) => {
+        hand.show(it, at, count);
+        store.drawn().then(() => list.mark(it));
+    }
+});
+$('ask-home').append($('ask'));
+
+const takes = makeTakes(store, { ready, views, say, onShow: showBars });
+export const { take, takeExample, stop, clear, missed, isReading } = takes;
 /** Whether files are read, or panels wait to be drawn. */
 export const isBusy = () => isReading() || store.isDrawing();
+
+/** Resolves once first sight has its picture. */
+export const picture = ready.then(takes.readExample).then(() => {
+    const { example } = state.collections;
+    return showPicture(example, async (it, mode) =>
+        report(mode, 'csv', numbered(await bytesOf(example, it), handAt(example, it).line)));
+});
+// without the program there is no picture
+picture.catch(() => {});
+
+export const keep = makeKeep(state, choose, ready);
+store.panel(['version', 'collection'], () => showFiles(state.collections[state.collection],
+    state.collection === 'own' ? missed() : [], state.collection === 'example'), ['files']);
+$('back').onclick = takes.back;
+$('stop').onclick = stop;
+$('clear-all').onclick = clear;
 openDoors({ take, takeExample, say, isReading });
-export const missed = () => readers.own ? readers.own.reading.missed : [];
+const step = (/** @type {number} */ by) => () => views.step(by);
+connectKeys(() => state.view, {
+    any: {},
+    overview: { x: controls.clearFilters },
+    hands: { x: controls.clearFilters, '/': () => $('find').focus() },
+    hand: { ArrowLeft: step(-1), ArrowRight: step(1), k: step(-1), j: step(1), c: hand.copy,
+        p: () => views.go('sheet'), Escape: () => views.go('hands') },
+    sheet: { p: () => print(), Escape: () => history.back() }
+});
 // for the tests
 export { choose, state, store, handAt, playedBy, seriesOf, sumOf, unitsOf, written };

@@ -1,57 +1,96 @@
 import assert from 'node:assert/strict';
 import test from 'node:test';
-import { codedFilters, filtered } from '../src/filters.mjs';
+import { chosenText, codedFilters, daysOf, filtered } from '../src/filters.mjs';
 import { addPart, noHands } from '../src/hands.mjs';
 import { readPart } from '../src/part.mjs';
-import { inOrder, playedBy } from '../src/played.mjs';
-import { positionName, positionsOf } from '../src/positions.mjs';
+import { entriesOf, EVERYBODY, inOrder } from '../src/played.mjs';
+import { POSITIONS, positionsOf } from '../src/positions.mjs';
 import { allInStreet } from '../src/streets.mjs';
 import { fileOf, made, reporter } from './made.mjs';
 
+const handsOf = (all) => {
+    const hands = noHands();
+    hands.sources.push({ path: 'a', file: /** @type {any} */ (null) });
+    addPart(hands, readPart(reporter(all), fileOf(all)), 0, 0, 0);
+    return hands;
+};
+
 test('counts of options are those that each option alone would leave', () => {
-    const filters = [
-        { name: 'stakes', options: ['1/2', '2/4'], codes: Uint32Array.of(0, 0, 1, 1, 1) },
-        { name: 'table', options: ['A', 'B', 'C'], codes: Uint32Array.of(0, 1, 0, 1, 2) },
-    ];
-    for (const chosen of [{}, { stakes: '2/4' }, { table: 'A' }, { stakes: '2/4', table: 'A' }, { table: 'none' }]) {
+    const one = (name, values, codes) => ({ name, values, codes: Uint32Array.from(codes),
+        options: values.map((value, code) => ({ value, text: value, codes: [code] })) });
+    const filters = [one('stakes', ['1/2', '2/4'], [0, 0, 1, 1, 1]), one('table', ['A', 'B', 'C'], [0, 1, 0, 1, 2])];
+    // an option of several values
+    filters[1].options.push({ value: 'any', text: 'any', codes: [1, 2] });
+    for (const chosen of [{}, { stakes: '2/4' }, { table: 'A' }, { stakes: '2/4', table: 'A' }, { table: 'none' },
+        { stakes: '1/2', table: 'any' }]) {
         const { places, counts } = filtered(filters, chosen, 5);
-        const passes = (at, set) => filters.every(({ name, options, codes }) =>
-            set[name] === undefined || options[codes[at]] === set[name]);
+        const passes = (at, set) => filters.every(({ name, options, codes }) => set[name] === undefined
+            || options.some((it) => it.value === set[name] && it.codes.includes(codes[at])));
         const left = (set) => [0, 1, 2, 3, 4].filter((at) => passes(at, set));
         assert.deepEqual([...places], left(chosen));
-        filters.forEach(({ name, options }, it) => assert.deepEqual([...counts[it]],
-                            options.map((option) => left({ ...chosen, [name]: option }).length),
-                            `${name} with ${JSON.stringify(chosen)}`));
+        filters.forEach(({ name, options }, it) => assert.deepEqual(counts[it],
+            options.map(({ value }) => left({ ...chosen, [name]: value }).length),
+            `${name} with ${JSON.stringify(chosen)}`));
     }
 });
 
 test('filters over hands have their options', () => {
-    const all = [made({ number: 1, clock: '2026/11/02 10:00:00' }), made({ number: 2, table: 'Vesta' })];
-    const hands = noHands();
-    hands.sources.push({ path: 'a', file: /** @type {any} */ (null) });
-    addPart(hands, readPart(reporter(all), fileOf(all)), 0, 0, 0);
-    const options = Object.fromEntries(codedFilters(hands, playedBy(hands, inOrder(hands), 'Ben', 'money USD'))
-        .map((it) => [it.name, it.options]));
-    assert.deepEqual(options, {
-        stakes: ['holdem No Limit 0.50/1.00'],
-        game: ['holdem'],
+    const hands = handsOf([
+        made({ number: 1, clock: '2026/11/02 10:00:00' }), made({ number: 2, table: 'Vesta', isShown: false }),
+        made({ number: 3, clock: '2026/12/24 10:00:00', isRejected: true, stakes: '$1/$2 USD' })
+    ]);
+    const entries = (name) => entriesOf(hands, inOrder(hands), name, 'money USD');
+    const said = ({ value, text }) => value === text ? text : `${value}: ${text}`;
+    const textsOf = (name) => Object.fromEntries(
+        codedFilters(hands, entries(name)).map((it) => [it.name, it.options.map(said)]));
+    assert.deepEqual(textsOf('Ben'), {
+        dates: ['last 7: last 7 days', 'last 30: last 30 days', '2026-12: Dec 2026', '2026-11: Nov 2026',
+            'none: no date'],
+        stakes: ['holdem No Limit 0.50/1.00: 0.50/1.00', 'holdem No Limit 1/2: 1/2'],
+        game: ['holdem: Hold\u2019em'],
         table: ['Ceres', 'Vesta'],
-        tournament: ['no tournament'],
-        position: ['big blind'],
-        'all-in': ['no all-in'],
-        month: ['2026-11', 'no date'],
+        tournament: [': no tournament'],
+        position: ['BB: BB, big blind'],
+        players: ['2'],
+        session: ['2026-12-24 10:00:00: 24 Dec 2026 10:00', '2026-11-02 10:00:00: 2 Nov 2026 10:00', 'none: no date'],
+        'all-in': ['none'],
+        showdown: ['yes', 'no']
     });
+    assert.deepEqual(textsOf('Ann').position, ['BTN: BTN, button']);
+    assert.deepEqual(textsOf(EVERYBODY).position, ['none']);
 });
 
-test('positions count from the button, also if its seat doesn\'t play', () => {
-    const seats = new Map([[1, 'a'], [4, 'b'], [9, 'c']]);
-    assert.deepEqual([...positionsOf(seats, 4, ['a', 'b', 'c'])], [['b', 0], ['c', 1], ['a', 2]]);
-    assert.deepEqual([...positionsOf(seats, 4, ['a', 'c'])], [['c', 1], ['a', 2]]);
-    assert.deepEqual([...positionsOf(seats, 0, ['a'])], [['a', 255]]);
-    assert.deepEqual([0, 1, 2, 3, 4, 5].map((it) => positionName(it, 6)),
-        ['button', 'small blind', 'big blind', 'under the gun', 'hijack', 'cutoff']);
-    assert.deepEqual([[0, 2], [1, 2], [255, 6], [4, 9]].map(([it, players]) => positionName(it, players)),
-        ['button', 'big blind', 'no button', 'middle position']);
+test('dates are spans of days, of which both ends count', () => {
+    const days = ['2026-11-01', '', '2026-11-03', '2026-12-01'];
+    assert.deepEqual(['2026-11-01..2026-11-03', '..2026-11-02', '2026-11-04..', '..'].map((it) => daysOf(days, it)),
+        [[0, 2], [0], [3], [0, 2, 3]]);
+    const hands = handsOf(['01', '02', '09', '30'].map((day, at) =>
+        made({ number: at + 1, clock: `2026/11/${day} 10:00:00` })));
+    const entries = entriesOf(hands, inOrder(hands), 'Ann', 'money USD'), filters = codedFilters(hands, entries);
+    const left = (dates) => [...filtered(filters, { dates }, entries.length).places];
+    assert.deepEqual(['last 7', 'last 30', '2026-11', '2026-11-02..2026-11-09', 'none'].map(left),
+        [[3], [0, 1, 2, 3], [0, 1, 2, 3], [1, 2], []]);
+    assert.equal(chosenText(filters[0], '2026-11-02..2026-11-09'), '2 Nov 2026 – 9 Nov 2026');
+    assert.equal(chosenText(filters[0], 'last 7'), 'last 7 days');
+});
+
+test('positions are those who posted the blinds, the button, and the others counted back from it', () => {
+    const names = (text, seats, button) =>
+        [...positionsOf(text, new Map(seats), button, seats.map(([, name]) => name))].map(([name, it]) =>
+            `${name} ${POSITIONS[it]}`.trim());
+    const blinds = 'PokerStars\nb: posts small blind $1\nc: posts big blind $2\nf: posts big blind $2\n';
+    const seats = ['a', 'b', 'c', 'd', 'e', 'f'].map((name, at) => /** @type {[number, string]} */ ([at + 1, name]));
+    assert.deepEqual(names(blinds, seats, 1), ['a BTN', 'b SB', 'c BB', 'd UTG', 'e HJ', 'f CO']);
+    assert.deepEqual(names(blinds, [...seats, [7, 'g'], [8, 'h'], [9, 'i']], 1),
+        ['a BTN', 'b SB', 'c BB', 'd UTG', 'e MP', 'f MP', 'g MP', 'h HJ', 'i CO']);
+    // nobody posts a small blind, and the button's seat is empty
+    assert.deepEqual(names('c: posts big blind $2\n', seats.slice(2), 1), ['c BB', 'd UTG', 'e HJ', 'f CO']);
+    // two players: the button posts the small blind
+    const two = 'b: posts small blind $1\nc: posts big blind $2\n';
+    assert.deepEqual(names(two, seats.slice(1, 3), 2), ['b BTN', 'c BB']);
+    // a game without blinds, and a text without a button, have none
+    assert.deepEqual([names('a: posts the ante $1\n', seats.slice(0, 2), 1), names(blinds, seats.slice(1, 3), 0)],
+        [['a', 'b'], ['b', 'c']]);
 });
 
 test('the street of an all-in is that of the last act, if cards came after it', () => {

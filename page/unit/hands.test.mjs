@@ -2,9 +2,9 @@ import assert from 'node:assert/strict';
 import test from 'node:test';
 import { addPart, noHands } from '../src/hands.mjs';
 import { readPart } from '../src/part.mjs';
-import { handAt, inOrder, leftOut, namesOf, playedBy, unitsOf } from '../src/played.mjs';
+import { entriesOf, EVERYBODY, handAt, inOrder, namesOf, parted, playedBy, unitsOf } from '../src/played.mjs';
 import { seriesOf } from '../src/series.mjs';
-import { byKey, keysOf, sumOf, sumsBy } from '../src/sums.mjs';
+import { byKey, hundredsOf, keysOf, sumOf, sumsBy } from '../src/sums.mjs';
 import { fileOf, made, reporter } from './made.mjs';
 
 /** Returns the hands of some files, read in the order in which they are given. */
@@ -108,9 +108,12 @@ test('figures say which rejected hands of the player they leave out', () => {
             made({ number: 4, isRejected: true, stakes: '10/20' })
         ]
     ]]);
-    const order = inOrder(hands), left = leftOut(hands, order, 'Ann', 'money USD');
-    assert.deepEqual([left.hands.map((hand) => hands.numbers[hand]), left.cashed], [['2', '3'], 1]);
-    assert.deepEqual(leftOut(hands, order, 'Zoe', 'money USD').hands, []);
+    const order = inOrder(hands), { played, left } = parted(hands, entriesOf(hands, order, 'Ann', 'money USD'));
+    const numbers = (some) => some.map(({ hand }) => hands.numbers[hand]);
+    assert.deepEqual([numbers(played), numbers(left)], [['1'], ['2', '3']]);
+    assert.deepEqual(entriesOf(hands, order, 'Zoe', 'money USD'), []);
+    assert.deepEqual(numbers(entriesOf(hands, order, EVERYBODY, '')), ['1', '2', '3', '4']);
+    assert.deepEqual(numbers(entriesOf(hands, order, EVERYBODY, 'money USD')), ['1', '2', '3']);
     assert.deepEqual(
         namesOf(hands, order).map(({ name, count, dealt }) => [name, count, dealt]), [['Ann', 1, 1], ['Ben', 1, 0]]);
     assert.deepEqual(unitsOf(hands, order, 'Ann'), ['money USD']);
@@ -123,9 +126,36 @@ test('parts of a file keep its lines and bytes', () => {
     addPart(hands, first, 0, 0, 0);
     addPart(hands, readPart(reporter(all), fileOf([all[1]])), 0, first.newlines, fileOf([all[0]]).length);
     const it = handAt(hands, 1);
-    assert.deepEqual([it.line, it.departs, it.start, it.end], [10, 16, fileOf([all[0]]).length, fileOf(all).length]);
+    assert.deepEqual([it.line, it.departs, it.start, it.end], [12, 18, fileOf([all[0]]).length, fileOf(all).length]);
 });
 
 test('a program that finds other hands is refused', () => {
     assert.throws(() => readPart(() => '', fileOf([made({ number: 1 })])), /other hands/);
+});
+
+test('winnings of a hundred hands are in big blinds of each hand, and in limit in big bets', () => {
+    const hands = handsOf([['a', [
+        made({ number: 1, net: 300 }), made({ number: 2, net: -100, stakes: '$1/$2 USD' }),
+        made({ number: 3, net: 800, stakes: '$2/$4 USD', game: 'Hold\'em Limit' }),
+        made({ number: 4, net: 5000, stakes: '10/20', before: 'Tournament #7, $10+$1 USD ' }),
+        made({ number: 5, net: 700, stakes: '$2/$4 USD', game: '7 Card Stud Limit' })
+    ]]]);
+    const played = playedBy(hands, inOrder(hands), 'Ann', 'money USD');
+    // 3 big blinds of $1, less half of one of $2, and 2 big bets of $4, in 3 hands
+    assert.deepEqual(hundredsOf(sumOf(hands, played)), { net: 150, even: 150, rake: 0, hands: 3 });
+    const stud = played.filter(({ hand }) => hands.numbers[hand] === '5');
+    assert.equal(hundredsOf(sumOf(hands, stud)), null);
+});
+
+test('the graph has showdown and non-showdown winnings, and the place of each point', () => {
+    const hands = handsOf([['a', [
+        made({ number: 1, clock: '2026/11/02 10:00:00', net: 500, even: 200 }),
+        made({ number: 2, clock: '2026/11/02 10:01:00', net: -150, isShown: false }),
+        made({ number: 3, clock: '2026/11/03 10:01:00', net: 100, even: 50 })
+    ]]]);
+    const played = playedBy(hands, inOrder(hands), 'Ben', 'money USD');
+    const { lines: [won, adjusted, shown, unshown], at, hands: counts } = seriesOf(hands, played, 'day');
+    assert.deepEqual([[...won], [...adjusted]], [[-3.5, -4.5], [-0.5, -1]]);
+    assert.deepEqual([[...shown], [...unshown]], [[-5, -6], [1.5, 1.5]]);
+    assert.deepEqual([[...at], [...counts]], [[1, 2], [2, 1]]);
 });

@@ -3,7 +3,8 @@
 /**
  * A hand of two players at a table: Ann nets an amount, and Ben loses it.
  * @param {{ number: number | string, clock?: string, net?: number, even?: number | null, table?: string, isRejected?:
- *     boolean, isCashed?: boolean, isShown?: boolean, stakes?: string }} it
+ *     boolean, isCashed?: boolean, isShown?: boolean, stakes?: string, game?: string, before?: string,
+ *     cards?: string, board?: string }} it
  */
 export const made = (it) => ({
     net: 100,
@@ -14,6 +15,10 @@ export const made = (it) => ({
     isCashed: false,
     isShown: true,
     stakes: '$0.50/$1.00 USD',
+    game: 'Hold\'em No Limit',
+    before: '',
+    cards: 'As Ah',
+    board: '',
     ...it
 });
 
@@ -23,10 +28,16 @@ export const textOf = ({ number,
     table,
     isCashed,
     isShown,
-    stakes }) => [`PokerStars Hand #${number}: Hold'em No Limit (${stakes})${clock ? ` - ${clock} ET` : ''}`,
+    stakes,
+    game,
+    before,
+    cards,
+    board }) => [`PokerStars Hand #${number}: ${before}${game} (${stakes})${clock ? ` - ${clock} ET` : ''}`,
     `Table '${table}' 6-max Seat #1 is the button`, 'Seat 1: Ann ($50 in chips)', 'Seat 2: Ben ($50 in chips)',
-    '*** HOLE CARDS ***', 'Dealt to Ann [As Ah]', ...isShown ? ['*** SHOW DOWN ***'] : ['Ben: folds'],
-    ...isCashed ? ['Ann cashed out the hand for $9.20'] : [], '*** SUMMARY ***', '', '']
+    'Ann: posts small blind $0.50', 'Ben: posts big blind $1',
+    '*** HOLE CARDS ***', `Dealt to Ann [${cards}]`, ...isShown ? ['*** SHOW DOWN ***'] : ['Ben: folds'],
+    ...isCashed ? ['Ann cashed out the hand for $9.20'] : [], '*** SUMMARY ***',
+    ...board ? [`Board [${board}]`] : [], '', '']
                     .join('\n');
 
 const money = (/** @type {number} */ cents) =>
