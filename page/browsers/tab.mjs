@@ -105,7 +105,7 @@ export const tabOf = (driver) => {
         },
         count: () => run('page.choose().order.length'),
         /** Shows a view, and waits until it is drawn. */
-        view: (name) => run(`(page.views.go(${JSON.stringify(name)}), new Promise((done) => requestAnimationFrame(() => done(page.store.drawn()))))`),
+        view: (name) => run(`(page.views.go(${JSON.stringify(name)}), new Promise((done) => setTimeout(() => done(page.store.drawn()), 50)))`),
         /** The points of the graph: x, and what was won. */
         series: (by) => run(`(() => {
             const { hands, played } = page.choose();

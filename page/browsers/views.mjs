@@ -13,15 +13,15 @@ const press = (run, key) => run(`((document.activeElement || document.body).disp
 
 /** The list draws few rows of many, sorts by each column, finds, and goes by keys. */
 export const list = async (tab) => {
-    const { run } = tab, drawn = () => run('page.store.drawn().then(() => new Promise((done) => requestAnimationFrame(() => requestAnimationFrame(() => done(0)))))');
+    const { run } = tab, drawn = () => run('page.store.drawn().then(() => new Promise((done) => setTimeout(() => done(0), 50)))');
     await tab.view('hands');
     const rows = () => run(`[...document.querySelectorAll('#list tr[data-at]')].map((it) => it.querySelector('.col-number').textContent)`);
     const all = await run('page.choose().listed.length'), [first] = await rows();
     expect((await rows()).length < 90 && all > 90, `few rows of ${all} are drawn`);
     await run(`(document.getElementById('list').scrollTop = 1e7, 0)`);
-    await drawn();
-    const end = await rows(), last = await run(`(() => { const { hands, listed } = page.choose(); return hands.numbers[listed[listed.length - 1].hand]; })()`);
-    expect(end[end.length - 1] === last && end[0] !== first, 'the last hand is in reach');
+    const last = await run(`(() => { const { hands, listed } = page.choose(); return hands.numbers[listed[listed.length - 1].hand]; })()`);
+    const isLast = await tab.until(`[...document.querySelectorAll('#list tr[data-at]')].pop().querySelector('.col-number').textContent === ${JSON.stringify(last)}`);
+    expect(isLast && (await rows())[0] !== first, `the last hand is in reach: ${last}`);
     for (const column of ['stakes', 'cards', 'board', 'position', 'pot', 'net', 'luck', 'all-in', 'verdict', 'number', 'time']) {
         const [falls, rises] = [await run(`(document.querySelector('#list th.col-${column} button').click(), page.store.drawn().then(() => document.querySelector('#list th.col-${column}').getAttribute('aria-sort')))`),
             await run(`(document.querySelector('#list th.col-${column} button').click(), page.store.drawn().then(() => document.querySelector('#list th.col-${column}').getAttribute('aria-sort')))`)];

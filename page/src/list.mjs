@@ -36,10 +36,10 @@ export const makeList = (place, { open, sort, clear }) => {
 
     const shape = () => ({ count: rows.length, size: place.clientWidth <= NARROW ? TALL_ROW : ROW,
         scroll: place.scrollTop, height: place.clientHeight });
-    const gap = (/** @type {number} */ height) => {
-        const cell = node('td');
-        cell.style.height = `${height}px`;
-        return having(node('tr.gap', cell), { 'aria-hidden': 'true' });
+    // room above and below the rows that are drawn
+    const gaps = [0, 1].map(() => having(node('tr.gap', node('td')), { 'aria-hidden': 'true' }));
+    const setGap = (/** @type {number} */ at, /** @type {number} */ height) => {
+        /** @type {HTMLElement} */ (gaps[at].firstChild).style.height = `${height}px`;
     };
     const focusedRow = () => {
         const it = document.activeElement && document.activeElement.closest('tr[data-at]');
@@ -52,14 +52,20 @@ export const makeList = (place, { open, sort, clear }) => {
         if (!body || !choice) return;
         const it = choice, { from, to, above, below } = isWhole
             ? { from: 0, to: Math.min(rows.length, PRINTED), above: 0, below: 0 } : windowOf(shape());
-        const focused = focusedRow();
-        body.replaceChildren(gap(above), ...rows.slice(from, to).map((entry, index) => {
+        const focused = focusedRow(), { scrollTop } = place;
+        const old = [...body.children].filter((row) => !gaps.some((other) => other === row));
+        // new rows come before the old ones go, because a browser forgets how far a list that gets short is scrolled
+        gaps[1].before(...rows.slice(from, to).map((entry, index) => {
             const at = from + index;
             return having(rowNode(it, entry), {
                 'data-at': at, 'aria-rowindex': at + 2, tabindex: at === current ? 0 : -1,
                 'aria-selected': String(entry.hand === opened)
             });
-        }), gap(below));
+        }));
+        setGap(0, above);
+        setGap(1, below);
+        for (const row of old) row.remove();
+        if (place.scrollTop !== scrollTop) place.scrollTop = scrollTop;
         if (focused < 0) return;
         const again = rowAt(focused);
         if (again) again.focus({ preventScroll: true });
@@ -77,13 +83,9 @@ export const makeList = (place, { open, sort, clear }) => {
         const row = event.target instanceof Element ? event.target.closest('tr[data-at]') : null;
         return row instanceof HTMLElement ? Number(row.dataset.at) : -1;
     };
-    let isAsked = false;
     place.tabIndex = -1;
-    place.onscroll = () => {
-        if (isAsked) return;
-        isAsked = true;
-        requestAnimationFrame(() => { isAsked = false; paint(); });
-    };
+    // a browser tells of a scroll once a frame
+    place.onscroll = paint;
     place.onclick = (event) => {
         const at = placeOf(event);
         if (at >= 0) {
@@ -132,7 +134,7 @@ export const makeList = (place, { open, sort, clear }) => {
                 'button.link')));
             return;
         }
-        body = node('tbody');
+        body = node('tbody', ...gaps);
         place.replaceChildren(having(node('table', node('thead', headOf(order, isUp)), body),
             { 'aria-rowcount': rows.length + 1, 'aria-label': 'Hands' }));
         place.scrollTop = 0;
