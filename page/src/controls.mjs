@@ -28,10 +28,7 @@ export const connectControls = ({ state, set }, choose, { say, go }) => {
     };
     $('unit').onchange = () => set({ unit: $('unit').value, filters: {} });
     $('by').onchange = () => set({ by: $('by').value });
-    $('group').onchange = () => {
-        fill($('group'), GROUPS.map((it) => [it, it]), $('group').value);
-        set({ group: $('group').value, sortBy: 0, isRising: true });
-    };
+    $('group').onchange = () => set({ group: $('group').value, sortBy: 0, isRising: true });
     $('left').onclick = () => {
         set({ which: 'rejected', words: '' });
         $('find').value = '';

@@ -32,7 +32,7 @@ export const makeList = (place, { open, sort, clear }) => {
     let rows = [];
     /** @type {HTMLElement | null} */
     let body = null;
-    let current = 0, opened = -1, isWhole = false;
+    let current = 0, opened = -1, isWhole = false, shown = '';
 
     const shape = () => ({ count: rows.length, size: place.clientWidth <= NARROW ? TALL_ROW : ROW,
         scroll: place.scrollTop, height: place.clientHeight });
@@ -115,16 +115,19 @@ export const makeList = (place, { open, sort, clear }) => {
         }));
 
     /**
-     * Shows a list anew, from its first row.
+     * Shows a list anew: from its first row, or if only hands were added, from where it was.
      * @param {Choice} next
-     * @param {{ order: string, isUp: boolean }} state
+     * @param {import('./store.mjs').State} state
      */
-    const show = (next, { order, isUp }) => {
+    const show = (next, { order, isUp, filters, words, which }) => {
+        const asked = JSON.stringify([next.player, next.unit, filters, words, which, order, isUp]);
+        const scroll = asked === shown ? place.scrollTop : 0, focused = focusedRow();
         const before = document.activeElement && document.activeElement.closest('th');
         const column = before && place.contains(before) ? before.className.split(' ')[0] : '';
         choice = next;
         rows = next.listed;
-        current = 0;
+        current = asked === shown ? Math.min(current, Math.max(0, rows.length - 1)) : 0;
+        shown = asked;
         place.classList.toggle('every', next.isEvery);
         place.classList.toggle('wide-cards', rows.slice(0, PRINTED).some(({ row }) => row >= 0
             && codesIn(next.hands.columns.cards[row]).length > FEW_CARDS));
@@ -137,10 +140,11 @@ export const makeList = (place, { open, sort, clear }) => {
         body = node('tbody', ...gaps);
         place.replaceChildren(having(node('table', node('thead', headOf(order, isUp)), body),
             { 'aria-rowcount': rows.length + 1, 'aria-label': 'Hands' }));
-        place.scrollTop = 0;
         paint();
-        const again = column && place.querySelector(`.${column} button`);
-        if (again instanceof HTMLElement) again.focus();
+        place.scrollTop = scroll;
+        paint();
+        const again = focused >= 0 ? rowAt(current) : column && place.querySelector(`.${column} button`);
+        if (again instanceof HTMLElement) again.focus({ preventScroll: true });
     };
     return {
         show,

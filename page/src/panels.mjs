@@ -11,6 +11,7 @@ import { EVERYBODY } from './played.mjs';
 import { counted, many } from './progress.mjs';
 import { LINES, seriesOf } from './series.mjs';
 import { showHeads } from './status.mjs';
+import { GROUPS } from './sums.mjs';
 import { signOf, sumText, unitText } from './words.mjs';
 
 const NAMES = 200;
@@ -142,6 +143,7 @@ export const drawPanels = (store, choose, ask, filter) => {
     const sort = (/** @type {number} */ column) =>
         set({ sortBy: column, isRising: state.sortBy === column ? !state.isRising : column === 0 });
     panel([...CHOSEN, 'group', 'sortBy', 'isRising'], () => {
+        fill($('group'), GROUPS.map((it) => [it, it]), state.group);
         if (!choose().isEvery)
             showSums($('groups'), choose(), state, { sort, pick: (key) => filter.pick(state.group, key) });
     }, OVERVIEW);
