@@ -130,7 +130,7 @@ fn hand_lines(alloc: Global, report: &[u8]) -> Result<Vec<u8>, AllocError> {
 }
 
 /// What follows the first word of a report.
-fn behind(report: &[u8], word: &str) -> &[u8] {
+fn behind<'a>(report: &'a [u8], word: &str) -> &'a [u8] {
     &report[word.len().min(report.len())..]
 }
 
