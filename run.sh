@@ -16,7 +16,8 @@
 # 3 if a file can't be read or a folder has no *.txt: then nothing runs. It is 2, and the usage line is printed, if `made` gets a file, if
 # no mode is named, or if no file is named and standard input is a terminal. It is 8 if there is no program.
 #
-# Statuses 3 to 7 get a sentence. A history without a hand gets a line with the likely reason. If standard error is a terminal and
+# Statuses 3 to 7 get a sentence. So does a line of `ranges` above the limit: it names examples/wide-ranges, which counts the line in
+# parts. A history without a hand gets a line with the likely reason. If standard error is a terminal and
 # standard output isn't, a run of more than two seconds shows how far it is. TERM, INT, and HUP end the program too. If a signal ended the
 # program, the status is 128 plus its number.
 #
@@ -29,7 +30,7 @@ modes=(audit check streets results settle totals balance spots ranges made)
 
 # what the words say, the process of the program and of the script that feeds it, and how this script is called
 mode="" wanted="" lines="" quiet="" words=() files=()
-child="" feeder="" watcher="" torn="" closed=""
+child="" feeder="" watcher="" torn="" closed="" above=""
 name=equity
 
 # say LINE: on standard error
@@ -425,7 +426,7 @@ launch() { exec "$program" "$@"; }
 
 # run_program: runs it over the files, or over standard input, and returns its status
 run_program() {
-    local from=0 status
+    local from=0 status out found finder passer=""
     hear
     SECONDS=0
     if ! [ -e /dev/fd/0 ]; then from=- closed=1; fi
@@ -436,9 +437,23 @@ run_program() {
     elif [ "${#files[@]}" -eq 1 ] && [ "${files[0]}" != - ]; then
         exec {from}<"${files[0]}" || return 3
     fi
+    if [ "$mode" = ranges ]; then
+        # the report of ranges passes a search for a line that is above the limit
+        exec {found}> >(exec grep -cE 'refused[ ,]above' >/dev/null 2>&1)
+        finder="$!"
+        exec {out}> >(exec tee "/dev/fd/$found" 2>/dev/null)
+        passer="$!"
+        exec {found}>&-
+    fi
     # in the background, so that a signal to this script is heard meanwhile
-    (trap - INT QUIT; launch "${words[@]}") <&"$from" &
-    child="$!"
+    if [ -n "$passer" ]; then
+        (trap - INT QUIT; launch "${words[@]}") <&"$from" >&"$out" &
+        child="$!"
+        exec {out}>&-
+    else
+        (trap - INT QUIT; launch "${words[@]}") <&"$from" &
+        child="$!"
+    fi
     if [ -z "$quiet" ] && [ "$mode" != made ] && [ -t 2 ] && ! [ -t 1 ]; then
         watch "$child" <&"$from" &
         watcher="$!"
@@ -457,6 +472,11 @@ run_program() {
     fi
     child=""
     stop_helpers
+    if [ -n "$passer" ]; then
+        # what can't be written is known to `tee`, and the program may have ended before
+        if ! wait "$passer" && [ "$status" -le 1 ]; then status=4; fi
+        ! wait "$finder" || above=1
+    fi
     trap - INT TERM HUP USR1
     return "$status"
 }
@@ -529,6 +549,18 @@ tell_handless() {
     fi
 }
 
+# tell_above: says which script answers lines of ranges that are above the limit
+tell_above() {
+    local at="${BASH_SOURCE[0]}" path="" one
+    [ ! -L "$at" ] || at="$(readlink -f -- "$at")"
+    [ "$at" != "${at##*/}" ] || at="./$at"
+    for one in "${at%/*}/examples/wide-ranges" "${at%/*}/../share/doc/equity/examples/wide-ranges"; do
+        if [ -z "$path" ] && [ -x "$one" ]; then path="$(realpath -- "$one")"; fi
+    done
+    say "a line above the limit of 200,000,000 runouts isn't counted. If it has two or three ranges, this counts it in parts:"
+    printf '\n    %s < FILE\n\n' "${path:-examples/wide-ranges}" >&2
+}
+
 # end_with STATUS: says what the status means, and ends
 end_with() {
     case "$1" in
@@ -541,6 +573,7 @@ end_with() {
             fi
         fi
         ! reads_hands || tell_handless
+        [ -z "$above" ] || tell_above
         ;;
     2)
         blame || :

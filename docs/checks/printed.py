@@ -45,7 +45,7 @@ def blocks(document):
     command = None
     since = 0
     for part in parts(document):
-        if part.language is None and (sentence := re.match(r"`([^`]*\./equity [^`]*)` prints", part.lines[0])):
+        if part.language is None and (sentence := re.match(r"`((?:[^`]*\./equity|examples/wide-ranges) [^`]*)` prints", part.lines[0])):
             command, since = sentence[1], part.last()
         elif part.language == "sh":
             command, since = part.lines[0] if is_command(part.lines) else None, part.last()
@@ -116,7 +116,7 @@ def printed():
                 if command is None:
                     if block and re.match(r"(hand|spot|made hands) [0-9]", block[0]) and not is_part(block, of_examples):
                         yield f"{document}: no example prints the block that begins with: {block[0]}"
-                elif not is_whole(block, output(command.replace("./equity", script)).removesuffix("\n").split("\n")):
+                elif not is_whole(block, output(f"export EQUITY='{program()}'; {command.replace('./equity', script)}").removesuffix("\n").split("\n")):
                     yield f"{document}: another output of: {command}"
 
 

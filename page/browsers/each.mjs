@@ -4,6 +4,7 @@
 import { readFileSync, readdirSync } from 'node:fs';
 import { join } from 'node:path';
 import { examples, expect, inFolder, own, runAll, tabOf } from './tab.mjs';
+import { listed } from './listed.mjs';
 import * as rows from './rows.mjs';
 import { views } from './views.mjs';
 
@@ -58,7 +59,16 @@ await runAll(engine, async () => {
         await views(tab, engine, session);
         const line = 'holdem As Ah - Ks Kh -- 2c 7d 9h 4s';
         await run(`(document.getElementById('spot').value = ${JSON.stringify(line)}, page.answer())`);
-        expect(await tab.text('answer') === own(`${line}\n`, 'spots').stdout.toString(), 'a spot is answered');
+        expect(await tab.report() === own(`${line}\n`, 'spots').stdout.toString(), 'a spot is answered');
+        // ranges above the limit, in parts: counted by a listing of another program
+        for (const { line: wide, report } of listed().slice(0, 3)) {
+            const begun = Date.now();
+            await tab.ask(wide);
+            const said = await tab.report();
+            expect(said === report, `${wide} in parts: ${said}`);
+            console.log(`page/test: ${engine}: ${wide}: ${((Date.now() - begun) / 1000).toFixed(1)} s`);
+        }
+        await tab.shoot(`${engine}-ranges.png`);
         await run(`fetch('tab.mjs').then(() => 'read', () => 'refused')`).then((it) => expect(it === 'refused', 'nothing is fetched'));
         await tab.shoot(`${engine}-month.png`);
     } finally {

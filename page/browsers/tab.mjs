@@ -74,6 +74,10 @@ export const tabOf = (driver) => {
     const tab = {
         run,
         text: (id) => run(`document.getElementById(${JSON.stringify(id)}).textContent`),
+        /** Answers a line. */
+        ask: (line) => run(`(document.getElementById('spot').value = ${JSON.stringify(line)}, page.answer())`),
+        /** The report below the answer to a spot, or nothing if there is no answer. */
+        report: () => run(`(document.querySelector('#answer pre') || { textContent: '' }).textContent`),
         fresh: async () => {
             await driver.go(pathToFileURL(resolve(pagePath)).href);
             await run('page.ready.then(() => 0)');

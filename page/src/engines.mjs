@@ -1,4 +1,5 @@
-// The workers of the page: some for files, and one for spots and single hands, so these never wait behind a file.
+// The workers of the page: some for files, some for spots, which start when ranges are counted in parts, and one for
+// single hands. So neither spots nor hands wait behind a file.
 
 import { makePool } from './pool.mjs';
 
@@ -21,7 +22,7 @@ export const startEngines = async () => {
     const module = await compiled(), source = /** @type {any} */ (document.getElementById('worker')).textContent;
     const address = URL.createObjectURL(new Blob([source], { type: 'text/javascript' }));
     const start = () => new Worker(address);
-    const files = makePool(start, module, sizeOfPool()), spots = makePool(start, module, 1),
+    const files = makePool(start, module, sizeOfPool()), spots = makePool(start, module, sizeOfPool()),
           hands = makePool(start, module, 1);
     return { files, spots, hands };
 };

@@ -1,7 +1,8 @@
-// A range of starting hands as cells of a picture of 13 by 13: pairs on the diagonal, hands of one suit above it, of
-// two below. Reads and writes the items of a range in the words of the mode `ranges`.
+// A range of starting hands as cells of a grid of 13 by 13: pairs on the diagonal, hands of one suit above it, of two
+// below. Reads and writes the items of a range in the words of the mode `ranges`.
 
-const RANKS = 'AKQJT98765432';
+import { RANKS } from './ranks.mjs';
+
 const PAIR = 6, SUITED = 4, OFFSUIT = 12;
 
 /**
@@ -15,7 +16,7 @@ export const NAMES = [...RANKS].map((high, row) => [...RANKS].map((low, column) 
 const sizeOf = (/** @type {string} */ name) => name.length === 2 ? PAIR : name[2] === 's' ? SUITED : OFFSUIT;
 
 /**
- * Returns the cells that an item names, or null if it names other hands, as two cards or an item with a weight do.
+ * Returns the cells that an item without its weight names, or null if it names other hands, as two cards do.
  * @param {string} item
  * @returns {string[] | null}
  */
@@ -30,8 +31,8 @@ const cellsOf = (item) => {
 };
 
 /**
- * A range: the cells that are chosen, and its other items, which stay as they are.
- * @typedef {{ cells: Set<string>, others: string[] }} Range
+ * A range: the cells that are chosen, with their weights, and its other items, which stay as they are.
+ * @typedef {{ cells: Map<string, number>, others: string[] }} Range
  */
 
 /**
@@ -39,14 +40,48 @@ const cellsOf = (item) => {
  * @returns {Range}
  */
 export const readRange = (range) => {
-    const cells = new Set(), others = [];
-    for (const item of range.split(',').filter((it) => it !== '')) {
-        const named = cellsOf(item);
-        // a cell that is named twice weighs twice, which the picture doesn't show
-        if (named && named.every((it) => !cells.has(it))) named.forEach((it) => cells.add(it));
+    /** @type {Map<string, number>} */
+    const cells = new Map(), others = [];
+    for (const item of range.split(',').filter(Boolean)) {
+        const [text, weight = '1'] = item.split(':'), named = cellsOf(text);
+        // a cell that is named twice weighs twice, which the grid doesn't show
+        if (named && named.every((it) => !cells.has(it))) named.forEach((it) => cells.set(it, Number(weight)));
         else others.push(item);
     }
     return { cells, others };
+};
+
+const weightOf = (/** @type {string} */ item) => Number(item.split(':')[1] || 1);
+
+/**
+ * Returns the weight that is shown as a full cell: 100 if all weights are such percents as the grid writes, and
+ * otherwise the greatest.
+ * @param {Range} range
+ */
+export const fullOf = ({ cells, others }) => {
+    const weights = [...cells.values(), ...others.map(weightOf)];
+    return weights.length && weights.every((it) => it % 25 === 0) ? 100 : Math.max(1, ...weights);
+};
+
+/**
+ * Returns a range in which some cells have a weight, in percent of a full cell, or aren't chosen if it is 0. A weight
+ * below 100 has all weights written in percent.
+ * @param {Range} range
+ * @param {string[]} names
+ * @param {number} percent
+ * @returns {Range}
+ */
+export const withCells = (range, names, percent) => {
+    const full = fullOf(range), scale = percent > 0 && percent < 100 ? 100 : full;
+    const scaled = (/** @type {number} */ weight) => Math.max(1, Math.round(weight * scale / full));
+    const cells = new Map([...range.cells].map(([name, weight]) => [name, scaled(weight)]));
+    for (const name of names) percent ? cells.set(name, percent < 100 ? percent : scale) : cells.delete(name);
+    const others =
+        range.others.map((item) => scale === full ? item : `${item.split(':')[0]}:${scaled(weightOf(item))}`);
+    // where all are full, no weight is needed
+    const isEven = scale === 100 && [...cells.values(), ...others.map(weightOf)].every((it) => it === 100);
+    if (!isEven) return { cells, others };
+    return { cells: new Map([...cells.keys()].map((name) => [name, 1])), others: others.map((it) => it.split(':')[0]) };
 };
 
 /**
@@ -66,10 +101,10 @@ const items = (lows, all, end) => {
 };
 
 /**
- * Returns the items of a range, with pluses if they say the same. The other items come last.
- * @param {Range} range
+ * Returns the items of some cells, with pluses if they say the same.
+ * @param {Set<string>} cells
  */
-export const writtenRange = ({ cells, others }) => {
+const itemsOf = (cells) => {
     const pairs = [...RANKS].map((rank) => rank + rank),
           parts = items(new Set(pairs.filter((it) => cells.has(it))), pairs, '');
     [...RANKS].forEach((high, top) => {
@@ -80,34 +115,24 @@ export const writtenRange = ({ cells, others }) => {
             parts.push(...items(suited, lows, ''));
         else parts.push(...items(suited, lows, 's'), ...items(offsuit, lows, 'o'));
     });
+    return parts;
+};
+
+/**
+ * Returns a range in the words of the program: the greatest weights first, and the other items last.
+ * @param {Range} range
+ */
+export const writtenRange = ({ cells, others }) => {
+    const weights = [...new Set(cells.values())].sort((a, b) => b - a);
+    const parts = weights.flatMap((weight) => {
+        const names = itemsOf(new Set([...cells.keys()].filter((name) => cells.get(name) === weight)));
+        return weight === 1 ? names : names.map((name) => `${name}:${weight}`);
+    });
     return [...parts, ...others].join(',');
 };
-
-/**
- * A line of ranges: the range of each player, and what comes after them, the board and the dead cards.
- * @typedef {{ ranges: string[], rest: string }} Line
- */
-
-/**
- * Splits a line. Instead of a line of another game, there is an empty one.
- * @param {string} line
- * @returns {Line}
- */
-export const splitLine = (line) => {
-    const words = line.trim().split(/\s+/), at = words.findIndex((it) => it === '--' || it === '/');
-    if (words[0] !== 'holdem') return { ranges: ['', ''], rest: '' };
-    const front = words.slice(1, at < 0 ? words.length : at);
-    // two cards with a space between, as in a spot, are an item
-    const ranges = front.join(' ').split(/ - |^- | -$|^-$/).map((it) => it.replaceAll(' ', ''));
-    while (ranges.length < 2) ranges.push('');
-    return { ranges, rest: at < 0 ? '' : words.slice(at).join(' ') };
-};
-
-/** @param {Line} line */
-export const joinedLine = ({ ranges, rest }) => `holdem ${ranges.join(' - ')}${rest && ` ${rest}`}`;
 
 /**
  * Returns how many hands the cells of a range have.
  * @param {Range} range
  */
-export const countOf = ({ cells }) => [...cells].reduce((sum, name) => sum + sizeOf(name), 0);
+export const countOf = ({ cells }) => [...cells.keys()].reduce((sum, name) => sum + sizeOf(name), 0);

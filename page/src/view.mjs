@@ -66,7 +66,8 @@ export const answer = makeSpots({
     report: async (mode, input) => {
         (await ready).spots.stop();
         return report(mode, 'text', input, 'spots');
-    }
+    },
+    workers: ready.then(({ spots }) => spots)
 });
 
 /** Asks a line as a spot, as if somebody typed it. */

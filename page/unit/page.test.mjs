@@ -8,7 +8,6 @@ import { latest } from '../src/latest.mjs';
 import { readPart } from '../src/part.mjs';
 import { makePool } from '../src/pool.mjs';
 import { counted, grouped, many, megabytes, progressOf } from '../src/progress.mjs';
-import { countOf, joinedLine, readRange, splitLine, writtenRange } from '../src/range.mjs';
 import { makeReader } from '../src/reader.mjs';
 import { allInOf, handsOf, records, written } from '../src/reports.mjs';
 import { makeStore } from '../src/store.mjs';
@@ -151,14 +150,6 @@ test('a drop while others are read waits its turn, and a file without a hand is 
         [['gg.txt', false], ['gone', true]]);
     assert.deepEqual([reader.reading.files, reader.reading.filesDone, reader.reading.isReading], [4, 4, false]);
     assert.equal(reader.reading.bytesDone, reader.reading.bytes);
-});
-
-test('a range of the picture is read and written', () => {
-    const it = readRange('TT+,A9s+,KQ,AsKh,QQ:2');
-    assert.deepEqual([it.cells.size, it.others, countOf(it)], [12, ['AsKh', 'QQ:2'], 66]);
-    assert.equal(writtenRange(it), 'TT+,A9s+,KQ,AsKh,QQ:2');
-    assert.deepEqual(splitLine('holdem TT+ - As Ah -- 2c 7d 9h'), { ranges: ['TT+', 'AsAh'], rest: '-- 2c 7d 9h' });
-    assert.equal(joinedLine({ ranges: ['TT+', 'AA'], rest: '' }), 'holdem TT+ - AA');
 });
 
 test('a panel is drawn when a part of the state changes from which it draws', async () => {
