@@ -68,7 +68,7 @@ await runAll(engine, async () => {
             expect(said === report, `${wide} in parts: ${said}`);
             console.log(`page/test: ${engine}: ${wide}: ${((Date.now() - begun) / 1000).toFixed(1)} s`);
         }
-        await tab.shoot(`${engine}-ranges.png`);
+        if (engine !== 'webkit') await tab.shoot(`${engine}-ranges.png`);
         await run(`fetch('tab.mjs').then(() => 'read', () => 'refused')`).then((it) => expect(it === 'refused', 'nothing is fetched'));
         await tab.shoot(`${engine}-month.png`);
     } finally {
