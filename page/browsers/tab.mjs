@@ -74,8 +74,13 @@ export const tabOf = (driver) => {
     const tab = {
         run,
         text: (id) => run(`document.getElementById(${JSON.stringify(id)}).textContent`),
-        /** Answers a line. */
-        ask: (line) => run(`(document.getElementById('spot').value = ${JSON.stringify(line)}, page.answer())`),
+        /** Answers a line. On a slow machine a count that takes long begins with a click. */
+        ask: (line) => run(`(async () => {
+            document.getElementById('spot').value = ${JSON.stringify(line)};
+            const begin = () => [...document.querySelectorAll('#answer button')].find((it) => it.textContent === 'Count')?.click();
+            const clicks = setInterval(begin, 100);
+            try { return await page.answer(); } finally { clearInterval(clicks); }
+        })()`),
         /** The report below the answer to a spot, or nothing if there is no answer. */
         report: () => run(`(document.querySelector('#answer pre') || { textContent: '' }).textContent`),
         fresh: async () => {
