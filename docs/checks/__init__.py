@@ -7,6 +7,7 @@ ON = [
     claims.calls,
     claims.readme,
     layout.crates,
+    layout.layers,
     layout.imports,
     usage.options,
     usage.modes,
@@ -22,7 +23,6 @@ ON = [
 ]
 # what it tries by name only, because it doesn't hold yet
 LATER = [
-    layout.layers,
     documents.repeats,
     style.words,
     style.asserts,
