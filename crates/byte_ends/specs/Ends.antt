@@ -3,15 +3,16 @@ use Rattle.std.specs.Prelude.{◌≡◌, ℕ, ◌+◌, ◌-◌, ◌<◌, ◌≤�
 use Rattle.std.specs.List.{concat}
 use Rattle.byte_ends.specs.declared.Failed.{Failed}
 
--- the count of faults rose, or stands at its type's end
+-- the count of faults rose, or is the greatest of its type
 abbrev pub Rises : ℕ → ℕ → Type 0
 Rises old new = (old < new) ⊎ (old ≡ 2 ^ 64 - 1) × (new ≡ old)
 
--- one more, where the counter isn't at its type's end
+-- one more fault, unless the count is the greatest of its type
 abbrev pub one_more : ℕ → ℕ
 one_more count = min (count + 1) (2 ^ 64 - 1)
 
--- n bytes of what was left stand at the front of the piece, and are left no more; what isn't told stays untold
+-- n bytes of what was left are now the first n of the piece, and are no longer left; if the bytes are unknown, they
+-- stay unknown
 abbrev pub Reads : Option (List ℕ) → Option (List ℕ) → List ℕ → List ℕ → ℕ → Type 0
 Reads None new before after n = new ≡ None
 Reads (Some left) new before after n =
@@ -28,13 +29,13 @@ abbrev pub WritesAll : Option (List ℕ) → Option (List ℕ) → List ℕ → 
 WritesAll None new piece = new ≡ None
 WritesAll (Some taken) new piece = new ≡ Some (taken ++ piece)
 
--- some front of the piece was taken, perhaps none of it or all
+-- a prefix of the piece was taken, perhaps none of it or all
 abbrev pub WritesFront : Option (List ℕ) → Option (List ℕ) → List ℕ → Type 0
 WritesFront None new piece = new ≡ None
 WritesFront (Some taken) new piece =
     (n : ℕ) × (n ≤ length piece) × (new ≡ Some (taken ++ take n piece))
 
--- the bytes that a call moved, the first of the piece, or none where it failed
+-- the bytes that a call moved, which are the first of the piece; none if it failed
 abbrev pub moved_by : Result ℕ Failed → List ℕ → Option (List ℕ)
 moved_by (Ok n) piece = Some (take n piece)
 moved_by (Err _) piece = None
@@ -44,27 +45,27 @@ abbrev pub CountsFault : ℕ → ℕ → Option (List ℕ) → Type 0
 CountsFault old new (Some _) = new ≡ old
 CountsFault old new None = Rises old new
 
--- what one read does to the bytes still to come, where they are told: it gives the first of them, none only where none is left,
--- or it fails and they stay
+-- what one read does to the bytes left, if they are known: it gives the first of them, and gives none only if none is
+-- left; or it fails and they stay
 abbrev pub GivesFirst : Option (List ℕ) → Option (List ℕ) → Option (List ℕ) → Type 0
 GivesFirst None new read = new ≡ None
 GivesFirst (Some left) new None = new ≡ Some left
 GivesFirst (Some left) new (Some bytes) =
     (rest : List ℕ) × (new ≡ Some rest) × (left ≡ bytes ++ rest) × (bytes ≡ [] → left ≡ [])
 
--- what one write does to the bytes taken so far, where they are told: some are put after them, or it fails and they stay
+-- what one write does to the bytes taken, if they are known: it appends some, or it fails and they stay
 abbrev pub TakesMore : Option (List ℕ) → Option (List ℕ) → Option (List ℕ) → Type 0
 TakesMore None new write = new ≡ None
 TakesMore (Some taken) new None = new ≡ Some taken
 TakesMore (Some taken) new (Some bytes) = new ≡ Some (taken ++ bytes)
 
--- some writes, one after the other, each of one byte or more, lead a sink from here to there
+-- writes of one byte or more, one after another, lead from the first sink to the second
 abbrev pub WritesOn : {K : Type 0} → (K → K → Option (List ℕ) → Type 0) → K → List (List ℕ) → K → Type 0
 WritesOn writes old [] new = new ≡ old
 WritesOn {K} writes old (piece ∷ later) new =
     (mid : K) × (0 < length piece) × writes old mid (Some piece) × WritesOn writes mid later new
 
--- writes of a piece, one after the other: they take all of it, or one of them fails with some of it left, and it is the last
+-- writes of a piece, one after another: they take all of it, or the last one fails with some of it left
 abbrev pub WritesOut : {K : Type 0} → (K → K → Option (List ℕ) → Type 0) → K → K → List ℕ → Result (Unit {0}) Failed → Type 0
 WritesOut writes old new piece (Ok _) = (parts : List (List ℕ)) × (concat parts ≡ piece) × WritesOn writes old parts new
 WritesOut {K} writes old new piece (Err _) =

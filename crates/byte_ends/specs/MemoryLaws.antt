@@ -1,4 +1,4 @@
--- One call at an end over memory does to what is told what one call at any end does.
+-- A call of an end in memory does to the known bytes what a call of any end does.
 use Rattle.std.proofs.Common.{ℕ, List, Option, Some, None, ap}
 use Rattle.byte_ends.specs.Ends.{CountsFault, GivesFirst, TakesMore}
 use Rattle.byte_ends.specs.Memory.{ReadsMemory, SinkState, SourceState, WritesMemory}

@@ -1,4 +1,4 @@
-//! A source and a sink over bytes in memory, with chosen calls that fail.
+//! A source and a sink in memory. The caller chooses which calls fail.
 
 ghost use Rattle.std.specs.Prelude.{◌≡◌, ◌-◌, ◌<◌, ◌≤◌, ◌↔◌, ◌⊎◌, ◌++◌, [], length, Some, IsErr, IfOk, OnOk, OnErr, drop, take};
 ghost use Rattle.std.specs.List.Sorted.{IsStrictlyIncreasing};
@@ -11,14 +11,20 @@ use card_sets::Memory;
 use std::alloc::Global;
 use std::marker::Model;
 
-/// A source over bytes in memory, whose reads of the listed numbers fail.
+/// A source over bytes in memory. Its reads with the listed numbers fail.
 #[derive(Drop)]
 pub struct MemorySource {
+    /// All bytes of the source, given or left.
     bytes: Vec<u8>,
+    /// The number of bytes given.
     at: usize,
+    /// The most bytes that one read gives.
     piece: usize,
+    /// The numbers of the reads that fail, rising.
     fails: Vec<u64>,
+    /// The number of reads made.
     calls: u64,
+    /// The number of reads that failed.
     faults: u64,
 }
 
@@ -40,8 +46,8 @@ impl Model for MemorySource {
 }
 
 impl MemorySource {
-    /// A source of the bytes, which gives at most `piece` of them in one read. The reads whose
-    /// numbers, counted from 0, are in the rising list `fails` fail.
+    /// Returns a source of the bytes, which gives at most `piece` of them in one read. The reads
+    /// whose numbers, counted from 0, are in the rising list `fails` fail.
     pub fn new(bytes: Vec<u8>, piece: usize, fails: Vec<u64>) -> MemorySource
         requires some { 0 < piece }
         requires rising { IsStrictlyIncreasing fails.items }
@@ -72,7 +78,7 @@ impl Source for MemorySource {
     ghost reads = { ReadsMemory };
 
     fn read(&mut self, piece: &mut [u8]) -> Result<usize, Failed>
-        // What the trait says of each source.
+        // What the trait states of every source.
         ensures within { IfOk result (λ n. n ≤ length piece.new) }
         ensures bytes { IfOk result (λ n.
             Reads (Some self.old.left) (Some self.new.left) piece.old piece.new n) }
@@ -82,16 +88,16 @@ impl Source for MemorySource {
         ensures one { 0 < length piece.old
             → ReadsMemory self.old self.new (moved_by result piece.new) }
 
-        // Just the listed reads fail.
+        // Exactly the listed reads fail.
         ensures refused { IsErr result ↔ IsListed self.old.fails self.old.calls }
 
-        // How much is read, and what stands where in the piece.
+        // How many bytes are read, and which.
         ensures amount { IfOk result (λ n.
             n ≡ least (length piece.old) self.old.piece (length self.old.left)) }
         ensures given { IfOk result (λ n. piece.new ≡ take n self.old.left ++ drop n piece.old) }
         ensures kept { OnErr result (piece.new ≡ piece.old) }
 
-        // What the source shows then: these two clauses give all of it.
+        // What clauses see of the source after the read. These two clauses give all of it.
         ensures after { IfOk result (λ n. self.new ≡ record self.old {
           left = drop n self.old.left;
           calls = one_more self.old.calls;
@@ -117,14 +123,20 @@ impl Source for MemorySource {
     ghost tells = { read_tells };
 }
 
-/// A sink over memory with a limited room, whose writes of the listed numbers fail.
+/// A sink in memory with limited room. Its writes with the listed numbers fail.
 #[derive(Drop)]
 pub struct MemorySink {
+    /// The bytes taken.
     bytes: Vec<u8>,
+    /// The number of bytes for which there is room.
     room: usize,
+    /// The most bytes that one write takes.
     piece: usize,
+    /// The numbers of the writes that fail, rising.
     fails: Vec<u64>,
+    /// The number of writes made.
     calls: u64,
+    /// The number of writes that failed.
     faults: u64,
 }
 
@@ -148,9 +160,9 @@ impl Model for MemorySink {
 }
 
 impl MemorySink {
-    /// A sink with room for `room` bytes, which takes at most `piece` of them in one write. The
-    /// writes whose numbers, counted from 0, are in the rising list `fails` fail. All memory is
-    /// taken here, and `Memory` is answered where there isn't as much.
+    /// Returns a sink with room for `room` bytes, which takes at most `piece` of them in one write.
+    /// The writes whose numbers, counted from 0, are in the rising list `fails` fail. The call
+    /// allocates memory for all `room` bytes. `Memory` if there isn't enough.
     pub fn new(
         alloc: Global,
         room: usize,
@@ -178,7 +190,7 @@ impl MemorySink {
         })
     }
 
-    /// The bytes that were taken.
+    /// Returns the bytes that the sink has taken.
     pub fn bytes(&self) -> &[u8]
         ensures { result.now ≡ self.now.taken }
     {
@@ -194,7 +206,7 @@ impl Sink for MemorySink {
     ghost writes = { WritesMemory };
 
     fn write(&mut self, piece: &[u8]) -> Result<usize, Failed>
-        // What the trait says of each sink.
+        // What the trait states of every sink.
         ensures within { IfOk result (λ n. n ≤ length piece.now) }
         ensures some { IfOk result (λ n. 0 < length piece.now → 0 < n) }
         ensures bytes { IfOk result
@@ -205,16 +217,16 @@ impl Sink for MemorySink {
         ensures one { 0 < length piece.now
             → WritesMemory self.old self.new (moved_by result piece.now) }
 
-        // The listed writes fail, and those for which there is no room at all.
+        // The listed writes fail, and so does a write for which there is no room.
         ensures refused { IsErr result ↔
             (IsListed self.old.fails self.old.calls
             ⊎ (0 < length piece.now) × (self.old.room ≡ 0)) }
 
-        // As much is taken as the sink's piece and its room allow.
+        // A write takes what the size of a piece and the room allow.
         ensures amount { IfOk result
             (λ n. n ≡ least (length piece.now) self.old.piece self.old.room) }
 
-        // What the sink shows then: these two clauses give all of it.
+        // What clauses see of the sink after the write. These two clauses give all of it.
         ensures after { IfOk result (λ n. self.new ≡ record self.old {
           taken = self.old.taken ++ take n piece.now;
           room = self.old.room - n;

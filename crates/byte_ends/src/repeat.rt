@@ -1,4 +1,4 @@
-//! A source that gives one line again and again.
+//! A source that repeats one line.
 
 ghost use Rattle.std.specs.Prelude.{◌≡◌, ◌+◌, ◌<◌, ◌≤◌, ◌^◌, ◌++◌, length, Some, IsOk, IfOk, OnOk, OnErr, drop, take};
 ghost use Rattle.byte_ends.specs.Ends.{Reads, moved_by};
@@ -8,16 +8,19 @@ ghost use Rattle.byte_ends.specs.Repeat.{ReadsRepeat, read_tells, repeated};
 use crate::{Failed, Source};
 use std::marker::Model;
 
-/// How many bytes the line has.
+/// The length of the line in bytes.
 const LINE: u64 = 64;
 
-/// A source that gives a line of 64 bytes again and again from its start, up to a number of bytes.
-/// No read of it fails.
+/// A source that repeats a line of 64 bytes, up to a number of bytes. No read fails.
 #[derive(Drop)]
 pub struct RepeatSource {
+    /// The line.
     line: [u8; 64],
+    /// The number of bytes given.
     given: u64,
+    /// The number of bytes left.
     left: u64,
+    /// The most bytes that one read gives.
     piece: usize,
 }
 
@@ -32,7 +35,7 @@ impl Model for RepeatSource {
 }
 
 impl RepeatSource {
-    /// A source of `left` bytes, which gives at most `piece` of them in one read.
+    /// Returns a source of `left` bytes, which gives at most `piece` of them in one read.
     pub fn new(line: [u8; 64], left: u64, piece: usize) -> RepeatSource
         requires { 0 < piece }
         ensures { result ≡ record { left = repeated line 0 left; piece = piece } }
@@ -54,7 +57,7 @@ impl Source for RepeatSource {
     ghost reads = { ReadsRepeat };
 
     fn read(&mut self, piece: &mut [u8]) -> Result<usize, Failed>
-        // What the trait says of each source, and no read fails.
+        // What the trait states of every source. No read fails.
         ensures within { IfOk result (λ n. n ≤ length piece.new) }
         ensures bytes { IfOk result (λ n.
             Reads (Some self.old.left) (Some self.new.left) piece.old piece.new n) }
@@ -62,7 +65,7 @@ impl Source for RepeatSource {
         ensures one { 0 < length piece.old
             → ReadsRepeat self.old self.new (moved_by result piece.new) }
 
-        // How much is read, what stands where in the piece, and what the source shows then.
+        // How many bytes are read and which, and what clauses see of the source after the read.
         ensures amount { IfOk result (λ n.
             n ≡ least (length piece.old) self.old.piece (length self.old.left)) }
         ensures given { IfOk result (λ n. piece.new ≡ take n self.old.left ++ drop n piece.old) }
@@ -79,7 +82,7 @@ impl Source for RepeatSource {
     ghost tells = { read_tells };
 }
 
-/// Fills a piece with the bytes of a line again and again, from the one with this number on.
+/// Fills a piece with the bytes of a repeated line, beginning with the byte of number `from`.
 fn fill(piece: &mut [u8], line: &[u8; 64], from: u64)
     requires { from + length piece.old < 2 ^ 64 }
     ensures { piece.new ≡ repeated line.now from (length piece.old) }

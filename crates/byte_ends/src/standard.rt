@@ -1,5 +1,4 @@
-//! A source over std's readers and a sink over its writers, which tell no bytes to a caller that
-//! is generic in its ends.
+//! A source over std's readers and a sink over its writers. Generic callers don't know their bytes.
 
 ghost use Rattle.std.specs.Prelude.{◌≡◌, ◌<◌, ◌≤◌, length, None, IfOk, OnOk, OnErr};
 ghost use Rattle.std.specs.Io.KnownBytes.{ReadConsumes, WriteAppends};
@@ -13,7 +12,9 @@ use std::marker::Model;
 /// A source over a reader of std.
 #[derive(Drop)]
 pub struct StdSource<R: Read> {
+    /// The reader of std.
     reader: R,
+    /// The number of reads that failed.
     faults: u64,
 }
 
@@ -26,7 +27,7 @@ impl<R: Read> Model for StdSource<R> {
 }
 
 impl<R: Read> StdSource<R> {
-    /// A source of what the reader gives.
+    /// Returns a source over the reader.
     pub fn new(reader: R) -> StdSource<R>
         ensures { result ≡ record { known = R.remaining reader; faults = 0 } }
     {
@@ -41,19 +42,19 @@ impl<R: Read> Source for StdSource<R> {
 
     ghost reads = { ReadsStd };
 
-    /// One read of the reader. Each error of it is a fault.
+    /// Makes one read of the reader. Each error of the reader is a fault.
     fn read(&mut self, piece: &mut [u8]) -> Result<usize, Failed>
-        // What the trait says of each source, but that no bytes are told.
+        // What the trait states of every source, except that no bytes are known.
         ensures within { IfOk result (λ n. n ≤ length piece.new) }
         ensures fine { OnOk result (self.new.faults ≡ self.old.faults) }
         ensures fault { OnErr result (Rises self.old.faults self.new.faults) }
         ensures one { 0 < length piece.old
             → ReadsStd self.old self.new (moved_by result piece.new) }
 
-        // The count goes up by one, and stays at its type's end.
+        // The count rises by one, unless it is the greatest of its type.
         ensures counted { OnErr result (self.new.faults ≡ one_more self.old.faults) }
 
-        // Where std's reader tells its bytes these are the next of them.
+        // If std's reader exposes its bytes, the read gives the next of them.
         ensures known { ReadConsumes self.old.known self.new.known result piece.new }
     {
         match self.reader.read(piece) {
@@ -71,7 +72,9 @@ impl<R: Read> Source for StdSource<R> {
 /// A sink over a writer of std.
 #[derive(Drop)]
 pub struct StdSink<W: Write> {
+    /// The writer of std.
     writer: W,
+    /// The number of writes that failed.
     faults: u64,
 }
 
@@ -84,7 +87,7 @@ impl<W: Write> Model for StdSink<W> {
 }
 
 impl<W: Write> StdSink<W> {
-    /// A sink that gives to the writer.
+    /// Returns a sink over the writer.
     pub fn new(writer: W) -> StdSink<W>
         ensures { result ≡ record { known = W.contents writer; faults = 0 } }
     {
@@ -99,10 +102,10 @@ impl<W: Write> Sink for StdSink<W> {
 
     ghost writes = { WritesStd };
 
-    /// One write of the writer. Each error of it is a fault, and so is a write of no byte of a
-    /// piece that isn't empty.
+    /// Makes one write to the writer. Each error of the writer is a fault, and so is a write that
+    /// takes no byte of a piece that isn't empty.
     fn write(&mut self, piece: &[u8]) -> Result<usize, Failed>
-        // What the trait says of each sink, but that no bytes are told.
+        // What the trait states of every sink, except that no bytes are known.
         ensures within { IfOk result (λ n. n ≤ length piece.now) }
         ensures some { IfOk result (λ n. 0 < length piece.now → 0 < n) }
         ensures fine { OnOk result (self.new.faults ≡ self.old.faults) }
@@ -110,10 +113,10 @@ impl<W: Write> Sink for StdSink<W> {
         ensures one { 0 < length piece.now
             → WritesStd self.old self.new (moved_by result piece.now) }
 
-        // The count goes up by one, and stays at its type's end.
+        // The count rises by one, unless it is the greatest of its type.
         ensures counted { OnErr result (self.new.faults ≡ one_more self.old.faults) }
 
-        // Where std's writer tells its bytes these come after them.
+        // If std's writer exposes its bytes, the write appends to them.
         ensures known { WriteAppends self.old.known self.new.known result piece.now }
     {
         match self.writer.write(piece) {

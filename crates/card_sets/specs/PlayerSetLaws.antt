@@ -1,4 +1,4 @@
--- What the number of a set of players, its test and its lists have to do with one another.
+-- How the number of a set of players relates to its test and its lists.
 use Rattle.std.proofs.Common.{◌≡◌, ℕ, zero, suc, ◌+◌, ◌-◌, ◌*◌, ◌/◌, ◌%◌, ◌<◌, ◌≤◌, ◌^◌, List, [], ◌∷◌, ◌++◌, refl, sym, ap, ◌∙◌, Bool, true, false, ◌==◌, ◌&&◌, ◌||◌, ◌⊎◌, not, Some, arith, subst, length, append-nil, inl, inr}
 use Rattle.std.specs.Prelude.{bit_and, bit_or, count_ones, min, nat_le, nat_lt, if◌then◌else◌, slice_get}
 use Rattle.std.specs.Int.{bit_at, w16, trailing_zeros}
@@ -10,7 +10,7 @@ use Rattle.std.proofs.Math.Nat.{add-mul-div_left, add-mul-mod_self_left, mod-eq_
 use Rattle.card_sets.specs.Bits.{bits-below, length-below}
 use Rattle.card_sets.specs.PlayerSets.{has_player, players_where, with_player, without_player, players_from, players_in, seats_in, hands_below, set_of_players, AreBelow}
 
--- two sets by tests that agree
+-- two tests that agree below n make the same set
 pub players_where-same : (f g : ℕ → Bool) (n : ℕ) → ((p : ℕ) → p < n → f p ≡ g p) → players_where f n ≡ players_where g n
 players_where-same f g zero h = refl
 players_where-same f g (suc n) h =
@@ -26,7 +26,7 @@ pub players_where-small : (f : ℕ → Bool) (n : ℕ) → players_where f n < 2
 players_where-small f zero = omega arith
 players_where-small f (suc n) = small_more (f n) n (players_where f n) (players_where-small f n)
 
--- a set made from a test has the players that pass it
+-- a set made from a test has exactly the players that pass it
 high_bit : (n x : ℕ) → x < 2 ^ n → bit_at (x + 2 ^ n) n ≡ 1
 high_bit n x h =
     let d : (1 * 2 ^ n + x) / 2 ^ n ≡ 1 = div-mul-add 1 (2 ^ n) x h in
@@ -60,7 +60,7 @@ has_player-where f (suc n) p l = elim (cases_eq p n) [
   | inr ne ↦ ap (λ b. b == 1) (bit_more (f n) n p (players_where f n) (players_where-small f n) (omega arith)) ∙ has_player-where f n p (omega arith)
 ]
 
--- a set of n bits has nobody from n on
+-- a set of n bits has no player from n on
 pub has_player-above : (set n p : ℕ) → set < 2 ^ n → n ≤ p → has_player set p ≡ false
 has_player-above set n p small h = rw (bit_at_above set n p small h) refl
 
@@ -76,11 +76,11 @@ bit_bool x (suc (suc y)) h i e = absurd (omega arith)
 pub same_players : (n a b : ℕ) → a < 2 ^ n → b < 2 ^ n → ((p : ℕ) → p < n → has_player a p ≡ has_player b p) → a ≡ b
 same_players n a b small least h = same_from_bits_below n a b small least (λ p l. bit_bool (bit_at a p) (bit_at b p) (bit_at-lt a p) (bit_at-lt b p) (h p l))
 
--- a set is that of the players whom it has
+-- a set equals the set of the players that it has
 pub players_where-has : (set n : ℕ) → set < 2 ^ n → players_where (has_player set) n ≡ set
 players_where-has set n small = same_players n (players_where (has_player set) n) set (players_where-small (has_player set) n) small (λ p l. has_player-where (has_player set) n p l)
 
--- a set of sixteen bits that has the players who pass a test
+-- a set of sixteen bits that has exactly the players that pass a test
 pub set_where : (f : ℕ → Bool) (set : ℕ) → set < 2 ^ 16 → ((p : ℕ) → p < 16 → has_player set p ≡ f p) → set ≡ players_where f 16
 set_where f set small h = sym (players_where-has set 16 small) ∙ players_where-same (has_player set) f 16 h
 
@@ -95,7 +95,7 @@ pow_le a b h =
     let grown : 2 ^ a ≤ 2 ^ a * 2 ^ (b - a) = pow_grows (2 ^ a) (2 ^ (b - a)) (pow_some (b - a)) in
     rw (e, split) grown
 
--- one player more in a set made from a test
+-- if the next player passes the test, the set has that player too
 pub with_player-next : (f : ℕ → Bool) (n : ℕ) → n < 16 → f n ≡ true → with_player (players_where f n) n ≡ players_where f (n + 1)
 unfolding with_player
 with_player-next f n l pass =
@@ -113,14 +113,14 @@ with_player-next f n l pass =
       ]))
     ]
 
--- and a player who doesn't pass
+-- if the next player fails the test, the set stays
 pub players_where-skip : (f : ℕ → Bool) (n : ℕ) → f n ≡ false → players_where f n ≡ players_where f (n + 1)
 players_where-skip f n fail =
     let up : n + 1 ≡ suc n = omega arith in
     let none : players_where f n + 0 ≡ players_where f n = omega arith in
     rw (up, fail) (sym none)
 
--- the bit of a player set in a number
+-- the bit that adds a player
 pub with_bit : (set p : ℕ) → set < 2 ^ 16 → p < 16 → bit_or set (1 * 2 ^ p % 2 ^ 16) ≡ with_player set p
 unfolding with_player
 with_bit set p small l =
@@ -132,7 +132,7 @@ with_bit set p small l =
       | inr ne ↦ (let f : (q == p) ≡ false = grind arith in rw (f, bit_at_set_other w16 set p l q ne) refl)
     ]
 
--- the lists: of sets that agree, in two parts, and of nobody
+-- the lists of players: of sets that agree, in two parts, and of the empty set
 pub players_from-same : (a b p n : ℕ) → ((q : ℕ) → p ≤ q → q < p + n → has_player a q ≡ has_player b q) → players_from a p n ≡ players_from b p n
 players_from-same a b p zero h = refl
 players_from-same a b p (suc n) h =
@@ -168,7 +168,7 @@ hands_below-from set (suc n) =
     let at : 0 + n ≡ n = omega arith in
     rw (hands_below-from set n) (sym (ap (players_from set 0) up ∙ players_from-add set 0 n 1 ∙ rw at refl))
 
--- the bit of a player cleared in a number
+-- the bit that removes a player
 pub without_bit : (set p : ℕ) → set < 2 ^ 16 → p < 16 → bit_and set (65535 - 1 * 2 ^ p % 2 ^ 16) ≡ without_player set p
 unfolding without_player
 without_bit set p small l =
@@ -181,7 +181,7 @@ without_bit set p small l =
       | inr ne ↦ (let f : (q == p) ≡ false = grind arith in rw (f, bit_at_clear_other w16 set p l q m ne) refl)
     ]
 
--- whom a set without a player has
+-- the players of a set without one of them
 pub has_player-without : (set p q : ℕ) → q < 16 → has_player (without_player set p) q ≡ (not (q == p) && has_player set q)
 unfolding without_player
 has_player-without set p q l = has_player-where (λ r. not (r == p) && has_player set r) 16 q l
@@ -190,7 +190,7 @@ pub has_player-with : (set p q : ℕ) → q < 16 → has_player (with_player set
 unfolding with_player
 has_player-with set p q l = has_player-where (λ r. (r == p) || has_player set r) 16 q l
 
--- nobody is in the set 0, and the first of another is that of its lowest bit
+-- the set 0 has no player, and the first player of any other set is that of its lowest bit
 pub players_in-none : (set : ℕ) → set ≡ 0 → players_in set ≡ []
 unfolding players_in
 players_in-none set e = rw e (players_from-none 0 0 16 (λ q l m. rw (bit_at-zero q) refl))
@@ -199,7 +199,7 @@ and-false : (b : Bool) → (b && false) ≡ false
 and-false true = refl
 and-false false = refl
 
--- the players are the lowest and those of the set without him
+-- the players of a set are the lowest one and then the players without that one
 players_in-lowest : (set t : ℕ) → t < 16 → has_player set t ≡ true → ((i : ℕ) → i < t → has_player set i ≡ false) → players_in set ≡ t ∷ players_in (without_player set t)
 unfolding players_in
 players_in-lowest set t l here none =
@@ -247,7 +247,7 @@ players_in-first set p small e = elim (cases_eq set 0) [
     one : (t : ℕ) → players_in set ≡ t ∷ players_in (without_player set t) → players_in set ≡ p ∷ players_in (without_player set p)
     one t all = (let same : t ≡ p = first_is (players_in set) (players_in (without_player set t)) t all e in all ∙ rw same refl)
 
--- how many there are
+-- the number of players is the number of ones
 pub length-players_in : (set : ℕ) → set < 2 ^ 16 → length (players_in set) ≡ count_ones set
 unfolding players_in
 length-players_in set small =
@@ -338,7 +338,7 @@ players_in-below set n l =
     low : (q : ℕ) → q < n → has_player (set % 2 ^ n) q ≡ has_player set q
     low q a = (let whole : bit_and set (2 ^ n - 1) ≡ set % 2 ^ n = low_mask set n in ap (λ k. has_player k q) (sym whole) ∙ rw (bit_at_and set (2 ^ n - 1) q, bit_at_ones n q a) (lesser (bit_at set q) (bit_at-lt set q)))
 
--- the players of a set that has nobody else
+-- the players of a set of hands alone
 pub players_in-hands : (set n : ℕ) → n < 16 → set < 2 ^ n → players_in set ≡ hands_below set n
 players_in-hands set n l small = (let same : set % 2 ^ n ≡ set = mod-eq_of_lt small in ap players_in (sym same) ∙ players_in-below set n l)
 
@@ -363,7 +363,7 @@ AreBelow-hands_below set n =
     let P : ℕ → Type 0 = λ k. AreBelow k (players_from set 0 n) in
     rw (hands_below-from set n) (subst P at (AreBelow-players_from set 0 n))
 
--- who is in the list of a set
+-- whether a player is in the list of a set
 nobody : (set p q : ℕ) (a b : Bool) → nat_le p q ≡ a → nat_lt q (p + 0) ≡ b → false ≡ (a && b && has_player set q)
 nobody set p q false b ea eb = refl
 nobody set p q true false ea eb = refl

@@ -1,4 +1,5 @@
--- Sets of players, as numbers: bit p for player p. A player's number is that of his seat, 1 to 10, or of his hand in a deal, 0 to 9.
+-- Sets of players, as numbers: bit p for player p. A player's number is their seat, 1 to 10, or their hand in a deal, 0
+-- to 9.
 use Rattle.std.specs.Prelude.{ℕ, zero, suc, ◌+◌, ◌^◌, ◌<◌, ◌==◌, ◌||◌, ◌&&◌, not, Bool, if◌then◌else◌, List, [], ◌∷◌, nat_lt}
 use Rattle.std.specs.List.{list_all, sum_by}
 use Rattle.std.specs.Int.{bit_at}
@@ -13,7 +14,7 @@ abbrev pub players_where : (ℕ → Bool) → ℕ → ℕ
 players_where test zero = 0
 players_where test (suc n) = players_where test n + (if test n then 2 ^ n else 0)
 
--- the set with a player too
+-- the set with one more player
 unfoldable pub with_player : ℕ → ℕ → ℕ
 with_player set player = players_where (λ p. (p == player) || has_player set p) 16
 
@@ -21,7 +22,7 @@ with_player set player = players_where (λ p. (p == player) || has_player set p)
 unfoldable pub without_player : ℕ → ℕ → ℕ
 without_player set player = players_where (λ p. not (p == player) && has_player set p) 16
 
--- the players of a set among n, from one on, rising
+-- the players of a set among the n numbers from p on, rising
 abbrev pub players_from : ℕ → ℕ → ℕ → List ℕ
 players_from set p zero = []
 players_from set p (suc n) = if has_player set p then p ∷ players_from set (p + 1) n else players_from set (p + 1) n
@@ -30,7 +31,7 @@ players_from set p (suc n) = if has_player set p then p ∷ players_from set (p 
 unfoldable pub players_in : ℕ → List ℕ
 players_in set = players_from set 0 16
 
--- the seats of a set, rising: those of the table alone
+-- the seats of a set, 1 to 10, rising
 abbrev pub seats_in : ℕ → List ℕ
 seats_in set = players_from set 1 10
 
@@ -38,7 +39,7 @@ seats_in set = players_from set 1 10
 abbrev pub hands_below : ℕ → ℕ → List ℕ
 hands_below set n = cards_below (has_player set) n
 
--- the hands of a set, rising; there are ten at the most
+-- the hands of a set, rising; there are at most ten
 abbrev pub hands_of : ℕ → List ℕ
 hands_of set = hands_below set 10
 
@@ -46,7 +47,7 @@ hands_of set = hands_below set 10
 abbrev pub set_of_players : List ℕ → ℕ
 set_of_players players = sum_by (λ player. 2 ^ player) players
 
--- no set has a hand that there isn't
+-- every hand of each set is below a count
 abbrev pub all_within : ℕ → List ℕ → Bool
 all_within count sets = list_all (λ set. nat_lt set (2 ^ count)) sets
 

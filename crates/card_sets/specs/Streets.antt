@@ -48,7 +48,7 @@ abbrev pub street_after : Street → List Street → Option Street
 street_after street [] = None
 street_after street (first ∷ others) = if is_street street first then slice_get others 0 else street_after street others
 
--- the street that comes next in a game: the first where none has begun, and none after the last
+-- the next street of a game: the first if none has begun, and none after the last
 abbrev pub next_street : Game → Option Street → Option Street
 next_street game None = slice_get (streets_of game) 0
 next_street game (Some street) = street_after street (streets_of game)
@@ -62,7 +62,7 @@ is_last_of street (_ ∷ second ∷ others) = is_last_of street (second ∷ othe
 abbrev pub is_last : Game → Street → Bool
 is_last game street = is_last_of street (streets_of game)
 
--- how many cards come on the board with a street, in a game that has a board
+-- the number of cards that a street adds to the board, in a game that has a board
 abbrev pub cards_of_street : Street → ℕ
 cards_of_street Flop = 3
 cards_of_street Turn = 1
@@ -72,7 +72,7 @@ cards_of_street _ = 0
 abbrev pub board_count : Game → Street → ℕ
 board_count game street = if has_board game then cards_of_street street else 0
 
--- the cards that a street deals to each player: all at once on the first, or street by street in a stud game
+-- the cards that a street deals to each player: all on the first street, or street by street in a stud game
 abbrev pub dealt_at_once : ℕ → Street → Dealt
 dealt_at_once size First = record { down = size; up = 0 }
 dealt_at_once size _ = record { down = 0; up = 0 }
@@ -94,9 +94,9 @@ dealt_by family.TripleDraw size street = dealt_at_once size street
 abbrev pub dealt_on : Game → Street → Dealt
 dealt_on game street = dealt_by (family_of game) (own_size game) street
 
--- all streets of a game together deal all cards of a player, and all of the board
+-- the streets of a game together deal all cards of a player and all of the board
 pub record DealAll (game : Game) : Type 0 where
   pub own : sum_by (λ street. (dealt_on game street).down + (dealt_on game street).up) (streets_of game) ≡ own_size game
   pub board : sum_by (λ street. board_count game street) (streets_of game) ≡ board_size game
-  -- and its draws are the streets on which there is one
+  -- and its draws are the streets on which players draw
   pub draws : count_by is_draw_street (streets_of game) ≡ draw_count game

@@ -1,10 +1,11 @@
-//! Lists whose room no clause sees.
+//! Lists whose capacity no clause sees.
 
 use std::marker::Model;
 
-/// Some items, in their order. Clauses see the list of them.
+/// A list of items. Clauses see the list alone, and not its capacity.
 #[derive(Drop)]
 pub struct Items<T> {
+    /// The items, in their order.
     items: Vec<T>,
 }
 
@@ -22,14 +23,14 @@ impl<T> Model for Items<T> {
 impl<T> Items<T> {
     ghost use Rattle.std.specs.Prelude.{◌≡◌};
 
-    /// Of these.
+    /// Wraps the list.
     pub fn of(items: Vec<T>) -> Items<T>
         ensures { result ≡ items.items }
     {
         Items { items }
     }
 
-    /// The items.
+    /// Returns the items.
     pub fn items(&self) -> &[T]
         ensures { result.now ≡ self.now }
     {

@@ -6,10 +6,11 @@ ghost use Rattle.card_sets.specs.PlayerSets.{has_player, players_where, with_pla
 
 use std::marker::Model;
 
-/// A set of players, each by the number of his seat at the table, 1 to 10, or by that of the hand that
-/// he holds in a deal, 0 to 9. Clauses see it as the number with the bits of its players.
+/// A set of players, each by the number of their seat at the table, 1 to 10, or of their hand in a
+/// deal, 0 to 9. Clauses see it as the number with a bit for each player.
 #[derive(Clone, Copy)]
 pub struct PlayerSet {
+    /// Bit p for player p.
     bits: u16,
 }
 
@@ -26,7 +27,7 @@ impl Model for PlayerSet {
 }
 
 impl PlayerSet {
-    /// The set of nobody.
+    /// Returns the empty set.
     #[inline]
     pub fn empty() -> PlayerSet
         ensures { result ≡ 0 }
@@ -34,7 +35,7 @@ impl PlayerSet {
         PlayerSet { bits: 0 }
     }
 
-    /// The set of a number: bit p for player p.
+    /// Returns the set with a player p for each bit p of a number.
     #[inline]
     pub fn of(bits: u16) -> PlayerSet
         ensures { result ≡ bits }
@@ -42,7 +43,7 @@ impl PlayerSet {
         PlayerSet { bits }
     }
 
-    /// The number of the set: bit p for player p.
+    /// Returns the number with a bit p for each player p.
     #[inline]
     pub fn bits(self) -> u16
         ensures { result ≡ self }
@@ -50,7 +51,7 @@ impl PlayerSet {
         self.bits
     }
 
-    /// Whether the player is in the set.
+    /// Returns whether the player is in the set.
     #[inline]
     pub fn has(self, player: u8) -> bool
         requires { player < 16 }
@@ -59,7 +60,7 @@ impl PlayerSet {
         (self.bits >> player) & 1 == 1
     }
 
-    /// The set with the player too.
+    /// Returns the set with one more player.
     #[inline]
     pub fn with(self, player: u8) -> PlayerSet
         requires { player < 16 }
@@ -70,7 +71,7 @@ impl PlayerSet {
         }
     }
 
-    /// The set without the player.
+    /// Returns the set without the player.
     #[inline]
     pub fn without(self, player: u8) -> PlayerSet
         requires { player < 16 }
@@ -81,7 +82,7 @@ impl PlayerSet {
         }
     }
 
-    /// The first player. None exactly where there is nobody.
+    /// Returns the lowest player. `None` exactly if the set is empty.
     #[inline]
     pub fn first(self) -> Option<u8>
         ensures value { result ≡ slice_get (players_in self) 0 }
@@ -94,7 +95,7 @@ impl PlayerSet {
         Some(self.bits.trailing_zeros() as u8)
     }
 
-    /// How many players there are.
+    /// Returns the number of players.
     #[inline]
     pub fn count(self) -> u8
         ensures value { result ≡ length (players_in self) }
@@ -103,7 +104,7 @@ impl PlayerSet {
         self.bits.count_ones() as u8
     }
 
-    /// Those who sit at the table: the seats 1 to 10 of the set.
+    /// Returns the players who sit at the table: the seats 1 to 10 of the set.
     #[inline]
     pub fn seats(self) -> PlayerSet
         ensures value { result ≡ players_where (λ p. nat_lt 0 p && has_player self p) 11 }
@@ -114,7 +115,7 @@ impl PlayerSet {
         }
     }
 
-    /// Those whose numbers are below one: the hands of a deal that has so many.
+    /// Returns the players below a number: the hands of a deal that has `count` hands.
     #[inline]
     pub fn below(self, count: u8) -> PlayerSet
         requires { count < 16 }
@@ -126,7 +127,7 @@ impl PlayerSet {
         }
     }
 
-    /// The set of the players below a number that pass a test.
+    /// Returns the set of the players below `end` that pass a test.
     #[inline]
     pub fn passing<F: Fn(u8) -> bool>(end: u8, test: F) -> PlayerSet
         requires few { end ≤ 16 }
@@ -145,7 +146,7 @@ impl PlayerSet {
         set
     }
 
-    /// The players, rising.
+    /// Returns the players, rising.
     #[inline]
     pub fn each(self) -> Players
         ensures { result.rest ≡ self }
@@ -157,6 +158,7 @@ impl PlayerSet {
 /// The players of a set, rising.
 #[derive(Drop)]
 pub struct Players {
+    /// The players left.
     rest: PlayerSet,
 }
 

@@ -28,9 +28,9 @@ pub enum Street {
     Draw,
     /// The first of three draws.
     FirstDraw,
-    /// The second.
+    /// The second of three draws.
     SecondDraw,
-    /// The third.
+    /// The third of three draws.
     ThirdDraw,
     /// The marker of the showdown.
     ShowDown,
@@ -38,12 +38,12 @@ pub enum Street {
     Summary,
 }
 
-/// How many cards a street deals to each player.
+/// The cards that a street deals to each player.
 #[derive(Clone, Copy)]
 pub struct Dealt {
-    /// Those that he alone sees.
+    /// The cards that only the player sees.
     pub down: u8,
-    /// Those that all see.
+    /// The cards that everyone sees.
     pub up: u8,
 }
 
@@ -70,14 +70,14 @@ const TRIPLE_DRAW_STREETS: &[Street] = &[
     Street::ThirdDraw,
 ];
 
-/// Whether two streets are the same.
+/// Returns whether two streets are the same.
 fn is_street(street: Street, other: Street) -> bool
     ensures { result ≡ is_street street other }
 {
     street == other
 }
 
-/// The first of some streets.
+/// Returns the first of some streets.
 fn first_of(streets: &[Street]) -> Option<Street>
     ensures { result ≡ slice_get streets.now 0 }
 {
@@ -87,7 +87,7 @@ fn first_of(streets: &[Street]) -> Option<Street>
     }
 }
 
-/// The street after one in a list of streets.
+/// Returns the street after one in a list of streets.
 fn street_after(street: Street, streets: &[Street]) -> Option<Street>
     ensures { result ≡ street_after street streets.now }
 {
@@ -102,7 +102,7 @@ fn street_after(street: Street, streets: &[Street]) -> Option<Street>
     }
 }
 
-/// Whether a street is the last of a list of streets.
+/// Returns whether a street is the last of a list of streets.
 fn is_last_of(street: Street, streets: &[Street]) -> bool
     ensures { result ≡ is_last_of street streets.now }
 {
@@ -113,7 +113,7 @@ fn is_last_of(street: Street, streets: &[Street]) -> bool
     }
 }
 
-/// What is dealt on the first street where all own cards are dealt at once.
+/// Returns what a street deals if all own cards are dealt at once, on the first street.
 fn dealt_at_once(size: u8, street: Street) -> Dealt
     ensures { result ≡ dealt_at_once size street }
 {
@@ -123,7 +123,7 @@ fn dealt_at_once(size: u8, street: Street) -> Dealt
     }
 }
 
-/// What a street of a stud game deals.
+/// Returns what a street of a stud game deals.
 fn dealt_in_stud(street: Street) -> Dealt
     ensures { result ≡ dealt_in_stud street }
 {
@@ -135,7 +135,7 @@ fn dealt_in_stud(street: Street) -> Dealt
     }
 }
 
-/// How many cards come on a board with a street.
+/// Returns the number of cards that a street adds to a board.
 fn cards_of_street(street: Street) -> u8
     ensures { result ≡ cards_of_street street }
 {
@@ -147,7 +147,7 @@ fn cards_of_street(street: Street) -> u8
 }
 
 impl Street {
-    /// Whether players discard and draw on the street.
+    /// Returns whether players discard and draw on the street.
     pub fn is_draw(self) -> bool
         ensures { result ≡ is_draw_street self }
     {
@@ -159,7 +159,7 @@ impl Street {
 }
 
 impl Game {
-    /// The streets of the game on which there is betting, in their order.
+    /// Returns the streets of the game on which there is betting, in their order.
     pub fn streets(self) -> &'static [Street]
         ensures { result.now ≡ streets_of self }
     {
@@ -171,8 +171,8 @@ impl Game {
         }
     }
 
-    /// The street that comes next, the first of all where none has begun. None after the last, and
-    /// after what isn't a street of the game.
+    /// Returns the next street, or the first of all if none has begun. `None` after the last street,
+    /// and after a street that isn't one of the game.
     pub fn next_street(self, street: Option<Street>) -> Option<Street>
         ensures { result ≡ next_street self street }
     {
@@ -182,14 +182,14 @@ impl Game {
         }
     }
 
-    /// Whether a street is the last of the game.
+    /// Returns whether a street is the last of the game.
     pub fn is_last(self, street: Street) -> bool
         ensures { result ≡ is_last self street }
     {
         is_last_of(street, self.streets())
     }
 
-    /// How many cards come on the board with a street.
+    /// Returns the number of cards that a street adds to the board.
     pub fn board_count(self, street: Street) -> u8
         ensures value { result ≡ board_count self street }
         ensures bound { result ≤ 3 }
@@ -200,8 +200,8 @@ impl Game {
         }
     }
 
-    /// How many cards a street deals to each player. What a draw gives isn't among them: it is as many
-    /// as the player discards.
+    /// Returns the cards that a street deals to each player, without the cards that players draw. A
+    /// draw gives each player the number of cards that they discard.
     pub fn dealt_on(self, street: Street) -> Dealt
         ensures { result ≡ dealt_on self street }
     {
@@ -215,7 +215,8 @@ impl Game {
     }
 }
 
-/// The streets of a game together deal all cards of a player, and all of the board, and have its draws.
+/// The streets of a game together deal all cards of a player and all of the board, and contain its
+/// draws.
 pub fn law_streets_deal_all()
     ensures { (game : Game) → DealAll game }
 {}

@@ -8,13 +8,16 @@ ghost use Rattle.card_sets.specs.Choose.{choose};
 use card_sets::CardSet;
 use std::marker::Model;
 
-/// The most fives that a game allows: six of two own cards, each with ten of three of the board.
+/// The most fives that a game allows: each of six pairs of own cards with each of ten threes of the
+/// board.
 const MOST: usize = 60;
 
-/// Up to sixty fives. Clauses see it as their list.
+/// A list of up to sixty fives. Clauses see it as a list.
 #[derive(Drop)]
 pub(crate) struct FiveList {
+    /// The fives, followed by unused sets.
     fives: [CardSet; MOST],
+    /// The number of fives.
     count: u8,
 }
 
@@ -47,7 +50,7 @@ impl FiveList {
         self.count += 1;
     }
 
-    /// The five at a place. None exactly after the last.
+    /// Returns the five at a place. `None` exactly if the place is after the last five.
     pub(crate) fn get(&self, place: u8) -> Option<CardSet>
         ensures value { result ≡ slice_get self.now place }
         ensures few { length self.now ≤ 60 }
@@ -60,7 +63,8 @@ impl FiveList {
     }
 }
 
-/// Adds each set of some cards and all the taken ones and so many of the rest, which lie above them.
+/// Adds each set that has the given cards, all taken cards, and `missing` cards of the rest. The
+/// cards of the rest lie above the taken ones.
 pub(crate) fn push_choices(
     with: CardSet,
     taken: CardSet,
@@ -85,7 +89,7 @@ pub(crate) fn push_choices(
     push_choices(with, taken, others, missing, list);
 }
 
-/// Adds the union of a set with each of some others.
+/// Adds the union of a set with each set of a list.
 fn push_unions(with: CardSet, others: &FiveList, list: &mut FiveList)
     requires room { length list.old + length others.now ≤ 60 }
     ensures { list.new ≡ list.old ++ map (λ other. union with other) others.now }
@@ -98,8 +102,8 @@ fn push_unions(with: CardSet, others: &FiveList, list: &mut FiveList)
     }
 }
 
-/// Adds each set of all the taken cards and so many of the rest, which lie above them, with each of
-/// some threes.
+/// Adds each set that has all taken cards, `missing` cards of the rest, and the cards of one of the
+/// threes. The cards of the rest lie above the taken ones.
 pub(crate) fn push_pairs(
     taken: CardSet,
     rest: CardSet,

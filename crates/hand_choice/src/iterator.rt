@@ -1,4 +1,4 @@
-//! The fives that are still to come.
+//! The iterator over fives.
 
 ghost use Rattle.std.specs.Prelude.{◌≡◌};
 ghost use Rattle.std.specs.Iterator.{YieldsFirst, item_count};
@@ -7,10 +7,12 @@ use crate::choices::FiveList;
 use card_sets::CardSet;
 use std::marker::Model;
 
-/// Some fives, one after the other. Clauses see it as the list of those that are still to come.
+/// An iterator over fives. Clauses see it as the list of fives left.
 #[derive(Drop)]
 pub struct Fives {
+    /// All fives.
     list: FiveList,
+    /// The number of fives given.
     given: u8,
 }
 
@@ -23,7 +25,7 @@ impl Model for Fives {
 }
 
 impl Fives {
-    /// All of a list.
+    /// Returns an iterator over all fives of a list.
     #[inline]
     pub(crate) fn of(list: FiveList) -> Fives
         ensures { result ≡ list }

@@ -1,8 +1,8 @@
-//! What holds of the fives that a game allows.
+//! A law about the fives that a game allows.
 
 ghost use Rattle.hand_choice.specs.AllowedFives.{AllowsFives};
 
-/// Each five that a game allows is a set of five cards.
+/// Every five that a game allows has five cards.
 pub fn law_fives_have_five_cards()
     ensures { AllowsFives }
 {}

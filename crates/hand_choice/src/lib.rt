@@ -1,15 +1,20 @@
-//! The fives that may be shown down, one after the other.
+//! The fives that may be shown down, one after another.
 //!
-//! [`fives`] lists what a game allows of full own cards and a full board: any five of all of them, or in
-//! Omaha two of the own cards with three of the board. None is missing and none comes twice, by its
-//! clause: the list is the definition's. It is in the order of the cards, and says nothing of worth.
+//! [`fives`] lists the fives that a game allows for full own cards and a full board: any five cards, or
+//! in
+//! Omaha two own cards and three of the board. By its clause the list equals that of the definition, so
+//! no
+//! five is missing and none comes twice. The fives are in the order of their cards, not of their worth.
 //!
-//! A list is made at once, in a fixed room for sixty sets, and then handed out: 21 fives of seven cards,
-//! 60 of Omaha's nine. Each least card of the rest is taken into the choice first and then left out, so
-//! that what is taken always lies below the rest. Nothing takes memory.
+//! The whole list is made first, in an array of sixty sets: 21 fives of seven cards, 60 of Omaha's nine.
+//! The
+//! least card of the rest is first taken into the choice and then left out. So the taken cards always
+//! lie
+//! below the rest. Nothing allocates memory.
 //!
-//! It is for who wants each five that a player may show, and of Omaha's flushes for the few that there
-//! are. To rank a hand no fives are listed: `rank_high`, `rank_low` and `omaha_ranks` have shorter ways.
+//! Use it if you need each five that a player may show, or the few fives of an Omaha flush. To rank a
+//! hand,
+//! `rank_high`, `rank_low`, and `omaha_ranks` have shorter ways, which list no fives.
 #![tactic(auto)]
 
 mod choices;

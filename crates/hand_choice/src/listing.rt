@@ -35,7 +35,7 @@ pub fn two_and_three(own: CardSet, board: CardSet) -> Fives
     Fives::of(list)
 }
 
-/// The own cards and the board of a game in which any five make a hand.
+/// Returns the own cards and the board of a game in which any five make a hand.
 fn all_cards(own: CardSet, board: CardSet) -> CardSet
     requires seven { length own + length board ≤ 7 }
     requires apart { IsTrue (apart own board) }

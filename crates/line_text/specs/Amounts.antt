@@ -1,4 +1,4 @@
--- Amounts of money and of chips, as a text begins with them.
+-- Amounts of money and of chips at the beginning of a text.
 use Rattle.std.specs.Prelude.{ℕ, ◌+◌, ◌*◌, ◌-◌, ◌==◌, ◌&&◌, not, nat_le, nat_lt, nat_eq, Bool, true, false, if◌then◌else◌, List, [], ◌∷◌, codes, take, drop, fold, Option, Some, None, Result, Ok, Err}
 use Rattle.std.specs.List.{prefix_len, starts_with}
 use Rattle.std.specs.Char.{is_ascii_digit}
@@ -6,14 +6,14 @@ use Rattle.line_text.specs.declared.amounts.Amount.{Amount}
 use Rattle.line_text.specs.declared.amounts.AmountFault.{AmountFault}
 use Rattle.line_text.specs.declared.amounts.AmountFault.TheVariants.{NotAmount, TooLarge}
 
--- how many digits begin a text, and the number that they say
+-- the number of digits at the beginning of a text, and their value
 abbrev pub digit_count : List ℕ → ℕ
 digit_count text = prefix_len is_ascii_digit text
 
 abbrev pub number_of : List ℕ → ℕ
 number_of digits = fold (λ number digit. number * 10 + (digit - 48)) 0 digits
 
--- how many bytes the currency sign takes that a text begins with: of a dollar, of a euro, of a pound
+-- the length of the currency sign at the beginning of a text: of a dollar, a euro, or a pound
 abbrev pub sign_length : List ℕ → ℕ
 sign_length text =
     if starts_with nat_eq text (codes "$") then 1 else
@@ -24,16 +24,20 @@ sign_length text =
 abbrev pub has_point : List ℕ → Bool
 has_point text = starts_with nat_eq text (codes ".")
 
--- an amount as it is written: whether it has a sign or a point, what stands before the point and
--- after it, and how many bytes it takes
+-- an amount as it is written
 pub record Written : Type 0 where
+  -- whether it has a sign or a point
   pub marked : Bool
+  -- whether it has a point
   pub pointed : Bool
+  -- the number before the point
   pub whole : ℕ
+  -- the number after the point
   pub cents : ℕ
+  -- the length in bytes
   pub length : ℕ
 
--- the digits, without a point or with a point and exactly two digits
+-- the digits, either without a point, or with a point and exactly two digits after it
 abbrev pub written_digits : ℕ → List ℕ → Option Written
 written_digits sign text =
     let count = digit_count text in
@@ -46,7 +50,7 @@ written_digits sign text =
     Some (record { marked = true; pointed = true; whole = whole; cents = number_of (take 2 (drop 1 behind)); length = sign + count + 3 })
     else None))
 
--- the amount that a text begins with, if it begins with one
+-- the amount at the beginning of a text, if there is one
 unfoldable pub written : List ℕ → Option Written
 written text = written_digits (sign_length text) (drop (sign_length text) text)
 
@@ -54,11 +58,11 @@ written text = written_digits (sign_length text) (drop (sign_length text) text)
 abbrev pub greatest : ℕ
 greatest = 999999999999999
 
--- what an amount counts to in hundredths, and in whole chips
+-- the amount in hundredths, or in whole chips
 abbrev pub units_of : Bool → Written → ℕ
 units_of hundredths w = if hundredths then w.whole * 100 + w.cents else w.whole
 
--- the amount at a place, as a hand counts: chips have no point
+-- the amount at a place, in the units of the hand: chips have no point
 abbrev pub limited : ℕ → Bool → Written → Result Amount AmountFault
 limited at hundredths w =
     if w.pointed && not hundredths then Err NotAmount else

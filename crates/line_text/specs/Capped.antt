@@ -1,9 +1,9 @@
--- What the code keeps of an amount as it is written: numbers up to the greatest of 64 bits.
+-- What the code keeps of an amount as it is written: numbers up to 2^64 - 1.
 use Rattle.std.specs.Prelude.{ℕ, ◌+◌, ◌*◌, ◌-◌, ◌^◌, min, if◌then◌else◌, Bool}
 use Rattle.line_text.specs.declared.amounts.WrittenAmount.{WrittenAmount}
 use Rattle.line_text.specs.Amounts.{Written}
 
--- an amount whose numbers stand as the greatest of 64 bits where they are greater
+-- an amount in which greater numbers are replaced by 2^64 - 1
 abbrev pub capped : Written → WrittenAmount
 capped w = record {
   marked = w.marked;
@@ -13,7 +13,7 @@ capped w = record {
   length = w.length;
 }
 
--- what such an amount counts to, kept so too
+-- the units of such an amount, up to 2^64 - 1
 abbrev pub kept_units : Bool → WrittenAmount → ℕ
 kept_units hundredths w =
     if hundredths then min (min (w.whole * 100) (2 ^ 64 - 1) + w.cents) (2 ^ 64 - 1) else w.whole

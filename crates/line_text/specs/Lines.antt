@@ -1,4 +1,4 @@
--- The lines of a text and what each of them says.
+-- The lines of a text, and the text of each line.
 use Rattle.std.specs.Prelude.{ℕ, Bool, ◌||◌, ◌==◌, if◌then◌else◌, nat_eq, List, [], ◌∷◌, map, drop}
 use Rattle.std.specs.List.{list_any, starts_with}
 
@@ -6,12 +6,12 @@ use Rattle.std.specs.List.{list_any, starts_with}
 abbrev pub is_newline : ℕ → Bool
 is_newline byte = byte == 10
 
--- the front line: up to the first newline, or all
+-- the first line: the bytes up to the first newline, or all bytes
 abbrev pub front_line : List ℕ → List ℕ
 front_line [] = []
 front_line (byte ∷ rest) = if is_newline byte then [] else byte ∷ front_line rest
 
--- what stands after the front line and its newline
+-- the bytes after the first line and its newline
 abbrev pub behind_line : List ℕ → List ℕ
 behind_line [] = []
 behind_line (byte ∷ rest) = if is_newline byte then rest else behind_line rest
@@ -20,34 +20,34 @@ behind_line (byte ∷ rest) = if is_newline byte then rest else behind_line rest
 abbrev pub mark : List ℕ
 mark = 239 ∷ 187 ∷ 191 ∷ []
 
--- a line without the mark at its start
+-- a line without a mark at its beginning
 abbrev pub without_mark : List ℕ → List ℕ
 without_mark line = if starts_with nat_eq line mark then drop 3 line else line
 
--- a byte that is left out at a line's end: a space or a carriage return
+-- a byte that is removed at the end of a line: a space or a carriage return
 abbrev pub is_blank : ℕ → Bool
 is_blank byte = byte == 32 || byte == 13
 
--- a byte before a text, but for a blank before none
+-- a byte before a text; a blank before an empty text is removed
 abbrev pub put_before : ℕ → List ℕ → List ℕ
 put_before byte [] = if is_blank byte then [] else byte ∷ []
 put_before byte (next ∷ rest) = byte ∷ next ∷ rest
 
--- a line without the blanks at its end
+-- a line without blanks at its end
 abbrev pub without_blanks : List ℕ → List ℕ
 without_blanks [] = []
 without_blanks (byte ∷ rest) = put_before byte (without_blanks rest)
 
--- what a line says: no mark at its start, and then no blanks at its end
+-- the text of a line, without a mark at its beginning and without blanks at its end
 abbrev pub text_of : List ℕ → List ℕ
 text_of line = without_blanks (without_mark line)
 
--- a byte at the start of the first line, which is begun where there is none
+-- a byte at the beginning of the first line, which is created if there is none
 abbrev pub put_in_first : ℕ → List (List ℕ) → List (List ℕ)
 put_in_first byte [] = (byte ∷ []) ∷ []
 put_in_first byte (line ∷ later) = (byte ∷ line) ∷ later
 
--- the bytes cut at their newlines; nothing after the last newline is no line
+-- the bytes divided at their newlines; the end of the bytes right after a newline is no line
 abbrev pub cut_lines : List ℕ → List (List ℕ)
 cut_lines [] = []
 cut_lines (byte ∷ rest) =
@@ -57,21 +57,21 @@ cut_lines (byte ∷ rest) =
 abbrev pub lines : List ℕ → List (List ℕ)
 lines bytes = map text_of (cut_lines bytes)
 
--- the bytes hold a newline
+-- the bytes contain a newline
 abbrev pub has_newline : List ℕ → Bool
 has_newline bytes = list_any is_newline bytes
 
--- the bytes up to and with the last newline; none where there is none
+-- the bytes up to the last newline, with it; none if there is no newline
 abbrev pub closed : List ℕ → List ℕ
 closed [] = []
 closed (byte ∷ rest) = if has_newline (byte ∷ rest) then byte ∷ closed rest else []
 
--- the bytes after the last newline; all where there is none
+-- the bytes after the last newline; all if there is no newline
 abbrev pub unclosed : List ℕ → List ℕ
 unclosed [] = []
 unclosed (byte ∷ rest) = if has_newline (byte ∷ rest) then unclosed rest else byte ∷ rest
 
--- the one line that a run of bytes without a newline is, if it isn't empty
+-- the one line of bytes without a newline, unless there are no bytes
 abbrev pub only_line : List ℕ → List (List ℕ)
 only_line [] = []
 only_line (byte ∷ rest) = text_of (byte ∷ rest) ∷ []

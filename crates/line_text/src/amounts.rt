@@ -8,50 +8,50 @@ ghost use Rattle.line_text.specs.Capped.{capped, kept_units};
 /// The greatest amount, in units.
 pub const GREATEST: u64 = 999_999_999_999_999;
 
-/// The signs of dollar, euro and pound.
+/// The sign of the dollar. The signs of the euro and the pound follow, in UTF-8.
 const DOLLAR: [u8; 1] = [b'$'];
 
 const EURO: [u8; 3] = [0xe2, 0x82, 0xac];
 
 const POUND: [u8; 2] = [0xc2, 0xa3];
 
-/// An amount that was read at a place of a text.
+/// An amount that was read at a place in a text.
 #[derive(Clone, Copy)]
 pub struct Amount {
-    /// How much it is.
+    /// The amount, in hundredths or in chips.
     pub units: u64,
-    /// The place after it.
+    /// The place after the amount.
     pub next: usize,
-    /// Whether it has a sign or a point.
+    /// Whether the amount has a sign or a point.
     pub marked: bool,
 }
 
-/// Why a text is no amount.
+/// Why a text isn't an amount.
 #[derive(Clone, Copy, PartialEq, Eq, Drop)]
 pub enum AmountFault {
-    /// It isn't in the form of one.
+    /// The text doesn't have the form of an amount.
     NotAmount,
-    /// It is in form, and above the greatest.
+    /// The text has the form of an amount, and the amount is above the greatest.
     TooLarge,
 }
 
-/// An amount as it is written, before it is known how the hand counts. A number past the greatest
-/// of `u64` stands as that.
+/// An amount as it is written, before the units of the hand are known. A number above `u64::MAX` is
+/// replaced by `u64::MAX`.
 #[derive(Clone, Copy)]
 pub struct WrittenAmount {
-    /// Whether it has a sign or a point.
+    /// Whether the amount has a sign or a point.
     pub marked: bool,
-    /// Whether it has a point.
+    /// Whether the amount has a point.
     pub pointed: bool,
-    /// What stands before the point.
+    /// The number before the point.
     pub whole: u64,
-    /// What stands after it.
+    /// The number after the point.
     pub cents: u64,
-    /// How many bytes it takes.
+    /// The length in bytes.
     pub length: usize,
 }
 
-/// The first place that is no digit.
+/// Returns the place of the first byte that isn't a digit.
 fn digits_end(text: &[u8]) -> Option<usize>
     ensures { result ≡ position (λ byte. not (is_ascii_digit byte)) text.now }
 {
@@ -59,7 +59,7 @@ fn digits_end(text: &[u8]) -> Option<usize>
 }
 
 impl WrittenAmount {
-    /// What it counts to in hundredths, or in whole chips, or the greatest of `u64`.
+    /// Returns the amount in hundredths, or in whole chips: at most `u64::MAX`.
     pub fn units(&self, hundredths: bool) -> u64
         ensures { result ≡ kept_units hundredths self.now }
     {
@@ -71,7 +71,7 @@ impl WrittenAmount {
     }
 }
 
-/// How many digits begin the text.
+/// Returns the number of digits at the beginning of the text.
 pub fn digit_count(text: &[u8]) -> usize
     ensures value { result ≡ digit_count text.now }
     ensures within { result ≤ length text.now }
@@ -79,7 +79,7 @@ pub fn digit_count(text: &[u8]) -> usize
     digits_end(text).unwrap_or(text.len())
 }
 
-/// The number that digits say, or the greatest of `u64` where it is greater.
+/// Returns the value of the digits, or `u64::MAX` if the value is greater.
 pub fn number_of(digits: &[u8]) -> u64
     ensures { result ≡ min (number_of digits.now) (2 ^ 64 - 1) }
 {
@@ -92,7 +92,7 @@ pub fn number_of(digits: &[u8]) -> u64
     number
 }
 
-/// How many bytes the currency sign takes that the text begins with.
+/// Returns the length of the currency sign at the beginning of the text, or 0.
 fn sign_length(text: &[u8]) -> usize
     ensures value { result ≡ sign_length text.now }
     ensures within { result ≤ length text.now }
@@ -109,7 +109,7 @@ fn sign_length(text: &[u8]) -> usize
     }
 }
 
-/// The amount that the text begins with.
+/// Returns the amount at the beginning of the text.
 #[tactic(auto, unfolding(crate::specs::Amounts::written))]
 pub fn written(text: &[u8]) -> Option<WrittenAmount>
     ensures value { result ≡ option_map capped (written text.now) }
@@ -146,7 +146,7 @@ pub fn written(text: &[u8]) -> Option<WrittenAmount>
     })
 }
 
-/// The amount at a place of the bytes, as a hand counts: in hundredths, or in chips.
+/// Returns the amount at a place of the bytes, in the units of the hand: hundredths, or chips.
 pub fn read_amount(bytes: &[u8], at: usize, hundredths: bool) -> Result<Amount, AmountFault>
     ensures value { result ≡ amount_at bytes.now at hundredths }
     ensures within { IfOk result (λ a. a.next ≤ length bytes.now) }

@@ -1,13 +1,16 @@
-//! A text in bytes: its lines, and the amounts that stand in them.
+//! The lines of a text in bytes, and the amounts in them.
 //!
-//! `next_line` answers where the text of the line at a place begins and ends, and where the next line
-//! begins; `read_amount` answers what an amount at a place comes to, and where it ends. They answer
-//! numbers and places: they copy no byte, take no memory, and look at no line but the one that is asked
-//! for. The bytes needn't be UTF-8. The crate knows no poker.
+//! `next_line` returns the beginning and the end of the text of the line at a place, and the beginning
+//! of the
+//! next line. `read_amount` returns the amount at a place, and its end. Both return numbers and places:
+//! they copy
+//! no byte, allocate nothing, and examine no other line. The bytes needn't be UTF-8. The crate knows no
+//! poker.
 //!
-//! A line costs one search for its newline, and a look at each blank at its end; one whose end is known
-//! is read by `text_of`, without a search. An amount costs the
-//! digits that it begins with and those after its point. No clause counts either.
+//! A line costs one search for its newline, and a look at each blank at its end. If the end of a line
+//! is
+//! known, `text_of` reads it without a search. An amount costs a look at each of its digits. No clause
+//! counts these costs.
 #![tactic(auto)]
 
 mod amounts;

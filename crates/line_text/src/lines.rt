@@ -1,7 +1,8 @@
-//! The lines of a text in bytes: where each begins and ends, and what it says.
+//! The lines of a text in bytes: where each line begins and ends, and its text.
 //!
-//! A line ends before a newline or at the end of the bytes, and nothing after the last newline is
-//! no line. Its text leaves out a byte order mark at its start, and then the spaces and carriage
+//! A line ends before a newline or at the end of the bytes. The end of the bytes right after a
+//! newline is
+//! no line. The text of a line has no byte order mark at its beginning, and no spaces or carriage
 //! returns at its end.
 
 ghost use Rattle.std.specs.Prelude.{◌≡◌, ◌≤◌, ◌↔◌, [], ◌∷◌, length, drop, slice_range, IsNone, IfSome, MatchOption};
@@ -14,19 +15,18 @@ use memchr::memchr;
 /// The byte order mark of UTF-8.
 const MARK: [u8; 3] = [0xef, 0xbb, 0xbf];
 
-/// A line by its places in the bytes: its text is `first..end`, and the next line begins at
-/// `next`.
+/// The places of a line in the bytes: its text is `first..end`, and the next line begins at `next`.
 #[derive(Clone, Copy)]
 pub struct Line {
-    /// Where its text begins.
+    /// Where the text begins.
     pub first: usize,
-    /// Where its text ends, after the last byte.
+    /// Where the text ends, after its last byte.
     pub end: usize,
     /// Where the next line begins, or where the bytes end.
     pub next: usize,
 }
 
-/// The line that begins at this place, and `None` at the end of the bytes.
+/// Returns the line that begins at a place, or `None` at the end of the bytes.
 pub fn next_line(bytes: &[u8], at: usize) -> Option<Line>
     requires { at ≤ length bytes.now }
     ensures none { IsNone result ↔ (at ≡ length bytes.now) }
@@ -50,8 +50,8 @@ pub fn next_line(bytes: &[u8], at: usize) -> Option<Line>
     })
 }
 
-/// What a line says whose end is known: these are all its bytes without its newline, and none is
-/// searched for.
+/// Returns the text of a line, given all its bytes without the newline. The call searches for no
+/// newline.
 pub fn text_of(line: &[u8]) -> &[u8]
     ensures { result.now ≡ text_of line.now }
 {
@@ -59,7 +59,7 @@ pub fn text_of(line: &[u8]) -> &[u8]
     &text[..length_without_blanks(text)]
 }
 
-/// How many bytes stand before the first newline. An empty line's is at the front, and isn't searched for.
+/// Returns the number of bytes before the first newline. An empty line needs no search.
 fn front_line_length(bytes: &[u8]) -> usize
     ensures value { result ≡ length (front_line bytes.now) }
     ensures within { result ≤ length bytes.now }
@@ -73,7 +73,7 @@ fn front_line_length(bytes: &[u8]) -> usize
     memchr(b'\n', bytes).unwrap_or(bytes.len())
 }
 
-/// How many bytes of the line its mark takes.
+/// Returns the length of the mark at the beginning of the line.
 fn mark_length(line: &[u8]) -> usize
     ensures value { result ≡ mark_length line.now }
     ensures within { result ≤ length line.now }
@@ -81,7 +81,7 @@ fn mark_length(line: &[u8]) -> usize
     if line.starts_with(&MARK) { 3 } else { 0 }
 }
 
-/// How many bytes are left without the spaces and carriage returns at the end.
+/// Returns the length of the line without the spaces and carriage returns at its end.
 fn length_without_blanks(line: &[u8]) -> usize
     ensures value { result ≡ length (without_blanks line.now) }
     ensures within { result ≤ length line.now }
@@ -93,15 +93,15 @@ fn length_without_blanks(line: &[u8]) -> usize
     end
 }
 
-/// Whether the byte is a space or a carriage return.
+/// Returns whether the byte is a space or a carriage return.
 fn is_blank(byte: u8) -> bool
     ensures { result ≡ is_blank byte }
 {
     byte == b' ' || byte == b'\r'
 }
 
-/// A law: the lines of the bytes up to the last newline are the first lines of all the bytes, and
-/// what stands after that newline is at most one line more.
+/// A law: the lines of the bytes up to the last newline are the first lines of all bytes, and the
+/// bytes after that newline are at most one line more.
 pub fn law_closed_lines()
     ensures { AllCloseLines }
 {}

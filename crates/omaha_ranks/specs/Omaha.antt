@@ -1,4 +1,4 @@
--- What two own cards and three of the board are worth at best, and what that depends on.
+-- The best worth of two own cards and three of the board, and what it depends on.
 use Rattle.std.specs.Prelude.{◌≡◌, ◌<◌, true, ℕ, Bool, ◌||◌, nat_lt, List, map, filter, max, Option}
 use Rattle.std.specs.Option.{option_map}
 use Rattle.card_sets.specs.Cards.{IsCardSet}
@@ -10,15 +10,15 @@ use Rattle.rank_high.specs.Parts.{of_suit, plain_high}
 use Rattle.rank_low.specs.Low.{low_a5, qualifies, least_of, ace_number}
 use Rattle.omaha_ranks.specs.Worth.{greatest_number, low_worth}
 
--- the number of the best of some fives as a high
+-- the number of the best of some fives as a high hand
 abbrev pub high_number : List (List ℕ) → ℕ
 high_number fives = value_of (greatest_of (map high fives))
 
--- and of the best by ranks alone, if there were no flushes
+-- the number of the best five by ranks alone, if there were no flushes
 abbrev pub plain_high_number : List (List ℕ) → ℕ
 plain_high_number fives = value_of (greatest_of (map plain_high fives))
 
--- the number of the best of those that qualify as a low of eight or better; none where none does
+-- the number of the best of the fives that qualify as a low of eight or better; none if no five does
 abbrev pub eight_number : List (List ℕ) → Option ℕ
 eight_number fives = option_map ace_number (least_of (map low_a5 (filter qualifies fives)))
 
@@ -26,15 +26,16 @@ eight_number fives = option_map ace_number (least_of (map low_a5 (filter qualifi
 abbrev pub fives : List ℕ → List ℕ → List (List ℕ)
 fives own board = two_and_three own board
 
--- what the best of them is worth as a high hand
+-- the worth of the best of them as a high hand
 unfoldable pub omaha_high : List ℕ → List ℕ → List ℕ
 omaha_high own board = greatest_of (map high (fives own board))
 
--- and what it would be worth if there were no flushes
+-- their best worth if there were no flushes
 unfoldable pub omaha_plain : List ℕ → List ℕ → List ℕ
 omaha_plain own board = greatest_of (map plain_high (fives own board))
 
--- the number of the best of one suit, 0 where there are fewer than two own cards of it or fewer than three of the board
+-- the number of the best five of one suit, 0 if there are fewer than two own cards of it or fewer than three of the
+-- board
 abbrev pub omaha_suited : List ℕ → List ℕ → ℕ → ℕ
 omaha_suited own board suit = value_of (omaha_high (of_suit own suit) (of_suit board suit))
 
@@ -42,7 +43,7 @@ omaha_suited own board suit = value_of (omaha_high (of_suit own suit) (of_suit b
 abbrev pub is_low : ℕ → Bool
 is_low card = nat_lt card 28 || nat_lt 47 card
 
--- own cards and a board that share no card
+-- the own cards and the board share no card
 pub record ArePlaced (own board : List ℕ) : Type 0 where
   pub own_cards : IsCardSet own
   pub board_cards : IsCardSet board
@@ -57,28 +58,29 @@ IsByRanksOrSuit = (own board : List ℕ) → ArePlaced own board → value_of (o
 abbrev pub SameRanks : List ℕ → List ℕ → Type 0
 SameRanks a b = (rank : ℕ) → rank < 13 → count_of_rank a rank ≡ count_of_rank b rank
 
--- own cards and boards with the same ranks are worth the same by their ranks alone
+-- own cards and boards with the same ranks have the same worth by ranks alone
 abbrev pub RanksDecide : Type 0
 RanksDecide = (own board other_own other_board : List ℕ) → ArePlaced own board → ArePlaced other_own other_board → SameRanks own other_own → SameRanks board other_board
     → value_of (omaha_plain own board) ≡ value_of (omaha_plain other_own other_board)
 
--- and have the same low
+-- own cards and boards with the same ranks have the same low
 abbrev pub LowRanksDecide : Type 0
 LowRanksDecide = (own board other_own other_board : List ℕ) → ArePlaced own board → ArePlaced other_own other_board → SameRanks own other_own → SameRanks board other_board
     → eight_number (fives own board) ≡ eight_number (fives other_own other_board)
 
--- the greatest number that three cards of a board have
+-- the greatest number of three cards of a board
 abbrev pub best_three : (List ℕ → ℕ) → List ℕ → ℕ
 best_three number board = greatest_number (map number (choose 3 board))
 
--- by ranks alone a board is worth what the best three of its cards are worth
+-- by ranks alone the worth of a board is that of its best three cards
 abbrev pub ThreesDecide : Type 0
 ThreesDecide = (own board : List ℕ) → ArePlaced own board → value_of (omaha_plain own board) ≡ best_three (λ three. value_of (omaha_plain own three)) board
 
--- as a low, turned round so that greater is better and 0 is for none, it is too
+-- as a low, too, the worth of a board is that of its best three cards; the numbers are turned round, so that greater
+-- is better, and 0 is for no low
 abbrev pub LowThreesDecide : Type 0
 LowThreesDecide = (own board : List ℕ) → ArePlaced own board → low_worth (eight_number (fives own board)) ≡ best_three (λ three. low_worth (eight_number (fives own three))) board
 
--- only cards from ace to eight make a low
+-- only cards from ace to eight make a low of eight or better
 abbrev pub OnlyLowCards : Type 0
 OnlyLowCards = (own board : List ℕ) → ArePlaced own board → eight_number (fives own board) ≡ eight_number (fives (filter is_low own) (filter is_low board))

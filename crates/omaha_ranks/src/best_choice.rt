@@ -1,4 +1,4 @@
-//! The best of two own cards with three of the board, without a look at those that can't be better.
+//! The best of two own cards and three of the board. Choices that can't be better are skipped.
 
 ghost use Rattle.std.specs.Prelude.{◌≡◌, ◌+◌, ◌≤◌, length, max, IsTrue};
 ghost use Rattle.card_sets.specs.Cards.{union};
@@ -9,7 +9,7 @@ use card_sets::{CardSet, Side};
 use rank_high::high_by_ranks;
 use rank_low::eight_or_better;
 
-/// What the best five of some cards are worth on a side, as a high by their ranks alone. Greater is
+/// Returns the worth of the best five of some cards on a side, as a high by ranks alone. Greater is
 /// better, and 0 is for no low.
 #[inline]
 fn worth(side: Side, cards: CardSet) -> u32
@@ -26,19 +26,19 @@ fn worth(side: Side, cards: CardSet) -> u32
     }
 }
 
-/// The greater of a number and of what some cards are worth with the best so many of the rest. The
-/// bound is what they are worth with all of the rest.
+/// Returns the greater of a number and the best worth of the kept cards and `missing` cards of the
+/// rest. The bound is the worth of the kept cards with all of the rest.
 fn best_with(side: Side, kept: CardSet, rest: CardSet, missing: u32, bound: u32, best: u32) -> u32
-    // The kept cards and so many of the rest are five, of up to seven that are all different.
+    // The kept cards and the missing ones are five, chosen from up to seven different cards.
     requires five { length kept + missing ≡ 5 }
     requires enough { missing ≤ length rest }
     requires most { length kept + length rest ≤ 7 }
     requires apart { IsTrue (apart kept rest) }
 
-    // More cards to choose from are worth no less, so no choice beats the bound.
+    // With more cards to choose from the worth isn't less, so no choice exceeds the bound.
     requires bound { bound ≡ worth side (union kept rest) }
 
-    // Where the bound isn't above the number, no choice is looked at.
+    // If the bound isn't above the number, no choice is tried.
     ensures { result ≡ max best (best_with side kept missing rest) }
 {
     kept.rising();
@@ -61,8 +61,8 @@ fn best_with(side: Side, kept: CardSet, rest: CardSet, missing: u32, bound: u32,
     best_with(side, kept.with(card), others, missing - 1, bound, left_out)
 }
 
-/// The greater of a number and of what the taken own cards are worth with the best so many of the
-/// rest of the own cards, and with the best three of the board.
+/// Returns the greater of a number and the best worth of the taken own cards, `missing` cards of
+/// the rest of the own cards, and three cards of the board.
 pub(crate) fn best_own(
     side: Side,
     taken: CardSet,
@@ -71,7 +71,7 @@ pub(crate) fn best_own(
     board: CardSet,
     best: u32,
 ) -> u32
-    // Two of the own cards come to three of the board.
+    // Two own cards go with three of the board.
     requires two { length taken + missing ≡ 2 }
     requires least { 3 ≤ length board }
     requires most { length board ≤ 5 }
@@ -81,7 +81,7 @@ pub(crate) fn best_own(
     requires own { IsTrue (apart taken board) }
     requires others { IsTrue (apart rest board) }
 
-    // The number is handed from choice to choice, so that a good one early spares the others.
+    // The number is passed from choice to choice, so a good early choice saves the others.
     ensures { result ≡ max best (best_own side taken missing rest board) }
 {
     taken.rising();

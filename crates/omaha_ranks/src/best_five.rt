@@ -7,7 +7,7 @@ ghost use Rattle.omaha_ranks.specs.Omaha.{high_number};
 use hand_choice::Fives;
 use rank_high::high_of_five;
 
-/// The number of the best of some fives as a high, 0 for none.
+/// Returns the number of the best of some fives as a high hand, or 0 if there is none.
 pub(crate) fn best_high(fives: Fives) -> u32
     requires { AreFives fives }
     ensures { result ≡ high_number fives }

@@ -1,4 +1,4 @@
-//! What a high and a low depend on.
+//! Laws about what a high and a low depend on.
 
 ghost use Rattle.omaha_ranks.specs.Omaha.{IsByRanksOrSuit, RanksDecide, ThreesDecide, LowRanksDecide, LowThreesDecide, OnlyLowCards};
 
@@ -8,12 +8,12 @@ pub fn law_ranks_or_a_suit()
     ensures { IsByRanksOrSuit }
 {}
 
-/// Own cards and boards with the same ranks are worth the same by their ranks alone.
+/// Own cards and boards with the same ranks have the same worth by ranks alone.
 pub fn law_ranks_decide()
     ensures { RanksDecide }
 {}
 
-/// By their ranks alone own cards are worth with a board what they are worth with the best three of its cards.
+/// By ranks alone the worth of own cards with a board is their worth with the best three of its cards.
 pub fn law_best_three()
     ensures { ThreesDecide }
 {}
@@ -23,7 +23,7 @@ pub fn law_ranks_decide_lows()
     ensures { LowRanksDecide }
 {}
 
-/// As a low too own cards are worth with a board what they are worth with the best three of its cards.
+/// As a low, too, the worth of own cards with a board is their worth with the best three of its cards.
 pub fn law_best_three_lows()
     ensures { LowThreesDecide }
 {}

@@ -1,4 +1,4 @@
-//! The best of the fives that two own cards make with three of the board.
+//! The best of the fives with two own cards and three of the board.
 
 ghost use Rattle.std.specs.Prelude.{◌≡◌, ◌<◌, ◌≤◌, filter, length, IsTrue};
 ghost use Rattle.card_sets.specs.Disjoint.{apart};
@@ -12,8 +12,8 @@ use card_sets::{Card, CardSet, Side};
 use hand_choice::two_and_three;
 use rank_high::high_of_set;
 
-/// The number of the best high of one suit, from 0 to 3, of own cards and a board. 0 where there are fewer than two own cards of it or
-/// fewer than three of the board.
+/// Returns the number of the best high of one suit, 0 to 3, of own cards and a board. 0 if there are fewer
+/// than two own cards of the suit or fewer than three of the board.
 #[inline]
 pub fn omaha_suited_value(own: CardSet, board: CardSet, suit: u8) -> u32
     requires suit { suit < 4 }
@@ -38,7 +38,7 @@ pub fn omaha_suited_value(own: CardSet, board: CardSet, suit: u8) -> u32
     best_high(two_and_three(own, board))
 }
 
-/// The number of the best high of four own cards and three to five of the board by their ranks alone, as
+/// Returns the number of the best high of four own cards and three to five of the board by ranks alone, as
 /// if there were no flushes.
 pub fn omaha_plain_value(own: CardSet, board: CardSet) -> u32
     requires own { length own ≡ 4 }
@@ -52,7 +52,7 @@ pub fn omaha_plain_value(own: CardSet, board: CardSet) -> u32
     best_own(Side::High, CardSet::empty(), own, 2, board, 0)
 }
 
-/// The number of the best high of four own cards and five of the board.
+/// Returns the number of the best high of four own cards and five of the board.
 pub fn omaha_high(own: CardSet, board: CardSet) -> u32
     requires own { length own ≡ 4 }
     requires board { length board ≡ 5 }
@@ -68,7 +68,7 @@ pub fn omaha_high(own: CardSet, board: CardSet) -> u32
     best_own(Side::High, CardSet::empty(), own, 2, board, flush)
 }
 
-/// The cards from ace to eight.
+/// Returns the cards from ace to eight.
 #[inline]
 fn low_cards(s: CardSet) -> CardSet
     ensures { result ≡ filter is_low s }
@@ -81,8 +81,8 @@ fn low_cards(s: CardSet) -> CardSet
     s.minus(deck.above(eight).minus(deck.above(king)))
 }
 
-/// The number of the best low of eight or better of four own cards and three to five of the board. None
-/// exactly where no five qualify.
+/// Returns the number of the best low of eight or better of four own cards and three to five of the board.
+/// `None` exactly if no five qualify.
 pub fn omaha_low(own: CardSet, board: CardSet) -> Option<u32>
     requires own { length own ≡ 4 }
     requires least { 3 ≤ length board }

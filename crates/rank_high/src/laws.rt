@@ -1,4 +1,4 @@
-//! What holds of the definitions, for callers who compare numbers or look for suits.
+//! Laws for callers that compare numbers or look for suits.
 
 ghost use Rattle.std.specs.Prelude.{◌≡◌, ℕ, ◌≤◌, List, length};
 ghost use Rattle.std.specs.Cmp.Lexicographic.{slice_cmp};
@@ -6,7 +6,7 @@ ghost use Rattle.std.specs.Ordering.{nat_cmp};
 ghost use Rattle.rank_high.specs.High.{best_high, value_of};
 ghost use Rattle.rank_high.specs.Parts.{IsByRanksOrSuit};
 
-/// The numbers of the best fives of two sets are in the order of what they are worth.
+/// The numbers of the best fives of two sets compare as the fives do.
 pub fn law_best_numbers_keep_order()
     ensures { (a b : List ℕ) → 5 ≤ length a → 5 ≤ length b
         → nat_cmp (value_of (best_high a)) (value_of (best_high b))

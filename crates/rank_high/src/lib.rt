@@ -1,28 +1,31 @@
-//! High hands: what five cards are worth, and what the best five of up to seven are.
+//! High hands: the worth of five cards, and of the best five of up to seven.
 //!
-//! A hand is worth its category, and within a category the ranks of its groups decide, larger groups
-//! first and then higher ranks. Suits never break a tie.
+//! A hand has a category. Within a category the ranks of its groups decide, larger groups first and then
+//! higher ranks. Suits never break a tie.
 //!
 //! **A value is one number** of six digits in base 16: the category, 8 for a straight flush to 0 for no
 //! pair, and the ranks of the groups, 2 for a deuce to 14 for an ace. After the last group the digits
-//! are 0; in five to ace the ace is 1 and last. Kings over tens with a four are 0x2da400. The greater
-//! number is the better hand, so that a comparison of hands is one of numbers.
+//! are 0. In five to ace the ace is 1 and comes last. Kings over tens with a four are 0x2da400. The
+//! greater
+//! number is the better hand, so hands are compared as numbers.
 //!
-//! **The best five** of up to seven cards are the best by ranks alone or the best of one suit, whichever
-//! is worth more: a law. No five are chosen and ranked, of which there are 21.
+//! **The best five** of up to seven cards are the better of two: the best by ranks alone, and the best of
+//! one
+//! suit. That is a law. The 21 ways to choose five are not tried.
 //!
-//! 1. *By ranks.* Of the set's bits some masks are made, in some thirty steps on words: the ranks of one
-//!    card or more, of two or more, of three or more and of four, and where five in a row begin. From the
-//!    best category down the first whose masks aren't empty is the answer, and its digits are the greatest
-//!    ranks of the masks.
-//! 2. *Of one suit.* Where a suit has five cards or more, what these are worth by ranks is no pair or a
-//!    straight, and five or four categories more make it a flush or a straight flush.
+//! 1. *By ranks.* Some thirty operations on words make masks of the set's bits: the ranks of one card or
+//!    more, of two or more, of three or more, and of four, and where five consecutive ranks begin. The
+//!    result is the first category, from the best down, whose masks aren't empty. Its digits are the
+//!    greatest ranks of the masks.
+//! 2. *Of one suit.* If a suit has five cards or more, their worth by ranks is no pair or a straight. Five
+//!    or four categories more make it a flush or a straight flush.
 //!
-//! [`high_by_ranks`] and [`high_of_suit`] are the two parts, for a caller who knows of which suit a flush
-//! may be, and [`high_of_ranks`] is the first of them for a caller who knows the ranks and not the cards.
-//! [`high_of_five`] counts ranks and looks at suits as the rules say, five cards at a time: a
-//! plain body. No call takes memory, and none knows a game or a board. What players would say of the
-//! values, as that a flush beats a straight, is a law of `rank_laws`.
+//! [`high_by_ranks`] and [`high_of_suit`] are the two parts, for a caller that knows in which suit a flush
+//! is possible. [`high_of_ranks`] is the first part for a caller that knows the ranks and not the cards.
+//! [`high_of_five`] counts ranks and compares suits as the rules say, for five cards: the plain way.
+//! No call allocates memory, and none knows a game or a board. The laws of `rank_laws` say in a player's
+//! words
+//! what the values mean, for example that a flush beats a straight.
 #![tactic(auto)]
 
 mod best_five;

@@ -1,4 +1,4 @@
-//! What a hand is worth, as one number.
+//! The worth of a high hand, as one number.
 
 ghost use Rattle.std.specs.Prelude.{◌≡◌, ◌<◌, ◌≤◌, ◌^◌, ◌∷◌, length};
 ghost use Rattle.rank_high.specs.High.{value_of};
@@ -23,16 +23,16 @@ pub(crate) const FULL_HOUSE: u32 = 0x60_0000;
 /// Four of a kind without its ranks.
 pub(crate) const FOUR_OF_A_KIND: u32 = 0x70_0000;
 
-/// By how much a straight flush is above a straight of the same ranks: four categories.
+/// The difference between a straight flush and a straight of the same ranks: four categories.
 pub const STRAIGHT_TO_FLUSH: u32 = 0x40_0000;
 
 /// The straight of five to ace, with its ranks: five, four, three, two and one.
 pub(crate) const FIVE_TO_ACE: u32 = 0x45_4321;
 
-/// By how much a straight is above the next lower one: one in each of its five ranks.
+/// The difference between a straight and the next lower one: one in each of its five ranks.
 pub(crate) const NEXT_STRAIGHT: u32 = 0x1_1111;
 
-/// One in the digit of the first rank, which stands after the category.
+/// One in the digit of the first rank, which comes after the category.
 pub(crate) const FIRST_RANK: u32 = 0x1_0000;
 
 /// One in the digit of the second rank.
@@ -44,7 +44,7 @@ pub(crate) const THIRD_RANK: u32 = 0x100;
 /// One in the digit of the fourth rank.
 pub(crate) const FOURTH_RANK: u32 = 0x10;
 
-/// What a high hand is worth; greater is better. Clauses see it as its number.
+/// The worth of a high hand. Greater is better. Clauses see it as its number.
 #[derive(Clone, Copy, PartialEq, Eq, PartialOrd, Ord)]
 pub struct HighValue(u32);
 
@@ -59,7 +59,8 @@ impl Model for HighValue {
 }
 
 impl HighValue {
-    /// The number: six digits in base 16, the category and then the ranks of the groups.
+    /// Returns the number: six digits in base 16, the category and then the ranks of the
+    /// groups.
     #[inline]
     pub fn number(self) -> u32
         ensures { result ≡ self }
@@ -68,7 +69,7 @@ impl HighValue {
     }
 }
 
-/// The value of a number.
+/// Returns the value with a number.
 #[inline]
 pub(crate) fn numbered(number: u32) -> HighValue
     ensures { result ≡ number }
@@ -76,7 +77,7 @@ pub(crate) fn numbered(number: u32) -> HighValue
     HighValue(number)
 }
 
-/// The value of a category and at most five ranks as they count, in base 16.
+/// Returns the value of a category and at most five ranks as numbers, in base 16.
 #[inline]
 pub fn value(category: u32, pips: &[u8]) -> HighValue
     requires { value_of (category ∷ pips.now) < 2 ^ 32 }

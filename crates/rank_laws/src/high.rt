@@ -1,4 +1,4 @@
-//! High hands: the usual rules of poker, and that numbers keep the order of hands.
+//! High hands: the usual rules of poker, and the order of numbers.
 
 ghost use Rattle.std.specs.Prelude.{◌≡◌, ℕ, ◌≤◌, List, length};
 ghost use Rattle.std.specs.Cmp.Lexicographic.{slice_cmp};
@@ -9,28 +9,28 @@ ghost use Rattle.rank_high.specs.Parts.{RanksDecide};
 ghost use Rattle.rank_laws.specs.OneSuit.{FlushesByRanks};
 ghost use Rattle.rank_laws.specs.HighHands.{FlushBeatsStraight, ThreeBeatsTwoPair, SuitsDontMatter, TiesHaveSameRanks, WheelIsLowest, AreRanksInOrder, IsUsualCategory, IsUsualStraight, IsFive, IsBest};
 
-/// The numbers of two fives are in the order of what they are worth.
+/// The numbers of two fives compare as the fives do.
 pub fn law_numbers_keep_order()
     ensures { (a b : List ℕ) → length a ≡ 5 → length b ≡ 5
         → nat_cmp (value_of (high a)) (value_of (high b)) ≡ slice_cmp nat_cmp (high a) (high b) }
 {}
 
-/// The best of five cards or more is what some five of them are worth, and no five is worth more.
+/// The best of five cards or more is the worth of some five of them, and no five is worth more.
 pub fn law_best_is_unbeaten()
     ensures { (cards : List ℕ) → 5 ≤ length cards → IsBest cards (best_high cards) }
 {}
 
-/// The best of just five cards is what they are worth.
+/// The best of exactly five cards is their worth.
 pub fn law_best_of_five()
     ensures { (five : List ℕ) → length five ≡ 5 → best_high five ≡ high five }
 {}
 
-/// A flush beats each straight that isn't one.
+/// A flush beats each straight that isn't a flush.
 pub fn law_flush_beats_straight()
     ensures { FlushBeatsStraight }
 {}
 
-/// Three of a kind, whatever the rest, beats two pair.
+/// Three of a kind beats two pair, whatever the other cards are.
 pub fn law_three_beats_two_pair()
     ensures { ThreeBeatsTwoPair }
 {}
@@ -60,17 +60,17 @@ pub fn law_straights_are_usual()
     ensures { (five : List ℕ) → IsFive five → IsUsualStraight five }
 {}
 
-/// Each category is what poker players call it.
+/// Each category has the cards that poker players expect of its name.
 pub fn law_categories_are_usual()
     ensures { (five : List ℕ) → IsFive five → IsUsualCategory five }
 {}
 
-/// Cards with as many of each rank are worth the same by their ranks alone.
+/// Cards with the same number of each rank have the same worth by ranks alone.
 pub fn law_ranks_decide()
     ensures { RanksDecide }
 {}
 
-/// Cards of one suit are worth by their ranks alone what their straights and flushes make of it.
+/// The worth of cards of one suit by ranks alone follows from that of their straights and flushes.
 pub fn law_flushes_by_ranks()
     ensures { FlushesByRanks }
 {}

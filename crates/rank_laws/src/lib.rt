@@ -1,9 +1,11 @@
-//! Laws on what hands are worth: what players would say of the definitions that `rank_high` and `rank_low` compute by, and that
-//! their numbers are in the order of hands.
+//! Laws about the worth of hands: what players would say of the definitions that `rank_high` and
+//! `rank_low` compute.
 //!
-//! The definitions speak of groups, lists and numbers. Here stands, in the words of the game, what beats what, what makes a
-//! category or a low, and that the best five are beaten by no five of the same cards. Each law is a call that does nothing, and
-//! nothing of the program stands on it.
+//! The definitions speak of groups, lists, and numbers. The laws say in the words of the game which hand
+//! beats which, what
+//! makes a category or a low, and that no five of the same cards beats the best five. Numbers compare as
+//! hands do. Each law
+//! is a call that does nothing, and the program uses none of them.
 #![tactic(auto)]
 
 mod high;

@@ -1,4 +1,4 @@
-//! What the best five of some cards are worth as a low, by their ranks.
+//! The worth of the best five of some cards as a low, by their ranks.
 
 ghost use Rattle.std.specs.Prelude.{◌≡◌, ℕ, ◌+◌, ◌<◌, ◌≤◌, ◌++◌, length, map, Some};
 ghost use Rattle.std.specs.Option.{option_map};
@@ -14,15 +14,16 @@ use crate::{LowValue, ace_of_five};
 use card_sets::CardSet;
 use rank_high::{FLUSH, ONE_PAIR, STRAIGHT_TO_FLUSH, high_by_ranks, is_flush};
 
-/// The sizes of five groups of one card, as they stand in a number.
+/// The sizes of five groups of one card, as digits of a number.
 const FIVE_RANKS: u32 = 0x110_0000;
 
-/// The sizes of a group of two cards and of three of one, as they stand in a number.
+/// The sizes of a group of two cards and of three groups of one card, as digits of a number.
 const PAIR_AND_THREE: u32 = 0x210_0000;
 
-/// The best five of all the taken cards and so many of the rest, which lie above them.
+/// Returns the best low of all taken cards and `missing` cards of the rest, which lie above the
+/// taken ones.
 fn best_with(taken: CardSet, rest: CardSet, missing: u32) -> LowValue
-    // The rest is a set, as each is.
+    // The rest is a set.
     requires above { IsCardSet rest → IsRising (taken ++ rest) }
     requires five { length taken + missing ≡ 5 }
     requires enough { missing ≤ length rest }
@@ -49,7 +50,7 @@ fn best_with(taken: CardSet, rest: CardSet, missing: u32) -> LowValue
     }
 }
 
-/// What the best five of five to seven cards are worth as an ace-to-five low.
+/// Returns the worth of the best five of five to seven cards as an ace-to-five low.
 pub fn ace_five(s: CardSet) -> LowValue
     requires least { 5 ≤ length s }
     requires most { length s ≤ 7 }
@@ -66,8 +67,8 @@ pub fn ace_five(s: CardSet) -> LowValue
     best_with(CardSet::empty(), s, 5)
 }
 
-/// What the best five that qualify, of five to seven cards, are worth as a low of eight or better.
-/// None exactly where no five qualify.
+/// Returns the worth of the best five that qualify, of five to seven cards, as a low of eight or
+/// better. `None` exactly if no five qualify.
 pub fn eight_or_better(s: CardSet) -> Option<LowValue>
     requires least { 5 ≤ length s }
     requires most { length s ≤ 7 }
@@ -78,11 +79,11 @@ pub fn eight_or_better(s: CardSet) -> Option<LowValue>
     Some(numbered(FIVE_RANKS + ranks))
 }
 
-/// The number of ace, five, four, three and deuce with the ace high.
+/// The number of ace, five, four, three, and deuce if the ace is high.
 const ACE_HIGH: u32 = 0xe_5432;
 
-/// The number of five cards by ranks alone, without the straight of five to ace. Its last digit tells
-/// that straight, since only there does a card count 1.
+/// Returns the number of five cards by ranks alone, in which five to ace is no straight. Only the
+/// number of that straight ends in 1.
 #[inline]
 fn without_wheel(number: u32) -> u32
     ensures { result ≡ without_wheel number }
@@ -90,7 +91,7 @@ fn without_wheel(number: u32) -> u32
     if number % 16 == 1 { ACE_HIGH } else { number }
 }
 
-/// What five cards are worth as a deuce-to-seven low.
+/// Returns the worth of five cards as a deuce-to-seven low.
 pub fn deuce_seven(s: CardSet) -> LowValue
     requires { length s ≡ 5 }
     ensures { result ≡ value_of (low_27 s) }

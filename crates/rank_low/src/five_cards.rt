@@ -1,4 +1,4 @@
-//! What five cards are worth as a low.
+//! The worth of five cards as a low.
 
 ghost use Rattle.std.specs.Prelude.{◌≡◌, ◌+◌, ◌*◌, ◌<◌, ◌≤◌, length, slice_index, All};
 ghost use Rattle.rank_high.specs.High.{value_of};
@@ -10,7 +10,7 @@ use crate::values::numbered;
 use card_sets::CardSet;
 use rank_high::{category, falls_by_one, group_ranks, is_flush, rank_counts, value};
 
-/// Whether the ranks of the groups make a straight in which an ace is high.
+/// Returns whether the ranks of the groups make a straight in which the ace is high.
 #[inline]
 fn is_run(ranks: &[u8]) -> bool
     ensures { result ≡ is_run ranks.now }
@@ -21,7 +21,7 @@ fn is_run(ranks: &[u8]) -> bool
     }
 }
 
-/// The sizes of the first two groups, as two digits.
+/// Returns the sizes of the first two groups as two digits.
 #[inline]
 fn first_sizes(counts: &[u8; 13], ranks: &[u8]) -> u32
     requires thirteen { All (λ rank. rank < 13) ranks.now }
@@ -35,7 +35,7 @@ fn first_sizes(counts: &[u8; 13], ranks: &[u8]) -> u32
     u32::from(first) * 16 + u32::from(second)
 }
 
-/// What five cards are worth as an ace-to-five low.
+/// Returns the worth of five cards as an ace-to-five low.
 pub fn ace_of_five(s: CardSet) -> LowValue
     requires { length s ≡ 5 }
     ensures { result ≡ ace_number (low_a5 s) }
@@ -47,7 +47,8 @@ pub fn ace_of_five(s: CardSet) -> LowValue
     numbered(value(sizes, &raised(&groups.ranks, 1)).number())
 }
 
-/// What five cards are worth as a deuce-to-seven low, by their groups: the measure of `deuce_seven`.
+/// Returns the worth of five cards as a deuce-to-seven low, by their groups. `deuce_seven` returns
+/// the same.
 pub fn deuce_of_five(s: CardSet) -> LowValue
     requires { length s ≡ 5 }
     ensures { result ≡ value_of (low_27 s) }

@@ -1,12 +1,13 @@
 //! Fractions of whole numbers, rounded once, and their text with a fixed number of decimal places.
 //!
-//! 1. *Rounding* (`rounded`). The fraction in units of its last place and a half are added as one fraction,
-//!    and its whole part is the rounded number. So there is one division, and nothing is rounded twice. It is
-//!    one of 64 bits where both numbers fit, which takes a fraction of the time.
-//! 2. *Text* (`Fixed::write`). The whole part, a point and the last digits one by one, into bytes that are
-//!    lent.
+//! 1. *Rounding* (`rounded`). The fraction, in units of its last place, and one half are added as one
+//!    fraction. The whole part of the sum is the rounded number. So there is one division, and nothing is
+//!    rounded twice. If both numbers fit 64 bits, so does the division, which then takes a fraction of the
+//!    time.
+//! 2. *Text* (`Fixed::write`). The whole part, a point, and the decimal places are written digit by digit
+//!    into the caller's bytes.
 //!
-//! The crate has no floating point, takes no memory, and knows nothing of cards or money.
+//! The crate has no floating point, allocates nothing, and knows nothing of cards or money.
 #![tactic(auto)]
 
 ghost use Rattle.std.specs.Prelude.{◌≡◌, ◌+◌, ◌*◌, ◌/◌, ◌%◌, ◌<◌, ◌≤◌, ◌^◌, ◌++◌, length, take, drop};
@@ -18,7 +19,7 @@ mod put;
 use itoa::Buffer;
 use put::{put_byte, put_bytes};
 
-/// The room that is asked for the text of a `Fixed`, in bytes: no text has as many.
+/// The length of the buffer that a `Fixed` needs for its text, in bytes. Every text is shorter.
 pub const LONGEST_TEXT: usize = 44;
 
 /// A number as a count of units of its last decimal place: 9545 with 2 places is 95.45.
@@ -26,11 +27,11 @@ pub const LONGEST_TEXT: usize = 44;
 pub struct Fixed {
     /// The number, in units of its last place.
     pub whole: u128,
-    /// How many decimal places it has.
+    /// The number of decimal places.
     pub places: u32,
 }
 
-/// Ten to a small power.
+/// Returns ten to a small power.
 fn power_of_ten(exponent: u32) -> u128
     requires { exponent ≤ 4 }
     ensures value { result ≡ 10 ^ exponent }
@@ -46,10 +47,10 @@ fn power_of_ten(exponent: u32) -> u128
     }
 }
 
-/// The greatest number that is divided as one of 64 bits, which takes a fraction of the time.
+/// The greatest number that is divided in 64 bits, which takes a fraction of the time.
 const SHORT: u128 = 0xffff_ffff_ffff_ffff;
 
-/// The whole part of a fraction.
+/// Returns the whole part of a fraction.
 #[inline]
 fn quotient(numerator: u128, denominator: u128) -> u128
     requires { 0 < denominator }
@@ -61,7 +62,7 @@ fn quotient(numerator: u128, denominator: u128) -> u128
     numerator / denominator
 }
 
-/// The last digit of a number.
+/// Returns the last digit of a number.
 #[inline]
 fn last_digit(number: u128) -> u8
     ensures value { result ≡ number % 10 }
@@ -73,15 +74,15 @@ fn last_digit(number: u128) -> u8
     (number % 10) as u8
 }
 
-/// The fraction with so many decimal places, rounded once, a half up.
+/// Returns the fraction with `places` decimal places, rounded once, half up.
 pub fn rounded(numerator: u128, denominator: u128, places: u32) -> Fixed
-    // There is a denominator, and the sum that is divided fits 128 bits.
+    // The denominator isn't 0, and the sum that is divided fits 128 bits.
     requires some { 0 < denominator }
     requires small { numerator ≤ 10 ^ 34 }
     requires small_too { denominator ≤ 10 ^ 32 }
     requires few { places ≤ 4 }
 
-    // It is the rounded fraction, with the places that were asked for.
+    // The result is the rounded fraction, and has the given number of places.
     ensures value { result.whole ≡ round numerator denominator places }
     ensures places { result.places ≡ places }
 {
@@ -92,7 +93,7 @@ pub fn rounded(numerator: u128, denominator: u128, places: u32) -> Fixed
     }
 }
 
-/// The glyph of one digit. The last digit has the place 0.
+/// Returns the glyph of one digit. The last digit has the place 0.
 fn digit(whole: u128, place: u32) -> u8
     requires { place ≤ 4 }
     ensures { result ≡ digit_at place whole }
@@ -100,7 +101,7 @@ fn digit(whole: u128, place: u32) -> u8
     b'0' + last_digit(quotient(whole, power_of_ten(place)))
 }
 
-/// Puts the last digits, so many, at a place, and answers the place after them.
+/// Writes the last `places` digits at a place, and returns the place after them.
 fn put_places(out: &mut [u8], at: usize, whole: u128, places: u32) -> usize
     requires few { places ≤ 4 }
     requires room { at + places ≤ length out.old }
@@ -116,8 +117,8 @@ fn put_places(out: &mut [u8], at: usize, whole: u128, places: u32) -> usize
 }
 
 impl Fixed {
-    /// Writes the number at the front of `out`, as `95.45`, and answers how many bytes that are.
-    /// With no decimal place there is no point. The rest of `out` stays.
+    /// Writes the number at the beginning of `out`, such as `95.45`, and returns the length of the text.
+    /// Without decimal places there is no point. The rest of `out` stays.
     pub fn write(&self, out: &mut [u8]) -> usize
         requires few { self.now.places ≤ 4 }
         requires room { 44 ≤ length out.old }

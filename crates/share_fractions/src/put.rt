@@ -1,7 +1,7 @@
-//! Text that is put together in a slice, piece after piece.
+//! Text that is written into a slice, piece after piece.
 ghost use Rattle.std.specs.Prelude.{◌≡◌, ℕ, ◌+◌, ◌<◌, ◌≤◌, [], ◌∷◌, ◌++◌, length, take, drop};
 
-/// Puts the bytes at a place, and answers the place after them.
+/// Writes the bytes at a place, and returns the place after them.
 pub(crate) fn put_bytes(out: &mut [u8], at: usize, bytes: &[u8]) -> usize
     requires { at + length bytes.now ≤ length out.old }
     ensures next { result ≡ at + length bytes.now }
@@ -13,7 +13,7 @@ pub(crate) fn put_bytes(out: &mut [u8], at: usize, bytes: &[u8]) -> usize
     end
 }
 
-/// Puts one byte at a place, and answers the place after it.
+/// Writes one byte at a place, and returns the place after it.
 pub(crate) fn put_byte(out: &mut [u8], at: usize, byte: u8) -> usize
     requires { at < length out.old }
     ensures next { result ≡ at + 1 }

@@ -1,13 +1,17 @@
 //! Counted steps, at no cost.
 //!
+//! A step is a runout that is examined and added. That each step is counted in the loop that adds
+//! its
+//! runout is read in the code, and isn't proved.
+//!
 //! A bound on a function's work is a clause on the number of its steps: `steps.new ≡ steps.old + n`.
-//! The function takes a `&mut Steps<L>` and calls `tick` at the one operation that is to be
-//! counted, and places that operation after the tick, so that it isn't done without one.
-//! `Steps` has no bytes and `tick` does nothing when it runs: the count is there for proofs alone.
+//! The function takes a `&mut Steps<L>` and calls `tick` right before the one operation that is
+//! counted. `Steps` has no bytes, and `tick` does nothing at run time: the count exists for proofs
+//! alone.
 //!
 //! - A caller that counts gives its own ledger: it is generic over `L: Ledger`, takes a `Blank` of
 //!   that ledger, and makes the counter by `Steps::<L>::new(blank)`.
-//! - A caller that doesn't count enters that generic function with `Brand` and `Blank::new(1)`.
+//! - A caller that doesn't count calls that generic function with `Brand` and `Blank::new(1)`.
 #![tactic(auto)]
 
 ghost use Rattle.std.specs.Prelude.{◌≡◌, ℕ, ◌+◌, ◌<◌};
@@ -15,10 +19,12 @@ ghost use Rattle.std.specs.Prelude.{◌≡◌, ℕ, ◌+◌, ◌<◌};
 use std::marker::Model;
 use std::sync::ledger::{Blank, Book, Ledger, Share};
 
-/// How many steps were taken, as a number. It takes no bytes, and only `tick` changes it.
+/// The number of steps taken. It takes no bytes, and only `tick` changes it.
 #[derive(Drop)]
 pub struct Steps<L: Ledger> {
+    /// The total of the steps.
     book: Book<L>,
+    /// The part of the ledger with which `tick` writes.
     share: Share<L>,
 }
 
@@ -31,8 +37,8 @@ impl<L: Ledger> Model for Steps<L> {
 }
 
 impl<L: Ledger> Steps<L> {
-    /// A counter at 0, of the ledger that `L` names.
-    /// The blank is that ledger's and has at least one part, which `tick` writes with.
+    /// Returns a counter at 0, of the ledger that `L` names. The blank is of that ledger and has at
+    /// least one part, with which `tick` writes.
     pub fn new(blank: Blank) -> Steps<L>
         requires name { blank.name ≡ L.name }
         requires parts { blank.parts ≡ L.parts }
@@ -43,7 +49,7 @@ impl<L: Ledger> Steps<L> {
         Steps { book, share }
     }
 
-    /// One more step.
+    /// Counts one more step.
     pub fn tick(&mut self)
         ensures { self.new ≡ self.old + 1 }
     {
