@@ -1,4 +1,4 @@
-//! Which equities can be counted.
+//! Equities that can be counted.
 
 ghost use Rattle.std.specs.Prelude.{◌≡◌, ◌≤◌, ◌↔◌, length, IfOk};
 ghost use Rattle.std.specs.Result.{IsErrOf};
@@ -13,26 +13,26 @@ use crate::BLOCK;
 use runout_ranges::{JobFault, RUNOUT_MAX, Shape, count_runouts, shape};
 use showdown_tally::Table;
 
-/// An equity that can be counted: a table, what is still to be dealt there, and how many ways to deal it there are, which is
-/// at most `RUNOUT_MAX`.
+/// An equity that can be counted: a table, the cards still to be dealt there, and the number of ways to
+/// deal them, which is at most `RUNOUT_MAX`.
 #[derive(Clone, Copy)]
 pub struct Job {
     /// The known cards and the pots.
     pub table: Table,
-    /// What is still to be dealt.
+    /// The cards still to be dealt.
     pub shape: Shape,
-    /// How many runouts there are.
+    /// The number of runouts.
     pub runouts: u64,
     /// The shape is that of the known cards.
     pub ghost shaped: { IsShapeOf (state_of table.known) shape },
-    /// All runouts are counted.
+    /// The number is that of all runouts.
     pub ghost counted: { runouts ≡ length (runouts_after (state_of table.known)) },
-    /// They are within the limit.
+    /// The number is within the limit.
     pub ghost few: { runouts ≤ RUNOUT_MAX },
 }
 
 impl Job {
-    /// The job of a table. `DeckShort` exactly where fewer cards may come than are lacking, and `AboveLimit` exactly where
+    /// Returns the job of a table. `DeckShort` exactly if fewer cards may come than are lacking, and `AboveLimit` exactly if
     /// enough may come and there are more than `RUNOUT_MAX` runouts.
     pub fn make(table: &Table) -> Result<Job, JobFault>
         ensures made { IfOk result (λ job. job.table ≡ table.now) }
@@ -54,14 +54,14 @@ impl Job {
         })
     }
 
-    /// How many runouts there are.
+    /// Returns the number of runouts.
     pub fn runouts(&self) -> u64
         ensures { result ≡ length (runouts_after (state_of self.now.table.known)) }
     {
         self.runouts
     }
 
-    /// How many blocks of `BLOCK` they are, of which the last may be short.
+    /// Returns the number of blocks with `BLOCK` runouts each. The last block may have fewer.
     pub fn blocks(&self) -> u32
         ensures { result ≡ blocks_of (length (runouts_after (state_of self.now.table.known))) }
     {

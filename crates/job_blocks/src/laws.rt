@@ -1,4 +1,4 @@
-//! What holds of the blocks of a listing of runouts. Each law is a call that does nothing.
+//! Laws about the blocks of a listing of runouts. Each law is a call that does nothing.
 
 ghost use Rattle.std.specs.Prelude.{◌≡◌, ℕ, ◌<◌, ◌++◌, List, length};
 ghost use Rattle.showdown_tally.specs.Cells.{Sums, IsSum};
@@ -6,19 +6,19 @@ ghost use Rattle.showdown_tally.specs.Showdown.{Showdown};
 ghost use Rattle.showdown_tally.specs.Tallies.{Counts};
 ghost use Rattle.job_blocks.specs.Blocks.{block_of, blocks_of, blocks_below, IsTotal};
 
-/// The blocks put together are all runouts in their order: each runout stands in exactly one.
+/// The blocks joined are all runouts in their order: each runout is in exactly one block.
 pub fn law_blocks_are_all()
     ensures { (all : List (List (List ℕ))) → blocks_below all (blocks_of (length all)) ≡ all }
 {}
 
-/// The sums of two parts of a listing are those of both.
+/// The sums of two parts of a listing add up to those of both.
 pub fn law_block_sums_add()
     ensures { (deal : Showdown) (some more : List (List (List ℕ))) (old other new : Sums)
         → Counts deal some old → Counts deal more other → IsSum old other new
         → Counts deal (some ++ more) new }
 {}
 
-/// The total of the sums of all blocks is that of all runouts.
+/// The sums of all blocks add up to those of all runouts.
 pub fn law_blocks_add_up()
     ensures { (deal : Showdown) (all : List (List (List ℕ))) (part : ℕ → Sums) (total : Sums)
         → ((block : ℕ) → block < blocks_of (length all)

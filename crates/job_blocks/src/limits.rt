@@ -1,4 +1,4 @@
-//! How much is counted at once.
+//! The size of a block.
 
-/// How many runouts a block has, but for the last.
+/// The number of runouts of each block except the last, which may have fewer.
 pub const BLOCK: u64 = 65_536;

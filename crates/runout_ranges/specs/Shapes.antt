@@ -1,4 +1,4 @@
--- A shape seen as its slots and its runouts.
+-- The slots and the runouts of a shape.
 use Rattle.std.specs.Prelude.{◌≡◌, ℕ, List, take, length}
 use Rattle.card_sets.specs.State.{State}
 use Rattle.runout_ranges.specs.Runouts.{runouts}
@@ -15,7 +15,7 @@ slots_of shape = take shape.used shape.slots
 abbrev pub runouts_of : Shape → List (List (List ℕ))
 runouts_of shape = runouts shape.unseen (counts_of (slots_of shape))
 
--- how many ways there are: the product of the binomials, slot after slot, over the cards still left
+-- the number of ways: the product of the binomials, slot by slot, over the cards left
 abbrev pub ways_of : Shape → ℕ
 ways_of shape = ways (length shape.unseen) (counts_of (slots_of shape))
 
@@ -23,7 +23,7 @@ ways_of shape = ways (length shape.unseen) (counts_of (slots_of shape))
 abbrev pub FillsSlots : Shape → List (List ℕ) → Type 0
 FillsSlots shape sets = Fills shape.unseen (counts_of (slots_of shape)) sets
 
--- the shape has the cards that may come in a known state, and a slot for each receiver that lacks cards there
+-- the shape has the cards that may come in a known state, and a slot for each receiver that lacks cards
 pub record IsShapeOf (state : State) (shape : Shape) : Type 0 where
   pub cards : shape.unseen ≡ unseen state
   pub lacking : slots_of shape ≡ slots state

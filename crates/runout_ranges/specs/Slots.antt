@@ -1,4 +1,4 @@
--- Who still lacks cards in a known state, and which cards may come.
+-- Who lacks cards in a known state, and which cards may come.
 use Rattle.std.specs.Prelude.{ℕ, zero, suc, ◌+◌, ◌-◌, Bool, true, false, ◌==◌, ◌&&◌, not, if◌then◌else◌, List, [], ◌∷◌, ◌++◌, map, length}
 use Rattle.std.specs.List.{list_any}
 use Rattle.card_sets.specs.Cards.{has_card, cards_where}
@@ -8,25 +8,25 @@ use Rattle.runout_ranges.specs.declared.shapes.Receiver.{Receiver}
 use Rattle.runout_ranges.specs.declared.shapes.Receiver.TheVariants.{Board, Hand}
 use Rattle.runout_ranges.specs.declared.shapes.Slot.{Slot}
 
--- the cards that may come: on no board, dead nowhere, in no hand
+-- the cards that may come: not on the board, not dead, and in no hand
 abbrev pub unseen : State → List ℕ
 unseen s = cards_where (λ c. not (has_card s.board c) && not (has_card s.dead c) && not (list_any (λ hand. has_card hand c) s.hands))
 
--- the slot of a receiver that lacks so many cards: none where it lacks none
+-- the slot of a receiver that lacks n cards; none if it lacks none
 abbrev pub slot_of : Receiver → ℕ → List Slot
 slot_of receiver zero = []
 slot_of receiver (suc n) = record { receiver = receiver; count = suc n } ∷ []
 
--- the slots of hands of a full size, of which the first has a number
+-- the slots of hands that have a full size; the first hand has the given number
 abbrev pub hand_slots : ℕ → ℕ → List (List ℕ) → List Slot
 hand_slots size number [] = []
 hand_slots size number (hand ∷ hands) = slot_of (Hand number) (size - length hand) ++ hand_slots size (number + 1) hands
 
--- what each receiver lacks, the board first and then the hands in order
+-- the slot of each receiver that lacks cards, the board first and then the hands in order
 abbrev pub slots : State → List Slot
 slots s = slot_of Board (board_size s.game - length s.board) ++ hand_slots (own_size s.game) 0 s.hands
 
--- how many cards each slot takes
+-- the number of cards of each slot
 abbrev pub counts_of : List Slot → List ℕ
 counts_of some = map (λ s. s.count) some
 
@@ -37,7 +37,7 @@ same_receiver Board (Hand b) = false
 same_receiver (Hand a) Board = false
 same_receiver (Hand a) (Hand b) = a == b
 
--- what a runout of the slots gives a receiver: nothing where it has no slot
+-- the cards that a runout of the slots gives a receiver; none if the receiver has no slot
 abbrev pub dealt : List Slot → List (List ℕ) → Receiver → List ℕ
 dealt [] sets receiver = []
 dealt (slot ∷ rest) [] receiver = []

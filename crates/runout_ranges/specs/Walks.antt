@@ -1,10 +1,10 @@
--- For loops that go over all runouts: a walk over a list by what follows, and how many sets a runout has.
+-- For loops over all runouts: a walk over a list by its next member, and the number of sets of a runout.
 use Rattle.std.proofs.Common.{◌≡◌, ℕ, List, [], ◌∷◌, ◌++◌, map, suc, ap, sym, ◌∙◌, append_assoc, length, subst, refl}
 use Rattle.std.specs.List.{flat_map}
 use Rattle.card_sets.specs.Choose.{choose}
 use Rattle.runout_ranges.specs.Runouts.{runouts, left_by, HasMember, Begins, Follows, Ends}
 
--- the first is a member
+-- the first member is a member
 pub HasMember-first : {X : Type 0} (list : List X) (x : X) → Begins list x → HasMember list x
 HasMember-first list x b = ([], b.0, b.1)
 
@@ -14,13 +14,13 @@ HasMember-next list at next m f =
     let r = f m.0 m.1 m.2 in
     (m.0 ++ at ∷ [], r.0, m.2 ∙ ap (λ l. m.0 ++ at ∷ l) r.1 ∙ sym (append_assoc m.0 (at ∷ []) (next ∷ r.0)))
 
--- a step of a walk: what was at is done, and next is at
+-- a step of a walk: the current member is done, and the next one is current
 pub walk_more : {X : Type 0} (list done todo : List X) (at next : X) → list ≡ done ++ at ∷ todo → Follows list at next → (rest : List X) × (list ≡ (done ++ at ∷ []) ++ next ∷ rest)
 walk_more list done todo at next e f =
     let r = f done todo e in
     (r.0, e ∙ ap (λ l. done ++ at ∷ l) r.1 ∙ sym (append_assoc done (at ∷ []) (next ∷ r.0)))
 
--- the end of a walk: what was done and what was at are all
+-- the end of a walk: the members done and the current one are all
 pub walk_all : {X : Type 0} (list done todo : List X) (at : X) → list ≡ done ++ at ∷ todo → Ends list at → list ≡ done ++ at ∷ []
 walk_all list done todo at e f = e ∙ ap (λ l. done ++ at ∷ l) (f done todo e)
 
@@ -43,7 +43,7 @@ blocks_have g [] (x ∷ front) back sets P all e = cc
 blocks_have g (f ∷ firsts) front back sets P all e =
     block_has f (g f) (flat_map (λ f. map (λ rest. f ∷ rest) (g f)) firsts) front back sets P (all f) (λ d later. blocks_have g firsts d back sets P all later) e
 
--- a runout has as many sets as there are slots
+-- a runout has one set for each slot
 pub length-runout : (counts unseen : List ℕ) (sets : List (List ℕ)) → HasMember (runouts unseen counts) sets → length sets ≡ length counts
 length-runout [] unseen sets m = one sets m.0 m.1 m.2
   where

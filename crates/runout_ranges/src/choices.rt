@@ -1,4 +1,4 @@
-//! The choices of so many cards of a set, in order.
+//! The choices of a number of cards from a set, in order.
 
 ghost use Rattle.std.specs.Prelude.{◌≡◌, ℕ, ◌≤◌, length, take, MatchOption};
 ghost use Rattle.card_sets.specs.Choose.{choose};
@@ -6,10 +6,10 @@ ghost use Rattle.runout_ranges.specs.Runouts.{HasMember, Follows, Ends};
 
 use card_sets::CardSet;
 
-/// The choice after one of as many of the cards. None exactly after the last.
+/// Returns the next choice with the same number of cards. `None` exactly after the last one.
 ///
-/// The greatest chosen card with a free card above it moves up by one, and the cards that were chosen
-/// above it follow right after it.
+/// The greatest chosen card with a free card above it moves up by one, and the chosen cards above it
+/// follow right after it.
 #[inline]
 pub(crate) fn next_choice(cards: CardSet, chosen: CardSet) -> Option<CardSet>
     requires { HasMember (choose (length chosen) cards) chosen }

@@ -1,4 +1,4 @@
-//! What a known state lacks.
+//! The cards that a known state lacks.
 
 ghost use Rattle.std.specs.Prelude.{◌≡◌, ◌<◌, ◌+◌, ◌++◌, [], ◌↔◌, length, sum, IsNone, IfSome};
 ghost use Rattle.card_sets.specs.State.{state_of};
@@ -9,7 +9,7 @@ use crate::{Receiver, Shape, Slot};
 use card_sets::{CardSet, Known};
 use std::marker::Model;
 
-/// The cards in no known set.
+/// Returns the cards in no known set.
 fn unseen_cards(known: &Known) -> CardSet
     ensures { result ≡ unseen (state_of known.now) }
 {
@@ -20,10 +20,12 @@ fn unseen_cards(known: &Known) -> CardSet
     unseen
 }
 
-/// Up to eleven slots. Clauses see it as their list.
+/// A list of up to eleven slots. Clauses see it as a list.
 #[derive(Drop)]
 struct SlotList {
+    /// The number of slots.
     used: u8,
+    /// The slots, followed by unused ones.
     slots: [Slot; 11],
 }
 
@@ -52,7 +54,7 @@ impl SlotList {
         }
     }
 
-    /// Adds the slot of a receiver that lacks so many cards, if it lacks any.
+    /// Adds the slot of a receiver that lacks `count` cards, unless it lacks none.
     fn add(&mut self, receiver: Receiver, count: u8)
         requires { length self.old < 11 }
         ensures { self.new ≡ self.old ++ slot_of receiver count }
@@ -63,7 +65,7 @@ impl SlotList {
         }
     }
 
-    /// How many cards the slots take.
+    /// Returns the number of cards that the slots need.
     fn needed(&self) -> u32
         ensures { result ≡ sum (counts_of self.now) }
     {
@@ -75,7 +77,7 @@ impl SlotList {
     }
 }
 
-/// The slots of the receivers that lack cards.
+/// Returns the slots of the receivers that lack cards.
 fn lacking(known: &Known) -> SlotList
     ensures { result ≡ slots (state_of known.now) }
 {
@@ -91,8 +93,8 @@ fn lacking(known: &Known) -> SlotList
     lacking
 }
 
-/// What is still to be dealt in a known state. None exactly where fewer cards may come than are
-/// lacking.
+/// Returns what is still to be dealt in a known state. `None` exactly if fewer cards may come than
+/// are lacking.
 pub fn shape(known: &Known) -> Option<Shape>
     ensures none { let st = state_of known.now in
         IsNone result ↔ (length (unseen st) < sum (counts_of (slots st))) }

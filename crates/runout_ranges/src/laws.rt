@@ -1,4 +1,4 @@
-//! What the listing of the runouts is, in plain words. Each law is a call that does nothing.
+//! Laws that say in plain words what the listing of the runouts is. Each law is a call that does nothing.
 
 ghost use Rattle.std.specs.Prelude.{◌≡◌, ◌<◌, ℕ, ◌↔◌, [], List, length, slice_index_or};
 ghost use Rattle.card_sets.specs.Cards.{IsCardSet};
@@ -11,8 +11,8 @@ ghost use Rattle.runout_ranges.specs.Ways.{NoneTwice};
 use crate::Shape;
 use card_sets::Known;
 
-/// A list of sets is a runout of the shape exactly where it has one set for each slot, of as many
-/// cards as the slot takes, each a rising list, no card in two of them, and only cards that may come.
+/// A list of sets is a runout of the shape exactly if it has one set for each slot, with the slot's number
+/// of cards, each a rising list, no card in two of them, and only cards that may come.
 pub fn law_runouts_fill_the_slots(shape: &Shape)
     ensures { (sets : List (List ℕ))
         → (HasMember (runouts_of shape.now) sets ↔ FillsSlots shape.now sets) }
@@ -27,8 +27,7 @@ pub fn law_no_runout_twice(shape: &Shape)
     shape.unseen.rising();
 }
 
-/// The number of runouts is the product of the binomials, slot after slot, over the cards still
-/// left.
+/// The number of runouts is the product of the binomials, slot by slot, over the cards left.
 pub fn law_runouts_are_counted(shape: &Shape)
     ensures { length (runouts_of shape.now) ≡ ways_of shape.now }
 {
@@ -45,9 +44,9 @@ fn hands_are_sets(known: &Known)
     }
 }
 
-/// Of two states of a game with as many hands and dead cards, the second of which knows no fewer cards of any
-/// hand and of the board: where enough cards may come in the first they may in the second, and it has no more
-/// runouts.
+/// Two states of a game have the same numbers of hands and of dead cards, and the second knows no fewer
+/// cards of any hand or of the board. If enough cards may come in the first, enough may come in the
+/// second, and it has no more runouts.
 pub fn law_no_more_runouts(before: &Known, after: &Known)
     ensures { KnowsNoLess (state_of before.now) (state_of after.now)
         → IsEnough (state_of before.now)

@@ -1,11 +1,12 @@
-//! What is still to be dealt in a known state, and every way to deal it, one after the other.
+//! The cards still to be dealt in a known state, and every way to deal them, one after another.
 //!
 //! Clauses see a runout as a list of sets of cards, one for each slot, and all runouts of a shape as
 //! the list `runouts_of`. `first_runout` and `advance` walk that list from its first member to its
-//! last, `runout_at` gives the one at an index, and `count_runouts` says how long the list is.
+//! last, `runout_at` gives the runout at an index, and `count_runouts` returns the length of the list.
 //!
-//! An equity is counted over at most `RUNOUT_MAX` runouts. `JobFault` says why one isn't counted; the crate itself
-//! counts none.
+//! An equity is counted over at most `RUNOUT_MAX` runouts. `JobFault` says why an equity isn't counted.
+//! This
+//! crate counts none.
 #![tactic(auto)]
 
 mod choices;

@@ -1,6 +1,6 @@
-//! How much is counted.
+//! The limits of a count.
 
-/// The most runouts that an equity is counted over.
+/// The most runouts over which an equity is counted.
 pub const RUNOUT_MAX: u64 = 200_000_000;
 
 /// Why an equity isn't counted.

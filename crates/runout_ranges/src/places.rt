@@ -13,9 +13,10 @@ use crate::successor::Runout;
 use crate::{Shape, Slot};
 use card_sets::CardSet;
 
-/// All the taken cards with the choice at a place of so many of the rest, which lie above them.
+/// Returns all taken cards, with the choice of `missing` cards of the rest at a place. The rest
+/// lies above the taken cards.
 fn choice_at(taken: CardSet, rest: CardSet, missing: u32, place: u64) -> CardSet
-    // The rest is a set, as each is.
+    // The rest is a set.
     requires above { IsCardSet rest → IsRising (taken ++ rest) }
     requires inside { place < binomial (length rest) missing }
     ensures { slice_get (map (λ more. taken ++ more) (choose missing rest)) place ≡ Some result }
@@ -34,7 +35,7 @@ fn choice_at(taken: CardSet, rest: CardSet, missing: u32, place: u64) -> CardSet
     choice_at(taken, others, missing, place - with_card)
 }
 
-/// How many ways there are to fill the slots from so many cards, which are known to fit 64 bits.
+/// Returns the number of ways to fill the slots from `left` cards, which is known to fit 64 bits.
 pub fn count_ways(left: u32, slots: &[Slot]) -> u64
     requires deck { left ≤ 52 }
     requires enough { sum (counts_of slots.now) ≤ left }
@@ -48,7 +49,7 @@ pub fn count_ways(left: u32, slots: &[Slot]) -> u64
     choices(left, count) * count_ways(left - count, later)
 }
 
-/// The way to fill the slots at a place of the listing.
+/// Fills the slots in the way at a place of the listing.
 fn fill_at(unseen: CardSet, slots: &[Slot], sets: &mut [CardSet], place: u64)
     requires same { length slots.now ≡ length sets.old }
     requires enough { sum (counts_of slots.now) ≤ length unseen }
@@ -75,7 +76,7 @@ fn fill_at(unseen: CardSet, slots: &[Slot], sets: &mut [CardSet], place: u64)
     );
 }
 
-/// Makes a runout the one at an index of the shape's listing, from 0, whatever it held.
+/// Sets a runout to the one at an index of the shape's listing, from 0, whatever it was.
 pub fn runout_at(shape: &Shape, index: u64, out: &mut Runout)
     requires fits { length (runouts_of shape.now) < 2 ^ 64 }
     requires inside { index < length (runouts_of shape.now) }

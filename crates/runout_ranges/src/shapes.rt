@@ -5,34 +5,34 @@ ghost use Rattle.runout_ranges.specs.Slots.{counts_of};
 
 use card_sets::CardSet;
 
-/// Who gets cards: the board, or a hand, from 0.
+/// A receiver of cards.
 #[derive(Clone, Copy, PartialEq, Eq)]
 pub enum Receiver {
     /// The board.
     Board,
-    /// The hand of this number, from 0.
+    /// The hand with this number, from 0.
     Hand(u8),
 }
 
-/// So many cards to come for a receiver.
+/// Cards to come for a receiver.
 #[derive(Clone, Copy, PartialEq, Eq)]
 pub struct Slot {
-    /// Whose cards they are.
+    /// The receiver of the cards.
     pub receiver: Receiver,
-    /// How many they are.
+    /// The number of cards.
     pub count: u8,
 }
 
-/// What is still to be dealt: the cards that may come, and the slots that they fill.
+/// The cards still to be dealt: the cards that may come, and the slots that they fill.
 #[derive(Clone, Copy)]
 pub struct Shape {
     /// The cards that may come.
     pub unseen: CardSet,
-    /// The slots, of which the first `used` count.
+    /// The slots. Only the first `used` of them count.
     pub slots: [Slot; 11],
-    /// How many slots there are.
+    /// The number of slots.
     pub used: u8,
-    /// At most the board's slot and ten hands'.
+    /// There is at most one slot for the board and one for each of ten hands.
     pub ghost few: { used ≤ 11 },
     /// Enough cards may come.
     pub ghost enough: { sum (counts_of (take used slots)) ≤ length unseen },

@@ -1,4 +1,4 @@
--- Whatever the events and their order, no block is lost and none is there twice.
+-- Whatever the events and their order are, no block is lost and none is there twice.
 use Rattle.std.specs.Prelude.{◌≡◌, ℕ, ◌≤◌, ◌==◌, nat_lt, if◌then◌else◌, List, [], ◌∷◌, ◌++◌, length, take, count_by, IsPermutation, option_to_list}
 use Rattle.std.specs.List.{flat_map, range_with_len}
 use Rattle.showdown_tally.specs.Showdown.{Showdown}
@@ -30,25 +30,28 @@ pushed_by state (Pop worker ∷ events) = pushed_by state events
 pushed_by state (Steal worker victim ∷ events) = pushed_by state events
 pushed_by state (Book worker ∷ events) = pushed_by state events
 
--- how many blocks a deal's runouts have
+-- the number of blocks of a deal's runouts
 abbrev pub deal_blocks : Showdown → ℕ
 deal_blocks deal = blocks_of (length (runouts_after deal.state))
 
--- the hands are empty, nothing is booked, and the blocks in the queues and those of the pushes are the numbers below the deal's blocks, each once
+-- the hands are empty, nothing is booked, and the blocks in the queues and of the pushes are the numbers below the
+-- deal's blocks, each once
 pub record IsFair (deal : Showdown) (start : State) (events : List CoreEvent) : Type 0 where
   pub hands : in_hands start ≡ []
   pub booked : start.booked ≡ []
   pub blocks : IsPermutation (range_with_len 0 (deal_blocks deal)) (queued start ++ pushed_by start events)
 
--- how often a block stands in a list
+-- how often a block is in a list
 abbrev pub times : ℕ → List ℕ → ℕ
 times block blocks = count_by (λ b. b == block) blocks
 
--- 1 below a number, and else 0
+-- 1 below a number, and otherwise 0
 abbrev pub once_below : ℕ → ℕ → ℕ
 once_below n x = if nat_lt x n then 1 else 0
 
--- after each front of the events each block of the deal is there at most once and no other is, and after all of them each is there exactly once. Where queues and hands are then empty, each is booked exactly once, and the sums of the booked blocks are those of all runouts
+-- after each prefix of the events each block of the deal is there at most once, and no other block is; after all events
+-- each is there exactly once; if queues and hands are then empty, each is booked exactly once, and the sums of the
+-- booked blocks are those of all runouts
 pub record IsInterleaved (deal : Showdown) (start : State) (events : List CoreEvent) : Type 0 where
   pub at_most_once : (n block : ℕ) → times block (every_block (run start (take n events))) ≤ once_below (deal_blocks deal) block
   pub exactly_once : (block : ℕ) → times block (every_block (run start events)) ≡ once_below (deal_blocks deal) block

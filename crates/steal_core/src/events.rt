@@ -1,23 +1,23 @@
-//! What may happen.
+//! The events.
 
 /// One move of one worker. Workers and blocks are numbers from 0.
 #[derive(Clone, Copy, PartialEq, Eq)]
 pub enum CoreEvent {
     /// A block goes to the back of the worker's queue.
     Push { worker: u32, block: u32 },
-    /// The front of the worker's own queue goes into its empty hand.
+    /// The first block of the worker's own queue goes into its empty hand.
     Pop { worker: u32 },
-    /// The front of another worker's queue goes into the worker's empty hand.
+    /// The first block of another worker's queue goes into the worker's empty hand.
     Steal { worker: u32, victim: u32 },
     /// The block in the worker's hand goes to the end of the booked blocks.
     Book { worker: u32 },
 }
 
-/// What became of an event.
+/// The result of an event.
 #[derive(Clone, Copy, PartialEq, Eq)]
 pub enum Stepped {
-    /// It happened.
+    /// The event was applied.
     Done,
-    /// It may not be, and nothing changed.
+    /// The event was refused, and nothing changed.
     Refused,
 }

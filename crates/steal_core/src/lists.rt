@@ -1,4 +1,4 @@
-//! Lists of blocks, of queues and of hands.
+//! Lists of blocks, of queues, and of hands.
 
 ghost use Rattle.std.specs.Prelude.{◌≡◌, ℕ, ◌<◌, ◌==◌, Option, None, [], ◌∷◌, ◌++◌, drop, length, slice_get, slice_set, slice_index_or, IfOk, OnOk, OnErr};
 
@@ -6,9 +6,10 @@ use card_sets::Memory;
 use std::alloc::Global;
 use std::marker::Model;
 
-/// Some blocks: a queue, front first, or those that are booked, in their order. Clauses see the list of them.
+/// Blocks: a queue, the front first, or the booked blocks in their order. Clauses see the list of them.
 #[derive(Drop)]
 pub struct Blocks {
+    /// The blocks, in their order.
     items: Vec<u32>,
 }
 
@@ -21,28 +22,28 @@ impl Model for Blocks {
 }
 
 impl Blocks {
-    /// The blocks.
+    /// Returns the blocks.
     pub fn items(&self) -> &[u32]
         ensures { result.now ≡ self.now }
     {
         self.items.as_slice()
     }
 
-    /// Of these.
+    /// Wraps the list.
     pub fn of(items: Vec<u32>) -> Blocks
         ensures { result ≡ items.items }
     {
         Blocks { items }
     }
 
-    /// Whether there is none.
+    /// Returns whether there is no block.
     fn is_empty(&self) -> bool
         ensures { result ≡ (length self.now == 0) }
     {
         self.items.is_empty()
     }
 
-    /// One block more, at the back. Out of memory all stays.
+    /// Adds a block at the back. `Memory` changes nothing.
     pub(crate) fn push(&mut self, block: u32) -> Result<(), Memory>
         ensures pushed { OnOk result (self.new ≡ self.old ++ block ∷ []) }
         ensures memory { OnErr result (self.new ≡ self.old) }
@@ -52,7 +53,7 @@ impl Blocks {
         Ok(())
     }
 
-    /// Takes the front. None exactly where there is no block.
+    /// Takes the first block. `None` exactly if there is none.
     fn take_front(&mut self) -> Option<u32>
         ensures front { result ≡ slice_get self.old 0 }
         ensures rest { self.new ≡ drop 1 self.old }
@@ -63,7 +64,7 @@ impl Blocks {
         Some(self.items.remove(0))
     }
 
-    /// The same blocks.
+    /// Returns a copy of the blocks.
     pub(crate) fn copied(&self, alloc: Global) -> Result<Blocks, Memory>
         ensures { IfOk result (λ blocks. blocks ≡ self.now) }
     {
@@ -76,6 +77,7 @@ impl Blocks {
 /// The queues of all workers, by their numbers. Clauses see the list of them.
 #[derive(Drop)]
 pub struct Queues {
+    /// The queue of each worker.
     items: Vec<Blocks>,
 }
 
@@ -88,21 +90,21 @@ impl Model for Queues {
 }
 
 impl Queues {
-    /// The queues.
+    /// Returns the queues.
     pub fn items(&self) -> &[Blocks]
         ensures { result.now ≡ self.now }
     {
         self.items.as_slice()
     }
 
-    /// Of these.
+    /// Wraps the list.
     pub fn of(items: Vec<Blocks>) -> Queues
         ensures { result ≡ items.items }
     {
         Queues { items }
     }
 
-    /// Whether a worker's queue is empty.
+    /// Returns whether a worker's queue is empty.
     pub(crate) fn is_empty_at(&self, worker: u32) -> bool
         requires { worker < length self.now }
         ensures { result ≡ (length (slice_index_or self.now worker []) == 0) }
@@ -110,7 +112,7 @@ impl Queues {
         self.items[worker as usize].is_empty()
     }
 
-    /// One block more at the back of a worker's queue. Out of memory all stays.
+    /// Adds a block at the back of a worker's queue. `Memory` changes nothing.
     pub(crate) fn push_at(&mut self, worker: u32, block: u32) -> Result<(), Memory>
         requires { worker < length self.old }
         ensures pushed { OnOk result
@@ -121,7 +123,7 @@ impl Queues {
         self.items[worker as usize].push(block)
     }
 
-    /// Takes the front of a worker's queue. None exactly where it is empty.
+    /// Takes the first block of a worker's queue. `None` exactly if the queue is empty.
     pub(crate) fn take_front_at(&mut self, worker: u32) -> Option<u32>
         requires { worker < length self.old }
         ensures front { result ≡ slice_get (slice_index_or self.old worker []) 0 }
@@ -131,7 +133,7 @@ impl Queues {
         self.items[worker as usize].take_front()
     }
 
-    /// The same queues.
+    /// Returns a copy of the queues.
     pub(crate) fn copied(&self, alloc: Global) -> Result<Queues, Memory>
         ensures { IfOk result (λ queues. queues ≡ self.now) }
     {
@@ -149,6 +151,7 @@ impl Queues {
 /// The hands of all workers, by their numbers: a block or none. Clauses see the list of them.
 #[derive(Drop)]
 pub struct Hands {
+    /// The block in the hand of each worker, or none.
     items: Vec<Option<u32>>,
 }
 
@@ -161,21 +164,21 @@ impl Model for Hands {
 }
 
 impl Hands {
-    /// The hands.
+    /// Returns the hands.
     pub fn items(&self) -> &[Option<u32>]
         ensures { result.now ≡ self.now }
     {
         self.items.as_slice()
     }
 
-    /// Of these.
+    /// Wraps the list.
     pub fn of(items: Vec<Option<u32>>) -> Hands
         ensures { result ≡ items.items }
     {
         Hands { items }
     }
 
-    /// What a worker holds.
+    /// Returns the block in a worker's hand.
     pub(crate) fn at(&self, worker: u32) -> Option<u32>
         requires { worker < length self.now }
         ensures { result ≡ slice_index_or self.now worker None }
@@ -191,7 +194,7 @@ impl Hands {
         self.items[worker as usize] = hand;
     }
 
-    /// The same hands.
+    /// Returns a copy of the hands.
     pub(crate) fn copied(&self, alloc: Global) -> Result<Hands, Memory>
         ensures { IfOk result (λ hands. hands ≡ self.now) }
     {

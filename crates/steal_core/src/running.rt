@@ -10,7 +10,7 @@ use card_sets::Memory;
 use job_blocks::Job;
 use std::alloc::Global;
 
-/// The state after a list of events, and how many of them were refused.
+/// Returns the state after a list of events, and the number of refused events.
 pub fn run_core(alloc: Global, start: &State, events: &[CoreEvent]) -> Result<(State, u64), Memory>
     ensures last { IfOk result (λ end. end.0 ≡ run start.now events.now) }
     ensures refused { IfOk result (λ end. end.1 ≡ refusals start.now events.now) }
@@ -24,8 +24,9 @@ pub fn run_core(alloc: Global, start: &State, events: &[CoreEvent]) -> Result<(S
     Ok((state, refused))
 }
 
-/// The same from a state in which nothing is held or booked and the blocks of the job, among them those that are pushed, are there
-/// each once: whatever the events, and whatever their order, no block is lost and none is booked twice.
+/// Returns what `run_core` returns, for a state in which nothing is in a hand or booked and each block of
+/// the job is once in a queue or once pushed. Whatever the events and their order are, no block is lost
+/// and none is booked twice.
 pub fn law_all_booked(
     alloc: Global,
     job: &Job,
@@ -39,7 +40,7 @@ pub fn law_all_booked(
     Ok(run_core(alloc, start, events)?.0)
 }
 
-/// How many refusals an answer is.
+/// Returns 1 for a refusal, and 0 otherwise.
 fn one_if_refused(stepped: Stepped) -> u64
     ensures value { result ≡ one_if stepped }
     ensures most { result ≤ 1 }

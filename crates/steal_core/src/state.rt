@@ -7,10 +7,10 @@ use crate::lists::{Blocks, Hands, Queues};
 use card_sets::Memory;
 use std::alloc::Global;
 
-/// Where each block is.
+/// The place of each block.
 #[derive(Drop)]
 pub struct State {
-    /// The workers' queues, front first.
+    /// The workers' queues, the front first.
     pub queues: Queues,
     /// The workers' hands, each with a block or none.
     pub held: Hands,
@@ -19,7 +19,7 @@ pub struct State {
 }
 
 impl State {
-    /// Whether there is a queue and a hand of that number.
+    /// Returns whether there is a queue and a hand with that number.
     pub(crate) fn has(&self, worker: u32) -> bool
         ensures { result ≡ in_range self.now worker }
     {
@@ -27,7 +27,8 @@ impl State {
         worker < self.queues.items().len() && worker < self.held.items().len()
     }
 
-    /// Whether a worker may not take from a queue: one of them is out of range, the worker's hand isn't empty, or the queue is.
+    /// Returns whether a worker may not take from a queue: one of them is out of range, the worker's hand
+    /// isn't empty, or the queue is empty.
     pub(crate) fn may_not_take(&self, worker: u32, victim: u32) -> bool
         ensures { result ≡ may_not_take self.now worker victim }
     {
@@ -37,7 +38,7 @@ impl State {
             || self.queues.is_empty_at(victim)
     }
 
-    /// The same state.
+    /// Returns a copy of the state.
     pub(crate) fn copied(&self, alloc: Global) -> Result<State, Memory>
         ensures { IfOk result (λ state. state ≡ self.now) }
     {

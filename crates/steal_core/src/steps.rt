@@ -7,8 +7,9 @@ ghost use Rattle.steal_core.specs.declared.events.CoreEvent.TheVariants.{Push, B
 use crate::{CoreEvent, State, Stepped};
 use card_sets::Memory;
 
-/// One event. `Refused` exactly where a worker's number is out of range, the queue that is taken from is empty, the hand isn't
-/// empty (pop, steal) or is (book), or a worker would steal from itself. The state then stays, and so it does when out of memory.
+/// Applies one event. `Refused` exactly if a worker's number is out of range, the queue from which a block
+/// is taken is empty, the hand isn't empty (pop, steal) or is empty (book), or a worker would steal from
+/// itself. A refusal leaves the state unchanged, and so does `Memory`.
 pub fn step(state: &mut State, event: CoreEvent) -> Result<Stepped, Memory>
     ensures answered { IfOk result (λ stepped. stepped ≡ answer (is_refused state.old event)) }
     ensures moved { OnOk result (state.new ≡ after state.old event) }
@@ -27,7 +28,7 @@ pub fn step(state: &mut State, event: CoreEvent) -> Result<Stepped, Memory>
     }
 }
 
-/// A push.
+/// Applies a push.
 fn push(state: &mut State, worker: u32, block: u32) -> Result<Stepped, Memory>
     ensures answered { IfOk result
         (λ stepped. stepped ≡ answer (is_refused state.old (Push worker block))) }
@@ -41,7 +42,7 @@ fn push(state: &mut State, worker: u32, block: u32) -> Result<Stepped, Memory>
     Ok(Stepped::Done)
 }
 
-/// A pop, where the victim is the worker, or a steal.
+/// Applies a pop, if the victim is the worker, or a steal.
 fn take(state: &mut State, worker: u32, victim: u32) -> Stepped
     ensures answered { result ≡ answer (may_not_take state.old worker victim) }
     ensures moved { state.new
@@ -56,7 +57,7 @@ fn take(state: &mut State, worker: u32, victim: u32) -> Stepped
     Stepped::Done
 }
 
-/// A book.
+/// Applies a booking.
 fn book(state: &mut State, worker: u32) -> Result<Stepped, Memory>
     ensures answered { IfOk result
         (λ stepped. stepped ≡ answer (is_refused state.old (Book worker))) }

@@ -1,5 +1,5 @@
--- The next street of a known state: which cards it gives, what is known after it, and in how many ways a runout divides into
--- it and the rest.
+-- The next street of a known state: the cards that it deals, the state after it, and the number of ways in which a
+-- runout divides into its cards and the rest.
 use Rattle.std.specs.Prelude.{◌≡◌, ℕ, ◌+◌, ◌-◌, ◌*◌, ◌<◌, min, max, nat_lt, if◌then◌else◌, IsTrue, List, [], ◌∷◌, map, length, slice_index_or}
 use Rattle.card_sets.specs.Cards.{union}
 use Rattle.card_sets.specs.Games.{family_of, has_board, has_bring_in, own_size}
@@ -16,24 +16,26 @@ use Rattle.runout_ranges.specs.declared.shapes.Receiver.TheVariants.{Board, Hand
 use Rattle.runout_ranges.specs.declared.shapes.Shape.{Shape}
 use Rattle.runout_ranges.specs.declared.shapes.Slot.{Slot}
 
--- how many of the cards that a board lacks come next: all but the last two, the turn and the river, and then one at a time
+-- the number of cards that a board gets next: all that it lacks except the last two, the turn and the river, and then
+-- one at a time
 abbrev pub board_gets : ℕ → ℕ
 board_gets lacking = if nat_lt 2 lacking then lacking - 2 else min lacking 1
 
--- how many of the cards that a hand lacks come next: in stud one, and in other games all, beside a board too
+-- the number of cards that a hand gets next: one in stud, and all that it lacks in other games, whether there is a
+-- board or not
 abbrev pub hand_gets : Family → ℕ → ℕ
 hand_gets family.Board lacking = lacking
 hand_gets family.Stud lacking = min lacking 1
 hand_gets family.Draw lacking = lacking
 hand_gets family.TripleDraw lacking = lacking
 
--- how many of the cards that a receiver lacks come next
+-- the number of cards that a receiver gets next
 abbrev pub gets : Game → Receiver → ℕ → ℕ
 gets game Board lacking = board_gets lacking
 gets game (Hand i) lacking = hand_gets (family_of game) lacking
 
--- the slots of all cards to come with those cards alone that come on the next street. Whoever lacks a card gets one at least,
--- so that each slot stays
+-- the slots of all cards to come, with only the cards that come on the next street; a receiver that lacks a card gets
+-- at least one, so each slot stays
 abbrev pub next_of : Game → List Slot → List Slot
 next_of game some = map (λ s. record { receiver = s.receiver; count = gets game s.receiver s.count }) some
 
@@ -45,43 +47,44 @@ next_slots s = next_of s.game (slots s)
 abbrev pub choices_of : State → List (List (List ℕ))
 choices_of s = runouts (unseen s) (counts_of (next_slots s))
 
--- hands, of which the first has a number, each with what the sets of the slots deal to it
+-- hands, the first of which has a number, each with the cards that the sets of the slots deal to it
 abbrev pub hands_after : List Slot → List (List ℕ) → ℕ → List (List ℕ) → List (List ℕ)
 hands_after some sets number [] = []
 hands_after some sets number (hand ∷ hands) = union hand (dealt some sets (Hand number)) ∷ hands_after some sets (number + 1) hands
 
--- what is known when the sets of the slots are dealt, each to its slot's receiver
+-- the state after the sets of the slots are dealt, each to the receiver of its slot
 abbrev pub with_dealt : State → List Slot → List (List ℕ) → State
 with_dealt s some sets = record { game = s.game; hands = hands_after some sets 0 s.hands; board = union s.board (dealt some sets Board); dead = s.dead }
 
--- what is known after a choice of the next street's cards
+-- the state after a choice of the next street's cards
 abbrev pub after : State → List (List ℕ) → State
 after s sets = with_dealt s (next_slots s) sets
 
--- what is known at the end, after a runout
+-- the state at the end, after a runout
 abbrev pub at_end : State → List (List ℕ) → State
 at_end s runout = with_dealt s (slots s) runout
 
--- the next street by how many cards there are then: a board goes to three cards, and then on by one; a hand of stud goes on by
--- one until it is full, and a hand of another game is full
+-- the number of cards after the next street: a board has three cards, and then one more each time; a hand of stud has
+-- one more until it is full; a hand of another game is full
 pub record GoesOn (s next : State) : Type 0 where
   pub board : IsTrue (has_board s.game) → length s.board < 5 → length next.board ≡ max 3 (length s.board + 1)
   pub hands : (i : ℕ) → i < length s.hands → length (slice_index_or next.hands i []) ≡ (if has_bring_in s.game then min (own_size s.game) (length (slice_index_or s.hands i []) + 1) else own_size s.game)
 
--- in how many ways the cards of the slots divide into those of the next street and those that come later
+-- the number of ways to divide the cards of the slots into those of the next street and those that come later
 abbrev pub divided_of : Game → List Slot → ℕ
 divided_of game [] = 1
 divided_of game (s ∷ some) = binomial s.count (gets game s.receiver s.count) * divided_of game some
 
--- in how many ways one runout divides so
+-- the number of ways to divide one runout in this way
 abbrev pub divisions : State → ℕ
 divisions s = divided_of s.game (slots s)
 
--- nothing is missing: the last street has been dealt
+-- no card is lacking: the last street has been dealt
 abbrev pub IsLastStreet : State → Type 0
 IsLastStreet s = slots s ≡ []
 
--- the shape has the cards that may come in a known state, and a slot for each receiver that the next street gives cards
+-- the shape has the cards that may come in a known state, and a slot for each receiver that gets cards on the next
+-- street
 pub record IsNextOf (state : State) (shape : Shape) : Type 0 where
   pub cards : shape.unseen ≡ unseen state
   pub slots : slots_of shape ≡ next_slots state

@@ -1,4 +1,4 @@
-//! What is known after a street.
+//! The known cards after a street.
 
 ghost use Rattle.std.specs.Prelude.{◌≡◌, ◌≤◌, length};
 ghost use Rattle.card_sets.specs.State.{state_of};
@@ -11,7 +11,7 @@ use crate::laws::known_sets;
 use card_sets::{CardSet, Known};
 use runout_ranges::{Receiver, Runout, Shape};
 
-/// Whether two receivers are the same.
+/// Returns whether two receivers are the same.
 fn same_receiver(a: Receiver, b: Receiver) -> bool
     ensures { result ≡ same_receiver a b }
 {
@@ -22,7 +22,7 @@ fn same_receiver(a: Receiver, b: Receiver) -> bool
     }
 }
 
-/// What the sets of the slots deal to a receiver.
+/// Returns the cards that the sets of the slots deal to a receiver.
 fn dealt_to(shape: &Shape, sets: &[CardSet], receiver: Receiver) -> CardSet
     requires { length sets.now ≡ length (slots_of shape.now) }
     ensures { result ≡ dealt (slots_of shape.now) sets.now receiver }
@@ -36,7 +36,7 @@ fn dealt_to(shape: &Shape, sets: &[CardSet], receiver: Receiver) -> CardSet
     CardSet::empty()
 }
 
-/// Gives each hand, from 0, what the sets of the slots deal to it.
+/// Adds to each hand, from 0, the cards that the sets of the slots deal to it.
 fn deal_hands(hands: &mut [CardSet], shape: &Shape, sets: &[CardSet])
     requires few { length hands.old ≤ 10 }
     requires sets { length sets.now ≡ length (slots_of shape.now) }
@@ -48,7 +48,8 @@ fn deal_hands(hands: &mut [CardSet], shape: &Shape, sets: &[CardSet])
     }
 }
 
-/// What is known when a choice of the next street's cards is dealt: as before, and each slot's cards with its receiver.
+/// Returns the known cards after a choice of the next street's cards: those known before, and each slot's
+/// cards with its receiver.
 pub fn after_street(known: &Known, step: &Shape, r: &Runout) -> Known
     requires next { IsNextOf (state_of known.now) step.now }
     requires choice { HasMember (runouts_of step.now) r.now }

@@ -21,8 +21,9 @@ pub(crate) fn known_sets(known: &Known)
     }
 }
 
-/// After the next street a board that had fewer than three cards has three, and another that wasn't full has one more; a hand of
-/// stud that wasn't full has one more, and a hand of another game is full.
+/// After the next street a board that had fewer than three cards has three, and another board that wasn't
+/// full has one more. A hand of stud that wasn't full has one more card, and a hand of another game is
+/// full.
 pub fn law_streets_go_on(known: &Known)
     ensures { (sets : List (List ℕ)) → HasMember (choices_of (state_of known.now)) sets
         → GoesOn (state_of known.now) (after (state_of known.now) sets) }
@@ -30,8 +31,8 @@ pub fn law_streets_go_on(known: &Known)
     known_sets(known);
 }
 
-/// Added up over all choices of the next street's cards, each number of the whole count is that of the deal itself, as often as
-/// one runout divides into the street's cards and the rest.
+/// Summed over all choices of the next street's cards, each number of the whole count is that of the deal
+/// itself, times the number of ways in which one runout divides into the street's cards and the rest.
 pub fn law_streets_add_up(known: &Known)
     ensures { (pots : List (List ℕ))
         → IsStreetLaw record { state = state_of known.now; pots = pots } }
@@ -39,8 +40,9 @@ pub fn law_streets_add_up(known: &Known)
     known_sets(known);
 }
 
-/// The same of any number that goes by the cards at the end: to add it up over all runouts, and that over all choices of the
-/// next street's cards, is to add it up over all runouts at once, as often as one runout divides.
+/// Takes any number that depends on the final cards. Summed over all runouts and then over all choices of
+/// the next street's cards, it is its sum over all runouts, times the number of ways in which one runout
+/// divides.
 pub fn law_final_cards_add_up(known: &Known)
     ensures { (number : State → ℕ) → over_choices (over_runouts number) (state_of known.now)
         ≡ divisions (state_of known.now) * over_runouts number (state_of known.now) }

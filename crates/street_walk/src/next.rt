@@ -10,7 +10,8 @@ ghost use Rattle.street_walk.specs.Streets.{IsNextOf, IsLastStreet, board_gets, 
 use card_sets::{Family, Game, Known};
 use runout_ranges::{Receiver, Shape, Slot, count_choices, shape};
 
-/// How many of the cards that a board lacks come next: all but the last two, and then one at a time.
+/// Returns the number of cards that a board gets next: all that it lacks except the last two, and then one
+/// at a time.
 fn board_gets(lacking: u8) -> u8
     ensures { result ≡ board_gets lacking }
 {
@@ -20,7 +21,7 @@ fn board_gets(lacking: u8) -> u8
     lacking.min(1)
 }
 
-/// How many of the cards that a hand lacks come next: in stud one, and in other games all.
+/// Returns the number of cards that a hand gets next: one in stud, and all that it lacks in other games.
 fn hand_gets(game: Game, lacking: u8) -> u8
     ensures { result ≡ hand_gets (family_of game) lacking }
 {
@@ -30,7 +31,7 @@ fn hand_gets(game: Game, lacking: u8) -> u8
     }
 }
 
-/// How many of the cards that a receiver lacks come next.
+/// Returns the number of cards that a receiver gets next.
 fn gets(game: Game, receiver: Receiver, lacking: u8) -> u8
     ensures { result ≡ gets game receiver lacking }
 {
@@ -40,7 +41,7 @@ fn gets(game: Game, receiver: Receiver, lacking: u8) -> u8
     }
 }
 
-/// Makes the slots of all cards to come those of the next street.
+/// Turns the slots of all cards to come into those of the next street.
 fn give_next(game: Game, slots: &mut [Slot])
     ensures { slots.new ≡ next_of game slots.old }
 {
@@ -50,8 +51,9 @@ fn give_next(game: Game, slots: &mut [Slot])
     }
 }
 
-/// The shape of the next street's cards: to a board those that it lacks to three cards, and then one card at a time; to each
-/// stud hand that lacks cards one; to another hand all that it lacks. None exactly where nothing is missing.
+/// Returns the shape of the next street's cards. A board gets the cards that it lacks to have three, and
+/// then one card at a time. Each stud hand that lacks cards gets one, and another hand all that it lacks.
+/// `None` exactly if no card is lacking.
 pub fn next_street(known: &Known) -> Option<Shape>
     requires enough { ¬ IsDeckShort (state_of known.now) }
     ensures none { IsNone result ↔ IsLastStreet (state_of known.now) }
@@ -72,7 +74,8 @@ pub fn next_street(known: &Known) -> Option<Shape>
     })
 }
 
-/// In how many ways the cards of the slots divide into those of the next street and those that come later.
+/// Returns the number of ways to divide the cards of the slots into those of the next street and those
+/// that come later.
 fn divided(game: Game, slots: &[Slot]) -> u64
     requires deck { sum (counts_of slots.now) ≤ 52 }
     requires fits { divided_of game slots.now < 2 ^ 64 }
@@ -85,8 +88,9 @@ fn divided(game: Game, slots: &[Slot]) -> u64
     count_choices(u32::from(slot.count), u32::from(now)) * divided(game, others)
 }
 
-/// In how many ways one runout divides into the next street's cards and those that come later: for each slot, the number of
-/// choices of its next cards among all that it lacks. 1 where nothing is missing.
+/// Returns the number of ways to divide one runout into the next street's cards and those that come later:
+/// for each slot, the number of choices of its next cards among all that it lacks. 1 if no card is
+/// lacking.
 pub fn divisions(known: &Known) -> u64
     requires enough { ¬ IsDeckShort (state_of known.now) }
     ensures { result ≡ divisions (state_of known.now) }

@@ -1,4 +1,4 @@
-//! The whole counts after each choice of the next street's cards, added up.
+//! The whole counts after each choice of the next street's cards, summed.
 
 ghost use Rattle.std.specs.Prelude.{◌≡◌, ◌+◌, ◌*◌, ◌<◌, ◌≤◌, ◌↔◌, length, IfOk, IfErr, IsTrue};
 ghost use Rattle.std.specs.Result.{IsErrOf};
@@ -21,18 +21,19 @@ use showdown_tally::{Table, Tally};
 use std::sync::ledger::Ledger;
 use step_count::Steps;
 
-/// Why a street isn't summed up.
+/// Why a street isn't summed.
 #[derive(Clone, Copy, PartialEq, Eq)]
 pub enum StreetFault {
     /// Fewer cards may come than the board and the hands lack.
     DeckShort,
-    /// Nothing is missing.
+    /// No card is lacking.
     LastStreet,
     /// There are more than `RUNOUT_MAX` runouts after all choices.
     AboveLimit,
 }
 
-/// Makes a tally the whole count after a choice of the next street's cards. It takes one step a runout.
+/// Sets a tally to the whole count after a choice of the next street's cards. It takes one step for each
+/// runout.
 fn count_after<L: Ledger>(
     table: &Table,
     step: &Shape,
@@ -45,15 +46,16 @@ fn count_after<L: Ledger>(
     requires next { IsNextOf (state_of table.now.known) step.now }
     requires choice { HasMember (runouts_of step.now) choice.now }
 
-    // The deck has enough cards, and all choices together have no more runouts than may be counted: so has this one.
+    // The deck has enough cards, and all choices together have no more runouts than may be counted. So has
+    // this choice.
     requires enough { ¬ IsDeckShort (state_of table.now.known) }
     requires few { ¬ AreTooMany (state_of table.now.known) }
 
-    // The tally is that of the table as it is known after the choice, whatever it was.
+    // Whatever the tally was, it is then that of the table as it is known after the choice.
     ensures counts { Counts (deal_after (deal_of table.now) choice.now)
         (runouts_after (after (state_of table.now.known) choice.now)) tally.new }
 
-    // After each choice there is a way to deal the rest, and each takes a step.
+    // After each choice there is a way to deal the rest, and each way takes a step.
     ensures some { 0 < tally.new.runouts }
     ensures steps { steps.new ≡ steps.old + tally.new.runouts }
 {
@@ -70,19 +72,22 @@ fn count_after<L: Ledger>(
     }
 }
 
-/// The whole counts after all choices of the next street's cards, added up. It takes one step a runout.
+/// Returns the whole counts after all choices of the next street's cards, summed. It takes one step for
+/// each runout.
 fn sum_choices<L: Ledger>(
     table: &Table,
     step: &Shape,
     scratch: &mut Scratch,
     steps: &mut Steps<L>,
 ) -> Tally
-    // The shape is the next street's; the deck has enough cards, and all choices have few enough runouts together.
+    // The shape is that of the next street, the deck has enough cards, and all choices together have few
+    // enough runouts.
     requires next { IsNextOf (state_of table.now.known) step.now }
     requires enough { ¬ IsDeckShort (state_of table.now.known) }
     requires few { ¬ AreTooMany (state_of table.now.known) }
 
-    // It is the sum as it is defined, choice by choice, and also the table's own count so many times.
+    // The result is the sum by its definition, choice by choice. It also is a multiple of the table's own
+    // count.
     ensures sum { IsStreetSum (deal_of table.now) result }
     ensures divided { IsDivided (deal_of table.now) result }
     ensures steps { steps.new ≡ steps.old + result.runouts }
@@ -101,7 +106,7 @@ fn sum_choices<L: Ledger>(
     }
 }
 
-/// Whether there are more than `RUNOUT_MAX` runouts after all choices of the next street's cards.
+/// Returns whether there are more than `RUNOUT_MAX` runouts after all choices of the next street's cards.
 fn are_too_many(known: &Known, whole: &Shape) -> bool
     requires whole { IsShapeOf (state_of known.now) whole.now }
     requires enough { ¬ IsDeckShort (state_of known.now) }
@@ -116,17 +121,20 @@ fn are_too_many(known: &Known, whole: &Shape) -> bool
     all > RUNOUT_MAX
 }
 
-/// The whole counts after all choices of the next street's cards, added up: those of the table itself, as often as one runout
-/// divides into the street's cards and the rest. It takes one step a runout, and no memory.
+/// Returns the whole counts after all choices of the next street's cards, summed: those of the table
+/// itself, times the number of ways in which one runout divides into the street's cards and the rest. It
+/// takes one step for each runout, and no memory.
 ///
-/// `DeckShort` exactly where fewer cards may come than are lacking, `LastStreet` exactly where nothing is missing, and
-/// `AboveLimit` exactly where neither holds and the sum has more than `RUNOUT_MAX` runouts.
+/// `DeckShort` exactly if fewer cards may come than are lacking, `LastStreet` exactly if no card is
+/// lacking, and
+/// `AboveLimit` exactly if neither holds and the sum has more than `RUNOUT_MAX` runouts.
 pub fn street_sum<L: Ledger>(
     table: &Table,
     scratch: &mut Scratch,
     steps: &mut Steps<L>,
 ) -> Result<Tally, StreetFault>
-    // It is the sum as it is defined, choice by choice, and also the table's own count so many times.
+    // The result is the sum by its definition, choice by choice. It also is a multiple of the table's own
+    // count.
     ensures sum { IfOk result (λ tally. IsStreetSum (deal_of table.now) tally) }
     ensures divided { IfOk result (λ tally. IsDivided (deal_of table.now) tally) }
     ensures steps { IfOk result (λ tally. steps.new ≡ steps.old + tally.runouts) }
@@ -134,7 +142,7 @@ pub fn street_sum<L: Ledger>(
     // A refusal comes before the first step.
     ensures still { IfErr result (λ fault. steps.new ≡ steps.old) }
 
-    // Each refusal comes exactly where its cause holds; a short deck and the last street exclude each other.
+    // Each refusal comes exactly if its cause holds. A short deck and the last street exclude each other.
     ensures short { IsErrOf result StreetFault.DeckShort ↔ IsDeckShort (state_of table.now.known) }
     ensures last { IsErrOf result StreetFault.LastStreet ↔ IsLastStreet (state_of table.now.known) }
     ensures above { IsErrOf result StreetFault.AboveLimit

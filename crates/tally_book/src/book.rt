@@ -18,12 +18,16 @@ use std::marker::Model;
 use std::sync::ledger;
 use std::sync::ledger::Blank;
 
-/// Which blocks of a job are counted, and the sum of their tallies, each once. It keeps that the total is the sum of exactly
-/// the marked blocks, whoever posted them, and that its ledger has as many fresh posts as there are marks.
+/// The counted blocks of a job, and the sum of their tallies, each once. A book states that its total is
+/// the sum of exactly the marked blocks, whoever posted them, and that its ledger has one fresh post for
+/// each mark.
 #[derive(Drop)]
 pub struct Book<N: Naming> {
+    /// Whether each block is counted.
     marks: Vec<bool>,
+    /// The sum of the tallies of the marked blocks.
     total: Tally,
+    /// The ledger of the fresh posts.
     posts: ledger::Book<N>,
 }
 
@@ -37,36 +41,37 @@ impl<N: Naming> Model for Book<N> {
     ghost invariant = { λ b. IsPage N.deal b.marks.items b.total b.posts.total };
 }
 
-/// What became of a post.
+/// The result of a post.
 #[derive(Clone, Copy, PartialEq, Eq)]
 pub enum Posted {
     /// The block wasn't marked, and is now counted.
     Fresh,
-    /// It was marked before, and isn't counted again.
+    /// The block was marked before, and isn't counted again.
     Already,
 }
 
-/// A count that is done.
+/// A finished count.
 #[derive(Drop)]
 pub struct Closed {
     /// The tally of all runouts.
     pub total: Tally,
-    /// How many blocks were posted with the parts that count.
+    /// The number of blocks posted with the parts that count.
     pub by_workers: u64,
 }
 
 impl<N: Naming> Book<N> {
-    /// The book of a job, with no block marked, and the part that has the whole ledger.
+    /// Returns the book of a job, with no block marked, and the part that has the whole ledger.
     pub fn start(alloc: Global, job: &Job, blank: Blank) -> Result<(Book<N>, Part<N>), Memory>
         // `N` names the deal of the job.
         requires named { deal_of job.now.table ≡ N.deal }
 
-        // The blank is one of `N`'s ledger, of which no part was split off.
+        // The blank is that of the ledger of `N`, and no part was split off.
         requires name { blank.name ≡ N.name }
         requires parts { blank.parts ≡ N.parts }
         requires some { 0 < blank.parts }
 
-        // No block is marked; the part has the whole ledger, no fresh posts, and no block was handed in with it.
+        // No block is marked. The part has the whole ledger and no fresh post, and no block was handed in
+        // with it.
         ensures unmarked { IfOk result
             (λ r. r.0.marks ≡ replicate (blocks_of (length (runouts_after N.deal.state))) false) }
         ensures part { IfOk result
@@ -92,14 +97,15 @@ impl<N: Naming> Book<N> {
         }
     }
 
-    /// Hands in a block with its tally. `Fresh` exactly where it wasn't marked. It then is, its tally is added to the total,
-    /// and one to the part's amount. `Already` changes nothing but the part's set.
+    /// Hands in a block with its tally. `Fresh` exactly if the block wasn't marked. It is then marked, its
+    /// tally is added to the total, and one to the amount of the part. `Already` changes only the set of
+    /// the part.
     pub fn post(&mut self, block: u32, tally: &Tally, part: &mut Part<N>) -> Posted
-        // The job has such a block, and the tally is that of this block: by that the total stays right.
+        // The job has such a block, and the tally is that of this block. So the total stays right.
         requires block { block < blocks_of (length (runouts_after N.deal.state)) }
         requires tally { Counts N.deal (block_of (runouts_after N.deal.state) block) tally.now }
 
-        // What is fresh goes by the mark alone, and only a fresh tally is added.
+        // The mark alone decides whether a post is fresh, and only a fresh tally is added.
         ensures which { (result ≡ Posted.Fresh) ↔ (is_marked self.old block ≡ false) }
         ensures fresh { result ≡ Posted.Fresh
             → (self.new.marks ≡ slice_set self.old.marks block true)
@@ -108,7 +114,8 @@ impl<N: Naming> Book<N> {
         ensures already { result ≡ Posted.Already
             → (self.new ≡ self.old) × (part.new.amount ≡ part.old.amount) }
 
-        // Fresh or not, the block is then in the part's set; of the ledger the part has what it had.
+        // The block is then in the set of the part, fresh or not. The part's share of the ledger is
+        // unchanged.
         ensures handed { (b : ℕ) → b < BLOCKS_MAX
             → is_handed part.new b ≡ (is_handed part.old b || (b == block)) }
         ensures parts { part.new.parts ≡ part.old.parts }
@@ -124,8 +131,8 @@ impl<N: Naming> Book<N> {
         Posted::Fresh
     }
 
-    /// The total, where every block is marked, and the amount of the part that has the whole ledger, which is then the number of
-    /// blocks.
+    /// Returns the total, given that every block is marked, and the amount of the part that has the whole
+    /// ledger, which is then the number of blocks.
     pub fn close(self, whole: Part<N>) -> Closed
         requires all { (b : ℕ) → b < length self.marks → is_marked self b ≡ true }
         requires whole { whole.parts ≡ N.parts }
@@ -148,8 +155,8 @@ impl<N: Naming> Book<N> {
         }
     }
 
-    /// What every book keeps, whoever posted into it: a mark for each block of its job, and the total of exactly the marked
-    /// blocks, each once.
+    /// States of every book, whoever posted into it, that it has a mark for each block of its job and the
+    /// total of exactly the marked blocks, each once.
     pub fn law_the_total_is_that_of_the_marked_blocks(&self)
         ensures marks { length self.now.marks ≡ blocks_of (length (runouts_after N.deal.state)) }
         ensures total { Counts N.deal
@@ -159,7 +166,7 @@ impl<N: Naming> Book<N> {
     }
 }
 
-/// So many blocks, none of them marked.
+/// Returns `blocks` marks, none of them set.
 fn no_marks(alloc: Global, blocks: usize) -> Result<Vec<bool>, Memory>
     ensures { IfOk result (λ marks. marks.items ≡ replicate blocks false) }
 {

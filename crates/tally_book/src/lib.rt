@@ -1,21 +1,23 @@
 //! The book of a count: which blocks of a job are counted, and the sum of their tallies.
 //!
-//! Several workers may share a `Book` under a lock. Whoever has the lock posts a block with its
-//! tally. The book keeps, whoever posted and in whatever order, that its total is the sum of the
-//! tallies of exactly the marked blocks, each once. A block that is posted again is `Already` there
-//! and isn't added again. So a book that has every block marked has the total of all runouts, and
-//! nothing has to be known of what the workers did.
+//! Several workers may share a `Book` under a lock. A worker that has the lock posts a block with
+//! its
+//! tally. Whoever posted, and in any order, the total of the book is the sum of the tallies of
+//! exactly
+//! the marked blocks, each once. A block that is posted again is `Already` counted, and isn't added
+//! again. So a book in which every block is marked has the total of all runouts, and nothing need be
+//! known of what the workers did.
 //!
-//! Each worker posts with a `Part` of its own, which keeps how many of its posts were `Fresh` and
-//! which blocks it handed in. Parts are shares of one ledger of fresh posts: they are split off one
-//! another and merged again, and a part that has the whole ledger has as many fresh posts as there
-//! are marks, by which `Book::close` answers how many blocks were posted.
+//! Each worker posts with a `Part` of its own, which counts its `Fresh` posts and has the set of the
+//! blocks that it handed in. Parts are shares of one ledger of fresh posts. They are split off one
+//! another and merged again. A part that has the whole ledger has one fresh post for each mark. So
+//! `Book::close` can return the number of posted blocks.
 //!
 //! - Blocks are numbers from 0, of the job that `Naming` names.
-//! - `Book::start` takes the memory of the marks, one byte a block, and can answer `Memory`. Nothing
-//!   else here takes any.
+//! - `Book::start` allocates the marks, one byte for each block, and can return `Memory`. Nothing
+//!   else here allocates.
 //! - Clauses see a book as its marks and its total, and a part as the number of its parts of the
-//!   ledger, its amount of fresh posts, and the words of its set.
+//!   ledger, its number of fresh posts, and the words of its set.
 #![tactic(auto)]
 
 mod book;

@@ -1,20 +1,24 @@
-//! Which job a book is of, and which ledger.
+//! The job and the ledger of a book.
 
 use std::marker::Brand;
 use std::sync::ledger::Ledger;
 
-/// One job and one ledger. The job is named by its deal, which fixes its runouts and how each of them ends.
+/// One job and one ledger. The job is named by its deal, which determines its runouts and their results.
 ///
-/// Of a value under a lock nothing is known but what its type keeps. So the job is a part of the type of the book, of its parts
-/// and of what else is shared, and a worker that has taken the lock knows that the book is of its own job. Whoever makes a book
-/// makes the blank of its ledger, and enters a function generic over `N: Naming` with `Brand`.
+/// A worker that takes a value from a lock knows only what the type of the value states. So the job is a
+/// part of the type of the
+/// book, of its parts, and of all else that is shared, and a worker that has the lock knows that the book
+/// is that of its job. The
+/// maker of a book makes the blank of its ledger, and calls a function that is generic over `N: Naming`
+/// with `Brand`.
 pub trait Naming: Ledger {
     ghost use Rattle.std.specs.Prelude.{ℕ};
     ghost use Rattle.showdown_tally.specs.Showdown.{Showdown};
 
     /// The known cards and the pots of the job.
     ghost deal: { Showdown };
-    /// How many parts the ledger has, for the types above, which can't name a ledger's own number.
+    /// The number of parts of the ledger. The types above use it because they can't name the number of the
+    /// ledger itself.
     ghost all: { ℕ };
 }
 

@@ -1,4 +1,4 @@
-//! One worker's part in a count.
+//! The part of one worker in a count.
 
 ghost use Rattle.std.specs.Prelude.{◌≡◌, ℕ, ◌+◌, ◌<◌, ◌≤◌, ◌||◌, ◌==◌, Bool, slice_index, bit_or};
 ghost use Rattle.tally_book.specs.Parts.{Hand, is_handed, no_blocks};
@@ -9,11 +9,13 @@ use crate::limits::{BLOCKS_MAX, WORDS};
 use std::marker::Model;
 use std::sync::ledger::Share;
 
-/// A share of the ledger of fresh posts: one or more of its parts, how many fresh posts were made with it, and which blocks were
-/// handed in with it, fresh or not. The set takes no memory.
+/// A share of the ledger of fresh posts: at least one of its parts, the number of fresh posts made with
+/// it, and the set of blocks handed in with it, fresh or not. The set allocates nothing.
 #[derive(Drop)]
 pub struct Part<N: Naming> {
+    /// The share of the ledger, with its number of fresh posts.
     pub(crate) share: Share<N>,
+    /// Bit b % 64 of word b / 64 is set if block b was handed in.
     words: [u64; WORDS],
 }
 
@@ -29,7 +31,7 @@ impl<N: Naming> Model for Part<N> {
 }
 
 impl<N: Naming> Part<N> {
-    /// Of a share with which no block was handed in.
+    /// Returns a part with a share, and with no block handed in.
     pub(crate) fn of(share: Share<N>) -> Part<N>
         requires { 0 < share.parts }
         ensures { result
@@ -41,7 +43,7 @@ impl<N: Naming> Part<N> {
         }
     }
 
-    /// Another part, with one of this one's parts of the ledger, no fresh post and no block.
+    /// Splits off another part, with one of this part's parts of the ledger, no fresh post, and no block.
     pub fn split(&mut self) -> Part<N>
         requires { 2 ≤ self.old.parts }
         ensures result { result ≡ record { parts = 1; amount = 0; words = no_blocks } }
@@ -54,7 +56,7 @@ impl<N: Naming> Part<N> {
         }
     }
 
-    /// Takes another part in: its parts of the ledger, its fresh posts and its blocks.
+    /// Takes in another part: its parts of the ledger, its fresh posts, and its blocks.
     pub fn merge(&mut self, other: Part<N>)
         ensures parts { self.new.parts ≡ self.old.parts + other.parts }
         ensures amount { self.new.amount ≡ self.old.amount + other.amount }
@@ -66,7 +68,7 @@ impl<N: Naming> Part<N> {
         join_words(&mut self.words, &words);
     }
 
-    /// Whether a block was handed in.
+    /// Returns whether a block was handed in.
     pub fn has(&self, block: u32) -> bool
         requires { block < BLOCKS_MAX }
         ensures { result ≡ is_handed self.now block }
@@ -74,7 +76,7 @@ impl<N: Naming> Part<N> {
         (self.words[block as usize / 64] >> (block % 64)) & 1 == 1
     }
 
-    /// Hands a block in.
+    /// Adds a block to the set.
     pub(crate) fn hand_in(&mut self, block: u32)
         requires { block < BLOCKS_MAX }
         ensures same { (self.new.parts ≡ self.old.parts) × (self.new.amount ≡ self.old.amount) }
@@ -85,14 +87,14 @@ impl<N: Naming> Part<N> {
     }
 }
 
-/// The words of no block.
+/// Returns the words without a block.
 fn no_words() -> [u64; WORDS]
     ensures { result ≡ no_blocks }
 {
     [0; WORDS]
 }
 
-/// The bits of both.
+/// Adds the bits of the other words.
 fn join_words(words: &mut [u64; WORDS], others: &[u64; WORDS])
     ensures { (k : ℕ) → k < WORDS
         → slice_index words.new k ≡ bit_or (slice_index words.old k) (slice_index others.now k) }
