@@ -3,15 +3,13 @@
 //! Clauses know the bytes of an end in memory and of the source that repeats one line. They don't know the
 //! bytes of an end over std's readers and writers.
 //!
-//! - A call of [`Source::read`] or [`Sink::write`] moves as many bytes as one call of the reader or
-//!   writer below it. A read at the end of the input moves none. [`write_all`] writes until all bytes are
-//! taken.
+//! - A call of [`Source::read`] or [`Sink::write`] moves as many bytes as one call of the reader or writer
+//!   below it. A read at the end of the input moves none. [`write_all`] writes until all bytes are taken.
 //! - A fault is returned and counted, up to 2^64 - 1. A caller that ignores the result still finds the
-//!   fault
-//!   in the count. No call is repeated, and a call that fails moves none of the known bytes.
+//!   fault in the count. No call is repeated, and a call that fails moves none of the known bytes.
 //! - The traits state what every end does, and a generic caller knows only that. An end in memory also
-//!   states how much each call moves, and exactly which calls fail: those of a list that it is given. So
-//!   a test can choose the size of the pieces and the calls that fail.
+//!   states how much each call moves, and exactly which calls fail: those of a list that it is given. So a
+//!   test can choose the size of the pieces and the calls that fail.
 //!
 //! No end interprets the bytes. Only [`MemorySink::new`] allocates, for all bytes that will be written.
 #![tactic(auto)]

@@ -1,4 +1,4 @@
--- The words of a command, and what is written where they are in no form.
+-- The words of a command, and the usage line for words that have no valid form.
 use Rattle.std.specs.Prelude.{ℕ, ◌==◌, ◌&&◌, ◌||◌, not, nat_le, nat_lt, Bool, true, false, if◌then◌else◌, List, [], ◌∷◌, ◌++◌, codes, length, Option, Some, None, is_some, option_and_then, option_map}
 use Rattle.std.specs.List.{list_any}
 use Rattle.std.specs.Str.{bytes_eq}
@@ -10,7 +10,7 @@ use Rattle.command_words.specs.declared.command.Mode.TheVariants.{Audit, Streets
 use Rattle.report_sheet.specs.declared.form.Form.{Form}
 use Rattle.report_sheet.specs.declared.form.Form.TheVariants.{Text, Csv}
 
--- names, each with the value that it was given, in their order; the mode stands under a name of its own
+-- names, each with the value given to it, in order; the mode has a name of its own
 abbrev pub Given : Type 0
 Given = List (List ℕ × List ℕ)
 
@@ -20,7 +20,7 @@ mode_name = codes "mode"
 abbrev pub has_name : List ℕ → Given → Bool
 has_name name given = list_any (λ pair. bytes_eq pair.0 name) given
 
--- one value more, and none where the name has one
+-- one more value; none if its name has a value already
 abbrev pub give : List ℕ → List ℕ → Given → Option Given
 give name value given = if has_name name given then None else Some (given ++ (name, value) ∷ [])
 
@@ -30,7 +30,7 @@ is_option name =
     bytes_eq (codes "workers") name || (bytes_eq (codes "format") name
     || (bytes_eq (codes "seed") name || bytes_eq (codes "hands") name))
 
--- a word that is neither `--` nor begins with a hyphen and has more after it: a mode or a value is such a word
+-- a word that is neither `--` nor a hyphen followed by more: modes and values are such words
 abbrev pub is_plain : List ℕ → Bool
 is_plain word = not (bytes_eq word (codes "--"))
     && (not (is_some (long_of word)) && not (is_some (short_of word)))
@@ -40,7 +40,7 @@ abbrev pub modes_from : List (List ℕ) → Given → Option Given
 modes_from [] given = Some given
 modes_from (word ∷ words) given = option_and_then (modes_from words) (give mode_name word given)
 
--- a word `--x=v` gives its option the value, and a word `--x` waits for the next one
+-- a word `--x=v` gives its option the value, and after a word `--x` the next word is the value
 abbrev pub given_by_option : List ℕ → Option (List ℕ) → Given → (Given → Option Given) →
     (List ℕ → Option Given) → Option Given
 given_by_option name (Some value) given next wait = option_and_then next (give name value given)
@@ -54,7 +54,7 @@ given_by_word (Some flag) word given next wait =
 given_by_word None word given next wait =
     if is_some (short_of word) then None else option_and_then next (give mode_name word given)
 
--- what some words give, read from the left, where an option waits for its value or none does
+-- what some words give, read from the left, while an option waits for its value or none does
 abbrev pub given_from : Option (List ℕ) → List (List ℕ) → Given → Option Given
 given_from None [] given = Some given
 given_from (Some name) [] given = None
@@ -95,12 +95,13 @@ form_named word =
     if bytes_eq word (codes "text") then Some Text
     else (if bytes_eq word (codes "csv") then Some Csv else None)
 
--- what stands in place of a value that isn't given, and else what the value says
+-- the default if no value is given, and otherwise what the value says
 abbrev pub or_default : {A : Type 0} → A → (List ℕ → Option A) → Option (List ℕ) → Option A
 or_default default read None = Some default
 or_default default read (Some text) = read text
 
--- the command of the values that are given: a mode, and perhaps the number of workers, the form, the seed, the number of hands
+-- the command of the given values: a mode, and perhaps the number of workers, the form, the seed, and the number of
+-- hands
 abbrev pub command_of : Given → Option Command
 command_of given =
     option_and_then (λ mode.
@@ -118,25 +119,25 @@ command_of given =
     (or_default 2 (number_in 1 16) (value_in (codes "workers") given)))
     (option_and_then mode_named (value_in mode_name given))
 
--- the command that words ask for; none where they are in no form
+-- the command of some words; none if they have no valid form
 unfoldable pub command : List (List ℕ) → Option Command
 command words = option_and_then command_of (given_from None words [])
 
--- whether a mode reads the input: hands that are made need none
+-- whether a mode reads the input; `made` doesn't
 abbrev pub reads_input : Mode → Bool
 reads_input Made = false
 reads_input _ = true
 
--- whether words ask for a mode that reads the input
+-- whether the words ask for a mode that reads the input
 abbrev pub reads : Option Command → Bool
 reads None = false
 reads (Some asked) = reads_input asked.mode
 
--- whether words ask for hands that are made
+-- whether the words ask for made hands
 abbrev pub makes : Option Command → Bool
 makes None = false
 makes (Some asked) = not (reads_input asked.mode)
 
--- the line that says how the program is called
+-- the line that says how to call the program
 unfoldable pub usage_line : List ℕ
 usage_line = codes "usage: equity MODE [--workers N] [--format text|csv] [--seed S] [--hands H]\n"

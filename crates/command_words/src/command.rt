@@ -1,4 +1,4 @@
-//! What a command asks for.
+//! A command.
 
 use report_sheet::Form;
 
@@ -7,38 +7,39 @@ use report_sheet::Form;
 pub enum Mode {
     /// Hand histories, each with its verdict and the equity of its all-in.
     Audit,
-    /// The same, and after each counted all-in its equity on each street of the hand that comes later.
+    /// Hand histories, as `Audit`, with the equity of each counted all-in on each later street of the
+    /// hand.
     Streets,
     /// Hand histories, each with its verdict.
     Check,
-    /// Hand histories, each with what its players had, put in, got and netted.
+    /// Hand histories, each with the chips that its players had, put in, received, and netted.
     Results,
-    /// Hand histories, each with what the rules give of its pots.
+    /// Hand histories, each with the payments that the rules give for its pots.
     Settle,
     /// Spot lines, each with its equity.
     Spots,
-    /// Lines with ranges of hands, each with what its ranges are worth against each other.
+    /// Lines with ranges of hands, each with the equities of its ranges against each other.
     Ranges,
     /// Hand histories, and the sums of each player by name.
     Totals,
     /// Hand histories, and what each player won and lost, by name.
     Balance,
-    /// No input: hands that a generator makes, and the sums of their all-ins.
+    /// No input: hands that a generator makes, with the sums of their all-ins.
     Made,
 }
 
-/// What the words of a command line ask for.
+/// A command.
 #[derive(Clone, Copy)]
 pub struct Command {
-    /// What is read and reported.
+    /// What the run reads and reports.
     pub mode: Mode,
-    /// How many workers count: 1 to 16.
+    /// The number of workers that count: 1 to 16.
     pub workers: u32,
     /// The form of the report.
     pub form: Form,
     /// The seed of made input.
     pub seed: u64,
-    /// How many hands are made: at most 10,000.
+    /// The number of hands to make: at most 10,000.
     pub hands: u32,
 }
 
@@ -46,7 +47,7 @@ impl Mode {
     ghost use Rattle.std.specs.Prelude.{◌≡◌};
     ghost use Rattle.command_words.specs.Command.{reads_input};
 
-    /// Whether the run reads its input.
+    /// Returns whether the run reads its input.
     pub fn reads_input(self) -> bool
         ensures { result ≡ reads_input self }
     {

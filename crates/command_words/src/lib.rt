@@ -1,10 +1,13 @@
-//! The words of a command, and the command that they ask for: what is read and reported, by how many workers, in which form.
+//! The words of a command line, and the command that they ask for: what the run reads and reports, with
+//! how many workers, and in which form.
 //!
-//! `read_words` has `clap` read the words, and makes a `Command` of what it finds, or says that they are in no form. Which words ask
-//! for which command is the definition `command`, whatever `clap` does; that its parser agrees with it word by word is proved here, and
-//! nothing above knows that there is a parser.
+//! `read_words` has `clap` parse the words and makes a `Command` of the result, or returns that the words
+//! have no valid form. The definition `command` says which words ask for which command, without regard to
+//! `clap`. It is proved here that the parser agrees with it word by word. No crate above knows that there
+//! is a parser.
 //!
-//! It reads no input, counts nothing and writes nothing; of reports it knows the names of their forms.
+//! The crate reads no input, counts nothing, and writes nothing. Of reports it knows the names of their
+//! forms.
 #![tactic(auto)]
 
 mod command;

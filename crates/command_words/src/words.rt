@@ -18,10 +18,10 @@ use report_sheet::Form;
 use std::alloc::{AllocError, Global};
 use thiserror::Error;
 
-/// Why words ask for no command.
+/// Why some words ask for no command.
 #[derive(Clone, Copy, Debug, Drop, Error)]
 pub enum WordFault {
-    /// They are in no form.
+    /// The words have no valid form.
     #[error("the words are in no form")]
     Usage,
     /// Out of memory.
@@ -29,7 +29,7 @@ pub enum WordFault {
     Memory,
 }
 
-/// The mode that a word names.
+/// Returns the mode that a word names.
 fn mode_named(word: &str) -> Option<Mode>
     ensures { result ≡ mode_named word.now }
 {
@@ -48,7 +48,7 @@ fn mode_named(word: &str) -> Option<Mode>
     }
 }
 
-/// The form that a word names.
+/// Returns the form that a word names.
 fn form_named(word: &str) -> Option<Form>
     ensures { result ≡ form_named word.now }
 {
@@ -59,7 +59,7 @@ fn form_named(word: &str) -> Option<Form>
     }
 }
 
-/// The number that one to ten digits say, where it is within bounds.
+/// Returns the number that one to ten digits say if it is within bounds.
 fn number_in(least: u64, most: u64, text: &str) -> Option<u64>
     requires { most < 2 ^ 63 }
     ensures value { result ≡ number_in least most text.now }
@@ -77,7 +77,7 @@ fn number_in(least: u64, most: u64, text: &str) -> Option<u64>
     }
 }
 
-/// The mode that is given; it has to be.
+/// Returns the given mode. It is required.
 fn mode_in(given: &ArgMatches<'_>) -> Option<Mode>
     ensures { result ≡ option_and_then mode_named (first_value (found_of given.now) mode_name) }
 {
@@ -87,7 +87,7 @@ fn mode_in(given: &ArgMatches<'_>) -> Option<Mode>
     }
 }
 
-/// The form that is given, and text where none is.
+/// Returns the given form, or text if none is given.
 fn form_in(given: &ArgMatches<'_>) -> Option<Form>
     ensures { result ≡ or_default Text form_named (first_value (found_of given.now) (codes "format")) }
 {
@@ -97,7 +97,7 @@ fn form_in(given: &ArgMatches<'_>) -> Option<Form>
     }
 }
 
-/// The number that is given under a name, where it is within bounds, and the default where none is.
+/// Returns the number given under a name if it is within bounds, or the default if none is given.
 fn number_given(
     given: &ArgMatches<'_>,
     name: &str,
@@ -117,7 +117,7 @@ fn number_given(
     }
 }
 
-/// The command of the values that are given.
+/// Returns the command of the given values.
 fn command_of(given: &ArgMatches<'_>) -> Option<Command>
     ensures value { (pairs : Given)
         → ((name : List ℕ) → first_value (found_of given.now) name ≡ value_in name pairs)
@@ -138,7 +138,7 @@ fn command_of(given: &ArgMatches<'_>) -> Option<Command>
     })
 }
 
-/// An option with a value.
+/// Returns an option with a value.
 fn option<'a>(alloc: Global, name: &'a str) -> Arg<'a>
     ensures rule { rule_of result ≡ option_rule name.now }
     ensures local { result.global ≡ false }
@@ -146,7 +146,7 @@ fn option<'a>(alloc: Global, name: &'a str) -> Arg<'a>
     Arg::new(alloc, name).long(name).action(ArgAction::Set)
 }
 
-/// A command line, where there is one, with an option more.
+/// Returns a command line with one more option, if there is a command line.
 fn with_option<'a>(
     alloc: Global,
     line: Result<Line<'a>, AllocError>,
@@ -161,7 +161,7 @@ fn with_option<'a>(
     }
 }
 
-/// The command line as its parser knows it: a mode, and four options with a value each.
+/// Returns the command line as its parser sees it: a mode, and four options with a value each.
 fn line<'a>(alloc: Global) -> Result<Line<'a>, AllocError>
     ensures { IfOk result (λ line. app_of line ≡ line_app) }
 {
@@ -178,7 +178,7 @@ fn line<'a>(alloc: Global) -> Result<Line<'a>, AllocError>
     with_option(alloc, line, "hands")
 }
 
-/// Why words that the parser refuses ask for no command.
+/// Returns why words that the parser refuses ask for no command.
 fn refusal(kind: ErrorKind) -> WordFault
     ensures { result ≡ WordFault.Usage → kind ≢ ErrorKind.OutOfMemory }
 {
@@ -188,10 +188,11 @@ fn refusal(kind: ErrorKind) -> WordFault
     }
 }
 
-/// The command that words ask for, without the program's name: a mode, and perhaps the number of
-/// workers (1 to 16, else 2), the form (`text`, else it is that, or `csv`), the seed (up to 2^32 - 1, else
-/// 1) and the number of hands (up to 10,000, else 100) of made input. Each stands once at the most, as
-/// `--x v` or `--x=v`, and `--` ends the options. `Usage` exactly where the words are in another form.
+/// Returns the command that the words ask for, without the program's name: a mode, and perhaps the number
+/// of workers (1 to 16, 2 by default), the form (`text`, the default, or `csv`), the seed (up to 2^32 - 1,
+/// 1 by default), and the number of hands (up to 10,000, 100 by default) of made input. Each is given at
+/// most once, as `--x v` or `--x=v`, and `--` ends the options. `Usage` exactly if the words have another
+/// form.
 pub fn read_words(alloc: Global, words: &[String]) -> Result<Command, WordFault>
     ensures command { IfOk result (λ c. command (map string_bytes words.now) ≡ Some c) }
     ensures usage { IsErrOf result WordFault.Usage → command (map string_bytes words.now) ≡ None }

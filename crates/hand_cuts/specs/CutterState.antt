@@ -1,9 +1,9 @@
--- What is seen of a cutter.
+-- What clauses see of a cutter.
 use Rattle.std.specs.Prelude.{ℕ, Bool, List}
 use Rattle.hand_cuts.specs.declared.units.CutKind.{CutKind}
 
--- what it cuts into, the bytes that are held, the place in them of the first byte not yet handed out, the number of the
--- line that begins there, how many bytes were given in all, and whether no more follow
+-- a cutter: what it cuts into, the bytes that it has, the place in them of the first byte not yet handed out, the
+-- number of the line that begins there, how many bytes were given in all, and whether no more follow
 pub record CutterState : Type 0 where
   pub kind : CutKind
   pub held : List ℕ

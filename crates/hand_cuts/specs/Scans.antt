@@ -1,4 +1,4 @@
--- How far some bytes have been looked at.
+-- How far some bytes were examined.
 use Rattle.std.specs.Prelude.{◌≡◌, ℕ, ◌+◌, ◌-◌, ◌<◌, ◌≤◌, Bool, true, false, List, [], ◌∷◌, ◌++◌, length, drop, slice_range, Option, Some, None, nat_lt, if◌then◌else◌, ◌⊎◌}
 use Rattle.history_text.specs.Headers.{is_header}
 use Rattle.line_text.specs.Lines.{lines, front_line, has_newline}
@@ -11,20 +11,20 @@ use Rattle.hand_cuts.specs.declared.units.CutKind.{CutKind}
 use Rattle.hand_cuts.specs.declared.units.CutKind.TheVariants.{Hands, Lines}
 use Rattle.hand_cuts.specs.declared.units.Unit.{Unit as UnitPlace}
 
--- the place after the newline of the line that begins at a place, or none where no newline follows
+-- the place after the newline of the line that begins at a place; none if no newline follows
 abbrev pub EndsLine : List ℕ → ℕ → Option ℕ → Type 0
 EndsLine bytes looked None = has_newline (drop looked bytes) ≡ false
 EndsLine bytes looked (Some next) =
     (has_newline (drop looked bytes) ≡ true) × (next ≡ looked + length (front_line (drop looked bytes)) + 1) × (next ≤ length bytes)
 
--- a line at its places, with its newline, and what it says
+-- a line by its places, with its newline, and the text of the line
 pub record LineAt (bytes : List ℕ) (looked next : ℕ) (text : List ℕ) : Type 0 where
   pub some : looked < next
   pub within : next ≤ length bytes
   pub ends : EndsInNewline (slice_range bytes looked next)
   pub one : lines (slice_range bytes looked next) ≡ text ∷ []
 
--- the steps
+-- the states of a scan after each of its steps
 abbrev pub start : Scan
 start = record { at = 0; line = 1; looked = 0; number = 1; searched = 0; head = None }
 
@@ -37,7 +37,7 @@ begun head s = record s { at = head.at; line = head.line; head = Some head }
 abbrev pub gone_on : Scan → Scan
 gone_on s = record s { at = s.looked; line = s.number; head = None }
 
--- the number of the line after the last one, which has no newline; there may be none
+-- the number of the line after the last one, which has no newline and may be empty
 abbrev pub number_at_end : ℕ → Scan → ℕ
 number_at_end end s = if nat_lt s.looked end then s.number + 1 else s.number
 
@@ -58,7 +58,7 @@ start_of s (Some h) = (h.at, h.line)
 abbrev pub start_of_rest : Scan → ℕ × ℕ
 start_of_rest s = start_of s s.head
 
--- a header line among those that were looked at, with no header line before it and none after it
+-- a header line among the examined lines, with no header line before it and none after it
 pub record IsHead (bytes : List ℕ) (at line looked : ℕ) (h : Head) : Type 0 where
   pub after : at ≤ h.at
   pub before : h.at < looked
@@ -76,7 +76,7 @@ abbrev pub HeadIs : List ℕ → ℕ → ℕ → ℕ → Option Head → Type 0
 HeadIs bytes at line looked None = up_to_header (lines (slice_range bytes at looked)) ≡ lines (slice_range bytes at looked)
 HeadIs bytes at line looked (Some h) = IsHead bytes at line looked h
 
--- what is true of the scan of some bytes at each moment
+-- what holds for the scan of some bytes at any time
 pub record IsScan (bytes : List ℕ) (s : Scan) : Type 0 where
   pub onward : s.at ≤ s.looked
   pub ahead : s.looked ≤ s.searched
@@ -86,11 +86,11 @@ pub record IsScan (bytes : List ℕ) (s : Scan) : Type 0 where
   pub counted : s.number ≡ s.line + length (lines (slice_range bytes s.at s.looked))
   pub head : HeadIs bytes s.at s.line s.looked s.head
 
--- a bound of the numbers of lines: the number to come, were each byte that wasn't looked at a line
+-- a bound for the numbers of lines: the next number if each byte not yet examined were a line
 abbrev pub number_bound : List ℕ → Scan → ℕ
 number_bound bytes s = s.number + (length bytes - s.looked)
 
--- no header line with its newline follows: all lines are passed, and all is searched
+-- no header line with its newline follows: all lines are passed, and all bytes are searched
 pub record SearchesAll (bytes : List ℕ) (old new : Scan) : Type 0 where
   pub scan : IsScan bytes new
   pub at : new.at ≡ old.at
@@ -98,7 +98,7 @@ pub record SearchesAll (bytes : List ℕ) (old new : Scan) : Type 0 where
   pub head : new.head ≡ old.head
   pub all : new.searched ≡ length bytes
 
--- the next header line with its newline is found: between is the scan before it
+-- the next header line with its newline is found; `between` is the scan before it
 pub record Finds (bytes : List ℕ) (old new : Scan) (head : Head) : Type 0 where
   pub between : Scan
   pub scan : IsScan bytes between
@@ -112,7 +112,8 @@ pub record Finds (bytes : List ℕ) (old new : Scan) (head : Head) : Type 0 wher
   pub header : is_header text ≡ true
   pub after : new ≡ passed next between
 
--- the first header line with its newline was found, or all was searched; where lines are cut none is looked for
+-- the first header line with its newline was found, or all bytes were searched; if lines are cut, no header
+-- line is searched for
 pub record HasHead (kind : CutKind) (bytes : List ℕ) (old new : Scan) : Type 0 where
   pub at : new.at ≡ old.at
   pub line : new.line ≡ old.line
@@ -125,7 +126,7 @@ pub record NoUnit (kind : CutKind) (closed : Bool) (bytes : List ℕ) (old new :
   pub at : new.at ≡ old.at
   pub line : new.line ≡ old.line
 
--- a unit is handed out, the first of the rest, whatever follows
+-- a unit is handed out: the first of the rest, whatever follows
 pub record HandsOut (kind : CutKind) (closed : Bool) (bytes : List ℕ) (old new : Scan) (unit : UnitPlace) : Type 0 where
   pub behind : old.at ≤ unit.first
   pub some : unit.first < unit.end

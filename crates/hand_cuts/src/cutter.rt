@@ -1,4 +1,4 @@
-//! A stream that is cut as it comes.
+//! A stream that is cut piece by piece.
 
 ghost use Rattle.std.specs.Prelude.{◌≡◌, ◌+◌, ◌≤◌, ◌↔◌, ◌++◌, [], IsNone, IfSome, OnOk, OnErr, length, drop, false, true};
 ghost use Rattle.hand_cuts.specs.Cutters.{Forgets, Gives, new_cutter, units_left};
@@ -12,14 +12,20 @@ use card_sets::Memory;
 use std::alloc::Global;
 use std::marker::Model;
 
-/// A stream that is cut into hands or lines. It holds what was handed out since `forget` and the bytes
-/// that weren't yet, and knows how far they have been looked at, so that what comes in small pieces isn't looked at again for each.
+/// A stream that is cut into hands or lines. It keeps the bytes handed out since `forget` and the bytes
+/// not yet handed out. It also keeps how far they were examined, so small pieces don't cause a second look
+/// at the same bytes.
 #[derive(Drop)]
 pub struct Cutter {
+    /// Whether the cutter cuts hands or lines.
     kind: CutKind,
+    /// The bytes handed out since `forget`, and the bytes not yet handed out.
     bytes: Vec<u8>,
+    /// How far the bytes were examined.
     scan: Scan,
+    /// The number of bytes given in all.
     given: usize,
+    /// Whether no more bytes follow.
     closed: bool,
 }
 
@@ -36,7 +42,7 @@ impl Model for Cutter {
 }
 
 impl Cutter {
-    /// Nothing was given.
+    /// Returns a cutter to which no bytes were given.
     pub fn new(alloc: Global, kind: CutKind) -> Cutter
         ensures { result ≡ new_cutter kind }
     {
@@ -49,7 +55,7 @@ impl Cutter {
         }
     }
 
-    /// Takes the next piece of the stream. Out of memory it changes nothing.
+    /// Takes the next piece of the stream. `Memory` changes nothing.
     pub fn give(&mut self, piece: &[u8]) -> Result<(), Memory>
         requires open { self.old.closed ≡ false }
         requires few { self.old.given + length piece.now ≤ INPUT_MAX }
@@ -64,15 +70,15 @@ impl Cutter {
         Ok(())
     }
 
-    /// No piece follows.
+    /// Ends the stream: no piece follows.
     pub fn close(&mut self)
         ensures { self.new ≡ record self.old { closed = true } }
     {
         self.closed = true;
     }
 
-    /// Hands out the next hand or line, by its places in the bytes that are held; none where the rest
-    /// has none.
+    /// Returns the next hand or line, by its places in the bytes of the cutter, or `None` if the rest has
+    /// none.
     pub fn next_unit(&mut self) -> Option<Unit>
         ensures none { IsNone result ↔ (units_left self.old ≡ []) }
         ensures same { IsNone result → self.new ≡ self.old }
@@ -85,7 +91,7 @@ impl Cutter {
         }
     }
 
-    /// The bytes that are held.
+    /// Returns the bytes of the cutter.
     pub fn held(&self) -> &[u8]
         ensures bytes { result.now ≡ self.now.held }
         ensures within { self.now.at ≤ length self.now.held }
@@ -93,7 +99,7 @@ impl Cutter {
         &self.bytes
     }
 
-    /// How many bytes were given.
+    /// Returns the number of bytes given in all.
     pub fn given(&self) -> usize
         ensures value { result ≡ self.now.given }
         ensures few { result ≤ INPUT_MAX }
@@ -101,8 +107,8 @@ impl Cutter {
         self.given
     }
 
-    /// Drops the bytes that were handed out. Where hands are cut, drops the lines before the first header
-    /// line too. Places that were handed out before are no longer places in what is held.
+    /// Drops the bytes that were handed out and, if hands are cut, the lines before the first header line.
+    /// Places returned before are no longer valid.
     pub fn forget(&mut self)
         ensures { Forgets self.old self.new }
     {
@@ -113,7 +119,7 @@ impl Cutter {
     }
 }
 
-/// Drops the bytes before a place, and moves the others to the front.
+/// Drops the bytes before a place, and moves the others to the beginning.
 fn drop_front(bytes: &mut Vec<u8>, from: usize)
     requires { from ≤ length bytes.old.items }
     ensures { bytes.new.items ≡ drop from bytes.old.items }

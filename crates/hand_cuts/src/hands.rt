@@ -1,4 +1,4 @@
-//! The hands of some bytes, one after the other.
+//! The hands of some bytes, one after another.
 
 ghost use Rattle.std.specs.Prelude.{◌≡◌, ◌==◌, ◌||◌, ◌≤◌, ◌+◌, IfNone, IfSome, length};
 ghost use Rattle.line_text.specs.Lines.{text_of};
@@ -12,17 +12,18 @@ use crate::units::{CutKind, Unit};
 use history_text::is_header;
 use line_text::text_of;
 
-/// Hands out the next hand. One that no later header line closes counts only at the end.
+/// Returns the next hand. A hand that no later header line closes counts only when the stream is
+/// closed.
 pub(crate) fn cut_hand(bytes: &[u8], closed: bool, scan: &mut Scan) -> Option<Unit>
-    // The scan is one of these bytes, and the numbers of their lines fit.
+    // The scan is that of these bytes, and the numbers of their lines fit.
     requires scan { IsScan bytes.now scan.old }
     requires few { number_bound bytes.now scan.old ≤ INPUT_MAX + 1 }
 
-    // It stays so.
+    // The scan remains one of these bytes.
     ensures scan { IsScan bytes.now scan.new }
     ensures few { number_bound bytes.now scan.new ≤ number_bound bytes.now scan.old }
 
-    // The first hand of the rest is handed out, and none exactly where the rest has none.
+    // The first hand of the rest is returned, and `None` exactly if the rest has none.
     ensures none { IfNone result (NoUnit Hands closed bytes.now scan.old scan.new) }
     ensures some { IfSome result (λ unit. HandsOut Hands closed bytes.now scan.old scan.new unit) }
 {
@@ -41,7 +42,7 @@ pub(crate) fn cut_hand(bytes: &[u8], closed: bool, scan: &mut Scan) -> Option<Un
     })
 }
 
-/// Looks for the first header line, up to the last newline. Where lines are cut none is looked for.
+/// Searches for the first header line, up to the last newline. If lines are cut, the call does nothing.
 pub(crate) fn find_head(bytes: &[u8], kind: CutKind, scan: &mut Scan)
     requires scan { IsScan bytes.now scan.old }
     requires few { number_bound bytes.now scan.old ≤ INPUT_MAX + 1 }
@@ -55,14 +56,15 @@ pub(crate) fn find_head(bytes: &[u8], kind: CutKind, scan: &mut Scan)
     scan.head = next_head(bytes, scan);
 }
 
-/// Whether a header line may begin with a byte: with its first letter, or with a byte order mark.
+/// Returns whether a header line may begin with a byte: its first letter, or the first byte of a byte
+/// order mark.
 fn may_begin_head(byte: u8) -> bool
     ensures { result ≡ (byte == 80 || byte == 239) }
 {
     byte == b'P' || byte == 0xef
 }
 
-/// Whether a line is a header line. Most others are told by their first byte.
+/// Returns whether a line is a header line. The first byte is enough for most other lines.
 fn is_head(line: &[u8]) -> bool
     ensures { result ≡ is_header (text_of line.now) }
 {
@@ -75,8 +77,8 @@ fn is_head(line: &[u8]) -> bool
     is_header(text_of(line))
 }
 
-/// Goes on after the next header line that has its newline; none where no such line follows, and then
-/// all is searched.
+/// Moves past the next header line that has its newline. If there is none, searches all bytes and
+/// returns `None`.
 fn next_head(bytes: &[u8], scan: &mut Scan) -> Option<Head>
     requires scan { IsScan bytes.now scan.old }
     requires few { number_bound bytes.now scan.old ≤ INPUT_MAX + 1 }
@@ -98,19 +100,19 @@ fn next_head(bytes: &[u8], scan: &mut Scan) -> Option<Head>
     None
 }
 
-/// Hands out the hand that the end of a closed stream closes. What stands after the last newline is its
-/// last line, or a hand of its own.
+/// Returns the hand that is closed by the end of a closed stream. The bytes after the last newline are
+/// its last line, or a hand of their own.
 fn last_hand(bytes: &[u8], closed: bool, scan: &mut Scan) -> Option<Unit>
-    // The scan is one of these bytes, the numbers of their lines fit, and no newline is left.
+    // The scan is that of these bytes, the numbers of their lines fit, and no newline is left.
     requires scan { IsScan bytes.now scan.old }
     requires few { number_bound bytes.now scan.old ≤ INPUT_MAX + 1 }
     requires all { scan.old.searched ≡ length bytes.now }
 
-    // It stays a scan of them, and the numbers still fit.
+    // The scan remains one of these bytes, and the numbers still fit.
     ensures scan { IsScan bytes.now scan.new }
     ensures few { number_bound bytes.now scan.new ≤ number_bound bytes.now scan.old }
 
-    // The first hand of the rest is handed out, and none exactly where the rest has none.
+    // The first hand of the rest is returned, and `None` exactly if the rest has none.
     ensures none { IfNone result (NoUnit Hands closed bytes.now scan.old scan.new) }
     ensures some { IfSome result (λ unit. HandsOut Hands closed bytes.now scan.old scan.new unit) }
 {

@@ -1,27 +1,27 @@
-//! A stream of bytes, cut into its hands or its lines, however it comes in pieces.
+//! A stream of bytes, cut into its hands or its lines, whatever the size of its pieces.
 //!
-//! `Cutter::give` takes a piece, `Cutter::close` says that none follows, and `Cutter::next_unit` hands
-//! out the next hand or line as soon as it is closed: a line by its newline, a hand by a later header
-//! line that has its newline, and what is left by the end. `Cutter::forget` drops what was handed out.
-//! So a caller who reads a long stream holds the bytes of one open hand and one piece.
+//! `Cutter::give` takes a piece, `Cutter::close` ends the stream, and `Cutter::next_unit` returns the next
+//! hand or line as soon as it is closed. A newline closes a line, a later header line with a newline
+//! closes a hand, and the end of the stream closes what is left. `Cutter::forget` drops the bytes handed
+//! out. So the caller of a long stream keeps the bytes of one open hand and one piece.
 //!
-//! It reads from no source, and knows newlines and header lines alone: any other line may say
-//! anything. Bytes before the first header line belong to no hand.
+//! The crate reads from no source, and recognizes only newlines and header lines. Bytes before the first
+//! header line belong to no hand.
 //!
-//! So that a long hand in small pieces isn't looked at again for each, a `Scan` keeps how far its
-//! bytes were looked at:
+//! A `Scan` keeps how far the bytes were examined, so that a long hand in small pieces isn't examined
+//! again for each piece:
 //!
-//! 1. The search for a newline begins where the last one ended without one.
-//! 2. Each line is asked once whether it is a header line, as soon as its newline is there; most are told by
-//!    their first byte.
-//! 3. The header line of the open hand is kept, by its place and its number, until the next one closes
+//! 1. The search for a newline begins where the last search ended without one.
+//! 2. Each line is tested once whether it is a header line, as soon as its newline is there. The first
+//!    byte is enough for most lines.
+//! 3. The place and the number of the open hand's header line are kept until the next header line closes
 //!    the hand.
-//! 4. What was handed out is dropped by one move of the bytes after it, and the places of the scan
-//!    go down by as much.
+//! 4. One move of the remaining bytes drops the bytes handed out, and the places of the scan decrease by
+//!    as much.
 //!
-//! A line that is open isn't searched again from its start with each piece: each byte is searched for
-//! a newline once, when it comes. It is moved only where something before it is dropped. No clause counts
-//! either.
+//! A new piece doesn't cause a new search of the open line: each byte is searched for a newline once, when
+//! it comes. A byte is moved only when bytes before it are dropped. No clause counts the searches or the
+//! moves.
 #![tactic(auto)]
 
 mod cutter;

@@ -1,4 +1,4 @@
-//! How far some bytes have been looked at.
+//! How far some bytes were examined.
 
 ghost use Rattle.std.specs.Prelude.{◌≡◌, ◌≤◌, false, length, slice_range};
 ghost use Rattle.line_text.specs.Lines.{has_newline};
@@ -7,28 +7,35 @@ ghost use Rattle.hand_cuts.specs.Scans.{EndsLine};
 
 use memchr::memchr;
 
-/// How far the bytes have been looked at. What stands before `at`, where line `line` begins, was
-/// handed out. The lines from there up to `looked`, where line `number` begins, were looked at, and
-/// `head` is the one of them that is a header line. No newline stands between `looked` and
-/// `searched`.
+/// How far the bytes were examined. The bytes before `at`, where line `line` begins, were handed
+/// out. The lines from there up to `looked`, where line `number` begins, were examined, and `head`
+/// is the header line among them. There is no newline between `looked` and `searched`.
 #[derive(Clone, Copy)]
 pub(crate) struct Scan {
+    /// Where the bytes not yet handed out begin.
     pub(crate) at: usize,
+    /// The number of the line that begins at `at`.
     pub(crate) line: u32,
+    /// Where the lines not yet examined begin.
     pub(crate) looked: usize,
+    /// The number of the line that begins at `looked`.
     pub(crate) number: u32,
+    /// How far the search for the next newline went.
     pub(crate) searched: usize,
+    /// The header line of the open hand.
     pub(crate) head: Option<Head>,
 }
 
-/// Where a header line begins, and its number.
+/// The place of a header line and its number.
 #[derive(Clone, Copy)]
 pub(crate) struct Head {
+    /// Where the line begins.
     pub(crate) at: usize,
+    /// The number of the line.
     pub(crate) line: u32,
 }
 
-/// The place of the first newline. An empty line's is at the front, and isn't searched for.
+/// Returns the place of the first newline. An empty line needs no search.
 fn first_newline(bytes: &[u8]) -> Option<usize>
     ensures { IsFirstByte (is_byte 10) bytes.now result }
 {
@@ -41,8 +48,8 @@ fn first_newline(bytes: &[u8]) -> Option<usize>
     memchr(b'\n', bytes)
 }
 
-/// The place after the newline of the line that begins at `looked`; none where no newline follows.
-/// Up to `searched` there is none.
+/// Returns the place after the newline of the line that begins at `looked`, or `None` if no newline
+/// follows. There is none before `searched`.
 pub(crate) fn end_of_line(bytes: &[u8], looked: usize, searched: usize) -> Option<usize>
     requires ordered { looked ≤ searched }
     requires within { searched ≤ length bytes.now }
@@ -59,7 +66,7 @@ impl Scan {
     ghost use Rattle.std.specs.Prelude.{◌≡◌, ◌<◌, ◌≤◌, ◌+◌, ◌^◌, IfSome};
     ghost use Rattle.hand_cuts.specs.Scans.{start, passed, begun, gone_on, finished, shifted, start_of_rest};
 
-    /// Nothing was looked at.
+    /// Returns the scan of bytes of which none was examined.
     pub(crate) fn start() -> Scan
         ensures { result ≡ start }
     {
@@ -73,7 +80,7 @@ impl Scan {
         }
     }
 
-    /// Goes on to the next line, which begins at `next`.
+    /// Moves to the next line, which begins at `next`.
     pub(crate) fn pass(&mut self, next: usize)
         requires { self.old.number + 1 < 2 ^ 32 }
         ensures { self.new ≡ passed next self.old }
@@ -83,7 +90,7 @@ impl Scan {
         self.number += 1;
     }
 
-    /// What stands before a header line is handed out, and its hand is open.
+    /// Hands out the bytes before a header line, and opens its hand.
     pub(crate) fn begin(&mut self, head: Head)
         ensures { self.new ≡ begun head self.old }
     {
@@ -92,7 +99,7 @@ impl Scan {
         self.head = Some(head);
     }
 
-    /// What was looked at is handed out, and no hand is open.
+    /// Hands out the bytes examined, with no hand open.
     pub(crate) fn go_on(&mut self)
         ensures { self.new ≡ gone_on self.old }
     {
@@ -101,7 +108,7 @@ impl Scan {
         self.head = None;
     }
 
-    /// All is handed out, up to the end, and the last line with it, which has no newline.
+    /// Hands out all bytes up to the end, with the last line, which has no newline.
     pub(crate) fn finish(&mut self, end: usize)
         requires number { self.old.looked < end → self.old.number + 1 < 2 ^ 32 }
         requires searched { self.old.searched ≡ end }
@@ -114,8 +121,8 @@ impl Scan {
         self.go_on();
     }
 
-    /// Where what isn't dropped begins, and the number of its line: at the header line that was
-    /// found, or at the first line that wasn't looked at.
+    /// Returns where the bytes that aren't dropped begin, and the number of their first line: the
+    /// header line that was found, or the first line not yet examined.
     pub(crate) fn start_of_rest(&self) -> (usize, u32)
         ensures { result ≡ start_of_rest self.now }
     {
@@ -125,7 +132,7 @@ impl Scan {
         }
     }
 
-    /// Everything before a place is dropped. The line there has the number `line`.
+    /// Drops everything before a place, where the line has the number `line`.
     pub(crate) fn shift(&mut self, from: usize, line: u32)
         requires within { from ≤ self.old.looked }
         requires searched { from ≤ self.old.searched }

@@ -1,21 +1,21 @@
-//! What a stream is cut into.
+//! The units of a stream.
 
-/// What a stream is cut into.
+/// The kind of the units of a stream.
 #[derive(Clone, Copy, PartialEq, Eq)]
 pub enum CutKind {
-    /// Hands: a header line and the lines up to the next one.
+    /// Hands: a header line and the lines before the next one.
     Hands,
     /// Lines.
     Lines,
 }
 
-/// A hand or a line, by its places in the bytes that are held: it is `first..end`, the newline of
-/// its last line with it.
+/// A hand or a line, by its places in the bytes of the cutter: it is `first..end`, with the newline
+/// of its last line.
 #[derive(Clone, Copy)]
 pub struct Unit {
-    /// Where it begins.
+    /// Where the unit begins.
     pub first: usize,
-    /// Where it ends, after its last byte.
+    /// Where the unit ends, after its last byte.
     pub end: usize,
     /// The number of its first line in the stream, from 1.
     pub first_line: u32,

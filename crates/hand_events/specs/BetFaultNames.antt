@@ -3,7 +3,7 @@ use Rattle.std.specs.Prelude.{ℕ, List, codes}
 use Rattle.hand_events.specs.declared.faults.BetFault.{BetFault}
 use Rattle.hand_events.specs.declared.faults.BetFault.TheVariants.{NotInHand, OutOfTurn, NothingOwed, CheckFacingBet, CallAmount, BetFacingBet, RaiseAmount, AboveStack, AllInWord, StreetEarly, StreetOrder, UncalledAmount, CardTwice, PostLate, SeatTwice, TooManyCards}
 
--- the name of a fault, without what it carries
+-- the name of a fault, without the fields of the fault
 abbrev pub fault_name : BetFault → List ℕ
 fault_name NotInHand = codes "NotInHand"
 fault_name (OutOfTurn seat) = codes "OutOfTurn"

@@ -1,4 +1,4 @@
--- What holds of the cards of every marker that a line says: they are as many as come with its street, and of the deck.
+-- The cards of every marker are cards of the deck, and their number is that of the marker's street.
 use Rattle.std.specs.Prelude.{◌≡◌, ◌<◌, ℕ, true, List, length}
 use Rattle.card_sets.specs.declared.games.Game.{Game}
 use Rattle.card_sets.specs.declared.streets.Street.{Street as StreetName}
@@ -7,7 +7,7 @@ use Rattle.card_sets.specs.Streets.{board_count}
 use Rattle.hand_events.specs.declared.events.Event.{Event}
 use Rattle.hand_events.specs.declared.events.Event.TheVariants.{Street}
 
--- a marker has as many cards as come with it
+-- a marker has the number of cards that come with it
 pub record HasCards (game : Game) (street : StreetName) (cards : List ℕ) : Type 0 where
   pub many : length cards ≡ board_count game street
   pub deck : (card : ℕ) → has_card cards card ≡ true → card < 52

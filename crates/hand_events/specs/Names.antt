@@ -8,11 +8,11 @@ abbrev pub seat_named : List ℕ → List (ℕ × List ℕ) → Option ℕ
 seat_named text [] = None
 seat_named text (who ∷ names) = if bytes_eq who.1 text then Some who.0 else seat_named text names
 
--- whether the seat is one of the hand's
+-- whether a seat has a name in the hand
 abbrev pub is_seated : ℕ → List (ℕ × List ℕ) → Bool
 is_seated seat names = list_any (λ who. who.0 == seat) names
 
--- whether the name is another seat's
+-- whether another seat has the name
 abbrev pub is_taken : ℕ → List ℕ → List (ℕ × List ℕ) → Bool
 is_taken seat name names = list_any (λ who. bytes_eq who.1 name && not (who.0 == seat)) names
 

@@ -5,10 +5,12 @@ ghost use Rattle.std.specs.Prelude.{◌≡◌, ◌<◌, ◌≤◌, [], ◌∷◌
 use card_sets::Card;
 use std::marker::Model;
 
-/// The cards that a bracket names, in order: at most ten. Clauses see the list of them.
+/// The cards in a bracket, in order: at most ten. Clauses see the list of them.
 #[derive(Drop)]
 pub struct Cards {
+    /// The number of cards.
     count: u8,
+    /// The cards, followed by unused ones.
     list: [Card; 10],
 }
 
@@ -23,7 +25,7 @@ impl Model for Cards {
 }
 
 impl Cards {
-    /// No cards.
+    /// Returns the list without cards.
     pub fn none() -> Cards
         ensures { result ≡ [] }
     {
@@ -33,9 +35,9 @@ impl Cards {
         }
     }
 
-    /// These cards, in order. None exactly where there are more than ten.
+    /// Returns the list of the given cards, in order. `None` exactly if there are more than ten.
     ///
-    /// So an event of one's own is made, here a player who shows two aces:
+    /// An example is an event in which a player shows two aces:
     ///
     /// ```
     /// let aces = Cards::of(&[Card::read(*b"As")?, Card::read(*b"Ah")?])?;
@@ -54,7 +56,7 @@ impl Cards {
         Some(all)
     }
 
-    /// One card more.
+    /// Adds a card at the end.
     pub fn push(&mut self, card: Card)
         requires { length self.old < 10 }
         ensures { self.new ≡ self.old ++ card ∷ [] }
@@ -63,7 +65,7 @@ impl Cards {
         self.count += 1;
     }
 
-    /// How many there are.
+    /// Returns the number of cards.
     pub fn count(&self) -> usize
         ensures value { result ≡ length self.now }
         ensures few { result ≤ 10 }
@@ -71,7 +73,7 @@ impl Cards {
         self.items().len()
     }
 
-    /// The cards, in order.
+    /// Returns the cards, in order.
     pub fn items(&self) -> &[Card]
         ensures value { result.now ≡ self.now }
         ensures few { length self.now ≤ 10 }

@@ -1,4 +1,4 @@
-//! What lines say.
+//! The events of a hand.
 
 use crate::Cards;
 use card_sets::{Game, Street};
@@ -14,38 +14,38 @@ pub enum Limit {
     Fixed,
 }
 
-/// What a header line says.
+/// The contents of a header line.
 #[derive(Clone, Copy, PartialEq, Eq)]
 pub struct Header {
     /// The game.
     pub game: Game,
-    /// Its limit.
+    /// The limit.
     pub limit: Limit,
-    /// Whether a unit is a hundredth, or else a chip.
+    /// Whether a unit is a hundredth. Otherwise it is a chip.
     pub hundredths: bool,
     /// The stated big blind, in units.
     pub big: u64,
 }
 
-/// The part of a hand that a line stands in.
+/// The part of a hand in which a line is.
 #[derive(Clone, Copy)]
 pub enum Part {
-    /// Up to and with the first street marker.
+    /// The lines up to the first street marker, with it.
     Preamble,
-    /// From there up to and with the summary marker.
+    /// The lines after that, up to the summary marker, with it.
     Play,
-    /// After the summary marker.
+    /// The lines after the summary marker.
     Summary,
 }
 
-/// What a post is for.
+/// The purpose of a post.
 #[derive(Clone, Copy, PartialEq, Eq)]
 pub enum PostKind {
     /// The small blind.
     Small,
     /// The big blind.
     Big,
-    /// Small and big blind at once.
+    /// The small and the big blind at once.
     Both,
     /// The ante.
     Ante,
@@ -53,22 +53,22 @@ pub enum PostKind {
     BringIn,
 }
 
-/// An act in turn. Amounts are in units, and not 0.
+/// An act in turn. Amounts are in units, and aren't 0.
 #[derive(Clone, Copy, PartialEq, Eq)]
 pub enum Act {
-    /// The hand is given up.
+    /// The player gives up the hand.
     Fold,
-    /// Nothing is put in.
+    /// The player puts nothing in.
     Check,
-    /// So much is put in to call.
+    /// The player calls, and puts this amount in.
     Call(u64),
-    /// So much is bet.
+    /// The player bets this amount.
     Bet(u64),
-    /// A raise by so much, to so much on the street.
+    /// The player raises.
     Raise {
-        /// By how much.
+        /// The difference between the raise and the greatest bet.
         by: u64,
-        /// To how much.
+        /// The player's bet on the street after the raise.
         to: u64,
     },
 }
@@ -97,10 +97,11 @@ pub enum BoardNumber {
     Second,
 }
 
-/// What a line says. Seats are 1 to 10, and amounts are in the units of the hand: hundredths or
+/// The event of a line. Seats are 1 to 10, and amounts are in the units of the hand: hundredths or
 /// chips.
 ///
-/// `read_line` of `history_text` makes an event of a line. One of one's own is made field by field, and
+/// `read_line` of `history_text` makes the event of a line. An event can also be made field by field,
+/// with
 /// its cards by [`Cards::of`]:
 ///
 /// ```
@@ -116,7 +117,7 @@ pub enum Event {
     Seat {
         /// The seat.
         seat: u8,
-        /// The stack.
+        /// The stack, in units.
         units: u64,
         /// Where the name begins in the line.
         name_first: usize,
@@ -125,124 +126,125 @@ pub enum Event {
     },
     /// The button.
     Button {
-        /// Its seat.
+        /// The seat of the button.
         seat: u8,
     },
-    /// A blind, an ante or a bring-in.
+    /// A blind, an ante, or a bring-in.
     Post {
-        /// Who posts.
+        /// The seat that posts.
         seat: u8,
-        /// What for.
+        /// The purpose of the post.
         kind: PostKind,
-        /// How much.
+        /// The amount.
         units: u64,
         /// Whether the line says that the player is all-in.
         all_in: bool,
     },
     /// Cards dealt to a seat.
     Deal {
-        /// To whom.
+        /// The seat that gets the cards.
         seat: u8,
         /// The cards of the line's last bracket.
         cards: Cards,
-        /// Whether they stand in a second bracket: these are drawn.
+        /// Whether the cards are in a second bracket, which means that they were drawn.
         drawn: bool,
     },
     /// The marker of a street.
     Street {
         /// The street.
         street: Street,
-        /// The board that it speaks of.
+        /// The board of the marker.
         board: BoardNumber,
-        /// The board's new cards.
+        /// The new cards of the board.
         cards: Cards,
     },
     /// An act in turn.
     Act {
-        /// Who acts.
+        /// The seat that acts.
         seat: u8,
-        /// What is done.
+        /// The act.
         act: Act,
         /// Whether the line says that the player is all-in.
         all_in: bool,
-        /// The cards that a fold shows.
+        /// The cards shown with a fold.
         shown: Cards,
     },
-    /// What comes back of a bet that nobody called.
+    /// The return of a bet that nobody called.
     Uncalled {
-        /// To whom.
+        /// The seat that gets the chips back.
         seat: u8,
-        /// How much.
+        /// The amount.
         units: u64,
     },
-    /// What a player collects from a pot.
+    /// A collection from a pot.
     Collect {
-        /// Who collects.
+        /// The seat that collects.
         seat: u8,
-        /// How much.
+        /// The amount.
         units: u64,
-        /// From which pot.
+        /// The pot.
         pot: PotName,
     },
-    /// Cards that a player shows.
+    /// A show of cards.
     Show {
-        /// Who shows.
+        /// The seat that shows.
         seat: u8,
-        /// What is shown.
+        /// The cards shown.
         cards: Cards,
     },
-    /// A player shows nothing.
+    /// A muck: the player shows nothing.
     Muck {
-        /// Who.
+        /// The seat that mucks.
         seat: u8,
     },
-    /// The stated pot and rake.
+    /// The pot and the rake that the summary states.
     Total {
-        /// The pot, the rake with it.
+        /// The pot, with the rake.
         units: u64,
         /// The rake.
         rake: u64,
     },
-    /// The cards that the summary gives to a seat.
+    /// The cards of a seat in the summary.
     SeatCards {
         /// The seat.
         seat: u8,
-        /// Its cards.
+        /// The cards of the seat.
         cards: Cards,
     },
-    /// So many cards are discarded.
+    /// A discard.
     Discard {
-        /// Who discards.
+        /// The seat that discards.
         seat: u8,
-        /// How many.
+        /// The number of cards discarded.
         count: u8,
-        /// Those that are shown.
+        /// The discarded cards that are shown.
         cards: Cards,
     },
-    /// A player draws no card.
+    /// A stand-pat: the player draws no card.
     Pat {
-        /// Who.
+        /// The seat that stands pat.
         seat: u8,
     },
-    /// Anything else.
+    /// Any other line.
     Remark,
 }
 
 /// Why a line is refused.
 #[derive(Clone, Copy, PartialEq, Eq, Drop)]
 pub enum TextFault {
-    /// A header whose game and limit aren't found, or whose name stands after a word that makes it
-    /// another game's.
+    /// A header with an unknown game or limit, or with a word before the name that makes it another
+    /// game.
     UnknownGame,
-    /// A header or a seat line that isn't in its form.
+    /// A header or a seat line that doesn't have its form.
     BadHeader,
-    /// A player's line of no known form, or one that names nobody of the hand, or no pot.
+    /// A player's line of no known form, or a line that names no player of the hand, or no pot.
     BadAction,
     /// A line of stars that is no marker of its game.
     BadMarker,
-    /// A bracket that isn't closed, or holds something else than cards, or another number of them.
+    /// A bracket that isn't closed, contains something other than cards, or has another number of them.
     BadCards,
-    /// No amount where one has to stand, or other text after it, or 0 where that can't be.
+    /// A line without a required amount, with other text after the amount, or with an amount of 0 that
+    /// must not be 0.
     BadAmount,
     /// An amount above the greatest.
     AmountTooLarge,
@@ -254,7 +256,7 @@ impl TextFault {
     ghost use Rattle.std.specs.Prelude.{◌≡◌};
     ghost use Rattle.hand_events.specs.TextFaultNames.{fault_name};
 
-    /// Its name, as the report writes it.
+    /// Returns the name of the fault, as the report writes it.
     pub fn name(self) -> &'static str
         ensures { result.now ≡ fault_name self }
     {

@@ -5,44 +5,49 @@ use card_sets::Card;
 /// Why an event may not follow those before it: the first rule that it breaks, in this order.
 #[derive(Clone, Copy, PartialEq, Eq)]
 pub enum BetFault {
-    /// A post, an act or a collection by one who has folded, a post or an act by one with no chips
-    /// left, or a collection by one who is no player.
+    /// A post, an act, or a collection by a player who has folded, a post or an act by a player with no
+    /// chips left, or a collection by a seat without a player.
     NotInHand,
-    /// An act, where this seat owes one and is the first to, between the last actor and the seat.
+    /// An act while this seat owes one: the first seat that does between the last actor and the acting
+    /// seat.
     OutOfTurn(u8),
-    /// An act by one who may not act: he owes none and has acted on the street, or betting isn't open.
+    /// An act by a player who may not act: the player owes none and has acted on the street, or betting
+    /// isn't open.
     NothingOwed,
-    /// A check below the greatest bet of the street: so much is due.
+    /// A check below the greatest bet of the street. The field is the amount due.
     CheckFacingBet(u64),
-    /// A call of another amount than what is due, this, than what is due up to the big blind on the
-    /// first street, and than a whole stack that is below one of these.
+    /// A call of an amount that is none of these: the amount due (the field), the amount due up to the big
+    /// blind on the first street, or the player's whole stack if it is less than one of them.
     CallAmount(u64),
-    /// A bet where there is one already.
+    /// A bet on a street that has a bet.
     BetFacingBet,
-    /// A raise to no more than the greatest bet, which is this, or by another amount than what it is
-    /// above that, or above the big blind on the first street.
+    /// A raise that isn't above the greatest bet (the field), or whose amount is neither the difference to
+    /// it nor, on the first street, the difference to the big blind.
     RaiseAmount(u64),
-    /// A post or an act of more chips than the player has, which are these.
+    /// A post or an act of more chips than the player has. The field is the player's stack.
     AboveStack(u64),
-    /// The words that a player is all in, where chips are left, or their want where a call, a bet or a
-    /// raise takes the last.
+    /// The words that a player is all-in while chips are left, or a call, bet, or raise of the last chips
+    /// without these words.
     AllInWord,
-    /// A marker, a return, a collection, or the first discard of a draw, while this seat owes an act.
+    /// A marker, a return, a collection, or the first discard of a draw while this seat owes an act.
     StreetEarly(u8),
-    /// A marker that isn't the next of its game on its board or comes with one player left, a marker of two
-    /// boards where the hand isn't or may not be run twice, a showdown's that stood or is out of order, a
-    /// showdown or a summary before the last street with two players left, or a discard off the draw.
+    /// A marker that isn't the next of its game on its board or comes with one player left; a marker of
+    /// two boards in a hand that isn't or may not be run twice; a showdown marker that came before or is
+    /// out of order; a showdown or a summary before the last street with two players left; or a discard on
+    /// a street without a draw.
     StreetOrder,
-    /// A return of another amount than is uncalled, or to another seat. Over the whole hand so much is.
+    /// A return of an amount that isn't the uncalled one, or to another seat. The field is the uncalled
+    /// amount of the whole hand.
     UncalledAmount(u64),
-    /// This card belongs elsewhere, stands twice in a bracket, was thrown away, or comes to a board again.
-    /// It is the first such of the event.
+    /// A card that belongs elsewhere, is twice in a bracket, was discarded, or comes to a board again. The
+    /// field is the first such card of the event.
     CardTwice(Card),
-    /// A post after the first street's marker, or a bring-in anywhere but before the first act there.
+    /// A post after the marker of the first street, or a bring-in that isn't before the first act of that
+    /// street.
     PostLate,
     /// A second line of a seat.
     SeatTwice,
-    /// This seat would have more cards than the game gives.
+    /// More cards for this seat than the game gives.
     TooManyCards(u8),
 }
 
@@ -50,7 +55,7 @@ impl BetFault {
     ghost use Rattle.std.specs.Prelude.{◌≡◌};
     ghost use Rattle.hand_events.specs.BetFaultNames.{fault_name};
 
-    /// Its name, as the report writes it before what the fault carries.
+    /// Returns the name of the fault, as the report writes it before the fields of the fault.
     pub fn name(&self) -> &'static str
         ensures { result.now ≡ fault_name self.now }
     {

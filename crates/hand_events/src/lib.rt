@@ -1,11 +1,12 @@
-//! What is said of a hand: its events, its names, and the faults of a line and of an event.
+//! The events of a hand, its names, and the faults of a line and of an event.
 //!
-//! An `Event` is what a line says, by seats, units and cards: who posts, acts, shows or collects, and which street
-//! begins. A `Header` says the game, the limit and the big blind, and `Names` holds the names of the seat lines, by
-//! seat. A line that can't be read has a `TextFault`, and an event that may not follow those before it a `BetFault`.
+//! An `Event` is the meaning of a line, in seats, units, and cards: who posts, acts, shows, or collects,
+//! and which street begins. A `Header` has the game, the limit, and the big blind, and `Names` has the
+//! names of the seat lines, by seat. A line that can't be read has a `TextFault`, and an event that the
+//! rules don't allow after the earlier ones has a `BetFault`.
 //!
-//! These are the words in which the crates above speak of a hand, whoever reads, replays, checks or writes it. The crate
-//! itself reads no line and knows no rule. Only `Names::add` takes memory, for the bytes of a name.
+//! The crates above use these types to read, replay, check, and write a hand. This crate reads no line and
+//! knows no rule. Only `Names::add` allocates memory, for the bytes of a name.
 #![tactic(auto)]
 
 mod cards;

@@ -13,7 +13,7 @@ use std::marker::Model;
 pub struct Seated {
     /// The seat.
     pub seat: u8,
-    /// The bytes of its name.
+    /// The bytes of the name.
     pub name: Vec<u8>,
 }
 
@@ -21,7 +21,9 @@ pub struct Seated {
 /// of its name, in the order of the lines.
 #[derive(Drop)]
 pub struct Names {
+    /// The allocator of the names.
     alloc: Global,
+    /// The seats with their names, in the order of the lines.
     seats: Vec<Seated>,
 }
 
@@ -35,7 +37,7 @@ impl Model for Names {
 }
 
 impl Names {
-    /// No name.
+    /// Returns the list without names.
     pub fn new(alloc: Global) -> Names
         ensures { result ≡ [] }
     {
@@ -45,7 +47,7 @@ impl Names {
         }
     }
 
-    /// One name more. Out of memory it changes nothing.
+    /// Adds a name at the end. `Memory` changes nothing.
     pub fn add(&mut self, seat: u8, name: &[u8]) -> Result<(), Memory>
         ensures added { OnOk result (self.new ≡ self.old ++ (seat, name.now) ∷ []) }
         ensures refused { OnErr result (self.new ≡ self.old) }
@@ -57,21 +59,21 @@ impl Names {
         }
     }
 
-    /// The first name of a seat, byte for byte; none where the seat has no name.
+    /// Returns the first name of a seat, byte for byte, or `None` if the seat has no name.
     pub fn name_of(&self, seat: u8) -> Option<&[u8]>
         ensures { option_map (λ name. name.now) result ≡ name_of seat self.now }
     {
         name_of(&self.seats, seat)
     }
 
-    /// How many names there are.
+    /// Returns the number of names.
     pub fn count(&self) -> usize
         ensures { result ≡ length self.now }
     {
         self.seats.len()
     }
 
-    /// The seat and the name at a place, byte for byte; places count from 0.
+    /// Returns the seat and the name at a place, byte for byte; places count from 0.
     pub fn at(&self, place: usize) -> Option<(u8, &[u8])>
         ensures { option_map (λ who. (who.0, who.1.now)) result ≡ slice_get self.now place }
     {
@@ -79,28 +81,28 @@ impl Names {
         Some((who.seat, who.name.as_slice()))
     }
 
-    /// The seats and their names, in the order of the lines.
+    /// Returns the seats and their names, in the order of the lines.
     pub fn seats(&self) -> &[Seated]
         ensures { map pair result.now ≡ self.now }
     {
         self.seats.as_slice()
     }
 
-    /// The seat whose name is the whole text.
+    /// Returns the seat whose name is the whole text.
     pub fn named(&self, text: &[u8]) -> Option<u8>
         ensures { result ≡ seat_named text.now self.now }
     {
         named(&self.seats, text)
     }
 
-    /// Whether the seat is one of the hand's.
+    /// Returns whether a seat has a name in the hand.
     pub fn is_seated(&self, seat: u8) -> bool
         ensures { result ≡ is_seated seat self.now }
     {
         is_seated(&self.seats, seat)
     }
 
-    /// Whether the name is another seat's.
+    /// Returns whether another seat has the name.
     pub fn is_taken(&self, seat: u8, name: &[u8]) -> bool
         ensures { result ≡ is_taken seat name.now self.now }
     {
@@ -108,7 +110,7 @@ impl Names {
     }
 }
 
-/// The seat whose name is the whole text.
+/// Returns the seat whose name is the whole text.
 fn named(seats: &[Seated], text: &[u8]) -> Option<u8>
     ensures { result ≡ seat_named text.now (map pair seats.now) }
 {
@@ -120,7 +122,7 @@ fn named(seats: &[Seated], text: &[u8]) -> Option<u8>
     None
 }
 
-/// The first name of a seat.
+/// Returns the first name of a seat.
 fn name_of(seats: &[Seated], seat: u8) -> Option<&[u8]>
     ensures { option_map (λ name. name.now) result ≡ name_of seat (map pair seats.now) }
 {
@@ -132,7 +134,7 @@ fn name_of(seats: &[Seated], seat: u8) -> Option<&[u8]>
     None
 }
 
-/// Whether the seat is one of these.
+/// Returns whether a seat is one of these.
 fn is_seated(seats: &[Seated], seat: u8) -> bool
     ensures { result ≡ is_seated seat (map pair seats.now) }
 {
@@ -144,7 +146,7 @@ fn is_seated(seats: &[Seated], seat: u8) -> bool
     false
 }
 
-/// Whether the name is another seat's.
+/// Returns whether another seat has the name.
 fn is_taken(seats: &[Seated], seat: u8, name: &[u8]) -> bool
     ensures { result ≡ is_taken seat name.now (map pair seats.now) }
 {

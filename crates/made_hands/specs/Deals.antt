@@ -4,29 +4,29 @@ use Rattle.card_sets.specs.Cards.{deck, union, without_card}
 use Rattle.made_hands.specs.Generator.{next_state, drawn, state_after}
 use Rattle.made_hands.specs.declared.deals.Deal.{Deal}
 
--- the card that is drawn at a state among those that are left, a rising list: its place is drawn, from 0
+-- the card drawn at a state from the cards left, a rising list; its place, from 0, is drawn
 unfoldable pub card_drawn : List ℕ → ℕ → ℕ
 card_drawn left x = slice_index left (drawn (length left) x)
 
--- what is left without that card
+-- the cards left without that card
 unfoldable pub left_behind : List ℕ → ℕ → List ℕ
 left_behind left x = without_card left (card_drawn left x)
 
--- so many cards, each drawn among those that are left
+-- n cards, each drawn from the cards left
 abbrev pub cards_drawn : ℕ → List ℕ → ℕ → List ℕ
 cards_drawn zero left x = []
 cards_drawn (suc n) left x = card_drawn left x ∷ cards_drawn n (left_behind left x) (next_state x)
 
--- what is left without those cards
+-- the cards left without those cards
 abbrev pub left_after : ℕ → List ℕ → ℕ → List ℕ
 left_after zero left x = left
 left_after (suc n) left x = left_after n (left_behind left x) (next_state x)
 
--- a stack that is drawn at a state: 10 to 200 whole dollars
+-- the stack drawn at a state: 10 to 200 whole dollars
 unfoldable pub stack_drawn : ℕ → ℕ
 stack_drawn x = 10 + drawn 191 x
 
--- a deal from a state on, in eleven draws: nine cards of the whole deck, the first player's before the second's and the
+-- the deal of a state, in eleven draws: nine cards from the whole deck, the first player's before the second's and the
 -- board's, and then the first player's stack and the second's
 unfoldable pub deal_of : ℕ → Deal
 deal_of x =
@@ -39,7 +39,7 @@ deal_of x =
       second_stack = stack_drawn (state_after 10 x);
     }
 
--- each player has seven different cards with the board, and the stacks are in their range
+-- each player has seven different cards with the board, and both stacks are in their range
 pub record IsWhole (d : Deal) : Type 0 where
   pub first_seven : length (union d.first d.board) ≡ 7
   pub second_seven : length (union d.second d.board) ≡ 7

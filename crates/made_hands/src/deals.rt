@@ -1,4 +1,4 @@
-//! What is dealt for one hand.
+//! The deal of one hand.
 
 ghost use Rattle.std.specs.Prelude.{◌≡◌, []};
 ghost use Rattle.card_sets.specs.Cards.{union};
@@ -11,7 +11,7 @@ use card_sets::{Card, CardSet};
 use rank_high::{high_of_set, law_best_numbers_keep_order};
 use std::cmp::Ordering;
 
-/// Two players' cards, the board, and what the players begin with, in whole dollars.
+/// Two players' cards, the board, and the players' stacks at the beginning, in whole dollars.
 #[derive(Clone, Copy)]
 pub(crate) struct Deal {
     /// The two cards of A, who has the button.
@@ -20,13 +20,13 @@ pub(crate) struct Deal {
     pub(crate) second: [Card; 2],
     /// The five cards of the board.
     pub(crate) board: [Card; 5],
-    /// A's stack.
+    /// A's stack, in dollars.
     pub(crate) first_stack: u64,
-    /// B's stack.
+    /// B's stack, in dollars.
     pub(crate) second_stack: u64,
 }
 
-/// The set of some cards.
+/// Returns the set of some cards.
 fn set_of(cards: &[Card]) -> CardSet
     ensures { result ≡ union [] cards.now }
 {
@@ -38,7 +38,7 @@ fn set_of(cards: &[Card]) -> CardSet
 }
 
 impl Deal {
-    /// Deals one hand.
+    /// Draws the deal of one hand.
     pub(crate) fn draw(generator: &mut Generator) -> Deal
         ensures state { generator.new.state ≡ state_after 11 generator.old.state }
         ensures deal { result ≡ deal_of generator.old.state }
@@ -59,7 +59,7 @@ impl Deal {
         }
     }
 
-    /// How A's hand compares with B's.
+    /// Returns how A's hand compares with B's.
     pub(crate) fn compare(&self) -> Ordering
         requires { IsWhole self.now }
         ensures { result ≡ compared self.now }
@@ -71,7 +71,7 @@ impl Deal {
         first.cmp(&second)
     }
 
-    /// What each player puts in.
+    /// Returns the dollars that each player puts in.
     pub(crate) fn stake(&self) -> u64
         ensures { result ≡ staked self.now }
     {

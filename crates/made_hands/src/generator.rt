@@ -1,4 +1,4 @@
-//! The generator that hands are made from.
+//! The generator of made hands.
 
 ghost use Rattle.std.specs.Prelude.{◌≡◌, ◌+◌, ◌<◌, ◌≤◌, length, slice_index};
 ghost use Rattle.made_hands.specs.Deals.{card_drawn, cards_drawn, left_after, left_behind, stack_drawn};
@@ -13,7 +13,7 @@ pub(crate) struct Generator {
     pub(crate) state: u64,
 }
 
-/// The card at a place of a set, from 0.
+/// Returns the card at a place of a set, from 0.
 fn card_at(cards: CardSet, place: usize) -> Card
     requires { place < length cards }
     ensures { result ≡ slice_index cards place }
@@ -25,7 +25,7 @@ fn card_at(cards: CardSet, place: usize) -> Card
 }
 
 impl Generator {
-    /// Goes on, and draws a number below m.
+    /// Moves to the next state, and draws a number below m.
     fn draw(&mut self, m: u64) -> u64
         requires { 0 < m }
         ensures state { self.new.state ≡ next_state self.old.state }
@@ -39,7 +39,7 @@ impl Generator {
         (self.state >> 33) % m
     }
 
-    /// Draws a card among those that are left, and takes it out.
+    /// Draws a card from the cards left, and removes it.
     fn card(&mut self, left: &mut CardSet) -> Card
         requires { 0 < length left.old }
         ensures state { self.new.state ≡ next_state self.old.state }

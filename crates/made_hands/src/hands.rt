@@ -1,4 +1,4 @@
-//! Made hands, one after the other.
+//! Made hands, one after another.
 
 ghost use Rattle.std.specs.Prelude.{◌≡◌, IfOk};
 ghost use Rattle.made_hands.specs.Made.{made_text};
@@ -9,7 +9,8 @@ use crate::lines::write_hand;
 use card_sets::Memory;
 use std::alloc::Global;
 
-/// The histories of so many made hands, numbered from 1, from a seed. Refuses only when out of memory.
+/// Returns the histories of `hands` made hands, numbered from 1, from a seed. `Memory` is the only
+/// refusal.
 pub fn made_input(alloc: Global, seed: u64, hands: u32) -> Result<Vec<u8>, Memory>
     ensures made { IfOk result (λ text. text.items ≡ made_text seed hands) }
 {

@@ -1,12 +1,12 @@
-//! Hands that a generator makes: whole histories of Texas Hold'em with two players, from a seed.
+//! Hands that a generator makes from a seed: whole histories of Texas Hold'em with two players.
 //!
-//! On the flop B bets all that he has, A calls, and the text says who wins by the usual rules. The crate
+//! On the flop B bets their whole stack, A calls, and the winner is the one by the usual rules. The crate
 //! reads nothing, and knows of no output.
 //!
 //! A hand is eleven draws of a linear congruential generator of 64 bits: nine cards, each from the set of
-//! those that are left, so that they are different cards, and two stacks. The winner is found by the best
-//! five of seven cards of `rank_high`, and the history is put together piece after piece. The state after
-//! a hand is what the next one begins with, so hand after hand costs the same.
+//! cards left, so that they differ, and two stacks. `rank_high` finds the winner by the best five of
+//! seven cards, and the history is written piece after piece. The next hand begins with the state after
+//! this one, so every hand costs the same.
 #![tactic(auto)]
 
 mod deals;

@@ -1,4 +1,4 @@
-//! The lines of a made hand. Each `write` appends to `out`; where memory is refused, it may have
+//! The lines of a made hand. Each `write` appends to `out`. If memory is refused, it may have
 //! appended a part.
 
 ghost use Rattle.std.specs.Prelude.{◌≡◌, ◌≤◌, ◌++◌, OnOk};
@@ -10,7 +10,7 @@ use crate::pieces::{write_cards, write_number};
 use std::alloc::AllocError;
 use std::cmp::Ordering;
 
-/// The header and the line of the table.
+/// Writes the header line and the table line.
 fn write_title(out: &mut Vec<u8>, number: u64) -> Result<(), AllocError>
     ensures { OnOk result (out.new.items ≡ out.old.items ++ title_lines number) }
 {
@@ -21,7 +21,7 @@ fn write_title(out: &mut Vec<u8>, number: u64) -> Result<(), AllocError>
     )
 }
 
-/// The seats with their stacks.
+/// Writes the seats with their stacks.
 fn write_seats(out: &mut Vec<u8>, deal: &Deal) -> Result<(), AllocError>
     ensures { OnOk result (out.new.items ≡ out.old.items ++ seat_lines deal.now) }
 {
@@ -32,7 +32,7 @@ fn write_seats(out: &mut Vec<u8>, deal: &Deal) -> Result<(), AllocError>
     out.extend_from_slice(b" in chips)\n")
 }
 
-/// The blinds, and what is done before the flop.
+/// Writes the blinds, and the acts before the flop.
 #[tactic(auto, unfolding(crate::specs::Lines::blind_lines))]
 fn write_blinds(out: &mut Vec<u8>) -> Result<(), AllocError>
     ensures { OnOk result (out.new.items ≡ out.old.items ++ blind_lines) }
@@ -42,7 +42,7 @@ fn write_blinds(out: &mut Vec<u8>) -> Result<(), AllocError>
     )
 }
 
-/// The flop, and B's bet of all that he has left.
+/// Writes the flop, and B's bet of all remaining chips.
 #[tactic(auto, unfolding(crate::specs::Lines::flop_lines))]
 fn write_flop(out: &mut Vec<u8>, deal: &Deal) -> Result<(), AllocError>
     requires { IsWhole deal.now }
@@ -55,7 +55,7 @@ fn write_flop(out: &mut Vec<u8>, deal: &Deal) -> Result<(), AllocError>
     out.extend_from_slice(b" and is all-in\n")
 }
 
-/// A's call, which puts him all in where he has no more than B.
+/// Writes A's call, which puts A all-in if A has no more than B.
 #[tactic(auto, unfolding(crate::specs::Lines::call_line))]
 fn write_call(out: &mut Vec<u8>, deal: &Deal) -> Result<(), AllocError>
     requires { IsWhole deal.now }
@@ -69,7 +69,7 @@ fn write_call(out: &mut Vec<u8>, deal: &Deal) -> Result<(), AllocError>
     out.extend_from_slice(b"\n")
 }
 
-/// What comes back to B where he has more than A.
+/// Writes the chips that B gets back if B has more than A.
 #[tactic(auto, unfolding(crate::specs::Lines::return_line))]
 fn write_return(out: &mut Vec<u8>, deal: &Deal) -> Result<(), AllocError>
     ensures { OnOk result (out.new.items ≡ out.old.items ++ return_line deal.now) }
@@ -82,7 +82,7 @@ fn write_return(out: &mut Vec<u8>, deal: &Deal) -> Result<(), AllocError>
     out.extend_from_slice(b") returned to B\n")
 }
 
-/// The turn and the river.
+/// Writes the turn and the river.
 fn write_board(out: &mut Vec<u8>, deal: &Deal) -> Result<(), AllocError>
     ensures { OnOk result (out.new.items ≡ out.old.items ++ board_lines deal.now) }
 {
@@ -98,7 +98,7 @@ fn write_board(out: &mut Vec<u8>, deal: &Deal) -> Result<(), AllocError>
     out.extend_from_slice(b"\n")
 }
 
-/// The showdown.
+/// Writes the showdown.
 #[tactic(auto, unfolding(crate::specs::Lines::shown_lines))]
 fn write_shown(out: &mut Vec<u8>, deal: &Deal) -> Result<(), AllocError>
     ensures { OnOk result (out.new.items ≡ out.old.items ++ shown_lines deal.now) }
@@ -110,7 +110,7 @@ fn write_shown(out: &mut Vec<u8>, deal: &Deal) -> Result<(), AllocError>
     out.extend_from_slice(b"\n")
 }
 
-/// That a player gets so many dollars.
+/// Writes that a player collects some dollars.
 #[tactic(auto, unfolding(crate::specs::Lines::collected_line))]
 fn write_collected(out: &mut Vec<u8>, name: &[u8], dollars: u64) -> Result<(), AllocError>
     ensures { OnOk result (out.new.items ≡ out.old.items ++ collected_line name.now dollars) }
@@ -121,7 +121,7 @@ fn write_collected(out: &mut Vec<u8>, name: &[u8], dollars: u64) -> Result<(), A
     out.extend_from_slice(b" from pot\n")
 }
 
-/// Who gets what, by how A's hand compares with B's.
+/// Writes the collections, by the order of the two hands.
 #[tactic(auto, unfolding(crate::specs::Lines::collected_lines))]
 fn write_payments(out: &mut Vec<u8>, compared: Ordering, stake: u64) -> Result<(), AllocError>
     requires { stake ≤ 200 }
@@ -137,7 +137,7 @@ fn write_payments(out: &mut Vec<u8>, compared: Ordering, stake: u64) -> Result<(
     }
 }
 
-/// The summary.
+/// Writes the summary.
 fn write_summary(out: &mut Vec<u8>, stake: u64) -> Result<(), AllocError>
     requires { stake ≤ 200 }
     ensures { OnOk result (out.new.items ≡ out.old.items ++ summary_lines stake) }
@@ -147,7 +147,7 @@ fn write_summary(out: &mut Vec<u8>, stake: u64) -> Result<(), AllocError>
     out.extend_from_slice(b" | Rake $0\n")
 }
 
-/// A hand up to the last bet.
+/// Writes a hand up to the last bet.
 #[tactic(auto, unfolding(crate::specs::Lines::betting_text))]
 fn write_betting(out: &mut Vec<u8>, number: u64, deal: &Deal) -> Result<(), AllocError>
     requires { IsWhole deal.now }
@@ -161,7 +161,7 @@ fn write_betting(out: &mut Vec<u8>, number: u64, deal: &Deal) -> Result<(), Allo
     write_return(out, deal)
 }
 
-/// A hand from the turn on.
+/// Writes a hand from the turn on.
 #[tactic(auto, unfolding(crate::specs::Lines::ending_text))]
 fn write_ending(out: &mut Vec<u8>, deal: &Deal) -> Result<(), AllocError>
     requires { IsWhole deal.now }
@@ -173,7 +173,7 @@ fn write_ending(out: &mut Vec<u8>, deal: &Deal) -> Result<(), AllocError>
     write_summary(out, deal.stake())
 }
 
-/// A hand with its number.
+/// Writes a hand with its number.
 #[tactic(auto, unfolding(crate::specs::Lines::hand_text))]
 pub(crate) fn write_hand(out: &mut Vec<u8>, number: u64, deal: &Deal) -> Result<(), AllocError>
     requires { IsWhole deal.now }

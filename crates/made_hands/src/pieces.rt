@@ -1,5 +1,5 @@
-//! The pieces of a line. Each `write` appends to `out`; where memory is refused, it may have appended
-//! a part.
+//! The pieces of a line. Each `write` appends to `out`. If memory is refused, it may have appended a
+//! part.
 
 ghost use Rattle.std.specs.Prelude.{◌≡◌, ◌++◌, OnOk, codes, decimal};
 ghost use Rattle.std.specs.List.{flat_map, join_by};
@@ -10,7 +10,7 @@ use card_sets::Card;
 use itoa::Buffer;
 use std::alloc::AllocError;
 
-/// A whole number.
+/// Writes a whole number.
 pub(crate) fn write_number(out: &mut Vec<u8>, number: u64) -> Result<(), AllocError>
     ensures { OnOk result (out.new.items ≡ out.old.items ++ decimal number) }
 {
@@ -18,7 +18,7 @@ pub(crate) fn write_number(out: &mut Vec<u8>, number: u64) -> Result<(), AllocEr
     out.extend_from_slice(buffer.format(number).as_bytes())
 }
 
-/// Cards, each after a blank.
+/// Writes cards, each after a blank.
 fn write_later_cards(out: &mut Vec<u8>, cards: &[Card]) -> Result<(), AllocError>
     ensures { OnOk result (out.new.items ≡ out.old.items
         ++ flat_map (λ card. codes " " ++ text_of_card card) cards.now) }
@@ -30,7 +30,7 @@ fn write_later_cards(out: &mut Vec<u8>, cards: &[Card]) -> Result<(), AllocError
     Ok(())
 }
 
-/// Cards with one blank between.
+/// Writes cards with one blank between them.
 fn write_joined_cards(out: &mut Vec<u8>, cards: &[Card]) -> Result<(), AllocError>
     ensures { OnOk result (out.new.items ≡ out.old.items
         ++ join_by text_of_card (codes " ") cards.now) }
@@ -42,7 +42,7 @@ fn write_joined_cards(out: &mut Vec<u8>, cards: &[Card]) -> Result<(), AllocErro
     write_later_cards(out, later)
 }
 
-/// Cards in brackets, with one blank between.
+/// Writes cards in brackets, with one blank between them.
 #[tactic(auto, unfolding(crate::specs::Lines::cards_text))]
 pub(crate) fn write_cards(out: &mut Vec<u8>, cards: &[Card]) -> Result<(), AllocError>
     ensures { OnOk result (out.new.items ≡ out.old.items ++ cards_text cards.now) }

@@ -1,4 +1,4 @@
-//! The pots of a hand: one walk over the levels, from the lowest up.
+//! The pots of a hand: one walk over the levels, the lowest first.
 
 ghost use Rattle.std.specs.Prelude.{◌≡◌, ℕ, ◌+◌, ◌-◌, ◌<◌, ◌≤◌, ◌^◌, ◌&&◌, ◌==◌, min, nat_le, IfOk, true, [], map, Some};
 ghost use Rattle.std.specs.List.{sum_by};
@@ -8,10 +8,10 @@ use crate::paid::{Paid, Pot};
 use card_sets::{Items, Memory, PlayerSet};
 use std::alloc::{AllocError, Global};
 
-/// The pots of a hand, the main pot first. Clauses see the list of them.
+/// The pots of a hand, the main pot first. Clauses see it as a list.
 pub type Pots = Items<Pot>;
 
-/// What all players paid between two levels.
+/// Returns the chips that all players paid between two levels.
 fn between(paid: &[Paid], low: u64, high: u64) -> u64
     requires { sum_by (λ p. p.live) paid.now < 2 ^ 64 }
     ensures { result ≡ between paid.now low high }
@@ -23,7 +23,7 @@ fn between(paid: &[Paid], low: u64, high: u64) -> u64
     units
 }
 
-/// The lesser of two sums, of which the first may be missing.
+/// Returns the lesser of two sums, the first of which may be missing.
 fn lesser(least: Option<u64>, sum: u64) -> u64
     ensures { lesser least sum ≡ Some result }
 {
@@ -33,7 +33,7 @@ fn lesser(least: Option<u64>, sum: u64) -> u64
     }
 }
 
-/// The least sum above a level that a contender has paid.
+/// Returns the least sum above a level that a contender has paid.
 fn least_above(low: u64, paid: &[Paid]) -> Option<u64>
     ensures { result ≡ least_above low paid.now }
 {
@@ -46,7 +46,7 @@ fn least_above(low: u64, paid: &[Paid]) -> Option<u64>
     least
 }
 
-/// Whether the seat is of a contender who has paid up to a level.
+/// Returns whether the seat is that of a contender who has paid up to a level.
 fn reaches(paid: &[Paid], level: u64, seat: u8) -> bool
     ensures { result ≡ reaches paid.now level seat }
 {
@@ -54,14 +54,14 @@ fn reaches(paid: &[Paid], level: u64, seat: u8) -> bool
         .any(|p| p.seat == seat && p.contender && level <= p.live)
 }
 
-/// The contenders who have paid up to a level: bit s for seat s.
+/// Returns the contenders who have paid up to a level: bit s for seat s.
 fn reaching(paid: &[Paid], level: u64) -> u16
     ensures { result ≡ reaching paid.now level }
 {
     PlayerSet::passing(11, |seat| reaches(paid, level, seat)).bits()
 }
 
-/// The pot of each level, and the highest level.
+/// Returns the pot of each level, and the highest level.
 fn each_level(alloc: Global, paid: &[Paid]) -> Result<Vec<Pot>, AllocError>
     requires { sum_by (λ p. p.live) paid.now < 2 ^ 64 }
     ensures { IfOk result (λ pots. pots.items ≡ pots_from paid.now 0 (levels paid.now)) }
@@ -78,7 +78,7 @@ fn each_level(alloc: Global, paid: &[Paid]) -> Result<Vec<Pot>, AllocError>
     Ok(pots)
 }
 
-/// The highest sum that a contender has paid.
+/// Returns the highest sum that a contender has paid.
 fn highest(paid: &[Paid]) -> u64
     ensures { result ≡ highest paid.now }
 {
@@ -91,14 +91,14 @@ fn highest(paid: &[Paid]) -> u64
     greatest
 }
 
-/// Whether there is a contender.
+/// Returns whether there is a contender.
 fn any_contender(paid: &[Paid]) -> bool
     ensures { result ≡ any_contender paid.now }
 {
     paid.iter().any(|p| p.contender)
 }
 
-/// What was paid above a level.
+/// Returns the chips paid above a level.
 fn above(paid: &[Paid], level: u64) -> u64
     requires { above paid.now level < 2 ^ 64 }
     ensures { result ≡ above paid.now level }
@@ -106,7 +106,7 @@ fn above(paid: &[Paid], level: u64) -> u64
     paid.iter().map(|p| p.live.saturating_sub(level)).sum()
 }
 
-/// All dead chips.
+/// Returns all dead chips.
 fn all_dead(paid: &[Paid]) -> u64
     requires { sum_by (λ p. p.dead) paid.now < 2 ^ 64 }
     ensures { result ≡ all_dead paid.now }
@@ -114,7 +114,7 @@ fn all_dead(paid: &[Paid]) -> u64
     paid.iter().map(|p| p.dead).sum()
 }
 
-/// So much more in the first pot.
+/// Adds units to the first pot.
 fn add_first(pots: &mut [Pot], units: u64)
     requires { held pots.old + units < 2 ^ 64 }
     ensures { pots.new ≡ more_first units pots.old }
@@ -124,7 +124,7 @@ fn add_first(pots: &mut [Pot], units: u64)
     }
 }
 
-/// So much more in the last.
+/// Adds units to the last pot.
 fn add_last(pots: &mut [Pot], units: u64)
     requires { held pots.old + units < 2 ^ 64 }
     ensures { pots.new ≡ more_last units pots.old }
@@ -139,7 +139,7 @@ fn add_last(pots: &mut [Pot], units: u64)
     }
 }
 
-/// So much more in the last pot, and in the first.
+/// Adds units to the last pot and to the first.
 fn add_rest(pots: &mut [Pot], last: u64, first: u64)
     requires { held pots.old + last + first < 2 ^ 64 }
     ensures { pots.new ≡ more_first first (more_last last pots.old) }
@@ -148,7 +148,7 @@ fn add_rest(pots: &mut [Pot], last: u64, first: u64)
     add_first(pots, first);
 }
 
-/// The pots by level, or one pot of all contenders where none of them has paid.
+/// Returns the pots by level, or one pot of all contenders if none of them has paid.
 fn all_levels(alloc: Global, paid: &[Paid]) -> Result<Vec<Pot>, AllocError>
     requires { sum_by (λ p. p.live) paid.now < 2 ^ 64 }
     ensures { IfOk result
@@ -164,8 +164,8 @@ fn all_levels(alloc: Global, paid: &[Paid]) -> Result<Vec<Pot>, AllocError>
     Ok(pots)
 }
 
-/// The pots of a hand, of what its players put in: at least one where there is a contender, and then
-/// they hold all of it. The sums of what was put in fit 64 bits.
+/// Returns the pots of a hand, from what its players put in. If there is a contender, there is at
+/// least one pot, and the pots contain all chips put in. The sums of these chips fit 64 bits.
 #[tactic(auto, unfolding(crate::specs::Pots::pots))]
 pub fn layers(alloc: Global, paid: &[Paid]) -> Result<Pots, Memory>
     requires { put_in_all paid.now < 2 ^ 64 }

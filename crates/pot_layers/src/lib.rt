@@ -1,15 +1,15 @@
-//! What each player of a hand put in, the pots that it makes, and how a pot is split.
+//! The chips that each player of a hand put in, the pots that they make, and how a pot is split.
 //!
-//! Side pots are layers of minima. Each different sum that a contender has put in is a level, and the
-//! pot of a level holds from every player what he has in between the level below and this one. Its
-//! eligible players are the contenders who have put in that much. Dead chips go into the first pot, and
-//! what folded players have in above the highest level into the last. `layers` gives the pots,
-//! `uncalled` what goes back to a player whom nobody called, `halves` what goes by each board of a hand
-//! that was run twice, and `split` the parts of a pot's winners.
+//! Side pots are layers. Each different sum that a contender has put in is a level. The pot of a level
+//! contains, from every player, the chips between the level below and this one. Its eligible players
+//! are the contenders who have put in at least the level. Dead chips go into the first pot, and the
+//! chips of folded players above the highest level into the last. `layers` returns the pots,
+//! `uncalled` the chips that go back to a player whom nobody called, `halves` the parts for the two
+//! boards of a hand that was run twice, and `split` the parts of a pot's winners.
 //!
-//! Clauses see pots, parts and orders as lists. Sets of seats have bit s for seat s.
+//! Clauses see pots, parts, and orders as lists. Sets of seats have bit s for seat s.
 //!
-//! More that holds of pots and of their parts is said by laws in `hand_laws`.
+//! The laws of `hand_laws` say more about pots and their parts.
 #![tactic(auto)]
 
 mod by_level;

@@ -7,7 +7,9 @@ use std::marker::Model;
 /// Up to ten seats, in the order in which they get odd units. Clauses see the list of them.
 #[derive(Drop)]
 pub struct OddOrder {
+    /// The seats, followed by unused ones.
     seats: [u8; 10],
+    /// The number of seats.
     count: u8,
 }
 
@@ -22,7 +24,7 @@ impl Model for OddOrder {
 }
 
 impl OddOrder {
-    /// The first so many of these ten seats.
+    /// Returns the first `count` of these ten seats.
     pub fn of(seats: [u8; 10], count: u8) -> OddOrder
         requires { count ≤ 10 }
         ensures { result ≡ take count seats }
@@ -30,7 +32,7 @@ impl OddOrder {
         OddOrder { seats, count }
     }
 
-    /// No seat.
+    /// Returns the order without seats.
     pub fn none() -> OddOrder
         ensures { result ≡ [] }
     {
@@ -40,7 +42,7 @@ impl OddOrder {
         }
     }
 
-    /// One seat more, after the others.
+    /// Adds a seat after the others.
     pub fn push(&mut self, seat: u8)
         requires { length self.old < 10 }
         ensures { self.new ≡ self.old ++ seat ∷ [] }
@@ -49,7 +51,7 @@ impl OddOrder {
         self.count += 1;
     }
 
-    /// The seats, in order.
+    /// Returns the seats, in order.
     pub fn as_slice(&self) -> &[u8]
         ensures { result.now ≡ self.now }
     {

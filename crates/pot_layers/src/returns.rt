@@ -5,7 +5,7 @@ ghost use Rattle.pot_layers.specs.Uncalled.{is_reached, rival, alone_in, uncalle
 
 use crate::paid::Paid;
 
-/// Whether another seat has a live sum that is no less.
+/// Returns whether another seat has at least this live sum.
 fn is_reached(paid: &[Paid], seat: u8, live: u64) -> bool
     ensures { result ≡ is_reached paid.now seat live }
 {
@@ -13,7 +13,7 @@ fn is_reached(paid: &[Paid], seat: u8, live: u64) -> bool
         .any(|player| player.seat != seat && live <= player.live)
 }
 
-/// The greatest live sum of another seat, 0 where there is none.
+/// Returns the greatest live sum of another seat, 0 if there is none.
 fn rival(paid: &[Paid], seat: u8) -> u64
     ensures { result ≡ rival paid.now seat }
 {
@@ -26,9 +26,10 @@ fn rival(paid: &[Paid], seat: u8) -> u64
     greatest
 }
 
-/// The seat that alone has a live sum above all others, and by how many units it is above the second
-/// greatest, which counts as 0 where there is no other player: a lone player's whole live sum is
-/// uncalled, be it 0. None exactly where no seat is alone above the others.
+/// Returns the seat with the greatest live sum, if no other seat has that sum, and the difference
+/// to the second greatest sum in units. The second greatest sum is 0 if there is no other player,
+/// so the whole live sum of a lone player is uncalled, even 0. `None` exactly if two seats have the
+/// greatest sum, or there is no seat.
 #[tactic(auto, using(crate::proofs::RivalSums::rival_within))]
 pub fn uncalled(paid: &[Paid]) -> Option<(u8, u64)>
     ensures { result ≡ uncalled paid.now }

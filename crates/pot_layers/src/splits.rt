@@ -9,10 +9,11 @@ use crate::paid::{Share, SideWinners};
 use card_sets::{Items, Memory, PlayerSet};
 use std::alloc::{AllocError, Global};
 
-/// The parts of a pot, by rising seat. Clauses see the list of them.
+/// The parts of a pot, by rising seat. Clauses see it as a list.
 pub type Shares = Items<Share>;
 
-/// What a seat gets where each of some seats gets so much, and the first of them one more.
+/// Returns the units of a seat if each seat of an order gets `each`, and the first `extra` of them
+/// get one more.
 fn given(each: u64, extra: u64, order: &[u8], seat: u8) -> u64
     requires { each + extra < 2 ^ 64 }
     ensures value { result ≡ given each extra order.now seat }
@@ -28,7 +29,7 @@ fn given(each: u64, extra: u64, order: &[u8], seat: u8) -> u64
     0
 }
 
-/// What a seat gets of a side.
+/// Returns the units that a seat gets of a side.
 fn side_share(units: u64, order: &[u8], seat: u8) -> u64
     ensures value { result ≡ side_share units order.now seat }
     ensures within { result ≤ units }
@@ -40,7 +41,7 @@ fn side_share(units: u64, order: &[u8], seat: u8) -> u64
     given(units / count, units % count, order, seat)
 }
 
-/// How many sides a seat wins.
+/// Returns the number of sides that a seat wins.
 fn sides_won(winners: SideWinners, seat: u8) -> u8
     requires { seat < 11 }
     ensures value { result ≡ sides_won winners.high winners.low seat }
@@ -49,14 +50,14 @@ fn sides_won(winners: SideWinners, seat: u8) -> u8
     PlayerSet::of(winners.high).has(seat) as u8 + PlayerSet::of(winners.low).has(seat) as u8
 }
 
-/// Two halves of some units, the first rounded up and the second down.
+/// Returns the two halves of some units, the first rounded up and the second down.
 pub fn halves(units: u64) -> [u64; 2]
     ensures { result ≡ halves units }
 {
     [units / 2 + units % 2, units / 2]
 }
 
-/// The half of the high, rounded up; all of it where nobody wins the low.
+/// Returns the half of the high, rounded up, or all units if nobody wins the low.
 fn high_half(units: u64, low: u16) -> u64
     ensures value { result ≡ high_half units low }
     ensures within { result ≤ units }
@@ -68,7 +69,7 @@ fn high_half(units: u64, low: u16) -> u64
     first
 }
 
-/// The half of the low, rounded down.
+/// Returns the half of the low, rounded down.
 fn low_half(units: u64, low: u16) -> u64
     ensures { result ≡ low_half units low }
 {
@@ -79,7 +80,7 @@ fn low_half(units: u64, low: u16) -> u64
     second
 }
 
-/// The parts of the winners of a pot.
+/// Returns the parts of the winners of a pot.
 fn parts(
     alloc: Global,
     units: u64,
@@ -108,10 +109,11 @@ fn parts(
     Ok(parts)
 }
 
-/// A pot's units among its winners, by rising seat: each side in equal parts, and the units left over
-/// one each in the order given for the side. Where both sides have winners the high half is rounded
-/// up. The high has winners, and each order lists those of its side once each. A game that has only a
-/// low hands its winners in as high.
+/// Returns the parts of a pot's winners, by rising seat. Each side goes to its winners in equal
+/// parts, and the units left over go one each in the order given for the side. If both sides have
+/// winners, the half of the high is rounded up. The high has winners, and each order lists the
+/// winners of its side, each once. In a game with only a low, the winners of the low are passed as
+/// those of the high.
 #[tactic(auto, unfolding(crate::specs::Split::shares))]
 pub fn split(
     alloc: Global,

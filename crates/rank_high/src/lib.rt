@@ -4,14 +4,12 @@
 //! higher ranks. Suits never break a tie.
 //!
 //! **A value is one number** of six digits in base 16: the category, 8 for a straight flush to 0 for no
-//! pair, and the ranks of the groups, 2 for a deuce to 14 for an ace. After the last group the digits
-//! are 0. In five to ace the ace is 1 and comes last. Kings over tens with a four are 0x2da400. The
-//! greater
+//! pair, and the ranks of the groups, 2 for a deuce to 14 for an ace. After the last group the digits are
+//! 0. In five to ace the ace is 1 and comes last. Kings over tens with a four are 0x2da400. The greater
 //! number is the better hand, so hands are compared as numbers.
 //!
 //! **The best five** of up to seven cards are the better of two: the best by ranks alone, and the best of
-//! one
-//! suit. That is a law. The 21 ways to choose five are not tried.
+//! one suit. That is a law. The 21 ways to choose five are not tried.
 //!
 //! 1. *By ranks.* Some thirty operations on words make masks of the set's bits: the ranks of one card or
 //!    more, of two or more, of three or more, and of four, and where five consecutive ranks begin. The
@@ -22,10 +20,9 @@
 //!
 //! [`high_by_ranks`] and [`high_of_suit`] are the two parts, for a caller that knows in which suit a flush
 //! is possible. [`high_of_ranks`] is the first part for a caller that knows the ranks and not the cards.
-//! [`high_of_five`] counts ranks and compares suits as the rules say, for five cards: the plain way.
-//! No call allocates memory, and none knows a game or a board. The laws of `rank_laws` say in a player's
-//! words
-//! what the values mean, for example that a flush beats a straight.
+//! [`high_of_five`] counts ranks and compares suits as the rules say, for five cards: the plain way. No
+//! call allocates memory, and none knows a game or a board. The laws of `rank_laws` say in a player's
+//! words what the values mean, for example that a flush beats a straight.
 #![tactic(auto)]
 
 mod best_five;

@@ -2,10 +2,8 @@
 //! `rank_low` compute.
 //!
 //! The definitions speak of groups, lists, and numbers. The laws say in the words of the game which hand
-//! beats which, what
-//! makes a category or a low, and that no five of the same cards beats the best five. Numbers compare as
-//! hands do. Each law
-//! is a call that does nothing, and the program uses none of them.
+//! beats which, what makes a category or a low, and that no five of the same cards beats the best five.
+//! Numbers compare as hands do. Each law is a call that does nothing, and the program uses none of them.
 #![tactic(auto)]
 
 mod high;

@@ -5,8 +5,7 @@
 //! last, `runout_at` gives the runout at an index, and `count_runouts` returns the length of the list.
 //!
 //! An equity is counted over at most `RUNOUT_MAX` runouts. `JobFault` says why an equity isn't counted.
-//! This
-//! crate counts none.
+//! This crate counts none.
 #![tactic(auto)]
 
 mod choices;

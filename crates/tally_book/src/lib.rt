@@ -1,12 +1,10 @@
 //! The book of a count: which blocks of a job are counted, and the sum of their tallies.
 //!
 //! Several workers may share a `Book` under a lock. A worker that has the lock posts a block with
-//! its
-//! tally. Whoever posted, and in any order, the total of the book is the sum of the tallies of
-//! exactly
-//! the marked blocks, each once. A block that is posted again is `Already` counted, and isn't added
-//! again. So a book in which every block is marked has the total of all runouts, and nothing need be
-//! known of what the workers did.
+//! its tally. Whoever posted, and in any order, the total of the book is the sum of the tallies of
+//! exactly the marked blocks, each once. A block that is posted again is `Already` counted, and
+//! isn't added again. So a book in which every block is marked has the total of all runouts, and
+//! nothing need be known of what the workers did.
 //!
 //! Each worker posts with a `Part` of its own, which counts its `Fresh` posts and has the set of the
 //! blocks that it handed in. Parts are shares of one ledger of fresh posts. They are split off one
