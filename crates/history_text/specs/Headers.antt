@@ -15,14 +15,15 @@ use Rattle.history_text.specs.Texts.{behind, cut_first, cut_last}
 use Rattle.history_text.specs.Reading.{◌>>=◌, ◌otherwise◌, or_fault}
 use Rattle.history_text.specs.Acts.{first_opening}
 
--- what stands between `PokerStars ` and the first `#`, and what stands after that
+-- the text between `PokerStars ` and the first `#`, and the text after that
 unfoldable pub title : List ℕ → Option (List ℕ × List ℕ)
 title line = option_and_then (λ text. cut_first (codes "#") text) (behind (codes "PokerStars ") line)
 
 abbrev pub is_letter_or_space : ℕ → Bool
 is_letter_or_space byte = is_ascii_alphabetic byte || (byte == 32)
 
--- letters and spaces that end with `Hand ` or `Game `, and after the `#` a digit
+-- the first text has only letters and spaces and ends with `Hand ` or `Game `, and the text after the
+-- `#` begins with a digit
 abbrev pub is_title : List ℕ × List ℕ → Bool
 is_title cut =
     list_all is_letter_or_space cut.0
@@ -36,7 +37,7 @@ is_titled (Some cut) = is_title cut
 unfoldable pub is_header : List ℕ → Bool
 is_header line = is_titled (title line)
 
--- the places of the first digit of the hand's number and past its last
+-- the places of the first digit of the hand's number and of the byte after its last digit
 abbrev pub number_places : List ℕ → Option (List ℕ × List ℕ) → ℕ × ℕ
 number_places line None = (0, 0)
 number_places line (Some cut) = (length line - length cut.1, length line - length cut.1 + digit_count cut.1)
@@ -44,7 +45,7 @@ number_places line (Some cut) = (length line - length cut.1, length line - lengt
 unfoldable pub hand_number : List ℕ → ℕ × ℕ
 hand_number line = number_places line (title line)
 
--- the three starts, and a number of at most 19 digits with a colon and a space: what stands after them
+-- the text after one of the three starts and a number of at most 19 digits, with a colon and a space
 abbrev pub is_start : List ℕ → Bool
 is_start words =
     bytes_eq words (codes "Hand ") || (bytes_eq words (codes "Game ") || bytes_eq words (codes "Zoom Hand "))
@@ -55,7 +56,7 @@ behind_start line =
     if is_start cut.0 && nat_le (digit_count cut.1) 19 then behind (codes ": ") (drop (digit_count cut.1) cut.1) else None)
     (title line)
 
--- what stands after a game's name and a space
+-- the text after a game's name and a space
 abbrev pub behind_name : Game → List ℕ → Option (List ℕ)
 behind_name game text = option_and_then (λ rest. behind (codes " ") rest) (behind (header_name game) text)
 
@@ -68,7 +69,7 @@ limit_words Fixed = codes "Limit"
 abbrev pub limits : List Limit
 limits = NoLimit ∷ PotLimit ∷ Fixed ∷ []
 
--- a game's name, a space and a limit, and what stands after them
+-- a game's name, a space, and a limit, with the text after them
 pub record Named : Type 0 where
   pub game : Game
   pub limit : Limit
@@ -81,7 +82,7 @@ game_at (game ∷ games) text =
     (option_and_then (λ tail. first_opening limit_words limits tail) (behind_name game text))
     otherwise game_at games text
 
--- the first place at which these stand: what stands before it, and what stands there
+-- the first place of a game and its limit, with the text before it and what is found there
 pub record Found : Type 0 where
   pub place : ℕ
   pub named : Named
@@ -98,7 +99,7 @@ first_game [] = None
 first_game (byte ∷ text) =
     option_map found_first (game_at all_games (byte ∷ text)) otherwise one_on (first_game text)
 
--- the word that ends at one space right before a place
+-- the word right before a place, with one space between
 abbrev pub last_word : List ℕ → List ℕ
 last_word text = option_map (λ cut. cut.1) (cut_last (codes " ") text) otherwise text
 
@@ -113,11 +114,11 @@ other_words =
 abbrev pub is_other_word : List ℕ → Bool
 is_other_word word = list_any (λ other. bytes_eq word other) other_words
 
--- the game of a name, unless the word before it makes it another's
+-- the game of a name, unless the word before it makes it another game
 unfoldable pub game_of : List ℕ → Game → Option Game
 game_of before game = if is_other_word (word_before before) then None else Some game
 
--- two amounts with a slash between, after `(` or `, `
+-- two amounts with a slash between them, after `(` or `, `
 abbrev pub second_stake : Written → List ℕ → Option (Written × Written)
 second_stake first text = option_map (λ second. (first, second)) (written text)
 
@@ -135,7 +136,7 @@ abbrev pub first_stakes : List ℕ → Option (Written × Written)
 first_stakes [] = None
 first_stakes (byte ∷ text) = option_map (λ stakes. Some stakes) (stakes_at (byte ∷ text)) otherwise first_stakes text
 
--- the stated big blind is the second stake, and where the limit is fixed the first
+-- the stated big blind: the second stake, or the first if the limit is fixed
 abbrev pub big_of : Limit → ℕ → ℕ → ℕ
 big_of NoLimit first second = second
 big_of PotLimit first second = second
@@ -152,13 +153,13 @@ with_stakes game limit stakes =
     let hundredths = stakes.0.marked || stakes.1.marked in
     staked game limit hundredths (units_of hundredths stakes.0) (units_of hundredths stakes.1)
 
--- the stakes at the first place after the limit where two amounts stand
+-- the stakes at the first place after the limit that has two amounts
 unfoldable pub header_behind : Game → Limit → List ℕ → Result Header TextFault
 header_behind game limit text = do
   stakes ← or_fault BadHeader (first_stakes text)
   with_stakes game limit stakes
 
--- what a header line says, or its first fault
+-- the header of a header line, or its first fault
 unfoldable pub header_of : List ℕ → Result Header TextFault
 header_of line = do
   text ← or_fault BadHeader (behind_start line)

@@ -12,7 +12,7 @@ use crate::{Header, Limit, TextFault};
 use card_sets::Game;
 use line_text::{GREATEST, WrittenAmount, digit_count, written};
 
-/// What stands between the site's name and the first `#`, and what stands after that.
+/// Returns the text between the site's name and the first `#`, and the text after that.
 #[tactic(auto, unfolding(crate::specs::Headers::title))]
 fn title(line: &[u8]) -> Option<(&[u8], &[u8])>
     ensures value { option_map (λ cut. (cut.0.now, cut.1.now)) result ≡ title line.now }
@@ -21,7 +21,7 @@ fn title(line: &[u8]) -> Option<(&[u8], &[u8])>
     cut_at_byte(behind(line, b"PokerStars ")?, b'#')
 }
 
-/// Whether the bytes are letters and spaces.
+/// Returns whether the bytes are letters and spaces.
 fn are_letters_or_spaces(bytes: &[u8]) -> bool
     ensures { result ≡ list_all is_letter_or_space bytes.now }
 {
@@ -30,7 +30,7 @@ fn are_letters_or_spaces(bytes: &[u8]) -> bool
         .all(|byte| byte.is_ascii_alphabetic() || *byte == b' ')
 }
 
-/// Whether the words before the number and the digits after them are those of a header.
+/// Returns whether the words before the number and the digits after them are those of a header.
 fn is_title(words: &[u8], number: &[u8]) -> bool
     ensures { result ≡ is_title (words.now, number.now) }
 {
@@ -39,7 +39,7 @@ fn is_title(words: &[u8], number: &[u8]) -> bool
         && digit_count(number) > 0
 }
 
-/// Whether the line is a header line.
+/// Returns whether the line is a header line.
 #[tactic(auto, unfolding(crate::specs::Headers::is_header))]
 pub fn is_header(line: &[u8]) -> bool
     ensures { result ≡ is_header line.now }
@@ -50,7 +50,7 @@ pub fn is_header(line: &[u8]) -> bool
     }
 }
 
-/// The place of the first digit of the hand's number, and the place past its last.
+/// Returns the place of the first digit of the hand's number, and the place after its last digit.
 #[tactic(auto, unfolding(crate::specs::Headers::hand_number))]
 pub fn hand_number(line: &[u8]) -> (usize, usize)
     requires { IsTrue (is_header line.now) }
@@ -65,17 +65,17 @@ pub fn hand_number(line: &[u8]) -> (usize, usize)
     }
 }
 
-/// The words that begin a header that is read.
+/// The words that begin a supported header.
 const STARTS: &[&[u8]] = &[b"Hand ", b"Game ", b"Zoom Hand "];
 
-/// Whether these words begin a header that is read.
+/// Returns whether these words begin a supported header.
 fn is_start(words: &[u8]) -> bool
     ensures { result ≡ is_start words.now }
 {
     is_one_of(words, STARTS)
 }
 
-/// What stands after the start, the number and the colon.
+/// Returns the text after the start, the number, and the colon.
 #[tactic(auto, unfolding(crate::specs::Headers::behind_start))]
 fn behind_start(line: &[u8]) -> Option<&[u8]>
     ensures { option_map (λ text. text.now) result ≡ behind_start line.now }
@@ -104,22 +104,25 @@ impl Opening for Limit {
     }
 }
 
-/// A game's name and its limit, and what stands after them.
+/// A game's name and its limit, with the text after them.
 #[derive(Clone, Copy)]
 struct NamedGame<'a> {
+    /// The game.
     game: Game,
+    /// The limit.
     limit: Limit,
+    /// The text after the limit.
     rest: &'a [u8],
 }
 
-/// What stands after a game's name and a space.
+/// Returns the text after a game's name and a space.
 fn behind_name(game: Game, text: &[u8]) -> Option<&[u8]>
     ensures { option_map (λ rest. rest.now) result ≡ behind_name game text.now }
 {
     behind(behind(text, game.header_name().as_bytes())?, b" ")
 }
 
-/// One game's name with a limit, at the front of the text.
+/// Returns a game with a limit if the text begins with the game's name and the limit.
 fn named_at(game: Game, text: &[u8]) -> Option<NamedGame<'_>>
     ensures { option_map seen_named result ≡ game_at (game ∷ []) text.now }
 {
@@ -132,7 +135,7 @@ fn named_at(game: Game, text: &[u8]) -> Option<NamedGame<'_>>
     Some(NamedGame { game, limit, rest })
 }
 
-/// The first of some games that the text begins with, with a limit.
+/// Returns the first of some games with which the text begins, with its limit.
 fn game_at<'a>(games: &[Game], text: &'a [u8]) -> Option<NamedGame<'a>>
     ensures { option_map seen_named result ≡ game_at games.now text.now }
 {
@@ -144,14 +147,14 @@ fn game_at<'a>(games: &[Game], text: &'a [u8]) -> Option<NamedGame<'a>>
     None
 }
 
-/// The game that the text begins with, with a limit.
+/// Returns the game with which the text begins, with its limit.
 fn named_game(text: &[u8]) -> Option<NamedGame<'_>>
     ensures { option_map seen_named result ≡ game_at all_games text.now }
 {
     game_at(Game::all(), text)
 }
 
-/// Whether a game's name begins with a byte.
+/// Returns whether a game's name begins with a byte.
 fn begins_name(byte: u8) -> bool
     ensures { result
         ≡ (byte == 72 || byte == 79 || byte == 55 || byte == 82 || byte == 53 || byte == 83
@@ -166,7 +169,8 @@ fn begins_name(byte: u8) -> bool
         || byte == b'T'
 }
 
-/// The first place at which a game and a limit stand. Names are looked for only where one may begin.
+/// Returns the first place that has a game and a limit. Names are compared only at bytes with which
+/// one may begin.
 fn first_game(text: &[u8]) -> Option<(usize, NamedGame<'_>)>
     ensures value { option_map seen_found result ≡ first_game text.now }
     ensures place { IfSome result (λ found. found.0 ≤ length text.now) }
@@ -183,7 +187,7 @@ fn first_game(text: &[u8]) -> Option<(usize, NamedGame<'_>)>
     None
 }
 
-/// What stands after the last space, or all.
+/// Returns the text after the last space, or the whole text.
 fn last_word(text: &[u8]) -> &[u8]
     ensures { result.now ≡ last_word text.now }
 {
@@ -193,7 +197,7 @@ fn last_word(text: &[u8]) -> &[u8]
     }
 }
 
-/// The word that ends at one space at the end of the text.
+/// Returns the word at the end of the text, before one space.
 #[tactic(auto, unfolding(crate::specs::Headers::word_before))]
 fn word_before(before: &[u8]) -> &[u8]
     ensures { result.now ≡ word_before before.now }
@@ -216,14 +220,14 @@ const OTHER_WORDS: &[&[u8]] = &[
     b"Fusion",
 ];
 
-/// Whether the word makes another game of the name after it.
+/// Returns whether the word makes another game of the name after it.
 fn is_other_word(word: &[u8]) -> bool
     ensures { result ≡ is_other_word word.now }
 {
     is_one_of(word, OTHER_WORDS)
 }
 
-/// The game of a name, by what stands before it.
+/// Returns the game of a name, given the text before the name.
 #[tactic(auto, unfolding(crate::specs::Headers::game_of))]
 fn game_of(before: &[u8], game: Game) -> Option<Game>
     ensures { result ≡ game_of before.now game }
@@ -235,7 +239,7 @@ fn game_of(before: &[u8], game: Game) -> Option<Game>
     }
 }
 
-/// What stands after the opening of the stakes.
+/// Returns the text after the opening of the stakes.
 fn opened(text: &[u8]) -> Option<&[u8]>
     ensures { option_map (λ rest. rest.now) result ≡ opened text.now }
 {
@@ -245,7 +249,7 @@ fn opened(text: &[u8]) -> Option<&[u8]>
     }
 }
 
-/// Two amounts with a slash between.
+/// Returns two amounts with a slash between them.
 fn stakes_of(text: &[u8]) -> Option<(WrittenAmount, WrittenAmount)>
     ensures { result ≡ option_map capped_stakes (stakes_of text.now) }
 {
@@ -258,7 +262,7 @@ fn stakes_of(text: &[u8]) -> Option<(WrittenAmount, WrittenAmount)>
     Some((first, second))
 }
 
-/// The stakes that the text begins with.
+/// Returns the stakes at the beginning of the text.
 #[tactic(auto, unfolding(crate::specs::Headers::stakes_at))]
 fn stakes_at(text: &[u8]) -> Option<(WrittenAmount, WrittenAmount)>
     ensures { result ≡ option_map capped_stakes (stakes_at text.now) }
@@ -266,7 +270,7 @@ fn stakes_at(text: &[u8]) -> Option<(WrittenAmount, WrittenAmount)>
     stakes_of(opened(text)?)
 }
 
-/// The stakes at the first place where there are some.
+/// Returns the first stakes in the text.
 fn first_stakes(text: &[u8]) -> Option<(WrittenAmount, WrittenAmount)>
     ensures { result ≡ option_map capped_stakes (first_stakes text.now) }
 {
@@ -279,7 +283,7 @@ fn first_stakes(text: &[u8]) -> Option<(WrittenAmount, WrittenAmount)>
     None
 }
 
-/// The stated big blind.
+/// Returns the stated big blind.
 fn big_of(limit: Limit, first: u64, second: u64) -> u64
     ensures { result ≡ big_of limit first second }
 {
@@ -289,7 +293,7 @@ fn big_of(limit: Limit, first: u64, second: u64) -> u64
     }
 }
 
-/// The header of a game with these stakes.
+/// Returns the header of a game with these stakes.
 fn with_stakes(
     game: Game,
     limit: Limit,
@@ -316,7 +320,7 @@ fn with_stakes(
     })
 }
 
-/// The header of a game, by the stakes after its limit.
+/// Returns the header of a game, by the stakes after its limit.
 #[tactic(auto, unfolding(crate::specs::Headers::header_behind))]
 fn header_behind(game: Game, limit: Limit, text: &[u8]) -> Result<Header, TextFault>
     ensures value { result ≡ header_behind game limit text.now }
@@ -328,8 +332,9 @@ fn header_behind(game: Game, limit: Limit, text: &[u8]) -> Result<Header, TextFa
     with_stakes(game, limit, first, second)
 }
 
-/// What a header line says, or its first fault: the game, the limit, how the hand counts and the
-/// stated big blind in units, by a profile of the site's headers.
+/// Returns the header of a header line, or its first fault. A header has the game, the limit,
+/// whether amounts are in hundredths, and the stated big blind in units. The forms of the site's
+/// headers are the source.
 #[tactic(auto, unfolding(crate::specs::Headers::header_of))]
 pub fn read_header(line: &[u8]) -> Result<Header, TextFault>
     requires { IsTrue (is_header line.now) }

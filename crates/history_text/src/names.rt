@@ -1,4 +1,4 @@
-//! The name that begins a text.
+//! The name at the beginning of a text.
 
 ghost use Rattle.std.specs.Prelude.{◌≡◌, map, option_map};
 ghost use Rattle.hand_events.specs.Seated.{pair};
@@ -8,15 +8,18 @@ ghost use Rattle.history_text.specs.Names.{fit, front_name, longer};
 use crate::texts::behind;
 use hand_events::{Names, Seated};
 
-/// A name that begins a text: its seat, its length, and what stands after it and its mark.
+/// A name at the beginning of a text, with the text after it and its mark.
 #[derive(Clone, Copy)]
 pub(crate) struct NameFit<'a> {
+    /// The seat of the name.
     pub(crate) seat: u8,
+    /// The length of the name.
     pub(crate) length: usize,
+    /// The text after the name and its mark.
     pub(crate) rest: &'a [u8],
 }
 
-/// How a name begins a text, with a mark after it.
+/// Returns the name if the text begins with it and a mark follows.
 fn fit<'a>(who: &Seated, text: &'a [u8], mark: &[u8]) -> Option<NameFit<'a>>
     ensures { option_map seen result ≡ fit mark.now text.now (pair who.now) }
 {
@@ -28,7 +31,7 @@ fn fit<'a>(who: &Seated, text: &'a [u8], mark: &[u8]) -> Option<NameFit<'a>>
     })
 }
 
-/// The longer of two, the first where they are as long.
+/// Returns the longer of two, or the first if they have the same length.
 fn longer<'a>(a: Option<NameFit<'a>>, b: Option<NameFit<'a>>) -> Option<NameFit<'a>>
     ensures { option_map seen result ≡ longer (option_map seen a.entry) (option_map seen b.entry) }
 {
@@ -39,7 +42,8 @@ fn longer<'a>(a: Option<NameFit<'a>>, b: Option<NameFit<'a>>) -> Option<NameFit<
     }
 }
 
-/// The longer of the name that was found so far and another, which mostly doesn't begin the text.
+/// Returns the longer of the name found so far and another name. Most other names don't begin the
+/// text.
 fn longer_with<'a>(
     best: Option<NameFit<'a>>,
     who: &Seated,
@@ -55,7 +59,7 @@ fn longer_with<'a>(
     }
 }
 
-/// The longest of the names that begin the text with the mark after them.
+/// Returns the longest of the names with which the text begins, with the mark after it.
 #[tactic(auto, unfolding(crate::specs::Names::front_name))]
 fn longest<'a>(seats: &[Seated], text: &'a [u8], mark: &[u8]) -> Option<NameFit<'a>>
     ensures { option_map seen result ≡ front_name mark.now text.now (map pair seats.now) }
@@ -67,7 +71,7 @@ fn longest<'a>(seats: &[Seated], text: &'a [u8], mark: &[u8]) -> Option<NameFit<
     best
 }
 
-/// The longest of the names of a hand that begin a text with a mark after them.
+/// Returns the longest of the hand's names with which a text begins, with a mark after it.
 pub(crate) fn front<'a>(names: &Names, text: &'a [u8], mark: &[u8]) -> Option<NameFit<'a>>
     ensures { option_map seen result ≡ front_name mark.now text.now names.now }
 {

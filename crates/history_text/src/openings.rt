@@ -1,4 +1,4 @@
-//! What a text may open with.
+//! The openings of a text.
 
 ghost use Rattle.std.specs.Prelude.{◌≡◌, ℕ, List, option_map};
 ghost use Rattle.card_sets.specs.declared.games.Game.{Game};
@@ -7,17 +7,17 @@ ghost use Rattle.history_text.specs.Acts.{first_opening};
 use crate::texts::behind;
 use card_sets::Game;
 
-/// What a text may open with, in a hand of a game.
+/// A kind of opening of a text, in a hand of a game.
 pub(crate) trait Opening: Copy {
-    /// The words that say it.
+    /// The words of the opening.
     ghost words_in: { Game → Self → List ℕ };
 
-    /// The words that say it.
+    /// Returns the words of the opening.
     fn words(self, game: Game) -> &'static [u8]
         ensures { result.now ≡ words_in game self };
 }
 
-/// The first of some openings that the text begins with, and what stands after its words.
+/// Returns the first of some openings with which the text begins, and the text after its words.
 pub(crate) fn first_opening<'a, X: Opening>(
     game: Game,
     openings: &[X],

@@ -1,4 +1,5 @@
-//! Readers: what a text begins with and what stands after it, or the first fault from the left.
+//! Readers: what is at the beginning of a text and the text after it, or the first fault from the
+//! left.
 
 ghost use Rattle.std.specs.Prelude.{◌≡◌, ◌<◌, ◌≤◌, option_map, IfOk, IfSome, length};
 ghost use Rattle.line_text.specs.Amounts.{digit_count};
@@ -8,7 +9,7 @@ ghost use Rattle.history_text.specs.Reading.{all_in_end, digits_front, is_end, l
 use crate::TextFault;
 use line_text::{AmountFault, digit_count, number_of, read_amount};
 
-/// An amount and what stands after it.
+/// Returns an amount and the text after it.
 #[tactic(auto, unfolding(crate::specs::Reading::money))]
 pub(crate) fn money(text: &[u8], hundredths: bool) -> Result<(u64, &[u8]), TextFault>
     ensures value { Gives (λ read. (read.0, read.1.now)) result (money hundredths text.now) }
@@ -21,7 +22,7 @@ pub(crate) fn money(text: &[u8], hundredths: bool) -> Result<(u64, &[u8]), TextF
     }
 }
 
-/// An amount that isn't 0, and what stands after it.
+/// Returns an amount that isn't 0, and the text after it.
 #[tactic(auto, unfolding(crate::specs::Reading::some_money))]
 pub(crate) fn some_money(text: &[u8], hundredths: bool) -> Result<(u64, &[u8]), TextFault>
     ensures { Gives (λ read. (read.0, read.1.now)) result (some_money hundredths text.now) }
@@ -36,7 +37,8 @@ pub(crate) fn some_money(text: &[u8], hundredths: bool) -> Result<(u64, &[u8]), 
 /// The words of a bet that takes the whole stack.
 const ALL_IN: &[u8] = b" and is all-in";
 
-/// Whether the line says that the player is all-in, after the last amount of a bet.
+/// Returns whether the line says that the player is all-in, given the text after the last amount of
+/// a bet.
 #[tactic(auto, unfolding(crate::specs::Reading::all_in_end))]
 fn all_in_end(text: &[u8]) -> Result<bool, TextFault>
     ensures { result ≡ all_in_end text.now }
@@ -50,7 +52,8 @@ fn all_in_end(text: &[u8]) -> Result<bool, TextFault>
     }
 }
 
-/// An amount that isn't 0 at the end of a line, and whether the player is all-in with it.
+/// Returns an amount that isn't 0 at the end of a line, and whether the line says that the player
+/// is all-in.
 #[tactic(auto, unfolding(crate::specs::Reading::last_money))]
 pub(crate) fn last_money(text: &[u8], hundredths: bool) -> Result<(u64, bool), TextFault>
     ensures { result ≡ last_money hundredths text.now }
@@ -60,7 +63,7 @@ pub(crate) fn last_money(text: &[u8], hundredths: bool) -> Result<(u64, bool), T
     Ok((units, all_in))
 }
 
-/// The seat of a number.
+/// Returns the seat with a number.
 fn seat_of(number: u64) -> Option<u8>
     ensures { result ≡ seat_of number }
 {
@@ -71,7 +74,7 @@ fn seat_of(number: u64) -> Option<u8>
     }
 }
 
-/// The digits at the front, if there are some, and what stands after them.
+/// Returns the digits at the beginning of the text, if there are some, and the text after them.
 #[tactic(auto, using(line_text::proofs::CallerLemmas::front_digits))]
 pub(crate) fn digits_front(text: &[u8]) -> Option<(&[u8], &[u8])>
     ensures value { option_map (λ cut. (cut.0.now, cut.1.now)) result ≡ digits_front text.now }
@@ -85,7 +88,8 @@ pub(crate) fn digits_front(text: &[u8]) -> Option<(&[u8], &[u8])>
     Some(text.split_at(count))
 }
 
-/// The seat that the digits at the front say, if they say one, and what stands after them.
+/// Returns the seat whose number is at the beginning of the text, if it is one, and the text after
+/// the digits.
 #[tactic(auto, unfolding(crate::specs::Reading::seat_front))]
 pub(crate) fn seat_front(text: &[u8]) -> Option<(Option<u8>, &[u8])>
     ensures value { option_map (λ read. (read.0, read.1.now)) result ≡ seat_front text.now }

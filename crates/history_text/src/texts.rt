@@ -1,4 +1,4 @@
-//! Fronts and cuts of texts.
+//! Prefixes and cuts of texts.
 
 ghost use Rattle.std.specs.Prelude.{◌≡◌, ◌<◌, ◌≤◌, ◌+◌, [], ◌∷◌, true, false, nat_eq, option_map, drop, length, IfSome};
 ghost use Rattle.std.specs.List.{list_any, starts_with};
@@ -7,7 +7,7 @@ ghost use Rattle.history_text.specs.Texts.{behind, first_place, last_place, cut_
 
 use memchr::{memchr, memmem};
 
-/// Whether a text is one of some words.
+/// Returns whether a text is one of some words.
 pub(crate) fn is_one_of(text: &[u8], words: &[&[u8]]) -> bool
     ensures { result ≡ list_any (λ word. bytes_eq text.now word.now) words.now }
 {
@@ -19,8 +19,8 @@ pub(crate) fn is_one_of(text: &[u8], words: &[&[u8]]) -> bool
     false
 }
 
-/// Whether the first two bytes differ, or the first alone where there is one, so that the text can't begin with
-/// the front.
+/// Returns whether one of the first two bytes differs, so that the text can't begin with the prefix. If
+/// the text or the prefix has one byte, only the first bytes are compared.
 #[inline]
 fn begin_apart(text: &[u8], front: &[u8]) -> bool
     ensures { result ≡ true → starts_with nat_eq text.now front.now ≡ false }
@@ -32,7 +32,7 @@ fn begin_apart(text: &[u8], front: &[u8]) -> bool
     }
 }
 
-/// What stands after two bytes that the text begins with.
+/// Returns the text after two bytes, if the text begins with them.
 #[inline]
 #[tactic(auto, unfolding(crate::specs::Texts::behind))]
 fn behind_two(text: &[u8], first: u8, second: u8) -> Option<&[u8]>
@@ -52,7 +52,7 @@ fn behind_two(text: &[u8], first: u8, second: u8) -> Option<&[u8]>
     }
 }
 
-/// What stands after a front that the text begins with.
+/// Returns the text after a prefix.
 #[inline]
 #[tactic(auto, unfolding(crate::specs::Texts::behind))]
 pub(crate) fn behind<'a>(text: &'a [u8], front: &[u8]) -> Option<&'a [u8]>
@@ -68,7 +68,7 @@ pub(crate) fn behind<'a>(text: &'a [u8], front: &[u8]) -> Option<&'a [u8]>
     text.strip_prefix(front)
 }
 
-/// Whether a mark stands at a place.
+/// Returns whether the mark is at a place.
 fn stands_at(text: &[u8], mark: &[u8], place: usize) -> bool
     requires { place ≤ length text.now }
     ensures { result ≡ starts_with nat_eq (drop place text.now) mark.now }
@@ -77,7 +77,7 @@ fn stands_at(text: &[u8], mark: &[u8], place: usize) -> bool
     !begin_apart(rest, mark) && rest.starts_with(mark)
 }
 
-/// The first place at which a mark stands. Often it stands at the front, so that is looked at first.
+/// Returns the first place of a mark. The beginning is compared first, because the mark is often there.
 fn first_place(text: &[u8], mark: &[u8]) -> Option<usize>
     requires { 0 < length mark.now }
     ensures value { result ≡ first_place mark.now text.now }
@@ -89,7 +89,7 @@ fn first_place(text: &[u8], mark: &[u8]) -> Option<usize>
     memmem::find(text, mark)
 }
 
-/// The first place of a byte.
+/// Returns the first place of a byte.
 fn first_byte(text: &[u8], byte: u8) -> Option<usize>
     ensures value { result ≡ first_place (byte ∷ []) text.now }
     ensures within { IfSome result (λ place. place < length text.now) }
@@ -97,8 +97,8 @@ fn first_byte(text: &[u8], byte: u8) -> Option<usize>
     memchr(byte, text)
 }
 
-/// The last place at which a mark stands. Texts are short, so the places are tried one by one from the end, most by
-/// the mark's first byte alone.
+/// Returns the last place of a mark. Texts are short, so the places are tried one by one from the end. At
+/// most places the first byte of the mark is enough.
 fn last_place(text: &[u8], mark: &[u8]) -> Option<usize>
     requires { 0 < length mark.now }
     ensures value { result ≡ last_place mark.now text.now }
@@ -119,7 +119,7 @@ fn last_place(text: &[u8], mark: &[u8]) -> Option<usize>
     None
 }
 
-/// What stands before the first place at which a mark stands, and what stands after the mark.
+/// Returns the text before the first place of a mark, and the text after the mark.
 #[tactic(auto, unfolding(crate::specs::Texts::cut_first))]
 pub(crate) fn cut_first<'a>(text: &'a [u8], mark: &[u8]) -> Option<(&'a [u8], &'a [u8])>
     requires { 0 < length mark.now }
@@ -132,7 +132,7 @@ pub(crate) fn cut_first<'a>(text: &'a [u8], mark: &[u8]) -> Option<(&'a [u8], &'
     Some((&text[..place], &text[place + mark.len()..]))
 }
 
-/// What stands before the first place of a byte, and what stands after it.
+/// Returns the text before the first place of a byte, and the text after the byte.
 #[tactic(auto, unfolding(crate::specs::Texts::cut_first))]
 pub(crate) fn cut_at_byte(text: &[u8], byte: u8) -> Option<(&[u8], &[u8])>
     ensures value { option_map (λ cut. (cut.0.now, cut.1.now)) result
@@ -144,7 +144,7 @@ pub(crate) fn cut_at_byte(text: &[u8], byte: u8) -> Option<(&[u8], &[u8])>
     Some((&text[..place], &text[place + 1..]))
 }
 
-/// What stands before the last place at which a mark stands, and what stands after the mark.
+/// Returns the text before the last place of a mark, and the text after the mark.
 #[tactic(auto, unfolding(crate::specs::Texts::cut_last))]
 pub(crate) fn cut_last<'a>(text: &'a [u8], mark: &[u8]) -> Option<(&'a [u8], &'a [u8])>
     requires { 0 < length mark.now }

@@ -1,6 +1,6 @@
 //! The verbs of a player's line.
 
-/// What a player's line may say that he does, by its words.
+/// What a player's line may name, by its words.
 #[derive(Clone, Copy)]
 pub(crate) enum Verb {
     /// `posts small blind`.
