@@ -1,4 +1,5 @@
--- The moment from which a hand is played out with no more acts, and the cards that are dead there. Source: the usual rules of poker.
+-- The moment after which a hand is played out without acts, and the cards that are dead there. Source: the usual rules
+-- of poker.
 use Rattle.std.specs.Prelude.{ℕ, zero, suc, ◌&&◌, not, Bool, if◌then◌else◌, List, [], Option, Some, None, is_none, nat_lt, nat_le}
 use Rattle.card_sets.specs.Cards.{union}
 use Rattle.card_sets.specs.declared.streets.Street.{Street as StreetName}
@@ -9,11 +10,12 @@ use Rattle.betting_replay.specs.Table.{ReplayState, own_at}
 use Rattle.betting_replay.specs.Turns.{is_contender, contender_count, has_chips, next_to_act}
 use Rattle.betting_replay.specs.Accounts.{contenders}
 
--- how many contenders have chips left
+-- the number of contenders with chips left
 unfoldable pub funded_count : ReplayState → ℕ
 funded_count t = count_seats (λ p. is_contender t p && has_chips t p)
 
--- nobody can bet any more: the first street has begun, two contenders or more are left, at most one of them has chips, nobody owes an act, and the last street is to come
+-- nobody can bet any more: the first street has begun, two or more contenders are left, at most one of them has chips,
+-- nobody owes an act, and the last street is to come
 unfoldable pub is_point : ReplayState → Bool
 is_point t = t.course.opened && nat_le 2 (contender_count t) && nat_le (funded_count t) 1 && is_none (next_to_act t) && not t.course.last_begun
 
@@ -22,11 +24,11 @@ abbrev pub point_on : Option StreetName → ℕ → Option Point
 point_on None seats = None
 point_on (Some street) seats = Some (record { street = street; contenders = seats })
 
--- the point that this moment is, if it is one
+-- the all-in point of this moment, if it is one
 unfoldable pub point_now : ReplayState → Option Point
 point_now t = if is_point t then point_on t.course.street (contenders t) else None
 
--- the street of the point, and the contenders there
+-- the street of a point, and its contenders
 abbrev pub point_street : Option Point → Option StreetName
 point_street None = None
 point_street (Some point) = Some point.street
@@ -35,7 +37,7 @@ abbrev pub point_contenders : Option Point → ℕ
 point_contenders None = 0
 point_contenders (Some point) = point.contenders
 
--- a player who had folded at a point; number 0 is no seat
+-- the player had folded at a point; number 0 is no seat
 abbrev pub had_folded : ℕ → Point → ℕ → Bool
 had_folded players point p = nat_lt 0 p && has_player players p && not (has_player point.contenders p)
 
@@ -44,7 +46,8 @@ abbrev pub cards_of_seats : (ℕ → Bool) → (ℕ → List ℕ) → ℕ → Li
 cards_of_seats test own zero = []
 cards_of_seats test own (suc n) = if test n then union (cards_of_seats test own n) (own n) else cards_of_seats test own n
 
--- the cards that are dead at a point: all that were thrown away face up, and all of the players who had folded; none where there is no point
+-- the cards that are dead at a point: all cards discarded face up, and the cards of all players who had folded; none if
+-- there is no point
 abbrev pub dead_by : ℕ → Option Point → (ℕ → List ℕ) → List ℕ → List ℕ
 dead_by players None own thrown = []
 dead_by players (Some point) own thrown = union thrown (cards_of_seats (had_folded players point) own 11)

@@ -1,4 +1,5 @@
--- What accepted events make of the cards: each has one place, a player's known cards are his, and a board has its cards.
+-- The effect of accepted events on cards: each card has one place, the known cards of a player are theirs, and a board
+-- has its cards.
 use Rattle.std.specs.Prelude.{◌≡◌, ◌≤◌, ◌<◌, ℕ, ◌+◌, ◌==◌, ◌||◌, if◌then◌else◌, Bool, true, false, List, [], ◌∷◌, length, Option, Some, None, nat_lt}
 use Rattle.card_sets.specs.declared.games.Game.{Game}
 use Rattle.card_sets.specs.Cards.{has_card, IsCardSet}
@@ -26,21 +27,21 @@ abbrev pub PlacesAreApart : Type 0
 PlacesAreApart = (game : Game) (h : List Event) (p q : ℕ) → (p == q) ≡ false
     → apart (owned game h p) (owned game h q) ≡ true
 
--- a set of cards, each of which is among others
+-- a set of cards, each of which is in the other list
 pub record Among (cards others : List ℕ) : Type 0 where
   pub set : IsCardSet cards
   pub each : (card : ℕ) → has_card cards card ≡ true → has_card others card ≡ true
 
--- what accepted events make of the cards that are known, and of those that are dead
+-- what accepted events make of the known cards and of the dead cards
 pub record CardsBelong (header : Header) (players : ℕ) (h : List Event) : Type 0 where
-  -- a seat's final cards belong to it, are as many as the game gives, and none is on the board
+  -- a seat's final cards belong to it, have the number of the game, and none is on the board
   pub final : (p : ℕ) (cards : List ℕ) → final_cards header h p ≡ Some cards
       → Among cards (owned header.game h p)
   pub whole : (p : ℕ) (cards : List ℕ) → final_cards header h p ≡ Some cards
       → length cards ≡ own_size header.game
   pub final_and_board : (p : ℕ) → (p == 0) ≡ false → (cards : List ℕ)
       → final_cards header h p ≡ Some cards → apart cards (owned header.game h 0) ≡ true
-  -- its cards on a street belong to it, are at most as many, and none is another seat's
+  -- its cards on a street belong to it, are at most that many, and none is another seat's
   pub known : (p : ℕ) (street : StreetName) (cards : List ℕ)
       → cards_at header h p street ≡ Some cards → Among cards (owned header.game h p)
   pub few : (p : ℕ) (street : StreetName) (cards : List ℕ) → cards_at header h p street ≡ Some cards
@@ -48,7 +49,7 @@ pub record CardsBelong (header : Header) (players : ℕ) (h : List Event) : Type
   pub two_seats : (p q : ℕ) → (p == q) ≡ false → (street : StreetName) (some others : List ℕ)
       → cards_at header h p street ≡ Some some → cards_at header h q street ≡ Some others
       → apart some others ≡ true
-  -- the board's cards of the streets up to one belong to the board, and none is a seat's
+  -- the board's cards up to a street belong to the board, and none is a seat's
   pub board : (street : StreetName) → Among (board_up_to h street) (owned header.game h 0)
   pub seat_and_board : (p : ℕ) → (p == 0) ≡ false → (street shown : StreetName) (cards : List ℕ)
       → cards_at header h p street ≡ Some cards → apart cards (board_up_to h shown) ≡ true
@@ -76,21 +77,21 @@ abbrev pub CardsBelongAfter : Type 0
 CardsBelongAfter = (header : Header) (players : ℕ) (h : List Event) → IsAccepted header players h
     → CardsBelong header players h
 
--- the sum of what comes with each of some streets, up to one of them
+-- the sum of a number for each of some streets, up to one of them
 abbrev pub sum_up_to : (StreetName → ℕ) → StreetName → List StreetName → ℕ
 sum_up_to many street [] = 0
 sum_up_to many street (first ∷ others) = many first + (if is_street street first then 0 else sum_up_to many street others)
 
--- how many cards a board has on a street
+-- the number of cards of a board on a street
 abbrev pub board_then : Game → StreetName → ℕ
 board_then game street = sum_up_to (board_count game) street (streets_of game)
 
--- each marker has as many cards as come with it
+-- each marker has the number of cards that come with it
 abbrev pub MarkersFit : Game → List Event → Type 0
 MarkersFit game [] = Unit {0}
 MarkersFit game (e ∷ h) = MarkerFits game e × MarkersFit game h
 
--- whether the marker of a showdown or of the summary stood
+-- whether the last marker is that of a showdown or of the summary
 abbrev pub is_end_of : Option StreetName → Bool
 is_end_of None = false
 is_end_of (Some marker) = is_end marker
@@ -103,8 +104,8 @@ abbrev pub has_ended : List Event → Bool
 has_ended [] = false
 has_ended (e ∷ h) = ends e || has_ended h
 
--- after accepted events whose markers have their cards a board that has all streets is whole, and never has more cards, and so is the second board of a hand
--- that is run twice; at the point the board has the cards of the streets up to it
+-- after accepted events whose markers have their cards, a board with all streets has all cards, and no board has more;
+-- so does the second board of a hand that is run twice; at the point the board has the cards of the streets up to it
 pub record HasBoard (header : Header) (players : ℕ) (h : List Event) : Type 0 where
   pub last : last_begun header h ≡ true → length (owned header.game h 0) ≡ board_size header.game
   pub few : (street : StreetName) → length (board_up_to h street) ≤ board_size header.game
@@ -115,7 +116,8 @@ pub record HasBoard (header : Header) (players : ℕ) (h : List Event) : Type 0 
   pub at_point : (found : Point) → point header players h ≡ Some found
       → length (board_up_to h found.street) ≡ board_then header.game found.street
 
--- where a hand has ended its last street has begun, on both boards where it is run twice, or fewer than two contenders are left
+-- if a hand has ended, its last street has begun, on both boards if it is run twice, or fewer than two contenders are
+-- left
 pub record HasEnded (header : Header) (players : ℕ) (h : List Event) : Type 0 where
   pub marker : is_end_of (street header h) ≡ true → has_ended h ≡ true
   pub played : has_ended h ≡ true

@@ -1,4 +1,4 @@
--- What an event makes of a table where it may stand.
+-- The effect of an allowed event on a table.
 use Rattle.std.specs.Prelude.{ℕ, ◌+◌, ◌-◌, ◌||◌, Bool, true, false, [], ◌∷◌, map, Option, Some, None, slice_set}
 use Rattle.card_sets.specs.declared.games.Game.{Game}
 use Rattle.card_sets.specs.declared.streets.Street.{Street as StreetName}
@@ -33,15 +33,15 @@ chips_after big posted e c = record {
   live = c.live + live_in big posted c.live e - returned e;
 }
 
--- what the player of a seat has done after an event about it
+-- the acts of the player of a seat after an event about it
 abbrev pub acts_after : Event → Acts → Acts
 acts_after e a = record { folded = folds e || a.folded; acted = is_act e || a.acted; brought_in = brings_in e || a.brought_in }
 
--- a seat after an event about it: its chips and acts
+-- a seat after an event about it, as to its chips and acts
 abbrev pub seat_paid : ℕ → Bool → Event → SeatState → SeatState
 seat_paid big posted e s = record s { chips = chips_after big posted e s.chips; acts = acts_after e s.acts }
 
--- and its cards and draws, on a street, where the last street has begun with the event or before it, or hasn't
+-- and as to its cards and draws, on a street, by whether the last street has begun, with the event or before it
 abbrev pub seat_dealt : Game → Option StreetName → Bool → Event → SeatState → SeatState
 seat_dealt game now late e s = record s {
   own = with_given game e (cards_given e) s.own;
@@ -54,7 +54,7 @@ seat_dealt game now late e s = record s {
   last_draw = last_draw_after late e s.last_draw;
 }
 
--- only these events give a card a place, take one, or say how a player draws: of acts those that show cards
+-- only these events give a card a place, take one away, or say how a player draws; of acts only those that show cards
 abbrev pub moves_cards : Event → Bool
 moves_cards (Deal seat cards drawn) = true
 moves_cards (Street street number cards) = true
@@ -66,11 +66,11 @@ moves_cards (Discard seat count cards) = true
 moves_cards (Pat seat) = true
 moves_cards _ = false
 
--- the showdown's markers that stood, after an event
+-- the showdown markers so far, after an event
 abbrev pub showdowns_after : Event → Showdowns → Showdowns
 showdowns_after e s = record { plain = shows_on board.Only e || s.plain; first = shows_on board.First e || s.first; second = shows_on board.Second e || s.second }
 
--- how far the hand has come after an event, but for the street that it begins: a marker, a small blind and an act are noted
+-- how far the hand has come after an event, without the street that it begins: markers, small blinds, and acts count
 abbrev pub course_after : Event → Course → Course
 course_after (Street marker number cards) c = record c {
   marker = number;
@@ -86,11 +86,11 @@ course_after _ c = c
 abbrev pub begins_last : ReplayState → Event → Bool
 begins_last t e = is_last_of t.header.game (begins t.header.game t.course.street e) || t.course.last_begun
 
--- the event counts for the chips and acts of its seat
+-- the event is applied to the chips and acts of its seat
 unfoldable pub paid_after : ReplayState → Event → ReplayState
 paid_after t e = record t { seats = slice_set t.seats (seat_of e) (seat_paid t.header.big t.course.small_posted e (seat_at t (seat_of e))) }
 
--- for the cards of its seat, and for those that lie open
+-- to the cards of its seat, and to the open cards
 unfoldable pub dealt_after : ReplayState → Event → ReplayState
 dealt_after t e = record t {
   seats = slice_set t.seats (seat_of e) (seat_dealt t.header.game t.course.street (begins_last t e) e (seat_at t (seat_of e)));
@@ -104,15 +104,15 @@ abbrev pub dealt_if : Bool → Event → ReplayState → ReplayState
 dealt_if true e t = dealt_after t e
 dealt_if false e t = t
 
--- and for the button and the course of the hand
+-- and to the button and the course of the hand
 unfoldable pub noted_after : ReplayState → Event → ReplayState
 noted_after t e = record t { button = button_after e t.button; course = course_after e t.course }
 
--- all that an event counts for
+-- the event is applied to all of these
 unfoldable pub counted : ReplayState → Event → ReplayState
 counted t e = noted_after (dealt_if (moves_cards e) e (paid_after t e)) e
 
--- a street begins: after the first, live sums and acts begin anew
+-- a street begins; after the first, live sums and acts are reset
 abbrev pub cleared_chips : Chips → Chips
 cleared_chips c = record { seated = c.seated; stack = c.stack; paid = c.paid; dead = c.dead; live = 0 }
 
@@ -139,10 +139,11 @@ begun_with (Some s) t = cleared_if (is_later s) (on_street t s)
 unfoldable pub begun : ReplayState → Event → ReplayState
 begun t e = begun_with (begins t.header.game t.course.street e) t
 
--- the first point is kept
+-- the first all-in point is kept
 unfoldable pub pointed : ReplayState → ReplayState
 pointed t = record t { point = or_else t.point (point_now t) }
 
--- the table after an event that may stand: it counts, and begins its street, if it begins one; then the moment may be the point
+-- the table after an allowed event: it is applied, and its street begins, if it begins one; then the moment may be the
+-- all-in point
 abbrev pub after : ReplayState → Event → ReplayState
 after t e = pointed (begun (counted t e) e)

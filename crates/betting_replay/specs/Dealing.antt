@@ -1,4 +1,4 @@
--- What was dealt to a seat, street by street, and how it drew.
+-- The cards dealt to a seat, street by street, and how its player drew.
 use Rattle.std.specs.Prelude.{ℕ, ◌==◌, ◌&&◌, ◌||◌, not, Bool, true, false, if◌then◌else◌, List, [], ◌∷◌, length, Option, None, nat_lt}
 use Rattle.card_sets.specs.Cards.{union}
 use Rattle.hand_events.specs.declared.events.Header.{Header}
@@ -15,20 +15,20 @@ use Rattle.betting_replay.specs.Sums.{street, last_begun}
 use Rattle.betting_replay.specs.Hands.{dealt_by, held_after}
 use Rattle.betting_replay.specs.Places.{thrown_by}
 
--- a deal counts on the street of the hand, and before the first street on that one
+-- a deal counts for the street of the hand, and before the first street for that street
 abbrev pub counts_on : StreetName → Option StreetName → Bool
 counts_on First None = true
 counts_on place now = same_street place now
 
--- the cards that an event deals on a street, where the hand is on one
+-- the cards that an event deals on a street
 abbrev pub dealt_on : StreetName → Option StreetName → Event → List ℕ
 dealt_on place now e = if counts_on place now then dealt_by e else []
 
--- a card dealt alone, which lies face up
+-- a card dealt alone, which is face up
 abbrev pub up_by : Event → List ℕ
 up_by e = if length (dealt_by e) == 1 then dealt_by e else []
 
--- the cards of a deal that weren't drawn for others
+-- the cards of a deal that aren't drawn
 abbrev pub given_by : Event → List ℕ
 given_by (Deal seat cards drawn) = if drawn then [] else cards
 given_by _ = []
@@ -37,7 +37,7 @@ given_by _ = []
 abbrev pub deals_three : Event → Bool
 deals_three e = length (dealt_by e) == 3
 
--- a discard of which not every card is shown, a stand-pat, a discard of five
+-- a discard that doesn't show all its cards, a stand-pat, and a discard of five
 abbrev pub hides : Event → Bool
 hides (Discard seat count cards) = nat_lt (length cards) count
 hides _ = false
@@ -50,7 +50,8 @@ abbrev pub discards_five : Event → Bool
 discards_five (Discard seat count cards) = count == 5
 discards_five _ = false
 
--- all cards that the events about a seat give it in some way, and whether any of them passes a test
+-- all cards that the events about a seat give in some way, and whether any of the events passes a
+-- test
 abbrev pub gathered : (Event → List ℕ) → List Event → ℕ → List ℕ
 gathered by [] p = []
 gathered by (e ∷ h) p = if seat_of e == p then union (gathered by h p) (by e) else gathered by h p
@@ -64,7 +65,7 @@ abbrev pub dealt_then : Header → StreetName → List Event → ℕ → List �
 dealt_then header place [] p = []
 dealt_then header place (e ∷ h) p = if seat_of e == p then union (dealt_then header place h p) (dealt_on place (street header h) e) else dealt_then header place h p
 
--- what was dealt to a seat, and how it drew
+-- the cards dealt to a seat, and how its player drew
 abbrev pub deals_of : Header → List Event → ℕ → Deals
 deals_of header h p = record {
   first = dealt_then header First h p;
@@ -83,17 +84,17 @@ draws_of h p = record { hidden = marked hides h p; pat = marked stands_pat h p; 
 abbrev pub is_late : Header → List Event → Event → Bool
 is_late header h e = last_begun header (e ∷ h)
 
--- what a seat held by the text when the last street began
+-- the cards that a seat held by the text when the last street began
 abbrev pub held_before : Header → List Event → ℕ → List ℕ
 held_before header [] p = []
 held_before header (e ∷ h) p = if (seat_of e == p) && not (is_late header h e) then held_after e (held_before header h p) else held_before header h p
 
--- all cards that it has thrown away face up since
+-- all cards discarded face up since
 abbrev pub thrown_late : Header → List Event → ℕ → List ℕ
 thrown_late header [] p = []
 thrown_late header (e ∷ h) p = if (seat_of e == p) && is_late header h e then union (thrown_late header h p) (thrown_by e) else thrown_late header h p
 
--- whether an event about it passed a test before the last street began, and since
+-- whether an event about the seat passed a test before the last street began, and since
 abbrev pub marked_before : (Event → Bool) → Header → List Event → ℕ → Bool
 marked_before by header [] p = false
 marked_before by header (e ∷ h) p = ((seat_of e == p) && not (is_late header h e) && by e) || marked_before by header h p
@@ -102,7 +103,7 @@ abbrev pub marked_late : (Event → Bool) → Header → List Event → ℕ → 
 marked_late by header [] p = false
 marked_late by header (e ∷ h) p = ((seat_of e == p) && is_late header h e && by e) || marked_late by header h p
 
--- how it drew on the last draw
+-- how the player drew on the last draw
 abbrev pub last_draw_of : Header → List Event → ℕ → LastDraw
 last_draw_of header h p = record {
   held = held_before header h p;
@@ -113,7 +114,7 @@ last_draw_of header h p = record {
   five = marked_late discards_five header h p;
 }
 
--- the same after one event more about the seat
+-- the deals after one more event about the seat
 abbrev pub deals_after : Option StreetName → Event → Deals → Deals
 deals_after now e d = record {
   first = union d.first (dealt_on First now e);
@@ -128,7 +129,7 @@ deals_after now e d = record {
 abbrev pub draws_after : Event → SeatDraws → SeatDraws
 draws_after e d = record { hidden = hides e || d.hidden; pat = stands_pat e || d.pat; five = discards_five e || d.five }
 
--- and of the last draw, where the last street has begun with the event or before it, or hasn't
+-- and the last draw, by whether the last street has begun, with the event or before it
 abbrev pub last_draw_after : Bool → Event → LastDraw → LastDraw
 last_draw_after late e d = record {
   held = if late then d.held else held_after e d.held;

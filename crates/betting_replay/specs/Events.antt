@@ -1,4 +1,4 @@
--- What an event says, whatever came before it.
+-- The contents of an event alone, whatever the events before it are.
 use Rattle.std.specs.Prelude.{ℕ, ◌+◌, ◌-◌, ◌≤◌, Bool, true, false, if◌then◌else◌, List, [], min}
 use Rattle.hand_events.specs.declared.events.Event.{Event}
 use Rattle.hand_events.specs.declared.events.Event.TheVariants.{Seat, Button, Post, Deal, Street, Act, Uncalled, Collect, Show, Muck, Total, SeatCards, Discard, Pat, Remark}
@@ -7,7 +7,7 @@ use Rattle.hand_events.specs.declared.events.PostKind.TheVariants.{Small, Big, B
 use Rattle.hand_events.specs.declared.events.Act.{Act as Deed}
 use Rattle.hand_events.specs.declared.events.Act.TheVariants.{Fold, Check, Call, Bet, Raise}
 
--- the seat that an event is about, 0 where it is about none
+-- the seat that an event is about, 0 if it is about none
 abbrev pub seat_of : Event → ℕ
 seat_of (Seat seat units first end) = seat
 seat_of (Button seat) = 0
@@ -25,7 +25,7 @@ seat_of (Discard seat count cards) = seat
 seat_of (Pat seat) = seat
 seat_of Remark = 0
 
--- the seat of the button after an event, where it was at another before
+-- the seat of the button after an event, given the seat before it
 abbrev pub button_after : Event → ℕ → ℕ
 button_after (Button seat) before = seat
 button_after _ before = before
@@ -40,8 +40,8 @@ abbrev pub returned : Event → ℕ
 returned (Uncalled seat units) = units
 returned _ = 0
 
--- what is live of a post, where the stated big blind is this and a small blind was posted before or wasn't:
--- the first small blind, of both blinds the part up to the stated big blind, the big blind and the bring-in
+-- the live part of a post, by the stated big blind and by whether a small blind was posted before: the first
+-- small blind, the part of both blinds up to the stated big blind, the big blind, and the bring-in
 abbrev pub live_part : ℕ → Bool → PostKind → ℕ → ℕ
 live_part big posted Small units = if posted then 0 else units
 live_part big posted Big units = units
@@ -49,7 +49,7 @@ live_part big posted Both units = min units big
 live_part big posted Ante units = 0
 live_part big posted BringIn units = units
 
--- what is dead of it: a later small blind, and of both blinds the rest
+-- the dead part of a post: a later small blind, and the rest of both blinds
 abbrev pub dead_part : ℕ → Bool → PostKind → ℕ → ℕ
 dead_part big posted Small units = if posted then units else 0
 dead_part big posted Big units = 0
@@ -57,7 +57,7 @@ dead_part big posted Both units = units - big
 dead_part big posted Ante units = 0
 dead_part big posted BringIn units = 0
 
--- what is an ante of it: paid, and neither live nor dead
+-- the part of a post that is an ante: paid, and neither live nor dead
 abbrev pub ante_part : PostKind → ℕ → ℕ
 ante_part Small units = 0
 ante_part Big units = 0
@@ -65,7 +65,7 @@ ante_part Both units = 0
 ante_part Ante units = units
 ante_part BringIn units = 0
 
--- what an act puts in, by a player who has so much in live on the street
+-- the chips that an act puts in, of a player with some chips in live on the street
 abbrev pub act_chips : Deed → ℕ → ℕ
 act_chips Fold live = 0
 act_chips Check live = 0
@@ -73,7 +73,8 @@ act_chips (Call units) live = units
 act_chips (Bet units) live = units
 act_chips (Raise by to) live = to - live
 
--- what an event puts in live, dead, and as an ante, for its own seat, which has so much in live on the street
+-- the chips that an event puts in live, dead, and as an ante, for its own seat with some chips in live on the
+-- street
 abbrev pub live_in : ℕ → Bool → ℕ → Event → ℕ
 live_in big posted live (Post seat kind units all_in) = live_part big posted kind units
 live_in big posted live (Act seat act all_in shown) = act_chips act live
@@ -108,7 +109,7 @@ is_fold (Call units) = false
 is_fold (Bet units) = false
 is_fold (Raise by to) = false
 
--- the event is a post of the small blind, a bring-in, a fold, an act, a seat line
+-- the event is a post of the small blind, a bring-in, a fold, an act, or a seat line
 abbrev pub posts_small : Event → Bool
 posts_small (Post seat kind units all_in) = is_small kind
 posts_small _ = false
@@ -139,7 +140,7 @@ cards_named (SeatCards seat cards) = cards
 cards_named (Discard seat count cards) = cards
 cards_named _ = []
 
--- a seat that an event is about is one of the ten
+-- the seat of an event is one of the ten
 abbrev pub SeatFits : Event → Type 0
 SeatFits (Seat seat units first end) = (1 ≤ seat) × (seat ≤ 10)
 SeatFits (Button seat) = (1 ≤ seat) × (seat ≤ 10)

@@ -1,4 +1,5 @@
--- The cards of the players that are known: at the end of the hand, and at a street of it. Source: the usual rules of poker, and of what a history shows.
+-- The known cards of the players: at the end of the hand, and on a street of it. Source: the usual rules of poker, and
+-- what a history shows.
 use Rattle.std.specs.Prelude.{ℕ, zero, suc, ◌==◌, ◌&&◌, not, Bool, if◌then◌else◌, List, [], ◌∷◌, length, Option, Some, None}
 use Rattle.card_sets.specs.declared.games.Game.{Game}
 use Rattle.card_sets.specs.declared.games.Family.{Family}
@@ -18,8 +19,9 @@ use Rattle.betting_replay.specs.Places.{owned, thrown}
 use Rattle.betting_replay.specs.Hands.{dealt, held, shown, row, if_many}
 use Rattle.betting_replay.specs.Dealing.{deals_of, draws_of, last_draw_of}
 
--- what the text gives of a seat's cards: all that belong to it, all dealt ones, those that it holds, the last whole hand that it showed, its deals, its
--- last bracket of seven, how it drew, and how on the last draw; and all cards that anybody threw away face up
+-- what the text says of a seat's cards: all that belong to it, all dealt to it, those that it holds, the last whole
+-- hand that it showed, its deals, its last bracket of seven, how it drew, and how it drew last; and all cards that any
+-- player discarded face up
 pub record Holding : Type 0 where
   pub own : List ℕ
   pub dealt : List ℕ
@@ -31,15 +33,17 @@ pub record Holding : Type 0 where
   pub last : LastDraw
   pub thrown : List ℕ
 
--- in a draw game: the last whole hand shown, or else what was dealt and drawn less what was thrown away, where these are five and no discard was hidden
+-- in a draw game: the last whole hand shown, or otherwise the cards dealt and drawn without the discards, if these are
+-- five and no discard was hidden
 abbrev pub final_drawn : Holding → Option (List ℕ)
 final_drawn x = or_else x.shown (if x.draws.hidden then None else if_many 5 (minus x.dealt x.thrown))
 
--- with several draws: the last whole hand shown, or else what he holds by the text, where these are five and no discard was hidden
+-- with several draws: the last whole hand shown, or otherwise the cards that the player holds by the text, if these are
+-- five and no discard was hidden
 abbrev pub final_held : Holding → Option (List ℕ)
 final_held x = or_else x.shown (if x.draws.hidden then None else if_many 5 x.held)
 
--- with a board: the last whole hand shown, or else the dealt cards, where they are so many
+-- with a board: the last whole hand shown, or otherwise the dealt cards, if there are n of them
 abbrev pub final_with : ℕ → Holding → Option (List ℕ)
 final_with n x = or_else x.shown (if_many n x.dealt)
 
@@ -53,27 +57,27 @@ final_in family.TripleDraw size x = final_held x
 abbrev pub final_by : Game → Holding → Option (List ℕ)
 final_by game x = final_in (family_of game) (own_size game) x
 
--- the first so many cards of a row that aren't among others
+-- the first n cards of a row that aren't in another list
 abbrev pub first_outside : ℕ → List ℕ → List ℕ → List ℕ
 first_outside zero others cards = []
 first_outside (suc n) others [] = []
 first_outside (suc n) others (card ∷ cards) = if has_card others card then first_outside (suc n) others cards else card ∷ first_outside n others cards
 
--- cards with the two that lie face down: the first two of a bracket of seven that don't lie face up
+-- the cards with the two that are face down: the first two of a bracket of seven that aren't face up
 abbrev pub with_down : List ℕ → List ℕ → Option (List ℕ) → Option (List ℕ)
 with_down cards up None = None
 with_down cards up (Some row) = Some (union cards (first_outside 2 up row))
 
--- some dealt cards and those face down, which were dealt too where three came at once
+-- some dealt cards and those that are face down; these were dealt too if three came at once
 abbrev pub with_first : Holding → List ℕ → Option (List ℕ)
 with_first x cards = if x.deals.down then Some cards else with_down cards x.deals.up x.row
 
--- these, where they are so many
+-- the cards, if there are n of them
 abbrev pub so_many : ℕ → Option (List ℕ) → Option (List ℕ)
 so_many n None = None
 so_many n (Some cards) = if_many n cards
 
--- in a stud game the cards of the streets up to one; on the last all seven
+-- in a stud game the cards of the streets up to one; on the last street all seven
 abbrev pub known_stud : Holding → StreetName → Option (List ℕ)
 known_stud x First = so_many 3 (with_first x x.deals.first)
 known_stud x Fourth = so_many 4 (with_first x (union x.deals.first x.deals.fourth))
@@ -81,11 +85,12 @@ known_stud x Fifth = so_many 5 (with_first x (union (union x.deals.first x.deals
 known_stud x Sixth = so_many 6 (with_first x (union (union (union x.deals.first x.deals.fourth) x.deals.fifth) x.deals.sixth))
 known_stud x street = if_many 7 x.own
 
--- five were dealt in the text, no discard was hidden, and none was of another card
+-- the text has five dealt cards, no hidden discard, and no discard of another card
 abbrev pub draws_openly : Holding → Bool
 draws_openly x = (length x.deals.given == 5) && not x.draws.hidden && apart (minus x.own x.deals.given) x.thrown
 
--- what a player keeps when he draws: the five less the discards; or his final five, where he stands pat and threw none away face up; or nothing, where he discards five
+-- the cards that a player keeps in the draw: the five without the discards; or the final five, if the player stands pat
+-- and discarded none face up; or none, if the player discards five
 abbrev pub kept : Holding → Option (List ℕ)
 kept x =
     if draws_openly x then Some (minus x.deals.given x.thrown)
@@ -95,24 +100,25 @@ abbrev pub known_drawn : Holding → StreetName → Option (List ℕ)
 known_drawn x First = kept x
 known_drawn x street = final_drawn x
 
--- the five with which a player came to the last draw are in the text, and so is what he threw away on it
+-- the text has the five cards with which a player came to the last draw, and all their discards on it
 abbrev pub draws_last_openly : LastDraw → Bool
 draws_last_openly d = (length d.held == 5) && not d.hidden_before && not d.hidden
 
--- what he keeps when he draws for the last time: his final five, where he stands pat; nothing, where he discards five; or the five less the discards
+-- the cards that a player keeps in the last draw: the final five, if the player stands pat; none, if the player
+-- discards five; or the five without the discards
 abbrev pub kept_last : Holding → Option (List ℕ)
 kept_last x =
     if x.last.pat then final_held x
     else (if x.last.five then Some [] else (if draws_last_openly x.last then Some (minus x.last.held x.last.thrown) else None))
 
--- with three draws what he has is known when he draws for the last time, and in the end
+-- with three draws the cards are known on the last draw and at the end
 abbrev pub known_triple : Holding → StreetName → Option (List ℕ)
 known_triple x First = None
 known_triple x FirstDraw = None
 known_triple x SecondDraw = kept_last x
 known_triple x street = final_held x
 
--- a player's cards on a street, by the whole text: with a board his final cards
+-- a player's cards on a street, by the whole text; with a board the final cards
 abbrev pub known_in : Family → ℕ → Holding → StreetName → Option (List ℕ)
 known_in family.Board size x street = final_with size x
 known_in family.Stud size x street = known_stud x street
@@ -122,7 +128,7 @@ known_in family.TripleDraw size x street = known_triple x street
 abbrev pub known_by : Game → Holding → StreetName → Option (List ℕ)
 known_by game x street = known_in (family_of game) (own_size game) x street
 
--- what the events so far give of a seat's cards
+-- what the events so far say of a seat's cards
 abbrev pub holding_of : Header → List Event → ℕ → Holding
 holding_of header h p = record {
   own = owned header.game h p;

@@ -1,4 +1,4 @@
--- Which street an event begins, and on which board. Source: the usual rules of poker.
+-- The street that an event begins, and its board. Source: the usual rules of poker.
 use Rattle.std.specs.Prelude.{Bool, true, false, ◌&&◌, not, if◌then◌else◌, Option, Some, None}
 use Rattle.card_sets.specs.declared.games.Game.{Game}
 use Rattle.hand_events.specs.declared.events.BoardNumber.{BoardNumber}
@@ -9,12 +9,12 @@ use Rattle.card_sets.specs.declared.streets.Street.{Street as StreetName}
 use Rattle.card_sets.specs.declared.streets.Street.TheVariants.{First, Draw, ShowDown, Summary}
 use Rattle.card_sets.specs.Streets.{is_street, is_draw_street, next_street}
 
--- a street is the one that comes next, or that the hand is on
+-- a street is the next one, or the street of the hand
 abbrev pub same_street : StreetName → Option StreetName → Bool
 same_street street None = false
 same_street street (Some other) = is_street street other
 
--- the hand is on a street on which there is a draw
+-- the hand is on a street with a draw
 abbrev pub is_drawing : Option StreetName → Bool
 is_drawing None = false
 is_drawing (Some street) = is_draw_street street
@@ -33,18 +33,18 @@ abbrev pub is_first : Option StreetName → Bool
 is_first (Some First) = true
 is_first _ = false
 
--- a street on which there is betting, and not the first: there the live sums begin anew
+-- a street with betting that isn't the first; live sums are reset there
 abbrev pub is_later : StreetName → Bool
 is_later First = false
 is_later ShowDown = false
 is_later Summary = false
 is_later _ = true
 
--- in a game with one draw the first discard or stand-pat begins it, where it comes next and no marker began it
+-- in a game with one draw the first discard or stand-pat begins the draw, if the draw is next and no marker began it
 abbrev pub begun_by_drawing : Game → Option StreetName → Option StreetName
 begun_by_drawing game street = if same_street Draw (next_street game street) then Some Draw else None
 
--- the street that an event begins after these
+-- the street that an event begins
 abbrev pub begins : Game → Option StreetName → Event → Option StreetName
 begins game street (Street marker number cards) = Some marker
 begins game street (Discard seat count cards) = begun_by_drawing game street
@@ -66,17 +66,18 @@ is_number board.First board.First = true
 is_number board.Second board.Second = true
 is_number _ _ = false
 
--- the street that an event begins on a board: none where it isn't a marker of that board, or is one of a showdown or the summary
+-- the street that an event begins on a board: none if it isn't a marker of that board, or is one of a showdown or the
+-- summary
 abbrev pub begins_on : BoardNumber → Event → Option StreetName
 begins_on number (Street marker other cards) = if is_number number other && not (is_end marker) then Some marker else None
 begins_on number _ = None
 
--- the event is a showdown's marker of a board
+-- the event is a showdown marker of a board
 abbrev pub shows_on : BoardNumber → Event → Bool
 shows_on number (Street marker other cards) = is_number number other && is_showdown marker
 shows_on number _ = false
 
--- the board of the last marker after an event, where it was another before
+-- the board of the last marker after an event, given the board before it
 abbrev pub marker_after : Event → BoardNumber → BoardNumber
 marker_after (Street marker number cards) before = number
 marker_after _ before = before

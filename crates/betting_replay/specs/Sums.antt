@@ -1,4 +1,4 @@
--- What the events of a hand so far make of each seat. The latest event stands first.
+-- The effect of a hand's events on each seat. The latest event comes first.
 use Rattle.std.specs.Prelude.{ℕ, ◌+◌, ◌-◌, ◌==◌, ◌&&◌, ◌||◌, Bool, false, if◌then◌else◌, List, [], ◌∷◌, Option, Some, None, is_some}
 use Rattle.card_sets.specs.declared.games.Game.{Game}
 use Rattle.hand_events.specs.declared.events.Header.{Header}
@@ -30,7 +30,8 @@ abbrev pub last_begun : Header → List Event → Bool
 last_begun header [] = false
 last_begun header (e ∷ h) = is_last_of header.game (begins header.game (street header h) e) || last_begun header h
 
--- the street from which on there are two boards: that of the first marker of a first board; none where the hand isn't run twice
+-- the street from which on there are two boards: that of the first marker of a first board; none if the hand isn't run
+-- twice
 abbrev pub twice_from : List Event → Option StreetName
 twice_from [] = None
 twice_from (e ∷ h) = or_else (twice_from h) (begins_on board.First e)
@@ -38,7 +39,7 @@ twice_from (e ∷ h) = or_else (twice_from h) (begins_on board.First e)
 abbrev pub runs_twice : List Event → Bool
 runs_twice h = is_some (twice_from h)
 
--- the street that the second board has come to: that of its last marker
+-- the street of the second board: that of its last marker
 abbrev pub second_street : List Event → Option StreetName
 second_street [] = None
 second_street (e ∷ h) = or_else (begins_on board.Second e) (second_street h)
@@ -52,7 +53,7 @@ abbrev pub marker_board : List Event → BoardNumber
 marker_board [] = board.Only
 marker_board (e ∷ h) = marker_after e (marker_board h)
 
--- a showdown's marker of a board stood, and which did
+-- there was a showdown marker of a board, and of which boards there was one
 abbrev pub shown_on : BoardNumber → List Event → Bool
 shown_on number [] = false
 shown_on number (e ∷ h) = shows_on number e || shown_on number h
@@ -70,12 +71,12 @@ abbrev pub small_posted : List Event → Bool
 small_posted [] = false
 small_posted (e ∷ h) = posts_small e || small_posted h
 
--- the seat's line stood
+-- the hand has a seat line of the seat
 abbrev pub seated : List Event → ℕ → Bool
 seated [] p = false
 seated (e ∷ h) p = ((seat_of e == p) && is_seat_line e) || seated h p
 
--- what p has put in live on the street
+-- the chips that p has put in live on the street
 abbrev pub live : Header → List Event → ℕ → ℕ
 live header [] p = 0
 live header (e ∷ h) p =
@@ -87,7 +88,7 @@ abbrev pub dead : Header → List Event → ℕ → ℕ
 dead header [] p = 0
 dead header (e ∷ h) p = if seat_of e == p then dead header h p + dead_in header.big (small_posted h) e else dead header h p
 
--- p's antes and live chips of all streets, less what was returned
+-- p's antes and live chips of all streets, without returned chips
 abbrev pub paid : Header → List Event → ℕ → ℕ
 paid header [] p = 0
 paid header (e ∷ h) p =
@@ -95,7 +96,7 @@ paid header (e ∷ h) p =
     then paid header h p + (ante_in e + live_in header.big (small_posted h) (live header h p) e) - returned e
     else paid header h p
 
--- the units of p's seat line, less all that p put in, plus what was returned
+-- the units of p's seat line, without all that p put in, with what was returned
 abbrev pub stack : Header → List Event → ℕ → ℕ
 stack header [] p = 0
 stack header (e ∷ h) p =
@@ -126,7 +127,7 @@ last_actor header [] = None
 last_actor header (e ∷ h) =
     if is_later_by header h e then None else (if is_act e then Some (seat_of e) else last_actor header h)
 
--- the seat of the button, 0 where none was named
+-- the seat of the button, or 0 if no line named it
 abbrev pub button : List Event → ℕ
 button [] = 0
 button (e ∷ h) = button_after e (button h)

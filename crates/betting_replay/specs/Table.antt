@@ -1,4 +1,4 @@
--- The table: what each seat has and has done, and what lies open.
+-- The table: the state of each seat, and the open cards.
 use Rattle.std.specs.Prelude.{ℕ, Bool, false, List, [], Option, None, is_some, slice_index_or}
 use Rattle.hand_events.specs.declared.events.Header.{Header}
 use Rattle.hand_events.specs.declared.events.BoardNumber.TheVariants as board
@@ -16,21 +16,22 @@ use Rattle.card_sets.specs.Cards.{union}
 use Rattle.betting_replay.specs.Boards.{up_to, shared_by, second_by}
 use Rattle.betting_replay.specs.Known.{Holding, final_by, known_by}
 
--- a table, as a replay is seen
+-- a table, which clauses see of a replay
 pub record ReplayState : Type 0 where
   pub header : Header
   -- bit s for seat s
   pub players : ℕ
-  -- what each seat has and its player has done, by its number. Number 0 is no seat: among the cards it is the board, the first where there are two
+  -- the state of each seat, by its number; number 0 is no seat: its cards are those of the board, or the first board if
+  -- there are two
   pub seats : List SeatState
   -- all cards that have a place
   pub named : List ℕ
-  -- those that were thrown away face up and weren't named again
+  -- the cards that were discarded face up and weren't named again
   pub thrown : List ℕ
-  -- the cards that came to the board on each street, to the first where there are two; and to the second
+  -- the cards that came to the board on each street, to the first board if there are two; and to the second
   pub first_board : Board
   pub second_board : Board
-  -- the seat of the button, 0 where there is none
+  -- the seat of the button, or 0 if there is none
   pub button : ℕ
   -- how far the hand has come
   pub course : Course
@@ -81,7 +82,7 @@ no_course = record {
   second_street = None;
 }
 
--- what a seat of the table has, and has done
+-- the state of a seat of the table
 abbrev pub seat_at : ReplayState → ℕ → SeatState
 seat_at t p = slice_index_or t.seats p no_seat
 
@@ -129,7 +130,7 @@ second_board_at t =
     (shared_by t.course.split_from t.first_board.flop t.first_board.turn t.first_board.river)
     (union (union t.second_board.flop t.second_board.turn) t.second_board.river)
 
--- what the text gives of the cards of a seat in this state, where these were thrown away
+-- what the text says of the cards of a seat in this state, given the cards discarded face up
 abbrev pub holding_by : SeatState → List ℕ → Holding
 holding_by s thrown = record {
   own = s.own;
@@ -143,7 +144,7 @@ holding_by s thrown = record {
   thrown = thrown;
 }
 
--- what it gives of those of a seat of the table
+-- what the text says of the cards of a seat of the table
 abbrev pub holding_at : ReplayState → ℕ → Holding
 holding_at t p = record {
   own = own_at t p;

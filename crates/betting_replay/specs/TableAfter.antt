@@ -1,4 +1,4 @@
--- The table after the events of a hand so far.
+-- The table after the events of a hand.
 use Rattle.std.specs.Prelude.{◌≡◌, ℕ, List, [], ◌∷◌, Option, None}
 use Rattle.hand_events.specs.declared.events.Header.{Header}
 use Rattle.hand_events.specs.declared.events.Event.{Event}
@@ -17,7 +17,7 @@ use Rattle.betting_replay.specs.AllIn.{point_now, dead_by}
 pub use Rattle.betting_replay.specs.Table.{ReplayState, no_chips, no_acts, no_deals, no_draws, no_last_draw, no_seat, seat_at, chips_at, acts_at, own_at, dealt_at, held_at, shown_at, deals_at, row_at, draws_at, last_draw_at, board_at, is_twice, second_board_at, holding_at, final_at, known_at}
 pub use Rattle.betting_replay.specs.AllIn.{dead_at}
 
--- what the events so far make of a seat
+-- the effect of the events so far on a seat
 abbrev pub chips_of : Header → List Event → ℕ → Chips
 chips_of header h p = record { seated = seated h p; stack = stack header h p; paid = paid header h p; dead = dead_chips header h p; live = live header h p }
 
@@ -38,7 +38,7 @@ seat_state header h p = record {
   last_draw = last_draw_of header h p;
 }
 
--- how far they bring the hand
+-- how far the hand has come by these events
 abbrev pub course_of : Header → List Event → Course
 course_of header h = record {
   street = street header h;
@@ -52,7 +52,7 @@ course_of header h = record {
   second_street = second_street h;
 }
 
--- the table after the events so far, where this is the point that was found
+-- the table after the events so far, given the all-in point
 abbrev pub table_with : Header → ℕ → List Event → Option Point → ReplayState
 table_with header players h found = record {
   header = header;
@@ -67,7 +67,7 @@ table_with header players h found = record {
   point = found;
 }
 
--- the all-in point: the first moment that is one, by the table of that moment, which knows of no point
+-- the all-in point: the first moment that is one, by the table of that moment without a point
 unfoldable pub point : Header → ℕ → List Event → Option Point
 point header players [] = None
 point header players (e ∷ h) = or_else (point header players h) (point_now (table_with header players (e ∷ h) None))
@@ -80,6 +80,6 @@ table_of header players h = table_with header players h (point header players h)
 abbrev pub dead_cards : Header → ℕ → List Event → List ℕ
 dead_cards header players h = dead_by players (point header players h) (owned header.game h) (thrown h)
 
--- a table stands for a hand so far: its header, its players, and its events, the latest first
+-- a table represents a hand so far: its header, its players, and its events, the latest first
 pub record StandsFor (t : ReplayState) (header : Header) (players : ℕ) (h : List Event) : Type 0 where
   pub is : t ≡ table_of header players h

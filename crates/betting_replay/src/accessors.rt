@@ -1,4 +1,4 @@
-//! What a replay tells of its hand.
+//! The questions to a replay about its hand.
 
 ghost use Rattle.std.specs.Prelude.{◌≡◌, ℕ, ◌+◌, ◌^◌, ◌<◌, ◌≤◌};
 ghost use Rattle.card_sets.specs.PlayerSets.{has_player};
@@ -9,7 +9,8 @@ use hand_events::Street;
 use pot_layers::Paid;
 
 impl Replay {
-    /// What a seat has put in over the hand, in units, and whether its player is one who hasn't folded.
+    /// Returns the chips that a seat has put in over the hand, in units, and whether its player hasn't
+    /// folded.
     #[tactic(auto, unfolding(crate::specs::Accounts::paid_by))]
     pub fn paid(&self, seat: u8) -> Paid
         requires { seat < 11 }
@@ -25,14 +26,14 @@ impl Replay {
         }
     }
 
-    /// The players who haven't folded: bit s for seat s.
+    /// Returns the players who haven't folded: bit s for seat s.
     pub fn contenders(&self) -> u16
         ensures { result ≡ contenders self.now }
     {
         self.contender_set().bits()
     }
 
-    /// The seat of the button, by the last line that named it; 0 where none did.
+    /// Returns the seat of the button, by the last line that named it, or 0 if no line did.
     pub fn button(&self) -> u8
         ensures value { result ≡ self.now.button }
         ensures few { result ≤ 10 }
@@ -40,7 +41,7 @@ impl Replay {
         self.button
     }
 
-    /// Whether the seat is a player's.
+    /// Returns whether a player has the seat.
     pub fn is_player(&self, seat: u8) -> bool
         requires { seat < 11 }
         ensures { result ≡ has_player self.now.players seat }
@@ -48,15 +49,15 @@ impl Replay {
         self.players.has(seat)
     }
 
-    /// The street: that of the last marker, a showdown's and the summary's too, or the draw that a
-    /// discard or a stand-pat began. None exactly before the first marker.
+    /// Returns the street: that of the last marker, also of a showdown or the summary, or the draw that
+    /// a discard or a stand-pat began. `None` exactly before the first marker.
     pub fn street(&self) -> Option<Street>
         ensures { result ≡ self.now.course.street }
     {
         self.course.street
     }
 
-    /// What is left before the player of a seat, in units.
+    /// Returns the chips left in front of the player of a seat, in units.
     pub fn stack(&self, seat: u8) -> u64
         requires { seat < 11 }
         ensures { result ≡ stack_at self.now seat }

@@ -1,4 +1,4 @@
-//! The moment from which a hand is played out with no more acts.
+//! The moment after which a hand is played out without acts.
 
 ghost use Rattle.std.specs.Prelude.{◌≡◌, ℕ, ◌<◌, ◌&&◌, nat_le, not, is_none};
 ghost use Rattle.betting_replay.specs.Table.{own_at};
@@ -10,7 +10,7 @@ use crate::replay::Replay;
 use card_sets::{CardSet, PlayerSet};
 use hand_events::Street;
 
-/// A point on a street, with the contenders there.
+/// Returns a point on a street, with the contenders there.
 fn point_on(street: Option<Street>, contenders: u16) -> Option<Point>
     ensures { result ≡ point_on street contenders }
 {
@@ -21,7 +21,7 @@ fn point_on(street: Option<Street>, contenders: u16) -> Option<Point>
 }
 
 impl Replay {
-    /// Whether at most one contender has chips left. The second one ends the search.
+    /// Returns whether at most one contender has chips left. The search ends at the second one.
     pub(crate) fn few_funded(&self) -> bool
         ensures { result ≡ nat_le (funded_count self.now) 1 }
     {
@@ -38,7 +38,8 @@ impl Replay {
         true
     }
 
-    /// Whether nobody can bet any more and cards are to come. Mostly two have chips left, so that is looked at first.
+    /// Returns whether nobody can bet any more and cards are to come. Most often two contenders have chips
+    /// left, so this is tested first.
     #[tactic(auto, unfolding(crate::specs::AllIn::is_point))]
     fn is_point(&self) -> bool
         ensures { result ≡ is_point self.now }
@@ -50,7 +51,7 @@ impl Replay {
             && !self.course.last_begun
     }
 
-    /// The point that this moment is, if it is one.
+    /// Returns the all-in point of this moment, if it is one.
     #[tactic(auto, unfolding(crate::specs::AllIn::point_now))]
     fn point_now(&self) -> Option<Point>
         ensures { result ≡ point_now self.now }
@@ -62,14 +63,14 @@ impl Replay {
         }
     }
 
-    /// Whether no moment so far was one, and a street is still to come.
+    /// Returns whether no moment so far was an all-in point, and a street is still to come.
     fn awaits_point(&self) -> bool
         ensures { result ≡ (is_none self.now.point && not self.now.course.last_begun) }
     {
         self.point.is_none() && !self.course.last_begun
     }
 
-    /// The first point is kept. The seats are looked at only where one may still be found.
+    /// Keeps the first all-in point. The seats are examined only while the point can still come.
     #[tactic(auto, unfolding(crate::specs::Counting::pointed))]
     pub(crate) fn keep_point(&mut self)
         ensures { self.new ≡ pointed self.old }
@@ -79,9 +80,9 @@ impl Replay {
         }
     }
 
-    /// The street of the all-in point: the first moment after the first street's marker with two
-    /// players or more in the hand, at most one of them with chips left, nobody who owes an act, and
-    /// the last street to come. None exactly where no moment so far was one.
+    /// Returns the street of the all-in point. This is the first moment after the marker of the first
+    /// street at which two or more players are in the hand, at most one of them has chips left, nobody
+    /// owes an act, and the last street is to come. `None` exactly if no moment so far was one.
     pub fn all_in_point(&self) -> Option<Street>
         ensures { result ≡ point_street self.now.point }
     {
@@ -91,7 +92,8 @@ impl Replay {
         }
     }
 
-    /// The players who hadn't folded at that point: bit s for seat s. 0 where no moment was one.
+    /// Returns the players who hadn't folded at the all-in point: bit s for seat s. 0 if there is no such
+    /// point.
     pub fn all_in_contenders(&self) -> u16
         ensures { result ≡ point_contenders self.now.point }
     {
@@ -101,7 +103,7 @@ impl Replay {
         }
     }
 
-    /// Whether the seat is of a player who had folded at a point.
+    /// Returns whether the player of a seat had folded at a point.
     fn had_folded(&self, point: Point, seat: u8) -> bool
         requires { seat < 11 }
         ensures { result ≡ had_folded self.now.players point seat }
@@ -109,7 +111,7 @@ impl Replay {
         seat > 0 && self.is_player(seat) && !PlayerSet::of(point.contenders).has(seat)
     }
 
-    /// The cards of all players who had folded at a point.
+    /// Returns the cards of all players who had folded at a point.
     fn cards_of_folded(&self, point: Point) -> CardSet
         ensures { result ≡ cards_of_seats (had_folded self.now.players point) (own_at self.now) 11 }
     {
@@ -123,8 +125,8 @@ impl Replay {
         cards
     }
 
-    /// The cards that are dead at that point: all that were thrown away face up, and all of the players
-    /// who had folded there, by the whole text. None are where no moment was one.
+    /// Returns the cards that are dead at the all-in point: all cards discarded face up, and the cards of
+    /// all players who had folded there, by the whole text. No cards if there is no such point.
     #[tactic(auto, unfolding(crate::specs::AllIn::dead_at))]
     pub fn dead(&self) -> CardSet
         ensures { result ≡ dead_at self.now }

@@ -13,16 +13,16 @@ use hand_events::{BoardNumber, Event, Street};
 /// The cards that came to a board, by the street on which they came.
 #[derive(Clone, Copy)]
 pub struct Board {
-    /// Those of the flop.
+    /// The cards of the flop.
     pub flop: CardSet,
-    /// That of the turn.
+    /// The card of the turn.
     pub turn: CardSet,
-    /// That of the river.
+    /// The card of the river.
     pub river: CardSet,
 }
 
 impl Board {
-    /// Before any card.
+    /// Returns the board without cards.
     pub(crate) fn new() -> Board
         ensures { result ≡ no_board }
     {
@@ -34,14 +34,14 @@ impl Board {
     }
 }
 
-/// Whether a board is the second of two.
+/// Returns whether a board is the second of two.
 fn is_second(board: BoardNumber) -> bool
     ensures { result ≡ is_second board }
 {
     matches!(board, BoardNumber::Second)
 }
 
-/// The cards that an event gives to the board on a street, to the first where there are two.
+/// Returns the cards that an event gives the board on a street, or the first board if there are two.
 fn cards_on(street: Street, e: &Event) -> &[Card]
     ensures { result.now ≡ named_on street e.now }
 {
@@ -61,7 +61,7 @@ fn cards_on(street: Street, e: &Event) -> &[Card]
     }
 }
 
-/// The cards that an event gives to the second board on a street.
+/// Returns the cards that an event gives to the second board on a street.
 fn cards_second(street: Street, e: &Event) -> &[Card]
     ensures { result.now ≡ named_second street e.now }
 {
@@ -81,7 +81,7 @@ fn cards_second(street: Street, e: &Event) -> &[Card]
     }
 }
 
-/// The only board, or the first of two, after an event.
+/// Returns the only board, or the first of two, after an event.
 pub(crate) fn board_after(e: &Event, board: Board) -> Board
     ensures { result ≡ board_after e.now board }
 {
@@ -95,7 +95,7 @@ pub(crate) fn board_after(e: &Event, board: Board) -> Board
     }
 }
 
-/// The second board after an event.
+/// Returns the second board after an event.
 pub(crate) fn second_after(e: &Event, board: Board) -> Board
     ensures { result ≡ second_after e.now board }
 {
@@ -110,8 +110,8 @@ pub(crate) fn second_after(e: &Event, board: Board) -> Board
 }
 
 impl Replay {
-    /// The cards of the board that came on the streets up to this one, of the first where there are two.
-    /// A showdown and the summary stand after all streets.
+    /// Returns the cards of the board, or of the first board if there are two, of the streets up to
+    /// this one. A showdown and the summary come after all streets.
     pub fn board_at(&self, street: Street) -> CardSet
         ensures { result ≡ board_at self.now street }
     {
@@ -124,7 +124,7 @@ impl Replay {
         }
     }
 
-    /// The cards of the board that came on the streets before this one.
+    /// Returns the cards of the board that came on the streets before this one.
     fn board_before(&self, street: Street) -> CardSet
         ensures { result
             ≡ before street self.now.first_board.flop self.now.first_board.turn
@@ -139,7 +139,7 @@ impl Replay {
         }
     }
 
-    /// The cards that two boards share.
+    /// Returns the cards that two boards share.
     fn shared_cards(&self) -> CardSet
         ensures { result
             ≡ shared_by self.now.course.split_from self.now.first_board.flop
@@ -151,15 +151,15 @@ impl Replay {
         }
     }
 
-    /// Whether the hand is run twice: the marker of a street stood for a first board.
+    /// Returns whether the hand is run twice: there was a street marker of a first board.
     pub fn is_twice(&self) -> bool
         ensures { result ≡ is_twice self.now }
     {
         self.course.split_from.is_some()
     }
 
-    /// The cards of the second board: those that it shares with the first, and its own. None exactly where
-    /// no street's marker stood for a second board.
+    /// Returns the cards of the second board: those that it shares with the first, and its own. `None`
+    /// exactly if there was no street marker of a second board.
     pub fn second_board(&self) -> Option<CardSet>
         ensures { result ≡ second_board_at self.now }
     {

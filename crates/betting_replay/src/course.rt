@@ -9,32 +9,32 @@ use crate::points::Showdowns;
 use crate::streets::{begins_on, shows_on};
 use hand_events::{BoardNumber, Event, PostKind, Street};
 
-/// How far a hand has come: its street, its markers, and who acted last.
+/// How far a hand has come: its street, its markers, and the last actor.
 #[derive(Clone, Copy)]
 pub struct Course {
-    /// The street that the hand is on: that of the last marker, a showdown's and the summary's too, or the
-    /// draw that a discard or a stand-pat began. None exactly before the first marker.
+    /// The street of the hand: that of the last marker, also of a showdown or the summary, or the draw
+    /// that a discard or a stand-pat began. `None` exactly before the first marker.
     pub street: Option<Street>,
-    /// Whether the first street has begun. It stays so.
+    /// Whether the first street has begun. It remains true.
     pub opened: bool,
-    /// Whether the last street has begun, on the first board where there are two. It stays so.
+    /// Whether the last street has begun, on the first board if there are two. It remains true.
     pub last_begun: bool,
-    /// Whether a small blind was posted. A later one is dead.
+    /// Whether a small blind was posted. A later small blind is dead.
     pub small_posted: bool,
-    /// The seat of the last actor of the street, 1 to 10. None before its first act.
+    /// The seat of the last actor of the street, 1 to 10. `None` before the first act of the street.
     pub last_actor: Option<u8>,
-    /// The board of the last marker; the only one before any.
+    /// The board of the last marker, or the only board before any marker.
     pub marker: BoardNumber,
-    /// Which showdown markers stood.
+    /// The showdown markers so far.
     pub showdowns: Showdowns,
-    /// The street from which on there are two boards. None where the hand isn't run twice.
+    /// The street from which on there are two boards. `None` if the hand isn't run twice.
     pub split_from: Option<Street>,
-    /// The street that the second board has come to. None where no marker stood for a second board.
+    /// The street of the second board. `None` if there was no marker of a second board.
     pub second_street: Option<Street>,
 }
 
 impl Course {
-    /// Before the first event.
+    /// Returns the course before the first event.
     pub(crate) fn new() -> Course
         ensures { result ≡ no_course }
     {
@@ -56,7 +56,7 @@ impl Course {
     }
 }
 
-/// The showdown markers that stood, after an event.
+/// Returns the showdown markers after an event.
 fn showdowns_after(e: &Event, before: Showdowns) -> Showdowns
     ensures { result ≡ showdowns_after e.now before }
 {
@@ -67,8 +67,8 @@ fn showdowns_after(e: &Event, before: Showdowns) -> Showdowns
     }
 }
 
-/// An event counts for how far the hand has come, but for the street that it begins. Each kind touches what it
-/// changes alone.
+/// Applies an event to the course, without the street that it begins. Each kind of event changes only what
+/// it concerns.
 pub(crate) fn note_course(e: &Event, course: &mut Course)
     requires seat { SeatFits e.now }
     requires few { IfSome course.old.last_actor (λ seat. seat ≤ 10) }

@@ -1,4 +1,4 @@
-//! What was dealt to a seat, street by street, and how it drew.
+//! The cards dealt to a seat, street by street, and how its player drew.
 
 ghost use Rattle.std.specs.Prelude.{◌≡◌, ℕ, length, []};
 ghost use Rattle.betting_replay.specs.Counting.{seat_dealt};
@@ -11,7 +11,7 @@ use crate::streets::same_street;
 use card_sets::{Card, Game};
 use hand_events::{Event, Street};
 
-/// Whether a deal counts on a street, where the hand is on one.
+/// Returns whether a deal counts for a street while the hand is on a street.
 fn counts_on(place: Street, now: Option<Street>) -> bool
     ensures { result ≡ counts_on place now }
 {
@@ -21,7 +21,7 @@ fn counts_on(place: Street, now: Option<Street>) -> bool
     }
 }
 
-/// The cards that an event deals on a street.
+/// Returns the cards that an event deals on a street.
 fn dealt_on(place: Street, now: Option<Street>, e: &Event) -> &[Card]
     ensures { result.now ≡ dealt_on place now e.now }
 {
@@ -32,7 +32,7 @@ fn dealt_on(place: Street, now: Option<Street>, e: &Event) -> &[Card]
     }
 }
 
-/// A card dealt alone.
+/// Returns a card that is dealt alone.
 fn up_by(e: &Event) -> &[Card]
     ensures { result.now ≡ up_by e.now }
 {
@@ -40,7 +40,7 @@ fn up_by(e: &Event) -> &[Card]
     if cards.len() == 1 { cards } else { &[] }
 }
 
-/// The cards of a deal that weren't drawn for others.
+/// Returns the cards of a deal that aren't drawn.
 fn given_by(e: &Event) -> &[Card]
     ensures { result.now ≡ given_by e.now }
 {
@@ -50,14 +50,14 @@ fn given_by(e: &Event) -> &[Card]
     }
 }
 
-/// Whether three cards are dealt at once.
+/// Returns whether an event deals three cards at once.
 fn deals_three(e: &Event) -> bool
     ensures { result ≡ deals_three e.now }
 {
     cards_dealt(e).len() == 3
 }
 
-/// What was dealt to a seat, after an event about it.
+/// Returns the cards dealt to a seat, after an event about it.
 fn deals_after(now: Option<Street>, e: &Event, deals: Deals) -> Deals
     ensures { result ≡ deals_after now e.now deals }
 {
@@ -72,7 +72,7 @@ fn deals_after(now: Option<Street>, e: &Event, deals: Deals) -> Deals
     }
 }
 
-/// Whether not every card of a discard is shown.
+/// Returns whether a discard doesn't show all its cards.
 fn hides(e: &Event) -> bool
     ensures { result ≡ hides e.now }
 {
@@ -82,14 +82,14 @@ fn hides(e: &Event) -> bool
     }
 }
 
-/// Whether an event is a stand-pat.
+/// Returns whether an event is a stand-pat.
 fn stands_pat(e: &Event) -> bool
     ensures { result ≡ stands_pat e.now }
 {
     matches!(e, Event::Pat { .. })
 }
 
-/// Whether an event is a discard of five.
+/// Returns whether an event is a discard of five.
 fn discards_five(e: &Event) -> bool
     ensures { result ≡ discards_five e.now }
 {
@@ -99,7 +99,7 @@ fn discards_five(e: &Event) -> bool
     }
 }
 
-/// How a player drew, after an event about his seat.
+/// Returns how a player drew, after an event about their seat.
 fn draws_after(e: &Event, draws: SeatDraws) -> SeatDraws
     ensures { result ≡ draws_after e.now draws }
 {
@@ -110,8 +110,8 @@ fn draws_after(e: &Event, draws: SeatDraws) -> SeatDraws
     }
 }
 
-/// How a player drew on the last draw, after an event about his seat. The last street has begun with the
-/// event or before it, or hasn't.
+/// Returns how a player drew on the last draw, after an event about their seat. `late` is whether the last
+/// street has begun, with the event or before it.
 fn last_draw_after(late: bool, e: &Event, last: LastDraw) -> LastDraw
     ensures { result ≡ last_draw_after late e.now last }
 {
@@ -132,8 +132,8 @@ fn last_draw_after(late: bool, e: &Event, last: LastDraw) -> LastDraw
     }
 }
 
-/// An event about a seat counts for its cards and draws, in a hand of this game on this street. The last street has
-/// begun with the event or before it, or hasn't.
+/// Applies an event about a seat to its cards and draws, in a hand of this game on this street. `late` is
+/// whether the last street has begun, with the event or before it.
 pub(crate) fn deal_seat(
     game: Game,
     now: Option<Street>,

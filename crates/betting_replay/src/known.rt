@@ -1,4 +1,4 @@
-//! The cards of the players that are known: at the end of the hand, and at a street of it.
+//! The known cards of the players: at the end of the hand, and on a street of it.
 
 ghost use Rattle.std.specs.Prelude.{◌≡◌, ℕ, ◌<◌, []};
 ghost use Rattle.card_sets.specs.Cards.{union, minus};
@@ -11,7 +11,7 @@ use crate::seats::{LastDraw, SeatState};
 use card_sets::{Card, CardSet, Family};
 use hand_events::Street;
 
-/// A set with the first two cards of a bracket that aren't among others.
+/// Returns a set with the first two cards of a bracket that aren't among others.
 fn with_two(cards: CardSet, others: CardSet, row: &[Card]) -> CardSet
     ensures { result ≡ union cards (first_outside 2 others row.now) }
 {
@@ -27,12 +27,12 @@ fn with_two(cards: CardSet, others: CardSet, row: &[Card]) -> CardSet
         all = all.with(*card);
         left -= 1;
     }
-    // They are a set of cards: with no card more they are themselves.
+    // They are a set of cards, so adding no card changes nothing.
     all.rising();
     all
 }
 
-/// Cards with the two that lie face down, by a bracket of seven.
+/// Returns the cards with the two that are face down, by a bracket of seven.
 fn with_down(cards: CardSet, up: CardSet, row: Option<[Card; 7]>) -> Option<CardSet>
     ensures { result ≡ with_down cards up row }
 {
@@ -43,8 +43,8 @@ fn with_down(cards: CardSet, up: CardSet, row: Option<[Card; 7]>) -> Option<Card
 }
 
 impl LastDraw {
-    /// Whether the five with which a player came to the last draw are in the text, and what he threw away
-    /// on it too.
+    /// Returns whether the text has the five cards with which a player came to the last draw, and all
+    /// their discards on it.
     fn draws_openly(&self) -> bool
         ensures { result ≡ draws_last_openly self.now }
     {
@@ -53,14 +53,15 @@ impl LastDraw {
 }
 
 impl SeatState {
-    /// The last whole hand that the seat showed, or else its dealt cards, where they are so many.
+    /// Returns the last whole hand that the seat showed, or otherwise its dealt cards if there are `count`
+    /// of them.
     fn final_with(&self, count: u32) -> Option<CardSet>
         ensures { result ≡ final_with count (holding_by self.now []) }
     {
         self.shown.or(if_many(count, self.dealt))
     }
 
-    /// The final cards of a draw game, where these are the cards that were thrown away.
+    /// Returns the final cards of a draw game, given the cards discarded face up.
     fn final_drawn(&self, thrown: CardSet) -> Option<CardSet>
         ensures { result ≡ final_drawn (holding_by self.now thrown) }
     {
@@ -73,7 +74,7 @@ impl SeatState {
         if_many(5, self.dealt.minus(thrown))
     }
 
-    /// The final cards of a game with several draws.
+    /// Returns the final cards of a game with several draws.
     fn final_held(&self) -> Option<CardSet>
         ensures { result ≡ final_held (holding_by self.now []) }
     {
@@ -86,7 +87,7 @@ impl SeatState {
         if_many(5, self.held)
     }
 
-    /// Some dealt cards with those face down, where they are so many.
+    /// Returns some dealt cards with those that are face down, if there are `count` of them.
     fn so_many(&self, count: u32, cards: CardSet) -> Option<CardSet>
         ensures { result ≡ so_many count (with_first (holding_by self.now []) cards) }
     {
@@ -99,7 +100,7 @@ impl SeatState {
         }
     }
 
-    /// The cards of the streets up to one in a stud game.
+    /// Returns the cards of the streets up to a street, in a stud game.
     fn known_stud(&self, street: Street) -> Option<CardSet>
         ensures { result ≡ known_stud (holding_by self.now []) street }
     {
@@ -114,7 +115,7 @@ impl SeatState {
         }
     }
 
-    /// Whether five were dealt in the text, and the discards are shown and are of these.
+    /// Returns whether five cards were dealt in the text, and all discards are shown and are of these.
     fn draws_openly(&self, thrown: CardSet) -> bool
         ensures { result ≡ draws_openly (holding_by self.now thrown) }
     {
@@ -122,7 +123,7 @@ impl SeatState {
         given.count() == 5 && !self.draws.hidden && self.own.minus(given).is_apart(thrown)
     }
 
-    /// What a player keeps when he draws.
+    /// Returns the cards that a player keeps in the draw.
     fn kept_cards(&self, thrown: CardSet) -> Option<CardSet>
         ensures { result ≡ kept (holding_by self.now thrown) }
     {
@@ -138,7 +139,7 @@ impl SeatState {
         None
     }
 
-    /// The cards of a draw game on a street.
+    /// Returns the cards of a draw game on a street.
     fn known_drawn(&self, thrown: CardSet, street: Street) -> Option<CardSet>
         ensures { result ≡ known_drawn (holding_by self.now thrown) street }
     {
@@ -148,7 +149,7 @@ impl SeatState {
         }
     }
 
-    /// What a player keeps when he draws for the last time.
+    /// Returns the cards that a player keeps in the last draw.
     fn last_kept_cards(&self) -> Option<CardSet>
         ensures { result ≡ kept_last (holding_by self.now []) }
     {
@@ -165,7 +166,7 @@ impl SeatState {
         None
     }
 
-    /// The cards of a game with three draws on a street.
+    /// Returns the cards on a street of a game with three draws.
     fn known_triple(&self, street: Street) -> Option<CardSet>
         ensures { result ≡ known_triple (holding_by self.now []) street }
     {
@@ -178,11 +179,12 @@ impl SeatState {
 }
 
 impl Replay {
-    /// A seat's final cards. With a board they are the last whole hand that it showed, or that the
-    /// summary gives, or else its dealt cards, where they are a whole hand. In a stud game they are
-    /// all seven. In a draw game they are the last whole hand after its last discard, or else what it
-    /// was dealt and drew less what it threw away, where these are five and each discard was shown.
-    /// None exactly where they are unknown.
+    /// Returns a seat's final cards. `None` exactly if they are unknown.
+    ///
+    /// With a board they are the last whole hand that the seat showed or the summary gives, or otherwise
+    /// its dealt cards if these are a whole hand. In a stud game they are all seven cards. In a draw game
+    /// they are the last whole hand shown after the last discard, or otherwise the cards dealt and drawn
+    /// without the discards, if these are five and each discard was shown.
     #[tactic(auto, unfolding(crate::specs::Table::final_at))]
     pub fn final_cards(&self, seat: u8) -> Option<CardSet>
         requires { seat < 11 }
@@ -198,11 +200,13 @@ impl Replay {
         }
     }
 
-    /// A seat's cards on a street, by the whole text: its final cards with a board and on the last
-    /// street. Before it, in a stud game, what it was dealt on the streets up to this one, where that
-    /// is as much as the street has dealt, with its two cards face down by a later bracket where they
-    /// weren't dealt in the text; in a game with one draw what it keeps; with three draws what it keeps on
-    /// the last, and nothing is known before the second. None exactly where they are unknown.
+    /// Returns a seat's cards on a street, by the whole text. `None` exactly if they are unknown.
+    ///
+    /// With a board, and on the last street, they are the final cards. On an earlier street of a stud game
+    /// they are the cards dealt on the streets up to it, if these are all that the streets deal; if the
+    /// two cards face down weren't dealt in the text, a later bracket of seven gives them. In a game with
+    /// one draw they are the cards that the player keeps. In a game with three draws they are the cards
+    /// kept on the last draw, and before the second draw they are unknown.
     #[tactic(auto, unfolding(crate::specs::Table::known_at))]
     pub fn cards_at(&self, seat: u8, street: Street) -> Option<CardSet>
         requires { seat < 11 }

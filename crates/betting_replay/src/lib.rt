@@ -1,26 +1,25 @@
-//! The replay of a hand: which event may follow which, and what the events make of each seat.
+//! The replay of a hand: which events the rules allow, and what they do to each seat.
 //!
-//! A `Replay` begins with a header and a set of players, and goes on by one event a step.
-//! `Replay::step` answers `Ok` where the event may stand after those before it, and else the first
-//! rule that it breaks: there are sixteen, in the order of `BetFault`. After a refusal the replay is as
-//! it was. Nothing takes memory, and a step takes no longer in a long hand than in a short one.
+//! A `Replay` begins with a header and a set of players, and applies one event in each step.
+//! `Replay::step` returns `Ok` if the rules allow the event after those before it, and otherwise the first
+//! rule that it breaks. There are sixteen rules, in the order of `BetFault`. A refusal leaves the replay
+//! unchanged. Nothing allocates memory, and the time of a step doesn't grow with the hand.
 //!
-//! Beside its verdict a replay tells what a settlement and a count of equities ask for: what each seat
-//! has put in, its cards that are known at the end and on a street, the cards of the board and of a second one, and the
-//! all-in point with the players who were in the hand there and the cards that are dead.
+//! A replay also answers the questions of a settlement and of a count of equities: the chips that each
+//! seat has put in, its known cards at the end and on a street, the cards of the board and of a second
+//! board, and the all-in point with the players who were in the hand there and the dead cards.
 //!
-//! A replay reads as the table (`Replay`): each seat with its chips, acts and cards (`SeatState`), the one
-//! or two boards (`Board`), and how far the hand has come (`Course`). A step goes by the kind of its event. A
-//! remark changes nothing. Any other event counts for the chips and acts of its seat and for the course of
-//! the hand, and for the cards only where it moves some; then its street begins, if it begins one, and the
-//! moment may be the all-in point.
+//! A replay has the fields of a table (`Replay`): each seat with its chips, acts, and cards (`SeatState`),
+//! the one or two boards (`Board`), and how far the hand has come (`Course`). A remark changes nothing.
+//! Any other event changes the chips and acts of its seat and the course of the hand, and the cards only
+//! if it moves some. Then its street begins, if it begins one, and the moment may be the all-in point.
 //!
-//! Clauses see a replay as a `ReplayState`, which has the same fields. What each of them is after some events
-//! is defined over the list of these events alone, the latest first, with no running sums. `table_of` puts
-//! them together, and a replay stands for a hand so far where it is that table (`StandsFor`). The rules are
-//! questions to the table; `legal` asks them of the table of a list.
+//! Clauses see a replay as a `ReplayState`, which has the same fields. Each field is defined by the list
+//! of the events alone, the latest first, without running sums. `table_of` joins the fields, and a replay
+//! represents the events of a hand if it equals that table (`StandsFor`). The rules are questions to the
+//! table, and `legal` asks them of the table of a list.
 //!
-//! The laws here are those that the audit calls. More that a replay keeps is said by laws in `hand_laws`.
+//! The laws here are those that the audit uses. The laws of `hand_laws` say more about a replay.
 #![tactic(auto)]
 
 mod accessors;

@@ -1,24 +1,24 @@
-//! The moment from which a hand is played out with no more acts, and how it is shown down.
+//! The moment after which a hand is played out without acts, and its showdowns.
 
 use hand_events::Street;
 
-/// An all-in point: two players or more are in the hand, at most one of them has chips left, nobody
+/// An all-in point: two or more players are in the hand, at most one of them has chips left, nobody
 /// owes an act, and cards are to come.
 #[derive(Clone, Copy)]
 pub struct Point {
-    /// The street on which it lies.
+    /// The street of the point.
     pub street: Street,
-    /// The players who hadn't folded there: bit s for seat s.
+    /// The players who hadn't folded at the point: bit s for seat s.
     pub contenders: u16,
 }
 
-/// Which showdown markers stood.
+/// The showdown markers so far.
 #[derive(Clone, Copy)]
 pub struct Showdowns {
-    /// That of the only board.
+    /// Whether there was one of the only board.
     pub plain: bool,
-    /// That of the first of two boards.
+    /// Whether there was one of the first of two boards.
     pub first: bool,
-    /// That of the second.
+    /// Whether there was one of the second board.
     pub second: bool,
 }

@@ -1,4 +1,4 @@
-//! What a replay keeps of the events so far.
+//! The fields of a replay.
 
 use crate::boards::Board;
 use crate::course::Course;
@@ -8,28 +8,28 @@ use card_sets::{CardSet, PlayerSet};
 use hand_events::Header;
 use std::marker::Model;
 
-/// A hand so far, by its header, its players and its events. Clauses see it as a `ReplayState`.
+/// The events of a hand so far, with its header and its players. Clauses see it as a `ReplayState`.
 #[derive(Drop)]
 pub struct Replay {
-    /// What the header line says: the game, and the stated big blind in units.
+    /// The header line: the game, and the stated big blind in units.
     pub(crate) header: Header,
-    /// Who plays.
+    /// The seats of the players.
     pub(crate) players: PlayerSet,
-    /// What each seat has, by its number. Number 0 is no seat: its cards are the board's.
+    /// The state of each seat, by its number. Number 0 is no seat: its cards are the board's.
     pub(crate) seats: [SeatState; 11],
     /// All cards that belong to a seat or a board.
     pub(crate) named: CardSet,
-    /// The cards that were thrown away face up, and that no event named again.
+    /// The cards that were discarded face up, and that no later event has named.
     pub(crate) thrown: CardSet,
-    /// The cards of the board, or of the first of two, by the street on which they came.
+    /// The cards of the board, or of the first of two, by their street.
     pub(crate) first_board: Board,
-    /// Those that came to the second board alone.
+    /// The cards of the second board alone, by their street.
     pub(crate) second_board: Board,
-    /// The seat of the button, by the last line that named it; 0 where none did.
+    /// The seat of the button, by the last line that named it, or 0 if no line did.
     pub(crate) button: u8,
     /// How far the hand has come.
     pub(crate) course: Course,
-    /// The first moment that was an all-in point. It stays.
+    /// The first moment that was an all-in point. It remains.
     pub(crate) point: Option<Point>,
 }
 

@@ -1,4 +1,4 @@
-//! What comes back of a bet that nobody called.
+//! The return of a bet that nobody called.
 
 ghost use Rattle.std.specs.Prelude.{◌≡◌, ◌<◌};
 ghost use Rattle.betting_replay.specs.Returns.{live_by, hand_sums, street_sums, is_return, return_fits, units_of, uncalled_due};
@@ -6,7 +6,7 @@ ghost use Rattle.betting_replay.specs.Returns.{live_by, hand_sums, street_sums, 
 use crate::replay::Replay;
 use pot_layers::{Paid, uncalled};
 
-/// Whether so many units of the seat are what is uncalled.
+/// Returns whether `units` of the seat are the uncalled amount.
 fn is_return(uncalled: Option<(u8, u64)>, seat: u8, units: u64) -> bool
     ensures { result ≡ is_return uncalled seat units }
 {
@@ -17,7 +17,7 @@ fn is_return(uncalled: Option<(u8, u64)>, seat: u8, units: u64) -> bool
 }
 
 impl Replay {
-    /// What a seat has put in, by what is live of it on the street alone.
+    /// Returns the chips that a seat has put in live on the street.
     #[tactic(auto, unfolding(crate::specs::Returns::live_by))]
     fn live_paid(&self, seat: u8) -> Paid
         requires { seat < 11 }
@@ -29,7 +29,7 @@ impl Replay {
         }
     }
 
-    /// What the ten seats have put in over the hand.
+    /// Returns the chips that the ten seats have put in over the hand.
     #[tactic(auto, unfolding(crate::specs::Returns::hand_sums))]
     fn hand_sums(&self) -> [Paid; 10]
         ensures { result ≡ hand_sums self.now }
@@ -48,7 +48,7 @@ impl Replay {
         ]
     }
 
-    /// What they have put in live on the street.
+    /// Returns the chips that the ten seats have put in live on the street.
     #[tactic(auto, unfolding(crate::specs::Returns::street_sums))]
     fn street_sums(&self) -> [Paid; 10]
         ensures { result ≡ street_sums self.now }
@@ -67,7 +67,7 @@ impl Replay {
         ]
     }
 
-    /// Whether so many units of the seat may come back.
+    /// Returns whether `units` of the seat may be returned.
     #[tactic(auto, unfolding(crate::specs::Returns::return_fits))]
     pub(crate) fn return_fits(&self, seat: u8, units: u64) -> bool
         ensures { result ≡ return_fits self.now seat units }
@@ -76,7 +76,7 @@ impl Replay {
             || is_return(uncalled(&self.street_sums()), seat, units)
     }
 
-    /// How many units are uncalled over the whole hand.
+    /// Returns the number of units that are uncalled over the whole hand.
     pub(crate) fn uncalled_due(&self) -> u64
         ensures { result ≡ uncalled_due self.now }
     {

@@ -1,4 +1,4 @@
-//! What each seat has, and has done.
+//! The chips and cards of each seat, and the acts of its player.
 
 ghost use Rattle.std.specs.Prelude.{◌≡◌};
 ghost use Rattle.betting_replay.specs.Table.{no_seat};
@@ -8,43 +8,43 @@ use card_sets::{Card, CardSet};
 /// The chips of a seat, in units.
 #[derive(Clone, Copy)]
 pub struct Chips {
-    /// Whether its seat line stood.
+    /// Whether the hand has a seat line of the seat.
     pub seated: bool,
-    /// What is left before the player.
+    /// Chips left in front of the player.
     pub stack: u64,
-    /// What he has put in over the hand, antes and live chips, less returned ones.
+    /// Chips put in over the hand: antes and live chips, without returned chips.
     pub paid: u64,
-    /// What he has put in dead.
+    /// Dead chips put in.
     pub dead: u64,
-    /// What he has put in live on the street.
+    /// Live chips put in on the street.
     pub live: u64,
 }
 
-/// What the player of a seat has done.
+/// The acts of the player of a seat.
 #[derive(Clone, Copy)]
 pub struct Acts {
-    /// He has folded.
+    /// Whether the player has folded.
     pub folded: bool,
-    /// He has acted on the street.
+    /// Whether the player has acted on the street.
     pub acted: bool,
-    /// He has brought in on the street.
+    /// Whether the player has brought in on the street.
     pub brought_in: bool,
 }
 
-/// What was dealt to a seat.
+/// The cards dealt to a seat.
 #[derive(Clone, Copy)]
 pub struct Deals {
-    /// What was dealt to it on the first street, or before.
+    /// The cards dealt on the first street, or before it.
     pub first: CardSet,
-    /// What was dealt to it on 4th street.
+    /// The cards dealt on 4th street.
     pub fourth: CardSet,
-    /// What was dealt to it on 5th street.
+    /// The cards dealt on 5th street.
     pub fifth: CardSet,
-    /// What was dealt to it on 6th street.
+    /// The cards dealt on 6th street.
     pub sixth: CardSet,
-    /// The cards that were dealt alone. They lie face up.
+    /// The cards dealt alone, which are face up.
     pub up: CardSet,
-    /// Those that weren't drawn for others.
+    /// The cards that weren't drawn.
     pub given: CardSet,
     /// Whether three cards were dealt at once: two face down and one face up.
     pub down: bool,
@@ -53,59 +53,60 @@ pub struct Deals {
 /// How the player of a seat drew.
 #[derive(Clone, Copy)]
 pub struct SeatDraws {
-    /// He discarded cards that weren't shown.
+    /// Whether the player discarded cards that weren't shown.
     pub hidden: bool,
-    /// He stood pat.
+    /// Whether the player stood pat.
     pub pat: bool,
-    /// He discarded five at once.
+    /// Whether the player discarded five cards at once.
     pub five: bool,
 }
 
 /// How the player of a seat drew on the last of several draws.
 #[derive(Clone, Copy)]
 pub struct LastDraw {
-    /// What he held by the text when it began.
+    /// The cards that the player held by the text when the last draw began.
     pub held: CardSet,
-    /// He discarded cards before it that weren't shown.
+    /// Whether the player discarded cards before the last draw that weren't shown.
     pub hidden_before: bool,
-    /// What he threw away face up on it.
+    /// The cards that the player discarded face up on the last draw.
     pub thrown: CardSet,
-    /// He discarded cards on it that weren't shown.
+    /// Whether the player discarded cards on the last draw that weren't shown.
     pub hidden: bool,
-    /// He stood pat on it.
+    /// Whether the player stood pat on the last draw.
     pub pat: bool,
-    /// He discarded five at once on it.
+    /// Whether the player discarded five cards at once on the last draw.
     pub five: bool,
 }
 
-/// What a seat has, and what its player has done.
+/// The state of a seat.
 #[derive(Clone, Copy)]
 pub struct SeatState {
-    /// Its chips, in units.
+    /// The chips of the seat, in units.
     pub chips: Chips,
-    /// What its player has done.
+    /// The acts of its player.
     pub acts: Acts,
-    /// The cards that belong to it. Those of number 0 are the board's, the first one's where there are two.
+    /// The cards that belong to the seat. Those of number 0 are the board's, or the first board's if there
+    /// are two.
     pub own: CardSet,
-    /// All cards that were dealt to it.
+    /// All cards dealt to the seat.
     pub dealt: CardSet,
-    /// What it holds by the text: what was dealt to it and it hasn't thrown away face up since.
+    /// The cards that the seat holds by the text: those dealt to it, without later discards face up.
     pub held: CardSet,
-    /// The last whole hand that its player showed, or that the summary gives. None before one, and again
-    /// after a discard.
+    /// The last whole hand that the player showed, or that the summary gives. `None` before there is one,
+    /// and again after a discard.
     pub shown: Option<CardSet>,
-    /// What was dealt to it, street by street.
+    /// The cards dealt to the seat, street by street.
     pub deals: Deals,
-    /// The last bracket of seven cards that its player showed, or that the summary gives, in its order.
+    /// The last bracket of seven cards that the player showed, or that the summary gives, in its order.
     pub seven_shown: Option<[Card; 7]>,
-    /// How its player drew.
+    /// How the player drew.
     pub draws: SeatDraws,
-    /// How he drew on the last of several draws.
+    /// How the player drew on the last of several draws.
     pub last_draw: LastDraw,
 }
 
 impl SeatState {
-    /// Before any event.
+    /// Returns the state of a seat before any event.
     pub(crate) fn new() -> SeatState
         ensures { result ≡ no_seat }
     {

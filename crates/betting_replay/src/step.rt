@@ -1,4 +1,4 @@
-//! The replay goes on by one event.
+//! A step of a replay: one event.
 
 ghost use Rattle.std.specs.Prelude.{◌≡◌, ℕ, [], ◌∷◌, List, None, OnOk, OnErr, ◌<◌, ◌≤◌};
 ghost use Rattle.hand_events.specs.declared.events.Event.{Event};
@@ -19,7 +19,7 @@ use crate::seats::SeatState;
 use card_sets::{CardSet, PlayerSet};
 use hand_events::{BetFault, Event, Header};
 
-/// The seat of the button after an event, where it was at another before.
+/// Returns the seat of the button after an event, given the seat before it.
 fn button_after(e: &Event, before: u8) -> u8
     requires seat { SeatFits e.now }
     requires few { before ≤ 10 }
@@ -32,7 +32,7 @@ fn button_after(e: &Event, before: u8) -> u8
     }
 }
 
-/// Whether an event may give a card a place or take one, or says how a player draws.
+/// Returns whether an event may give a card a place, take one away, or say how a player draws.
 fn moves_cards(e: &Event) -> bool
     ensures { result ≡ moves_cards e.now }
 {
@@ -49,7 +49,8 @@ fn moves_cards(e: &Event) -> bool
 }
 
 impl Replay {
-    /// Before the first event of a hand with this header and these players: bit s for seat s.
+    /// Creates the replay of a hand before its first event. Bit s of `players` is set if seat s
+    /// plays.
     pub fn new(header: &Header, players: u16) -> Replay
         ensures { StandsFor result header.now players [] }
     {
@@ -67,7 +68,7 @@ impl Replay {
         }
     }
 
-    /// The event counts for the chips and acts of its seat.
+    /// Applies the event to the chips and acts of its seat.
     #[tactic(auto, unfolding(crate::specs::Counting::paid_after))]
     fn count_chips(&mut self, e: &Event)
         requires seat { SeatFits e.now }
@@ -81,7 +82,7 @@ impl Replay {
         pay_seat(big, posted, e, &mut self.seats[place]);
     }
 
-    /// The event counts for the cards of its seat, and for those that lie open.
+    /// Applies the event to the cards of its seat, and to the open cards.
     #[tactic(auto, unfolding(crate::specs::Counting::dealt_after))]
     fn count_cards(&mut self, e: &Event)
         requires { SeatFits e.now }
@@ -99,7 +100,7 @@ impl Replay {
         self.second_board = second_after(e, self.second_board);
     }
 
-    /// The event counts for the button and the course of the hand.
+    /// Applies the event to the button and the course of the hand.
     #[tactic(auto, unfolding(crate::specs::Counting::noted_after))]
     fn note(&mut self, e: &Event)
         requires { SeatFits e.now }
@@ -109,7 +110,7 @@ impl Replay {
         note_course(e, &mut self.course);
     }
 
-    /// The event, which passed each test, counts. Cards are looked at only where it moves some.
+    /// Applies an event that passed each test. Cards are examined only if the event moves some.
     #[tactic(auto, unfolding(crate::specs::Counting::counted))]
     fn count(&mut self, e: &Event)
         requires seat { SeatFits e.now }
@@ -124,9 +125,9 @@ impl Replay {
         self.note(e);
     }
 
-    /// Goes on by an event where it may follow those before it, and else answers the first rule that
-    /// it breaks, and changes nothing. Seats of the event are 1 to 10, and its amounts below 10^15
-    /// units; of all else the rules are the judge.
+    /// Applies the event if the rules allow it. Otherwise returns the first rule that the event
+    /// breaks and leaves the replay unchanged. Seats of the event are 1 to 10, and its amounts are
+    /// below 10^15 units. The rules judge everything else.
     pub fn step(&mut self, e: &Event) -> Result<(), BetFault>
         requires seats { SeatFits e.now }
         requires amounts { AmountsFit e.now }

@@ -1,4 +1,4 @@
-//! The streets: which may come when, and what begins with one.
+//! The streets: which street may come next, and what changes when one begins.
 
 ghost use Rattle.std.specs.Prelude.{◌≡◌, ℕ, Option, Some, ◌<◌, ◌≤◌};
 ghost use Rattle.betting_replay.specs.Events.{SeatFits};
@@ -16,7 +16,7 @@ use crate::replay::Replay;
 use card_sets::Game;
 use hand_events::{BetFault, BoardNumber, Event, Street};
 
-/// The street that the first discard or stand-pat begins, in a game with one draw.
+/// Returns the street that the first discard or stand-pat begins, in a game with one draw.
 fn begun_by_drawing(game: Game, street: Option<Street>) -> Option<Street>
     ensures { result ≡ begun_by_drawing game street }
 {
@@ -27,7 +27,7 @@ fn begun_by_drawing(game: Game, street: Option<Street>) -> Option<Street>
     }
 }
 
-/// Whether a street is the one that comes next, or that the hand is on.
+/// Returns whether a street is the next one, or the street of the hand.
 pub(crate) fn same_street(street: Street, next: Option<Street>) -> bool
     ensures { result ≡ same_street street next }
 {
@@ -37,7 +37,7 @@ pub(crate) fn same_street(street: Street, next: Option<Street>) -> bool
     }
 }
 
-/// Whether the hand is on a street on which there is a draw.
+/// Returns whether the hand is on a street with a draw.
 fn is_drawing(street: Option<Street>) -> bool
     ensures { result ≡ is_drawing street }
 {
@@ -47,28 +47,28 @@ fn is_drawing(street: Option<Street>) -> bool
     }
 }
 
-/// Whether a street has betting and isn't the first.
+/// Returns whether a street has betting and isn't the first.
 fn is_later(street: Street) -> bool
     ensures { result ≡ is_later street }
 {
     !matches!(street, Street::First | Street::ShowDown | Street::Summary)
 }
 
-/// Whether a street is a showdown or the summary.
+/// Returns whether a street is a showdown or the summary.
 fn is_end(street: Street) -> bool
     ensures { result ≡ is_end street }
 {
     matches!(street, Street::ShowDown | Street::Summary)
 }
 
-/// Whether two markers are of the same board.
+/// Returns whether two markers are of the same board.
 fn is_number(number: BoardNumber, other: BoardNumber) -> bool
     ensures { result ≡ is_number number other }
 {
     number == other
 }
 
-/// The street that an event begins on a board.
+/// Returns the street that an event begins on a board.
 pub(crate) fn begins_on(number: BoardNumber, e: &Event) -> Option<Street>
     ensures { result ≡ begins_on number e.now }
 {
@@ -84,7 +84,7 @@ pub(crate) fn begins_on(number: BoardNumber, e: &Event) -> Option<Street>
     }
 }
 
-/// Whether an event is a showdown's marker of a board.
+/// Returns whether an event is a showdown marker of a board.
 pub(crate) fn shows_on(number: BoardNumber, e: &Event) -> bool
     ensures { result ≡ shows_on number e.now }
 {
@@ -96,7 +96,7 @@ pub(crate) fn shows_on(number: BoardNumber, e: &Event) -> bool
     }
 }
 
-/// Whether a street that the hand may have come to is the last.
+/// Returns whether the hand is on the last street of the game.
 fn is_last_of(game: Game, street: Option<Street>) -> bool
     ensures { result ≡ is_last_of game street }
 {
@@ -106,7 +106,7 @@ fn is_last_of(game: Game, street: Option<Street>) -> bool
     }
 }
 
-/// The street that comes next on the only board, where this comes next in the game.
+/// Returns the next street on the only board, given the next street of the game.
 fn next_only(twice: Option<Street>, next: Option<Street>) -> Option<Street>
     ensures { result ≡ next_only twice next }
 {
@@ -116,7 +116,8 @@ fn next_only(twice: Option<Street>, next: Option<Street>) -> Option<Street>
     }
 }
 
-/// The street that comes next on the first of two boards, which may be the next where none has two yet.
+/// Returns the next street on the first of two boards. If there aren't two boards yet, they may begin
+/// with this street.
 fn next_first(
     may: bool,
     twice: Option<Street>,
@@ -132,8 +133,8 @@ fn next_first(
     }
 }
 
-/// The street that comes next on the second board: after the last street of the first board the one from
-/// which on there are two.
+/// Returns the next street on the second board. After the last street of the first board it is the street
+/// from which on there are two.
 fn next_second(
     twice: Option<Street>,
     marker: BoardNumber,
@@ -150,7 +151,7 @@ fn next_second(
     }
 }
 
-/// The street that an event begins.
+/// Returns the street that an event begins.
 fn begins(game: Game, street: Option<Street>, e: &Event) -> Option<Street>
     ensures { result ≡ begins game street e.now }
 {
@@ -161,7 +162,7 @@ fn begins(game: Game, street: Option<Street>, e: &Event) -> Option<Street>
     }
 }
 
-/// Whether an event is a marker of a second board.
+/// Returns whether an event is a marker of a second board.
 fn is_of_second(e: &Event) -> bool
     ensures { result ≡ is_of_second e.now }
 {
@@ -171,7 +172,7 @@ fn is_of_second(e: &Event) -> bool
     }
 }
 
-/// A street that has betting and isn't the first.
+/// Returns a street that has betting and isn't the first.
 fn if_later(street: Option<Street>) -> Option<Street>
     ensures { result ≡ if_later street }
 {
@@ -181,7 +182,7 @@ fn if_later(street: Option<Street>) -> Option<Street>
     }
 }
 
-/// The street after the first that an event begins, of two boards on the first.
+/// Returns the street after the first that an event begins, on the first board if there are two.
 fn later_by(game: Game, street: Option<Street>, e: &Event) -> Option<Street>
     ensures { result ≡ later_by game street e.now }
 {
@@ -193,8 +194,8 @@ fn later_by(game: Game, street: Option<Street>, e: &Event) -> Option<Street>
 }
 
 impl Replay {
-    /// The street after the first that an event would begin after the all-in point, with no showdown's
-    /// marker before it. None where the event is a marker of a second board.
+    /// Returns the street after the first that an event would begin after the all-in point, with no
+    /// showdown marker before it. `None` if the event is a marker of a second board.
     pub fn later_begun(&self, e: &Event) -> Option<Street>
         ensures { result ≡ later_begun self.now e.now }
     {
@@ -205,7 +206,7 @@ impl Replay {
         }
     }
 
-    /// Live sums, acts and turns begin anew.
+    /// Resets live sums, acts, and turns.
     fn clear(&mut self)
         ensures { self.new ≡ cleared self.old }
     {
@@ -213,7 +214,7 @@ impl Replay {
         self.course.last_actor = None;
     }
 
-    /// A street begins.
+    /// Begins a street.
     fn begin(&mut self, street: Street)
         ensures { self.new ≡ begun_with (Some street) self.old }
     {
@@ -226,7 +227,7 @@ impl Replay {
         }
     }
 
-    /// The street of the event begins, if it begins one.
+    /// Begins the street of the event, if it begins one.
     #[tactic(auto, unfolding(crate::specs::Counting::begun))]
     pub(crate) fn begin_with(&mut self, e: &Event)
         ensures { self.new ≡ begun self.old e.now }
@@ -236,7 +237,7 @@ impl Replay {
         }
     }
 
-    /// Whether the last street has begun, before an event or with it.
+    /// Returns whether the last street has begun, before the event or with it.
     pub(crate) fn begins_last(&self, e: &Event) -> bool
         ensures { result ≡ begins_last self.now e.now }
     {
@@ -244,7 +245,7 @@ impl Replay {
         is_last_of(game, begins(game, self.course.street, e)) || self.course.last_begun
     }
 
-    /// Nobody owes an act.
+    /// Returns a fault if somebody owes an act.
     fn all_acted(&self) -> Result<(), BetFault>
         ensures { result ≡ verdict (fault_with StreetEarly (next_to_act self.now)) }
     {
@@ -254,7 +255,7 @@ impl Replay {
         }
     }
 
-    /// No street ends while somebody owes an act.
+    /// Returns `StreetEarly` if the event ends a street while somebody owes an act.
     #[tactic(auto, unfolding(crate::specs::Faults::street_early))]
     pub(crate) fn street_in_time(&self, e: &Event) -> Result<(), BetFault>
         ensures { result ≡ verdict (street_early self.now e.now) }
@@ -274,8 +275,8 @@ impl Replay {
         }
     }
 
-    /// Whether the hand may be run twice from the next street on: it has a board, and at most one player
-    /// has chips left.
+    /// Returns whether the hand may be run twice from the next street on: it has a board, and at most one
+    /// player has chips left.
     #[tactic(auto, unfolding(crate::specs::Faults::may_part))]
     fn may_part(&self) -> bool
         ensures { result ≡ may_part self.now }
@@ -283,7 +284,7 @@ impl Replay {
         self.header.game.has_board() && self.course.opened && self.few_funded()
     }
 
-    /// The street that comes next on a board.
+    /// Returns the next street on a board.
     fn next_on(&self, board: BoardNumber) -> Option<Street>
         ensures { result ≡ next_on self.now board }
     {
@@ -303,7 +304,7 @@ impl Replay {
         }
     }
 
-    /// Whether the last street has begun, on both boards where there are two.
+    /// Returns whether the last street has begun, on both boards if there are two.
     fn all_begun(&self) -> bool
         ensures { result ≡ all_begun self.now }
     {
@@ -312,15 +313,15 @@ impl Replay {
                 || is_last_of(self.header.game, self.course.second_street))
     }
 
-    /// Whether the hand may end: all streets have begun, or one player is left.
+    /// Returns whether the hand may end: all streets have begun, or one player is left.
     fn may_end(&self) -> bool
         ensures { result ≡ may_end self.now }
     {
         self.all_begun() || !self.two_contend()
     }
 
-    /// Whether a showdown's marker comes in its order: once, and of two boards only in a hand that is run
-    /// twice, that of the second after one of the others.
+    /// Returns whether a showdown marker is in order. Each comes once. Those of two boards come only in a
+    /// hand that is run twice, and that of the second board after another one.
     fn shows_next(&self, board: BoardNumber) -> bool
         ensures { result ≡ shows_next self.now board }
     {
@@ -335,7 +336,7 @@ impl Replay {
         }
     }
 
-    /// Whether a marker may stand.
+    /// Returns whether a marker is allowed.
     fn marker_stands(&self, board: BoardNumber, street: Street) -> bool
         ensures { result ≡ marker_stands self.now board street }
     {
@@ -346,7 +347,7 @@ impl Replay {
         }
     }
 
-    /// Whether a discard or a stand-pat may stand.
+    /// Returns whether a discard or a stand-pat is allowed.
     fn draw_stands(&self) -> bool
         ensures { result ≡ draw_stands self.now }
     {
@@ -355,7 +356,7 @@ impl Replay {
                 && self.two_contend()
     }
 
-    /// The streets come in their order.
+    /// Returns `StreetOrder` if a marker, a discard, or a stand-pat is out of order.
     #[tactic(auto, unfolding(crate::specs::Faults::street_order))]
     pub(crate) fn street_in_order(&self, e: &Event) -> Result<(), BetFault>
         ensures { result ≡ verdict (street_order self.now e.now) }

@@ -1,4 +1,4 @@
-//! Who owes an act, who may act, and whose turn it is.
+//! The turns: who owes an act, who may act, and who is next.
 
 ghost use Rattle.std.specs.Prelude.{◌≡◌, ℕ, ◌+◌, ◌-◌, ◌<◌, ◌≤◌, ◌&&◌, nat_le, nat_lt, true, false, None, IfSome, IsNone};
 ghost use Rattle.card_sets.specs.PlayerSets.{has_player};
@@ -10,7 +10,7 @@ use crate::replay::Replay;
 use card_sets::PlayerSet;
 
 impl Replay {
-    /// What a seat has put in live on the street.
+    /// Returns the live chips that a seat has put in on the street.
     pub(crate) fn live(&self, seat: u8) -> u64
         requires { seat < 11 }
         ensures { result ≡ live_at self.now seat }
@@ -18,7 +18,7 @@ impl Replay {
         self.seats[seat as usize].chips.live
     }
 
-    /// The greatest that any seat has put in live on the street.
+    /// Returns the greatest live sum of a seat on the street.
     #[tactic(auto, unfolding(crate::specs::Turns::greatest))]
     pub(crate) fn greatest(&self) -> u64
         ensures { result ≡ greatest self.now }
@@ -30,7 +30,7 @@ impl Replay {
         greatest
     }
 
-    /// Whether the seat's player has not folded.
+    /// Returns whether the seat's player has not folded.
     #[tactic(auto, unfolding(crate::specs::Turns::is_contender))]
     pub(crate) fn is_contender(&self, seat: u8) -> bool
         requires { seat < 11 }
@@ -39,7 +39,7 @@ impl Replay {
         self.is_player(seat) && !self.seats[seat as usize].acts.folded
     }
 
-    /// The players who have not folded.
+    /// Returns the players who have not folded.
     pub(crate) fn contender_set(&self) -> PlayerSet
         ensures { result ≡ contenders self.now }
     {
@@ -53,7 +53,7 @@ impl Replay {
         set
     }
 
-    /// Whether two players or more have not folded. The second one ends the search.
+    /// Returns whether two or more players haven't folded. The search ends at the second one.
     pub(crate) fn two_contend(&self) -> bool
         ensures { result ≡ nat_le 2 (contender_count self.now) }
     {
@@ -70,7 +70,7 @@ impl Replay {
         false
     }
 
-    /// Whether the seat has chips left.
+    /// Returns whether the seat has chips left.
     pub(crate) fn has_chips(&self, seat: u8) -> bool
         requires { seat < 11 }
         ensures { result ≡ has_chips self.now seat }
@@ -78,7 +78,7 @@ impl Replay {
         self.seats[seat as usize].chips.stack > 0
     }
 
-    /// Whether the seat's player has not folded and has chips left.
+    /// Returns whether the seat's player has not folded and has chips left.
     pub(crate) fn is_funded(&self, seat: u8) -> bool
         requires { seat < 11 }
         ensures { result ≡ (is_contender self.now seat && has_chips self.now seat) }
@@ -86,7 +86,7 @@ impl Replay {
         self.is_contender(seat) && self.has_chips(seat)
     }
 
-    /// Whether a showdown's marker stood, of whichever board.
+    /// Returns whether there was a showdown marker of any board.
     pub(crate) fn any_shown(&self) -> bool
         ensures { result ≡ any_shown self.now.course.showdowns }
     {
@@ -94,14 +94,14 @@ impl Replay {
         shown.plain || shown.first || shown.second
     }
 
-    /// Whether betting is open.
+    /// Returns whether betting is open.
     pub(crate) fn is_open(&self) -> bool
         ensures { result ≡ is_open self.now }
     {
         self.course.opened && !self.any_shown()
     }
 
-    /// Whether another contender has chips left. The first one ends the search.
+    /// Returns whether another contender has chips left. The search ends at the first one.
     fn has_rival(&self, seat: u8) -> bool
         ensures { result ≡ nat_lt 0 (rivals self.now seat) }
     {
@@ -113,7 +113,7 @@ impl Replay {
         false
     }
 
-    /// Whether the seat is below the greatest, which is given, or has a rival and has neither acted nor
+    /// Returns whether the seat is below the greatest live sum, or has a rival and has neither acted nor
     /// brought in.
     #[tactic(auto, unfolding(crate::specs::Turns::is_pending))]
     fn is_pending(&self, seat: u8, most: u64) -> bool
@@ -125,14 +125,14 @@ impl Replay {
         self.live(seat) < most || !acts.acted && !acts.brought_in && self.has_rival(seat)
     }
 
-    /// Whether anybody may owe an act: betting is open, and two are in the hand.
+    /// Returns whether a player may owe an act: betting is open, and two players are in the hand.
     fn is_played(&self) -> bool
         ensures { result ≡ is_played self.now }
     {
         self.is_open() && self.two_contend()
     }
 
-    /// Whether the seat owes an act, where anybody may; the greatest is given.
+    /// Returns whether the seat owes an act, given that a player may, and given the greatest live sum.
     #[tactic(auto, unfolding(crate::specs::Turns::owes))]
     fn is_owing(&self, seat: u8, most: u64) -> bool
         requires few { seat < 11 }
@@ -143,7 +143,7 @@ impl Replay {
         self.is_contender(seat) && self.has_chips(seat) && self.is_pending(seat, most)
     }
 
-    /// Whether the seat owes an act.
+    /// Returns whether the seat owes an act.
     #[tactic(auto, unfolding(crate::specs::Turns::owes))]
     fn owes_act(&self, seat: u8) -> bool
         requires { seat < 11 }
@@ -152,7 +152,7 @@ impl Replay {
         self.is_played() && self.is_owing(seat, self.greatest())
     }
 
-    /// Whether the seat may act. Most haven't acted on the street, so that is looked at first.
+    /// Returns whether the seat may act. Most seats haven't acted on the street, so this is tested first.
     #[tactic(auto, unfolding(crate::specs::Turns::may_act))]
     pub(crate) fn may_act(&self, seat: u8) -> bool
         requires { seat < 11 }
@@ -164,7 +164,8 @@ impl Replay {
             && (!self.seats[seat as usize].acts.acted || self.owes_act(seat))
     }
 
-    /// Whether one of the seats from one on, and below an end, has not folded and has chips left. Nobody else owes an act.
+    /// Returns whether a player in a range of seats has chips left and hasn't folded. Nobody else owes an
+    /// act.
     fn any_funded(&self, from: u8, end: u8) -> bool
         requires order { from ≤ end }
         requires few { end ≤ 11 }
@@ -178,8 +179,8 @@ impl Replay {
         false
     }
 
-    /// The first seat from one on, and below an end, that owes an act. Mostly there is none between two actors, so who
-    /// might is looked at first.
+    /// Returns the first seat in a range that owes an act. Most often there is none between two actors, so
+    /// the seats that might are tested first.
     fn first_owing(&self, from: u8, end: u8) -> Option<u8>
         requires order { from ≤ end }
         requires few { end ≤ 11 }
@@ -200,7 +201,7 @@ impl Replay {
         None
     }
 
-    /// The first who owes an act strictly between two seats, around the table.
+    /// Returns the first seat that owes an act strictly between two seats, around the table.
     fn owes_between(&self, from: u8, to: u8) -> Option<u8>
         requires from { from ≤ 10 }
         requires some { 1 ≤ to }
@@ -213,7 +214,7 @@ impl Replay {
         self.first_owing(from + 1, 11).or(self.first_owing(1, to))
     }
 
-    /// The first who owes an act strictly between the last actor and the seat.
+    /// Returns the first seat that owes an act strictly between the last actor and the seat.
     pub(crate) fn owes_before(&self, seat: u8) -> Option<u8>
         requires some { 1 ≤ seat }
         requires few { seat ≤ 10 }
@@ -222,8 +223,8 @@ impl Replay {
         self.owes_between(self.course.last_actor?, seat)
     }
 
-    /// The first who owes an act after the last actor, or from seat 1 where nobody has acted. None
-    /// exactly where nobody owes one.
+    /// Returns the first seat that owes an act after the last actor, or from seat 1 on if nobody has
+    /// acted. `None` exactly if nobody owes one.
     pub fn owes(&self) -> Option<u8>
         ensures value { result ≡ next_to_act self.now }
         ensures nobody { IsNone result → (p : ℕ) → 1 ≤ p → p ≤ 10 → owes self.now p ≡ false }
