@@ -9,13 +9,13 @@ use std::process::ExitCode;
 use std::{env, io};
 use steal_pool::OpenGate;
 
-/// The status where memory is refused while the words are taken.
+/// The status if memory is refused while the words are read.
 const NO_MEMORY: u8 = 6;
 
-/// The status where the words can't be taken for another cause, as a word that isn't UTF-8.
+/// The status if the words can't be read for another reason, such as a word that isn't UTF-8.
 const NO_WORDS: u8 = 7;
 
-/// The words of the command line, without the program's name.
+/// Returns the words of the command line, without the program's name.
 fn words_of(rt: &HostRuntime) -> io::Result<Vec<String>> {
     let mut words = Vec::new(rt.alloc());
     for word in env::args(rt)?.skip(1) {

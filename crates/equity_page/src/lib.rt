@@ -1,8 +1,9 @@
-//! The program for a host that isn't Rattle, such as a page in a browser: one call over bytes in memory.
+//! The program for a host that isn't written in Rattle, such as a page in a browser: one call over bytes
+//! in memory.
 //!
-//! It is a static library, so nothing of Rattle stands above it. The host lends the bytes of the mode, of the form and of the input,
-//! and room for the report and its length, none of which overlap; that it does is the host's to see to. The run is that of
-//! `run_page`: no thread is started, and of C only the heap is called.
+//! It is a static library, and no Rattle code calls it. The host passes the bytes of the mode, the form,
+//! and the input, and a buffer for the report and its length. The host must see that these don't overlap.
+//! The run is that of `run_page`: it starts no thread, and of C it calls only the heap.
 #![tactic(auto)]
 
 ghost use Rattle.std.specs.Prelude.{◌≡◌, ◌<◌, ◌≤◌, ◌↔◌, IsUtf8};
@@ -11,9 +12,10 @@ ghost use Rattle.run_engine.specs.Page.{IsPageRun};
 use run_engine::{INPUT_MAX, run_page};
 use std::alloc::Global;
 
-/// Runs the command `MODE --format FORM` over the input, puts the report into the front of the room and its length into
-/// `written`, and returns the status of the run. 4 says that the room is full and more was due. 7 says that the mode or the form
-/// isn't UTF-8, and 8 that memory was refused before the run. Under 7 and 8 the room and `written` stay as they were.
+/// Runs the command `MODE --format FORM` over the input, writes the report to the beginning of the buffer
+/// and its length into `written`, and returns the status of the run. 4 means that the buffer is full and
+/// the report is longer. 7 means that the mode or the form isn't UTF-8, and 8 that memory was refused
+/// before the run. With 7 and 8 the buffer and `written` are unchanged.
 #[unsafe(no_mangle)]
 pub extern "C" fn equity_page_run(
     alloc: Global,

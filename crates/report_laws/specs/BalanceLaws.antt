@@ -1,4 +1,4 @@
--- What the balance of a run says of its hands, and what it comes to, of hands that are those of some lines.
+-- What the balance of a run says about its hands, and what it adds up to if the hands are those of some lines.
 use Rattle.std.specs.Prelude.{◌≡◌, ℕ, ◌+◌, ◌==◌, Bool, false, if◌then◌else◌, List, Some, count_by, filter}
 use Rattle.std.specs.Bool.{beq}
 use Rattle.std.specs.List.{IsDistinct, sum_by}
@@ -14,7 +14,7 @@ use Rattle.even_luck.specs.Seats.{Seated}
 use Rattle.player_totals.specs.Totals.{Player, playing}
 use Rattle.player_totals.specs.declared.balance_sums.BalanceSums.{BalanceSums}
 
--- a hand in which no line departs and that counts in a unit: hundredths, or else chips
+-- a hand without a rejected line that counts in a unit: hundredths, or chips
 abbrev pub counts_in : Bool → HandAudit → Bool
 counts_in hundredths (Rejected line cause unit) = false
 counts_in hundredths (Accepted s all_in names players) = beq hundredths s.hundredths
@@ -23,7 +23,7 @@ counts_in hundredths (Accepted s all_in names players) = beq hundredths s.hundre
 abbrev pub hands_of_unit : Bool → List AuditedChips → List AuditedChips
 hands_of_unit hundredths hands = filter (λ hand. counts_in hundredths hand.audit) hands
 
--- the stated rake of a hand; one with a line that departs has none
+-- the stated rake of a hand, or 0 if a line of the hand is rejected
 abbrev pub rake_of : HandAudit → ℕ
 rake_of (Rejected line cause unit) = 0
 rake_of (Accepted s all_in names players) = s.rake
@@ -33,12 +33,13 @@ abbrev pub rakes_in : Bool → List AuditedChips → ℕ
 rakes_in hundredths hands =
     sum_by (λ hand. if counts_in hundredths hand.audit then rake_of hand.audit else 0) hands
 
--- what the rows of a unit have together of something, as of what was put in
+-- the sum of a figure, such as the chips put in, over the rows of a unit
 abbrev pub rows_have : Bool → (BalanceSums → ℕ) → List (Player × BalanceSums) → ℕ
 rows_have hundredths figure rows =
     sum_by (λ row. if beq row.0.hundredths hundredths then figure row.1 else 0) rows
 
--- the names are those of the players of a hand, as many of each seat as it stands among them, one or none; and no two are the same
+-- the names are those of the players of a hand: one for each seat of a player and none for the others, and no two are
+-- the same
 pub record AreNamed (names : Seated) (players : ℕ) : Type 0 where
   pub each : (seat : ℕ) → count_by (λ who. who.0 == seat) (playing names players) ≡ count_by (λ p. p == seat) (seats_in players)
   pub apart : IsDistinct (λ a b. bytes_eq a.1 b.1) (playing names players)
@@ -47,7 +48,7 @@ abbrev pub HasNames : HandAudit → Type 0
 HasNames (Rejected line cause unit) = Unit {0}
 HasNames (Accepted s all_in names players) = AreNamed names players
 
--- a hand is that of some lines, and each of its players has a name of his own
+-- a hand is that of some lines, and each of its players has a name of their own
 pub record IsAudited (hand : AuditedChips) : Type 0 where
   pub number : ℕ
   pub lines : List (List ℕ)
@@ -55,7 +56,8 @@ pub record IsAudited (hand : AuditedChips) : Type 0 where
   pub chips : hand.chips ≡ chips_of hand.audit lines
   pub named : HasNames hand.audit
 
--- the rows of a unit put in together what they got and the rakes of its hands: their nets add up to minus the rakes
+-- the rows of a unit together put in what they received plus the rakes of its hands, so their nets add up to minus the
+-- rakes
 abbrev pub LosesRakes : List AuditedChips → Type 0
 LosesRakes hands = (hundredths : Bool)
     → rows_have hundredths (λ sums. sums.put) (balance_of hands).players

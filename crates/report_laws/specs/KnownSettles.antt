@@ -1,4 +1,4 @@
--- What a settlement says of what isn't known.
+-- What a settlement says if the winners of a pot aren't known.
 use Rattle.std.specs.Prelude.{◌≡◌, ℕ, Bool, false, List, Option}
 use Rattle.even_luck.specs.Seats.{Seated}
 use Rattle.hand_verdict.specs.declared.parts.PartShare.{PartShare}
@@ -11,8 +11,8 @@ use Rattle.hand_blocks.specs.Hands.{paid_lines, verdict_block}
 use Rattle.hand_blocks.specs.Settles.{given_lines, settle_block}
 use Rattle.report_sheet.specs.declared.form.Form.{Form}
 
--- of a pot of which it isn't known who wins it a settlement says what the verdict says: who got what. Of a hand whose collections
--- don't fit the pots it is the verdict
+-- for a pot whose winners aren't known, a settlement says what the verdict says: who received what; for a hand whose
+-- collections don't fit the pots, the settlement is the verdict
 pub record SettlesWhatIsKnown : Type 0 where
   pub unseen : (form : Form) (hundredths : Bool) (names : Seated) (k : ℕ) (payments : List Payment)
       → given_lines form hundredths names k false payments ≡ paid_lines form hundredths names false payments

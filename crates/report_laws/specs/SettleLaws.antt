@@ -1,4 +1,4 @@
--- What the lines of a settlement come to.
+-- What the lines of a settlement add up to.
 use Rattle.std.specs.Prelude.{◌≡◌, ℕ, ◌==◌, ◌&&◌, not, if◌then◌else◌, Bool, List, [], filter, sum_by}
 use Rattle.std.specs.List.{flat_map, list_any}
 use Rattle.card_sets.specs.PlayerSets.{seats_in}
@@ -9,8 +9,8 @@ use Rattle.report_sheet.specs.Lines.{line_in}
 use Rattle.hand_blocks.specs.Settles.{are_checked, settle_line, settle_lines}
 use Rattle.report_sheet.specs.declared.form.Form.{Form}
 
--- the players who are still to get something, or to give it back, by rising seat: where it is known who wins each pot, those
--- whose dues of all pots aren't together what they got
+-- the players who must still receive something or give it back, by rising seat: if the winners of each pot are known,
+-- those whose dues over all pots differ from what they received
 abbrev pub to_settle : Settlement → ℕ → List ℕ
 to_settle s players =
     if are_checked s.pots
@@ -20,8 +20,9 @@ to_settle s players =
 abbrev pub is_one_of : List ℕ → ℕ → Bool
 is_one_of seats seat = list_any (λ p. p == seat) seats
 
--- a settlement has a line for each of them and no other; a player is one of them exactly where it is known who wins each pot, and what
--- he is due isn't what he got; and what they are due is together what they got, so that the lines add up to nothing
+-- a settlement has a line for each of these players and no other; a player is one of them exactly if the winners of
+-- each pot are known and the player's dues differ from what they received; together their dues equal what they
+-- received, so the lines add up to 0
 pub record SettlesUp (s : Settlement) (players : ℕ) : Type 0 where
   pub lines : (form : Form) (names : Seated) → settle_lines form s names players
       ≡ flat_map (λ seat. line_in form

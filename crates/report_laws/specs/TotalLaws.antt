@@ -1,4 +1,4 @@
--- What the totals say of all-ins.
+-- What the totals say about all-ins.
 use Rattle.std.specs.Prelude.{◌≡◌, ℕ, ◌+◌, if◌then◌else◌, List}
 use Rattle.std.specs.Bool.{beq}
 use Rattle.std.specs.List.{sum_by}
@@ -17,8 +17,8 @@ use Rattle.report_laws.specs.ExpectLaws.{got_of_all}
 use Rattle.showdown_tally.specs.Deals.{deal_of}
 use Rattle.showdown_tally.specs.Showdown.{Showdown}
 
--- a number of a seat in an all-in, by the hand of the table that the seat has: nothing if the all-in isn't counted, or the seat
--- isn't a contender
+-- a number of a seat in an all-in, by the seat's hand of the table: 0 if the all-in isn't counted, or the seat isn't a
+-- contender
 abbrev pub of_contender : (Settlement → Showdown → ℕ → ℕ → ℕ) → Settlement → AllIn → ℕ → ℕ
 of_contender number s NoAllIn seat = 0
 of_contender number s Unknown seat = 0
@@ -26,8 +26,8 @@ of_contender number s (Known street seats table) seat =
     if is_counted (deal_of table)
     then option_map_or (number s (deal_of table) seat) (hand_at seats (deal_of table) seat) 0 else 0
 
--- the number of a player in the all-in of a hand: nothing of a hand with a line that departs, of one of the other unit, and of one
--- that the player doesn't play
+-- the number of a player in the all-in of a hand: 0 if a line of the hand is rejected, if the hand counts in the other
+-- unit, or if the player isn't one of its players
 abbrev pub of_all_in : (Settlement → Showdown → ℕ → ℕ → ℕ) → HandAudit → Player → ℕ
 of_all_in number (Rejected line cause unit) player = 0
 of_all_in number (Accepted s all_in names players) player =
@@ -35,7 +35,8 @@ of_all_in number (Accepted s all_in names players) player =
     then option_map_or (of_contender number s all_in) (seat_named player.name (playing names players)) 0
     else 0
 
--- one all-in; what the seat got out of the pots, or of a hand whose collections don't fit them; and what its hand could expect
+-- one all-in; what the seat received from the pots, or in a hand whose collections don't fit them; and the expectation
+-- of its hand
 abbrev pub one_all_in : Settlement → Showdown → ℕ → ℕ → ℕ
 one_all_in s deal seat hand = 1
 
@@ -45,8 +46,8 @@ got_in_all_in s deal seat hand = got_of_all s.pots deal seat + got_by s.paid sea
 abbrev pub expected_in_all_in : Settlement → Showdown → ℕ → ℕ → ℕ
 expected_in_all_in s deal seat hand = expected_by s deal hand
 
--- the figures of a player are sums over the counted all-ins in which the player is a contender, and what hands could expect is rounded
--- hand by hand
+-- the figures of a player are sums over the counted all-ins in which the player is a contender, and expectations are
+-- rounded hand by hand
 pub record SumAllIns (hands : List HandAudit) (player : Player) : Type 0 where
   pub count : (sums_over hands player).all_ins ≡ sum_by (λ hand. of_all_in one_all_in hand player) hands
   pub collected : (sums_over hands player).collected ≡ sum_by (λ hand. of_all_in got_in_all_in hand player) hands

@@ -1,4 +1,5 @@
-//! What the balance of a run says of its hands, and what it comes to, of hands that are those of some lines.
+//! What the balance of a run says about its hands, and what it adds up to if the hands are those of some
+//! lines.
 
 ghost use Rattle.std.specs.Prelude.{◌≡◌, All, List};
 ghost use Rattle.std.specs.List.{IsDistinct};
@@ -16,16 +17,16 @@ pub fn law_nobody_is_balanced_twice()
         → IsDistinct same_player (keys_of (balance_of hands).players) }
 {}
 
-/// A law: what a name has in a unit is what the hands of that unit give it alone.
+/// A law: the row of a name in a unit depends only on the hands of that unit.
 pub fn law_no_name_is_balanced_over_two_units()
     ensures { (hands : List AuditedChips) (player : Player)
         → balance_over hands player
         ≡ balance_over (hands_of_unit player.hundredths hands) player }
 {}
 
-/// A law: what all names of a unit netted is together what was taken from them as rake, before anything is
-/// written: they put in what they got and the rakes of the accepted hands of the unit. It is so of hands that are
-/// those of some lines, where each player has a name of his own.
+/// A law: before anything is written, the nets of all names of a unit add up to minus the rake: the names
+/// put in what they received plus the rakes of the accepted hands of the unit. The law is about hands of
+/// some lines in which each player has a name of their own.
 pub fn law_balances_add_up_to_the_rakes()
     ensures { (hands : List AuditedChips) → All IsAudited hands → LosesRakes hands }
 {

@@ -1,4 +1,4 @@
-//! What the hands of an all-in could expect, and what they would have got with even luck, adds up.
+//! Sums of what the hands of an all-in could expect, and of what they would have received with even luck.
 
 ghost use Rattle.std.specs.Prelude.{◌≡◌, ◌<◌, ℕ, List, length, true, false};
 ghost use Rattle.card_sets.specs.Games.{has_side};
@@ -20,9 +20,9 @@ fn ten_hands(known: &Known)
     let _hands: &[CardSet] = &known.hands;
 }
 
-/// A law: what the hands of a counted all-in could expect adds up, before anything is rounded, to what the
-/// pots hold. Over all runouts, and in 1/5040 of a unit of money, so it is in a game with a high where
-/// each pot has a hand that may win it, and in a game with a low alone where somebody wins each.
+/// A law: before rounding, the expectations of the hands of a counted all-in add up to the units in the
+/// pots, over all runouts and in 1/5040 of a unit of money. In a game with a high, each pot must have a
+/// hand that may win it. In a game with only a low, each pot must have a winner in every runout.
 pub fn law_expectations_add_up_to_the_pots(table: &Table)
     ensures high { (pots : List PotLine) → has_side Side.High table.now.known.game ≡ true
         → HasPlayers (deal_of table.now) → GivesAll pots (deal_of table.now) }
@@ -33,9 +33,10 @@ pub fn law_expectations_add_up_to_the_pots(table: &Table)
     law_pots_are_given_out();
 }
 
-/// A law: what the contenders of a counted all-in would have got with even luck adds up, before anything is
-/// rounded, to what they got out of the pots: luck moves units between them alone. It is so where each pot has
-/// a hand that may win it, or, in a game with a low alone, where somebody wins each.
+/// A law: before rounding, what the contenders of a counted all-in would have received with even luck adds
+/// up to what they received from the pots, so luck only moves units between them. In a game with a high,
+/// each pot must have a hand that may win it. In a game with only a low, each pot must have a winner in
+/// every runout.
 pub fn law_even_luck_adds_up_to_what_was_got(table: &Table)
     ensures high { (pots : List PotLine) (seats : List ℕ)
         → has_side Side.High table.now.known.game ≡ true → HasPlayers (deal_of table.now)
@@ -47,9 +48,10 @@ pub fn law_even_luck_adds_up_to_what_was_got(table: &Table)
     law_expectations_add_up_to_the_pots(table);
 }
 
-/// A law: what the hands of a counted all-in would have got with even luck, each rounded, adds up to what their
-/// players got out of the pots, within half a unit for each hand. It is so where each pot has a hand that may
-/// win it, or, in a game with a low alone, where somebody wins each.
+/// A law: what the hands of a counted all-in would have received with even luck, each rounded, adds up to
+/// what their players received from the pots, within half a unit for each hand. In a game with a high,
+/// each pot must have a hand that may win it. In a game with only a low, each pot must have a winner in
+/// every runout.
 pub fn law_even_luck_is_near_what_was_got(table: &Table)
     ensures high { (s : Settlement) (seats : List ℕ)
         → has_side Side.High table.now.known.game ≡ true → HasPlayers (deal_of table.now)
@@ -63,13 +65,14 @@ pub fn law_even_luck_is_near_what_was_got(table: &Table)
     law_even_luck_adds_up_to_what_was_got(table);
 }
 
-/// A law: what a hand of a counted all-in could expect of all pots is rounded once, to the nearest unit and a half up.
+/// A law: the expectation of a hand of a counted all-in over all pots is rounded once, to the nearest
+/// unit, a half up.
 pub fn law_expectations_are_rounded_once()
     ensures { ExpectIsNearest }
 {}
 
-/// A law: what a seat would have got with even luck is known of a hand without an all-in, and of one whose all-in is counted
-/// and whose pot names fit; of every seat alike. Of other hands it is known of none.
+/// A law: even luck is known for a hand without an all-in, and for a hand whose all-in is counted and
+/// whose pot names fit, for all its seats. For other hands it is known for no seat.
 pub fn law_even_luck_is_known_by_the_hand()
     ensures { EvenIsKnown }
 {}

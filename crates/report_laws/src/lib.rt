@@ -1,11 +1,13 @@
-//! Laws on the report: what its lines, its totals and its balance come to, said in other words than their definitions.
+//! Laws about the report: what its lines, totals, and balance add up to, in other words than their
+//! definitions.
 //!
-//! Most speak of the report alone: that no name is summed twice or over two units, that money is written whole, that a record
-//! is read back, and that what hands could expect, or would have got with even luck, adds up. Others speak of hands that were
-//! audited. The report knows the verdict alone, and `hand_audit` knows no report, so what needs both can stand nowhere else:
-//! that the nets of a balance add up to minus the rakes, and that the lines of a settlement add up to nothing.
+//! Most laws are about the report alone: no name is summed twice or over two units, money is written as a
+//! whole, a record is read back, and expectations and results with even luck add up. Others are about
+//! audited hands. The report knows only the verdict, and `hand_audit` knows no report, so the laws that
+//! need both are here: the nets of a balance add up to minus the rakes, and the lines of a settlement add
+//! up to 0.
 //!
-//! Each is a call that does nothing, and nothing of the program stands on it.
+//! Each law is a call that does nothing, and the program uses none of them.
 #![tactic(auto)]
 
 mod balance_laws;

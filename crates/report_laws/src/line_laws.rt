@@ -15,8 +15,9 @@ pub fn law_money_is_written_whole()
         → money true units ≡ decimal (units / 100) ++ codes "." ++ last_digits 2 units }
 {}
 
-/// A law: the record of a line is read back by a reader of CSV as the fields of the line, whatever its
-/// words and its name hold, and whatever stands after it. Of twelve words or fewer they are thirteen.
+/// A law: a reader of CSV reads the record of a line back as the fields of the line, whatever its words
+/// and its name contain, and whatever follows the record. A line of at most twelve words has thirteen
+/// fields.
 pub fn law_a_record_is_read_back()
     ensures fields { (line : Line) (later : List ℕ) → IsReadBack line later }
     ensures thirteen { (line : Line) → HasThirteen line }

@@ -1,4 +1,4 @@
-//! What the lines of a settlement come to.
+//! What the lines of a settlement add up to.
 
 ghost use Rattle.hand_laws.specs.Fitting.{OfFitting, OfSplit};
 ghost use Rattle.report_laws.specs.KnownSettles.{SettlesWhatIsKnown};
@@ -6,9 +6,10 @@ ghost use Rattle.report_laws.specs.SettleLaws.{SettlesUp};
 
 use hand_laws::law_players_are_due_what_they_got;
 
-/// A law: the lines of what each player is still to get, or to give back, add up to nothing, and where it is known
-/// who wins each pot a player has one exactly where his dues of all pots aren't what he got. It is so of a hand that
-/// is accepted and whose pots' names fit, and of one that is rejected for its payments alone.
+/// A law: the lines that say what each player must still receive or give back add up to 0. If the winners
+/// of each pot are known, a player has such a line exactly if their dues over all pots differ from what
+/// they received. The law is about a hand that is accepted and whose pot names fit, and about one that is
+/// rejected only for its payments.
 pub fn law_settle_lines_add_up()
     ensures accepted { OfFitting SettlesUp }
     ensures split { OfSplit (λ split. SettlesUp split.settlement split.players) }
@@ -16,8 +17,8 @@ pub fn law_settle_lines_add_up()
     law_players_are_due_what_they_got();
 }
 
-/// A law: of a pot of which it isn't known who wins it, `settle` says who got what, as a verdict does. The block of a hand
-/// whose pot names don't fit is that of its verdict.
+/// A law: for a pot whose winners aren't known, `settle` says who received what, as a verdict does. The
+/// block of a hand whose pot names don't fit is that of its verdict.
 pub fn law_what_is_unknown_is_not_settled()
     ensures { SettlesWhatIsKnown }
 {}

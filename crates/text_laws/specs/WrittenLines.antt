@@ -1,4 +1,4 @@
--- Lines as they are written, and that each is read as what was meant.
+-- Written lines, and that each is read as it was meant.
 use Rattle.std.specs.Prelude.{◌≡◌, ℕ, ◌+◌, ◌≤◌, ◌<◌, ◌⊎◌, Bool, true, false, List, [], ◌∷◌, ◌++◌, length, codes, decimal, None, Ok}
 use Rattle.card_sets.specs.declared.games.Game.{Game}
 use Rattle.line_text.specs.Amounts.{greatest}
@@ -28,18 +28,18 @@ pub record IsNamed (names : List (ℕ × List ℕ)) (seat : ℕ) (name : List �
   pub seated : IsOneOf (seat, name) names
   pub alone : (other : ℕ) → IsOneOf (other, name) names → other ≡ seat
 
--- no longer name of the hand begins the line with the mark after it
+-- no longer name of the hand is at the beginning of the line with the mark after it
 abbrev pub IsLongest : List (ℕ × List ℕ) → List ℕ → List ℕ → List ℕ → Type 0
 IsLongest names mark name rest =
     (seat : ℕ) (other more : List ℕ) → IsOneOf (seat, other) names → name ++ (mark ++ rest) ≡ other ++ (mark ++ more) →
     length other ≤ length name
 
--- no name of the hand begins the line with a colon and a space after it
+-- no name of the hand is at the beginning of the line with a colon and a space after it
 abbrev pub IsNobodysLine : List (ℕ × List ℕ) → List ℕ → Type 0
 IsNobodysLine names line =
     (seat : ℕ) (name more : List ℕ) → IsOneOf (seat, name) names → line ≡ name ++ (codes ": " ++ more) → ⊥
 
--- the line stands in the play, or before the first street, where it is neither a seat line nor that of the button
+-- the line is in the play; or it is before the first street, and neither a seat line nor that of the button
 abbrev pub StandsInPlay : Part → List ℕ → Type 0
 StandsInPlay Preamble line = (seat_digits line ≡ None) × (button_line line ≡ None)
 StandsInPlay Play line = Unit {0}
@@ -64,7 +64,7 @@ post_words Both = codes "posts small & big blinds "
 post_words Ante = codes "posts the ante "
 post_words BringIn = codes "brings in for "
 
--- there is a bring-in in games that have one
+-- only games with a bring-in have that post
 abbrev pub IsPostOf : Game → PostKind → Type 0
 IsPostOf game BringIn = has_bring_in game ≡ true
 IsPostOf game Small = Unit {0}
@@ -72,12 +72,12 @@ IsPostOf game Big = Unit {0}
 IsPostOf game Both = Unit {0}
 IsPostOf game Ante = Unit {0}
 
--- the texts that say a post
+-- the texts of a post
 abbrev pub SaysPost : Header → PostKind → ℕ → Bool → List ℕ → Type 0
 SaysPost header kind units all_in text =
     (amount : List ℕ) × IsPaid header units amount × (text ≡ post_words kind ++ (amount ++ all_in_text all_in))
 
--- the texts that say an act
+-- the texts of an act
 abbrev pub SaysAct : Header → Deed → Bool → List ℕ → Type 0
 SaysAct header Fold all_in text = (all_in ≡ false) × (text ≡ codes "folds")
 SaysAct header Check all_in text = (all_in ≡ false) × (text ≡ codes "checks")
@@ -102,7 +102,7 @@ IsPot Main = Unit {0}
 IsPot Side = Unit {0}
 IsPot (SideNumber number) = (1 ≤ number) × (number ≤ 9)
 
--- an act of a player, under the longest name that begins the line
+-- an act of a player, with the longest name at the beginning of the line
 abbrev pub ActsAreRead : Type 0
 ActsAreRead =
     (names : List (ℕ × List ℕ)) (header : Header) (part : Part) (seat : ℕ) (name text : List ℕ) (act : Deed) (all_in : Bool) →
@@ -118,7 +118,7 @@ PostsAreRead =
     IsPostOf header.game kind → SaysPost header kind units all_in text →
     line_event names header part (name ++ (codes ": " ++ text)) ≡ Ok (event.Post seat kind units all_in)
 
--- a bet that comes back
+-- the return of a bet
 abbrev pub return_text : List ℕ → List ℕ → List ℕ
 return_text amount name = codes "Uncalled bet (" ++ (amount ++ (codes ") returned to " ++ name))
 
@@ -129,7 +129,7 @@ ReturnsAreRead =
     StandsInPlay part (return_text amount name) →
     line_event names header part (return_text amount name) ≡ Ok (event.Uncalled seat units)
 
--- what a player collects, if the line is of no other kind: no actor's, no deal and no return
+-- a collection, if the line is of no other kind: no actor's line, no deal, and no return
 abbrev pub won_text : List ℕ → PotName → List ℕ
 won_text amount pot = amount ++ (codes " from " ++ pot_text pot)
 
@@ -144,12 +144,12 @@ CollectionsAreRead =
     behind (codes "Uncalled bet (") (collection_text name amount pot) ≡ None → StandsInPlay part (collection_text name amount pot) →
     line_event names header part (collection_text name amount pot) ≡ Ok (event.Collect seat units pot)
 
--- a seat with its player's name and chips; what stands after the chips has no ` in chips`
+-- a seat with its player's name and chips; the text after the chips doesn't contain ` in chips`
 abbrev pub seat_text : ℕ → List ℕ → List ℕ → List ℕ → List ℕ
 seat_text seat name amount rest =
     codes "Seat " ++ (decimal seat ++ (codes ": " ++ (name ++ (codes " (" ++ (amount ++ (codes " in chips" ++ rest))))))
 
--- the name may be seated there: it has bytes, and is no other seat's
+-- the name may be seated: it has bytes, and is no other seat's
 pub record MayBeSeated (names : List (ℕ × List ℕ)) (seat : ℕ) (name : List ℕ) : Type 0 where
   pub at_table : (1 ≤ seat) × (seat ≤ 10)
   pub some : 0 < length name

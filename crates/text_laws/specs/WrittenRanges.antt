@@ -1,4 +1,4 @@
--- A line with ranges as it is written, and what the law of its reading says.
+-- A written line with ranges, and what the law of its reading says.
 use Rattle.std.specs.Prelude.{◌≡◌, ℕ, ◌+◌, ◌*◌, ◌<◌, ◌≤◌, ◌⊎◌, List, [], ◌∷◌, ◌++◌, map, length, codes, IsTrue, Ok, Err}
 use Rattle.std.specs.List.{list_all, join_with_byte}
 use Rattle.card_sets.specs.Games.{game_word}
@@ -10,19 +10,20 @@ use Rattle.range_lines.specs.Hands.{is_range, hands_of}
 use Rattle.range_lines.specs.RangeSpot.{Ranges, ranges_of}
 use Rattle.text_laws.specs.WrittenSpots.{is_word, texts}
 
--- ranges as they are written, with a dash between
+-- written ranges, with a dash between them
 abbrev pub ranges_text : List (List ℕ) → List (List ℕ)
 ranges_text [] = []
 ranges_text (range ∷ []) = range ∷ []
 ranges_text (range ∷ next ∷ ranges) = range ∷ codes "-" ∷ ranges_text (next ∷ ranges)
 
--- the line of ranges, a board and dead cards
+-- the line of ranges, a board, and dead cards
 abbrev pub ranges_line : List (List ℕ) → List ℕ → List ℕ → List ℕ
 ranges_line ranges board dead =
     join_with_byte 32 (game_word Holdem
     ∷ (ranges_text ranges ++ codes "--" ∷ (texts board ++ codes "/" ∷ texts dead)))
 
--- what it says: the board, the dead cards, and of each range the hands that meet neither
+-- the meaning of the line: the board, the dead cards, and of each range the hands without any of
+-- these cards
 abbrev pub ranges_of_cards : List (List ℕ) → List ℕ → List ℕ → Ranges
 ranges_of_cards ranges board dead = record {
   board = set_of board;
@@ -30,7 +31,7 @@ ranges_of_cards ranges board dead = record {
   ranges = map (hands_of (set_of board) (set_of dead)) ranges;
 }
 
--- one range or more, each a word of items, and cards of the deck, none of them twice
+-- at least one range, each a word of items, and cards of the deck, none of them twice
 pub record AreWritten (ranges : List (List ℕ)) (board dead : List ℕ) : Type 0 where
   pub some : 1 ≤ length ranges
   pub words : IsTrue (list_all is_word ranges)
@@ -39,37 +40,37 @@ pub record AreWritten (ranges : List (List ℕ)) (board dead : List ℕ) : Type 
   pub dead_in_deck : IsTrue (all_in_deck dead)
   pub differ : IsTrue (all_differ (board ++ dead))
 
--- no board, a flop, a turn or a river
+-- no board, a flop, a turn, or a river
 abbrev pub IsBoard : List ℕ → Type 0
 IsBoard board = (length board ≡ 0) ⊎ ((3 ≤ length board) × (length board ≤ 5))
 
--- two players to four
+-- two to four players
 abbrev pub AreFew : List (List ℕ) → Type 0
 AreFew ranges = (2 ≤ length ranges) × (length ranges ≤ 4)
 
--- a whole board, two cards for each player and the dead cards
+-- a whole board, two cards for each player, and the dead cards
 abbrev pub cards_needed : List (List ℕ) → List ℕ → ℕ
 cards_needed ranges dead = 5 + 2 * length ranges + length dead
 
--- ranges that can be dealt are read as what is written
+-- ranges that can be dealt are read as they are written
 abbrev pub RangesAreRead : Type 0
 RangesAreRead =
     (ranges : List (List ℕ)) (board dead : List ℕ) → AreWritten ranges board dead → IsBoard board → AreFew ranges → cards_needed ranges dead ≤ 52 →
     ranges_of (ranges_line ranges board dead) ≡ Ok (ranges_of_cards ranges board dead)
 
--- a board of another size is refused first, whatever else is wrong with the numbers
+-- a board of another size is refused first, whatever other number is wrong
 abbrev pub WrongBoardsAreRefused : Type 0
 WrongBoardsAreRefused =
     (ranges : List (List ℕ)) (board dead : List ℕ) → AreWritten ranges board dead → (IsBoard board → ⊥) →
     ranges_of (ranges_line ranges board dead) ≡ Err BoardSize
 
--- then another number of players
+-- after that another number of players is refused
 abbrev pub WrongPlayersAreRefused : Type 0
 WrongPlayersAreRefused =
     (ranges : List (List ℕ)) (board dead : List ℕ) → AreWritten ranges board dead → IsBoard board → (AreFew ranges → ⊥) →
     ranges_of (ranges_line ranges board dead) ≡ Err PlayerCount
 
--- then a deck with too few cards
+-- after that a deck with too few cards is refused
 abbrev pub ShortDecksAreRefused : Type 0
 ShortDecksAreRefused =
     (ranges : List (List ℕ)) (board dead : List ℕ) → AreWritten ranges board dead → IsBoard board → AreFew ranges → 52 < cards_needed ranges dead →

@@ -1,4 +1,4 @@
--- A spot as it is written, and what the laws of reading say of it.
+-- A written spot, and what the laws of its reading say.
 use Rattle.std.specs.Prelude.{ℕ, Bool, ◌&&◌, not, List, [], ◌∷◌, ◌++◌, map, length, nat_lt, codes, IsTrue}
 use Rattle.std.specs.List.{concat, list_all, join_with_byte}
 use Rattle.card_sets.specs.declared.games.Game.{Game}
@@ -18,13 +18,13 @@ is_word bytes = nat_lt 0 (length bytes) && list_all (λ byte. not (is_gap byte))
 abbrev pub texts : List ℕ → List (List ℕ)
 texts cards = map text_of_card cards
 
--- hands as they are written, with a dash between
+-- written hands, with a dash between them
 abbrev pub hands_text : List (List ℕ) → List (List ℕ)
 hands_text [] = []
 hands_text (hand ∷ []) = texts hand
 hands_text (hand ∷ next ∷ hands) = texts hand ++ codes "-" ∷ hands_text (next ∷ hands)
 
--- the line of a game, hands, a board and dead cards
+-- the line of a game, hands, a board, and dead cards
 abbrev pub spot_line : Game → List (List ℕ) → List ℕ → List ℕ → List ℕ
 spot_line game hands board dead =
     join_with_byte 32 (game_word game
@@ -39,7 +39,7 @@ state_of_cards game hands board dead = record {
   dead = set_of dead;
 }
 
--- a spot that may be written: cards of the deck, none of them twice, in places of the right size, and enough others left
+-- a spot that may be written: cards of the deck, none of them twice, in places of the right size, and enough cards left
 pub record MayBeWritten (game : Game) (hands : List (List ℕ)) (board dead : List ℕ) : Type 0 where
   pub hands_in_deck : IsTrue (list_all all_in_deck hands)
   pub board_in_deck : IsTrue (all_in_deck board)

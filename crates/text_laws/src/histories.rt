@@ -3,15 +3,15 @@
 ghost use Rattle.text_laws.specs.NameLaws.{AllAreLongest};
 ghost use Rattle.text_laws.specs.WrittenLines.{ActsAreRead, CollectionsAreRead, PostsAreRead, ReturnsAreRead, SeatsAreRead};
 
-/// A law: a line that is written in its form is read as what was meant, whatever the names of the
-/// hand, if its player's name is no other seat's and:
+/// A law: a line in its form is read as it was meant, whatever the names of the hand, if its player's
+/// name is no other seat's. The other conditions are:
 ///
-/// - where a line begins with the name, no longer name of the hand begins it with the same words
-///   after;
-/// - before the first street the line is neither a seat line nor that of the button;
-/// - a return or a collection begins with no name and a colon, and a collection neither as a deal nor
-///   as a return;
-/// - after the chips of a seat line ` in chips` doesn't come again.
+/// - If a line begins with the name, no longer name of the hand is at its beginning with the same
+///   words after it.
+/// - Before the first street the line is neither a seat line nor that of the button.
+/// - A return or a collection doesn't begin with a name and a colon. A collection also begins neither
+///   as a deal nor as a return.
+/// - After the chips of a seat line ` in chips` doesn't come again.
 ///
 /// Amounts are written as [`crate::law_written_amounts_are_read`] says.
 pub fn law_written_lines_are_read()
@@ -22,8 +22,8 @@ pub fn law_written_lines_are_read()
     ensures seats { SeatsAreRead }
 {}
 
-/// A law: the name that is found at the front of a text fits there, and no name that fits is
-/// longer. None is found only where none fits.
+/// A law: the name found at the beginning of a text fits there, and no name that fits is longer. None
+/// is found only if none fits.
 pub fn law_the_longest_name_counts()
     ensures { AllAreLongest }
 {}

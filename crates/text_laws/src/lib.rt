@@ -1,10 +1,10 @@
-//! Laws on text: what is read of a text that is written in its form, and what a text that is written says.
+//! Laws about text: how a text in its form is read, and what a written text says.
 //!
-//! The crates that read and write each say what they do, by a definition. Here the same is said in other words, so that a
-//! slip that stands in a definition and in its code alike is found: a line, an amount, a spot or an item of a range that is
-//! written in its form is read as what was meant, and the digits of a fraction say its number. Lines, headers and whole
-//! hands of histories stand as examples in `proofs/`, with what each says, and the prover computes them. Each law is a call
-//! that does nothing, and nothing of the program stands on it.
+//! The crates that read and write state their results by definitions. The laws state them in other words,
+//! so that an error that a definition shares with its code is found: a line, an amount, a spot, or an item
+//! of a range in its form is read as it was meant, and the digits of a fraction say its number. Examples
+//! in `proofs/` have lines, headers, and whole hands of histories with their results, which the prover
+//! computes. Each law is a call that does nothing, and the program uses none of them.
 #![tactic(auto)]
 
 mod amounts;

@@ -2,8 +2,8 @@
 
 ghost use Rattle.text_laws.specs.PlainLines.{PlainTextsReadBack, TextsHoldNoNewline};
 
-/// A law: no text of a line holds a newline, and a text without one, without a mark at its start
-/// and without a blank at its end is read back from a line as it is.
+/// A law: no text of a line contains a newline. A text without a newline, without a mark at its
+/// beginning, and without a blank at its end is read back from a line unchanged.
 pub fn law_lines_read_back()
     ensures no_newline { TextsHoldNoNewline }
     ensures read_back { PlainTextsReadBack }
