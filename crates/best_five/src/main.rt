@@ -1,11 +1,13 @@
-//! An example of calls, outside the program: which five cards a full hand plays for the high, and what they make.
+//! An example of calls, outside the program: which five cards a full hand plays for the high, and what
+//! they make.
 //!
 //!     best_five omaha AsKsQhJd Ts9s2s3d4h
 //!
 //! prints `2s 9s Ts Ks As a flush`: in Omaha two own cards play with three of the board.
 //!
-//! It stands on `hand_choice`, which lists the fives that a game permits, and on `rank_high`, which says what five cards are worth.
-//! The status is 0, or 1 where the words are no full hand of one of the games, each card in two letters.
+//! It uses `hand_choice`, which lists the fives that a game permits, and `rank_high`, which ranks five
+//! cards. The status is 0, or 1 if the words aren't a full hand of one of the games, each card in two
+//! letters.
 #![tactic(auto)]
 
 ghost use Rattle.hand_choice.specs.AllowedFives.{AreFives};
@@ -16,7 +18,7 @@ use rank_high::{HighValue, high_of_five};
 use std::process::ExitCode;
 use std::{env, io};
 
-/// What five cards make, by the first digit of their value.
+/// The names of the categories, by the first digit of a value.
 const MADE: [&str; 9] = [
     "no pair",
     "a pair",
@@ -29,14 +31,15 @@ const MADE: [&str; 9] = [
     "a straight flush",
 ];
 
-/// Five cards, and what they are worth.
+/// Five cards and their worth.
 #[derive(Clone, Copy)]
 struct Best {
     cards: CardSet,
     value: HighValue,
 }
 
-/// The cards that a text of two letters a card names; none where it isn't one, or a card stands twice.
+/// Returns the cards of a text with two letters for each card, or `None` if it isn't one, or has a card
+/// twice.
 fn cards_of(text: &[u8]) -> Option<CardSet> {
     let mut cards = CardSet::empty();
     for letters in text.chunks(2) {
@@ -52,7 +55,7 @@ fn cards_of(text: &[u8]) -> Option<CardSet> {
     Some(cards)
 }
 
-/// The better of five cards and the best so far.
+/// Returns the better of five cards and the best so far.
 fn better(best: Option<Best>, cards: CardSet, value: HighValue) -> Best {
     match best {
         Some(best) if best.value >= value => best,
@@ -60,7 +63,7 @@ fn better(best: Option<Best>, cards: CardSet, value: HighValue) -> Best {
     }
 }
 
-/// The best of some fives; none where there is none.
+/// Returns the best of some fives, or `None` if there are none.
 fn best_of(fives: Fives) -> Option<Best>
     requires { AreFives fives }
 {
@@ -71,7 +74,7 @@ fn best_of(fives: Fives) -> Option<Best>
     best
 }
 
-/// The best five of a full hand of a game; none where the cards aren't one.
+/// Returns the best five of a full hand of a game, or `None` if the cards aren't one.
 fn best_five(game: Game, own: CardSet, board: CardSet) -> Option<Best> {
     if own.count() != game.own_size() || board.count() != game.board_size() {
         return None;
@@ -85,7 +88,7 @@ fn best_five(game: Game, own: CardSet, board: CardSet) -> Option<Best> {
     best_of(fives(game, own, board))
 }
 
-/// The game of a word.
+/// Returns the game of a word.
 fn game_of(word: &str) -> Option<Game> {
     for game in Game::all() {
         if game.word() == word {
@@ -95,7 +98,7 @@ fn game_of(word: &str) -> Option<Game> {
     None
 }
 
-/// The best five of a hand that words tell: the game, the own cards, and the board if there is one.
+/// Returns the best five of the hand in the words: the game, the own cards, and the board if there is one.
 fn best_by(words: &[String]) -> Option<Best> {
     match words {
         [game, own] => best_five(
@@ -111,7 +114,7 @@ fn best_by(words: &[String]) -> Option<Best> {
     }
 }
 
-/// What cards of a value make.
+/// Returns the name of the category of a value.
 fn made(value: HighValue) -> &'static str {
     match MADE.get((value.number() >> 20) as usize) {
         Some(made) => *made,
@@ -128,7 +131,7 @@ fn print_best(rt: &impl Print, best: &Best) -> io::Result<()> {
     println!(rt; "{}", made(best.value))
 }
 
-/// The words of the command line, without the program's name.
+/// Returns the words of the command line, without the program's name.
 fn words_of(rt: &HostRuntime) -> io::Result<Vec<String>> {
     let mut words = Vec::new(rt.alloc());
     for word in env::args(rt)?.skip(1) {

@@ -1,5 +1,5 @@
-//! Tests of single calls over the public calls of the crates below: on cards, hands, runouts and pots, and on bytes, lines,
-//! histories and spots.
+//! Tests of single calls of the crates below: on cards, hands, runouts, and pots, and on bytes, lines,
+//! histories, and spots.
 #![tactic(auto)]
 
 #[cfg(test)]

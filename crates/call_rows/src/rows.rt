@@ -1,4 +1,4 @@
-//! What is called, and what it is to answer, by tables.
+//! Calls and their results, in tables.
 
 mod bytes;
 mod cards;

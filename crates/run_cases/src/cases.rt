@@ -1,7 +1,7 @@
-//! Files of cases: runs, each with what it must end with and write.
+//! Files of cases: runs with their expected results.
 //!
 //! ```text
-//! # a remark; blank lines and remarks stand anywhere between
+//! # a remark; blank lines and remarks are allowed anywhere between
 //! case aces against kings on the turn
 //! words spots
 //! status 0
@@ -12,33 +12,34 @@
 //! ..
 //! ```
 //!
-//! `case` begins one, with its name. `words` has the words of the command, with blanks between. Lines after `input` and `report` that
-//! begin with `|` are their lines, without that mark; one that begins with `:` is a last line that has no newline. What isn't told is
-//! empty, and the status 0.
+//! `case` begins a case, and gives its name. `words` has the words of the command, with blanks between
+//! them. After `input` and `report`, each line that begins with `|` is a line of the text, without that
+//! mark. A line that begins with `:` is a last line without a newline. A text that isn't given is empty,
+//! and the status is 0 if it isn't given.
 
 ghost use Rattle.std.specs.Prelude.{◌≡◌, ◌++◌, ◌∷◌, [], if◌then◌else◌, OnOk};
 
 use std::alloc::{AllocError, Global};
 
-/// A run, and what it must do.
+/// A run, and its expected result.
 #[derive(Drop)]
 pub(crate) struct Case {
-    /// What it shows.
+    /// What the case shows.
     pub(crate) name: String,
-    /// The words of its command.
+    /// The words of the command.
     pub(crate) words: Vec<String>,
-    /// The status that it must end with.
+    /// The expected status.
     pub(crate) status: u8,
-    /// The bytes of its source.
+    /// The bytes of the source.
     pub(crate) input: Vec<u8>,
-    /// The bytes that it must write.
+    /// The expected bytes of the report.
     pub(crate) report: Vec<u8>,
 }
 
-/// Why a file has no cases to give.
+/// Why the cases of a file can't be read.
 #[derive(Drop)]
 pub(crate) enum CaseFault {
-    /// This line, from 1, has no form of those above, or stands before the first case.
+    /// This line, from 1, has none of the forms above, or is before the first case.
     Line(usize),
     /// Memory was refused.
     Memory,
@@ -50,7 +51,7 @@ impl From<AllocError> for CaseFault {
     }
 }
 
-/// Which text of a case is being read.
+/// The text of a case that is being read.
 #[derive(Clone, Copy)]
 enum Section {
     Head,
@@ -58,24 +59,24 @@ enum Section {
     Report,
 }
 
-/// What a line of a file is.
+/// A line of a file.
 #[derive(Clone, Copy)]
 enum Line<'a> {
     /// Nothing, or a remark.
     Blank,
-    /// It begins a case of this name.
+    /// The beginning of a case with this name.
     Case(&'a str),
     /// The words of the command, with blanks between.
     Words(&'a str),
     /// The status.
     Status(u8),
-    /// It begins a text.
+    /// The beginning of a text.
     Section(Section),
-    /// A line of a text, which ends there or goes on.
+    /// A line of a text, and whether the line ends there.
     Text(&'a str, bool),
 }
 
-/// What a line is, if it is in form.
+/// Returns what a line is, if it has a form.
 fn line_of<'a>(line: &'a str) -> Option<Line<'a>> {
     if line.is_empty() || line.starts_with("#") {
         return Some(Line::Blank);
@@ -105,7 +106,7 @@ fn line_of<'a>(line: &'a str) -> Option<Line<'a>> {
     }
 }
 
-/// Appends a line of a text, with its newline where it has one.
+/// Appends a line of a text, with its newline if it has one.
 fn put_line(out: &mut Vec<u8>, text: &[u8], ends: bool) -> Result<(), AllocError>
     ensures { OnOk result (out.new.items
         ≡ out.old.items ++ (text.now ++ (if ends then 10 ∷ [] else []))) }
@@ -118,7 +119,7 @@ fn put_line(out: &mut Vec<u8>, text: &[u8], ends: bool) -> Result<(), AllocError
 }
 
 impl Case {
-    /// One of this name, with nothing told yet.
+    /// Returns a case with this name and nothing else.
     fn named(alloc: Global, name: &str) -> Result<Case, AllocError> {
         Ok(Case {
             name: String::from_str(alloc, name)?,
@@ -137,7 +138,7 @@ impl Case {
         Ok(())
     }
 
-    /// Takes a line of a text. Answers whether a text was begun.
+    /// Takes a line of a text. Returns whether a text was begun.
     fn take_text(&mut self, section: Section, text: &str, ends: bool) -> Result<bool, AllocError> {
         match section {
             Section::Head => return Ok(false),
@@ -148,7 +149,7 @@ impl Case {
     }
 }
 
-/// The cases of a file, in their order.
+/// Returns the cases of a file, in their order.
 pub(crate) fn read_cases(alloc: Global, text: &str) -> Result<Vec<Case>, CaseFault> {
     let mut cases: Vec<Case> = Vec::new(alloc);
     let mut section = Section::Head;

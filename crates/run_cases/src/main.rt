@@ -1,6 +1,6 @@
-//! Runs the cases of the files that its words name, each by `run_alone` and by `run`, over memory, and says of each file whether all of
-//! them end and write as they say, or which one doesn't. A case is text, so whoever has one adds it without a prover: the head of
-//! [`cases`] says how it is written.
+//! Runs the cases of the files that its words name, each by `run_alone` and by `run`, over memory. For
+//! each file it prints whether all cases end and write as they say, or the case that doesn't. A case is
+//! text, so anyone can add one without a prover. The head of [`cases`] says how a case is written.
 #![tactic(auto)]
 
 mod cases;
@@ -16,13 +16,13 @@ use std::sync::Wait;
 use std::thread::Threads;
 use std::{env, fs, io};
 
-/// The status where a case went otherwise than it says.
+/// The status if the result of a case isn't the expected one.
 const DIFFERENT: u8 = 1;
 
-/// The status where a file can't be read, isn't in form or has no case, and where memory is wanting.
+/// The status if a file can't be read, isn't in form, or has no case, and if memory is refused.
 const NOT_READ: u8 = 2;
 
-/// A run or a file that nothing can be said of: memory or the system failed.
+/// A run or a file without a result, because memory or the system failed.
 #[derive(Drop)]
 struct Failed;
 
@@ -38,7 +38,7 @@ impl From<Memory> for Failed {
     }
 }
 
-/// Says how a run went otherwise than its case says, where it did. Answers whether it didn't.
+/// Prints how a run differs from its case, if it does. Returns whether it doesn't.
 fn judge(rt: &impl Print, file: &str, case: &Case, ran: &Ran, by: &str) -> io::Result<bool> {
     if ran.is_as_told(case) {
         return Ok(true);
@@ -53,7 +53,7 @@ fn judge(rt: &impl Print, file: &str, case: &Case, ran: &Ran, by: &str) -> io::R
     Ok(false)
 }
 
-/// Runs a case in both ways. Answers whether it went as it says.
+/// Runs a case in both ways. Returns whether its result is the expected one.
 fn try_case<R: Threads + Wait + Sync + Print>(
     rt: &R,
     alloc: Global,
@@ -67,7 +67,7 @@ fn try_case<R: Threads + Wait + Sync + Print>(
     Ok(is_alone && is_shared)
 }
 
-/// Runs all cases. Answers whether each went as it says.
+/// Runs all cases. Returns whether each result is the expected one.
 fn try_cases<R: Threads + Wait + Sync + Print>(
     rt: &R,
     alloc: Global,
@@ -82,7 +82,7 @@ fn try_cases<R: Threads + Wait + Sync + Print>(
     Ok(are_all)
 }
 
-/// Runs the cases of a file that are read, and says how they went. Answers the status.
+/// Runs the cases of a file that was read, and prints the result. Returns the status.
 fn try_text<R: Threads + Wait + Sync + Print>(
     rt: &R,
     alloc: Global,
@@ -108,7 +108,7 @@ fn try_text<R: Threads + Wait + Sync + Print>(
     Ok(DIFFERENT)
 }
 
-/// Runs the cases of all files. Answers the greatest status.
+/// Runs the cases of all files. Returns the greatest status.
 fn try_files<R: Threads + Wait + Sync + Print + Files + AllocGlobal>(
     rt: &R,
     files: &[String],
@@ -122,7 +122,7 @@ fn try_files<R: Threads + Wait + Sync + Print + Files + AllocGlobal>(
     Ok(status)
 }
 
-/// The files that the words name.
+/// Returns the files that the words name.
 fn files_of(rt: &HostRuntime) -> io::Result<Vec<String>> {
     let mut files = Vec::new(rt.alloc());
     for word in env::args(rt)?.skip(1) {

@@ -11,23 +11,24 @@ use std::sync::Wait;
 use std::thread::Threads;
 use steal_pool::OpenGate;
 
-/// How many bytes a read gives and a write takes at the most.
+/// The most bytes that one read gives and one write takes.
 const PIECE: usize = 4096;
 
-/// What a sink has room for beyond the report that a case wants.
+/// The room of a sink beyond the expected report of a case.
 const MORE: usize = 65_536;
 
-/// What a run did.
+/// The result of a run.
 #[derive(Drop)]
 pub(crate) struct Ran {
-    /// The status that it ended with.
+    /// The status of the run.
     pub(crate) status: u8,
-    /// What it wrote.
+    /// The bytes that the run wrote.
     pub(crate) written: Vec<u8>,
 }
 
 impl Ran {
-    /// Whether it ended with the status of its case, and wrote its report and nothing else.
+    /// Returns whether the run ended with the status of its case, and wrote its report and nothing
+    /// else.
     pub(crate) fn is_as_told(&self, case: &Case) -> bool
         ensures { IsTrue result ↔ (self.now.status ≡ case.now.status)
             × (self.now.written.items ≡ case.now.report.items) }
@@ -36,19 +37,19 @@ impl Ran {
     }
 }
 
-/// The input of a case, as a source.
+/// Returns the input of a case, as a source.
 fn source_of(alloc: Global, case: &Case) -> Result<MemorySource, AllocError> {
     let bytes = case.input.as_slice().to_vec(alloc)?;
     Ok(MemorySource::new(bytes, PIECE, Vec::new(alloc)))
 }
 
-/// A sink with room for the report of a case and more.
+/// Returns a sink with room for the report of a case and more.
 fn sink_of(alloc: Global, case: &Case) -> Result<MemorySink, Memory> {
     let room = case.report.len().saturating_add(MORE);
     MemorySink::new(alloc, room, PIECE, Vec::new(alloc))
 }
 
-/// What a run did that ended with this status.
+/// Returns the result of a run that ended with this status.
 fn ran_so(alloc: Global, status: u8, sink: &MemorySink) -> Result<Ran, AllocError> {
     Ok(Ran {
         status,
@@ -64,7 +65,7 @@ pub(crate) fn run_by_one(alloc: Global, case: &Case) -> Result<Ran, Memory> {
     Ok(ran_so(alloc, status, &sink)?)
 }
 
-/// Runs a case with as many workers as its words say.
+/// Runs a case with the number of workers in its words.
 pub(crate) fn run_by_workers<R: Threads + Wait + Sync>(
     rt: &R,
     alloc: Global,

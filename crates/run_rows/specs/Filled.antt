@@ -1,4 +1,5 @@
--- What one read of a source does that tells no bytes and never fails, and one write of such a sink.
+-- The effect of one read of a source whose bytes are unknown and which never fails, and of one
+-- write of such a sink.
 use Rattle.std.proofs.Common.{◌≡◌, ℕ, List, Option, Some, None, refl}
 use Rattle.byte_ends.specs.Ends.{CountsFault, GivesFirst, TakesMore}
 

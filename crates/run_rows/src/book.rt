@@ -17,7 +17,7 @@ use std::sync::ledger::Blank;
 use std::test::Fail;
 use tally_book::{Book, Closed, Naming, Part, Posted};
 
-/// What two workers are told of a block that both post, which of them handed it in, and the book when it is closed.
+/// The results of two workers that post one block, which of them handed it in, and the closed book.
 #[derive(Drop)]
 struct PostedTwice {
     first: Posted,
@@ -38,7 +38,7 @@ fn post_only<N: Naming>(book: &mut Book<N>, tally: &Tally, part: &mut Part<N>) -
     book.post(0, tally, part)
 }
 
-/// The only block of a job, posted by two workers.
+/// Returns the only block of a job, posted by two workers.
 fn post_twice<N: Naming>(
     alloc: Global,
     job: &Job,
@@ -67,7 +67,8 @@ fn post_twice<N: Naming>(
     })
 }
 
-/// The same with a ledger of its own, by the tally of all runouts; none where the job hasn't one block.
+/// Returns what `post_twice` returns, with a ledger of its own and the tally of all runouts, or `None` if
+/// the job doesn't have exactly one block.
 fn posted_twice(alloc: Global, job: &Job, tally: &Tally) -> Result<Option<PostedTwice>, Memory>
     requires { Counts (deal_of job.now.table)
         (runouts_after (state_of job.now.table.known)) tally.now }
@@ -82,7 +83,7 @@ fn posted_twice(alloc: Global, job: &Job, tally: &Tally) -> Result<Option<Posted
 /// With one card to come there are 44 rivers, of which two are kings.
 const TURN: &[u8] = b"holdem As Ah - Ks Kh -- 2c 7d 9h 4s";
 
-/// The tally of all runouts of a job.
+/// Returns the tally of all runouts of a job.
 fn counted(job: &Job) -> Tally
     ensures { Counts (deal_of job.now.table)
         (runouts_after (state_of job.now.table.known)) result }
@@ -93,19 +94,20 @@ fn counted(job: &Job) -> Tally
     tally
 }
 
-/// The same block posted twice, of all runouts; none when out of memory, or where the job hasn't one block.
+/// Returns the block of all runouts posted twice, or `None` if out of memory, or if the job doesn't have
+/// exactly one block.
 fn posted(alloc: Global, job: &Job) -> Option<PostedTwice> {
     posted_twice(alloc, job, &counted(job)).ok()?
 }
 
-/// Whether the first post counts and the second doesn't, and both workers handed the block in.
+/// Returns whether the first post counts and the second doesn't, and both workers handed the block in.
 fn is_posted_once(posted: &PostedTwice) -> bool {
     posted.first == Posted::Fresh
         && posted.second == Posted::Already
         && posted.handed == [true, true]
 }
 
-/// Whether a total has each of 44 rivers once, of which the aces win 42.
+/// Returns whether a total has each of 44 rivers once, of which the aces win 42.
 fn is_total(total: &Tally) -> bool {
     let aces = Cell {
         win: 42,

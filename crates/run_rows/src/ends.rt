@@ -1,4 +1,4 @@
-//! Ends that fail, that give a lot, or give it in pieces: what a whole run reads, writes and answers there.
+//! Ends that fail, give many bytes, or give them in pieces: what a whole run reads, writes, and returns.
 
 pub(crate) mod broken_ends;
 mod broken_writes;

@@ -4,7 +4,7 @@ use crate::reports::more_games::{DRAW5, TRIPLE};
 use crate::reports::other_games::{DRAW, LONG_SEATS, RAZZ};
 use crate::runs::{LAST, Part};
 
-/// The hands of which inputs are made.
+/// The hands from which inputs are made.
 #[derive(Clone, Copy)]
 pub(crate) enum Hand {
     SixSeats,
@@ -64,7 +64,7 @@ Seat 4: dora (small blind) mucked [As Ks]\r\n\
 Seat 5: emil (big blind) folded before Flop\r\n\
 Seat 6: hero folded before Flop (didn't bet)\r\n";
 
-/// A hand of a tournament with three stacks all in on the turn, and so a main pot and a side pot.
+/// A hand of a tournament with three stacks all-in on the turn, and so with a main pot and a side pot.
 const SIDE_POTS: &str = "\
 PokerStars Hand #88: Tournament #7, $4.40+$0.60 USD Hold'em No Limit - Level V (50/100) - 2023/01/15 21:00:00 ET\n\
 Table '7 1' 9-max Seat #1 is the button\n\
@@ -127,7 +127,7 @@ x collected $6 from pot\n\
 *** SUMMARY ***\n\
 Total pot $6 | Rake $0\n";
 
-/// A short hand of two players that is run twice, all in on the turn.
+/// A short hand of two players that is run twice, all-in on the turn.
 const TWICE: &str = "\
 PokerStars Hand #2: Hold'em No Limit (5/10)\n\
 Table 'T' 2-max Seat #1 is the button\n\
@@ -154,7 +154,7 @@ y collected 100 from pot\n\
 *** SUMMARY ***\n\
 Total pot 200 | Rake 0\n";
 
-/// Aces against kings, all in before the flop.
+/// Aces against kings, all-in before the flop.
 const ACES: &str = "PokerStars Hand #96: Hold'em No Limit (10/20)
 Table '9 7' 2-max Seat #1 is the button
 Seat 1: x (1000 in chips)
@@ -175,7 +175,7 @@ y collected 2000 from pot
 Total pot 2000 | Rake 0
 ";
 
-/// The text of a hand.
+/// Returns the text of a hand.
 pub(crate) fn text_of(hand: Hand) -> &'static str {
     match hand {
         Hand::SixSeats => SIX_SEATS,
@@ -191,7 +191,7 @@ pub(crate) fn text_of(hand: Hand) -> &'static str {
     }
 }
 
-/// What `check` reports of it.
+/// The report of `check` on the hand that is run twice.
 pub(crate) const TWICE_REPORT: &str = "hand 2 accepted holdem rake 0 twice\n\
 pot 0 gross 200 rake 0 checked\n\
 paid 100 x\n\

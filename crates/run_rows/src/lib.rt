@@ -1,5 +1,5 @@
-//! Tests of whole runs and of what several workers do, over the public calls of the crates below: what the top call answers and
-//! writes between sources and sinks in memory, and what the pool counts and books.
+//! Tests of whole runs and of several workers, over the public calls of the crates below: what the top
+//! call returns and writes between sources and sinks in memory, and what the pool counts and books.
 #![tactic(auto)]
 
 #[cfg(test)]

@@ -23,7 +23,7 @@ const STOLEN: [CoreEvent; 5] = [
     CoreEvent::Pop { worker: 1 },
 ];
 
-/// What may not be while no worker holds a block.
+/// Events that are refused while no worker holds a block.
 const WRONG: [CoreEvent; 9] = [
     CoreEvent::Push {
         worker: 2,
@@ -51,7 +51,7 @@ const WRONG: [CoreEvent; 9] = [
     CoreEvent::Book { worker: u32::MAX },
 ];
 
-/// What a worker that holds a block may not do.
+/// Events that are refused to a worker that holds a block.
 const FULL: [CoreEvent; 2] = [
     CoreEvent::Pop { worker: 0 },
     CoreEvent::Steal {
@@ -88,17 +88,17 @@ fn two_queues(alloc: Global) -> Result<State, Memory>
     })
 }
 
-/// The same; none when out of memory.
+/// Returns what `two_queues` returns, or `None` if out of memory.
 fn queues_of_two(alloc: Global) -> Option<State> {
     two_queues(alloc).ok()
 }
 
-/// The state after some events, and how many were refused; none when out of memory.
+/// Returns the state after some events, and the number of refused events, or `None` if out of memory.
 fn behind(alloc: Global, start: &State, events: &[CoreEvent]) -> Option<(State, u64)> {
     run_core(alloc, start, events).ok()
 }
 
-/// Whether a worker's queue has these blocks.
+/// Returns whether a worker's queue has these blocks.
 fn has_queue(state: &State, worker: usize, blocks: &[u32]) -> bool {
     match state.queues.items().get(worker) {
         Some(queue) => queue.items() == blocks,
@@ -106,22 +106,22 @@ fn has_queue(state: &State, worker: usize, blocks: &[u32]) -> bool {
     }
 }
 
-/// Whether the workers hold these.
+/// Returns whether the workers hold these blocks.
 fn holds(state: &State, held: &[Option<u32>]) -> bool {
     state.held.items() == held
 }
 
-/// Whether these blocks are booked.
+/// Returns whether these blocks are booked.
 fn has_booked(state: &State, blocks: &[u32]) -> bool {
     state.booked.items() == blocks
 }
 
-/// Whether an event is done.
+/// Returns whether an event is done.
 fn is_done(state: &mut State, event: CoreEvent) -> bool {
     step(state, event) == Ok(Stepped::Done)
 }
 
-/// Whether each of some events is refused.
+/// Returns whether each of some events is refused.
 fn are_refused(state: &mut State, events: &[CoreEvent]) -> bool {
     for event in events {
         if step(state, *event) != Ok(Stepped::Refused) {
@@ -131,10 +131,10 @@ fn are_refused(state: &mut State, events: &[CoreEvent]) -> bool {
     true
 }
 
-/// One hand draws none and the other four of 43 cards, in 123,410 ways.
+/// One hand draws none and the other draws four of 43 cards, in 123,410 ways.
 const TWO_BLOCKS: &[u8] = b"lowball27 7c 5d 4h 3s 2c - 8d / 2d 2h 2s";
 
-/// What the law gives for a job of two blocks, and none for another.
+/// Returns what the law states of a job of two blocks, or `None` for another job.
 fn booked_of_two(alloc: Global, job: &Job) -> Result<Option<State>, Memory> {
     if job.blocks() != 2 {
         return Ok(None);
@@ -144,7 +144,8 @@ fn booked_of_two(alloc: Global, job: &Job) -> Result<Option<State>, Memory> {
     Ok(Some(last))
 }
 
-/// Whether two workers have these blocks in their queues and in their hands, and these are booked.
+/// Returns whether two workers have these blocks in their queues and in their hands, and these are
+/// booked.
 fn is_state(state: &State, queues: [&[u32]; 2], held: &[Option<u32>], booked: &[u32]) -> bool {
     has_queue(state, 0, queues[0])
         && has_queue(state, 1, queues[1])
@@ -152,22 +153,22 @@ fn is_state(state: &State, queues: [&[u32]; 2], held: &[Option<u32>], booked: &[
         && has_booked(state, booked)
 }
 
-/// Whether a state is that of the two queues.
+/// Returns whether a state is that of the two queues.
 fn is_start(state: &State) -> bool {
     is_state(state, [&[0], &[1]], &[None, None], &[])
 }
 
-/// Whether the thief has booked both blocks.
+/// Returns whether the thief has booked both blocks.
 fn is_stolen(state: &State) -> bool {
     is_state(state, [&[], &[]], &[None, None], &[1, 0])
 }
 
-/// Whether worker 0 holds his block.
+/// Returns whether worker 0 holds its block.
 fn is_popped(state: &State) -> bool {
     is_state(state, [&[], &[1]], &[Some(0), None], &[])
 }
 
-/// Whether worker 1 holds his block, with another after it.
+/// Returns whether worker 1 holds its block, with another after it.
 fn is_pushed(state: &State) -> bool {
     is_state(state, [&[0], &[7]], &[None, Some(1)], &[])
 }

@@ -1,15 +1,16 @@
-//! Runs for a page: what they write into rooms of several sizes, and what they answer to bytes that are no words.
+//! Runs for a page: what they write into buffers of several sizes, and what they return for bytes that
+//! aren't words.
 
 use crate::ends::faults::SPOT;
 use run_engine::run_page;
 use std::alloc::Global;
 use std::test::Fail;
 
-/// What stands in the length of the report before a run.
+/// The value in the length of the report before a run.
 const BEFORE: usize = 77;
 
-/// A mode, how many bytes the room has, the status, and the length of the report. Of `spots` it has 153 bytes, and the usage
-/// line, which a word of no mode gives, has 76.
+/// A mode, the size of the buffer, the status, and the length of the report. The report of `spots` has 153
+/// bytes. The usage line, which a word that is no mode gives, has 76.
 const ROOMS: &[(&[u8], usize, u8, usize)] = &[
     (b"spots", 4096, 0, 153),
     (b"spots", 153, 0, 153),
@@ -20,7 +21,7 @@ const ROOMS: &[(&[u8], usize, u8, usize)] = &[
     (b"spot\xff", 4096, 7, BEFORE),
 ];
 
-/// The status of a run over the spot in a room of so many bytes, and the length of its report.
+/// Returns the status of a run over the spot with a buffer of `size` bytes, and the length of its report.
 fn in_room(alloc: Global, mode: &[u8], size: usize) -> Result<(u8, usize), Fail> {
     let mut room: Vec<u8> = Vec::new(alloc);
     room.resize(size, 0)?;

@@ -1,4 +1,4 @@
-//! What is ready is written before the next equity is counted.
+//! A finished block is written before the next equity is counted.
 
 ghost use Rattle.run_rows.specs.Filled.{WritesFilled, counted_tells};
 ghost use Rattle.std.specs.Prelude.{None};
@@ -15,10 +15,11 @@ use std::test::Fail;
 use std::thread::Threads;
 use steal_pool::Gate;
 
-/// How many blocks each equity of these inputs has: aces against kings before the flop.
+/// The number of blocks of each equity of these inputs: aces against kings before the flop.
 const BLOCKS: u64 = 27;
 
-/// A sink that takes all, and counts the bytes where a gate sees the number. It doesn't tell them.
+/// A sink that takes all bytes, and counts them where a gate can see the number. Its bytes are unknown to
+/// clauses.
 #[derive(Drop)]
 struct CountsBytes<'a> {
     written: &'a AtomicU64,
@@ -39,11 +40,12 @@ impl<'a> Sink for CountsBytes<'a> {
     ghost tells = { λ _ _ write taken. counted_tells write taken };
 }
 
-/// A gate that notes how many bytes are written when the first block of the second equity is entered.
+/// A gate that notes how many bytes were written when a worker enters the first block of the second
+/// equity.
 #[derive(Drop)]
 struct SeesTheSecond<'a> {
     written: &'a AtomicU64,
-    /// How many blocks were entered.
+    /// The number of blocks entered.
     entered: AtomicU64,
     /// The number of bytes that was noted.
     seen: AtomicU64,
@@ -58,7 +60,8 @@ impl<'a> Gate for SeesTheSecond<'a> {
     }
 }
 
-/// How many bytes a run with two workers has written when it begins to count its second equity.
+/// Returns the number of bytes that a run with two workers has written when it begins to count its second
+/// equity.
 fn written_before<R: Threads + Wait + Sync>(
     rt: &R,
     alloc: Global,
@@ -78,8 +81,8 @@ fn written_before<R: Threads + Wait + Sync>(
     Ok(gate.seen.load(Ordering::SeqCst))
 }
 
-/// The first block is written when the second equity is begun, and nothing else: as many bytes as the report of the first
-/// hand or line alone has. Both come in one piece.
+/// When the second equity is begun, exactly the first block must be written: as many bytes as the report
+/// of the first hand or line alone. Both come in one piece.
 fn is_written_first<R: Threads + Wait + Sync + Abort>(
     rt: &R,
     alloc: Global,
@@ -107,7 +110,7 @@ const SPOT: &[Part] = &[Part::Whole("holdem As Ah - Ks Kh\n")];
 
 const SPOTS: &[Part] = &[Part::Times("holdem As Ah - Ks Kh\n", 2)];
 
-/// Each mode in which an equity may be shared that has a block for each hand or line.
+/// Each mode that may share an equity and has a block for each hand or line.
 const MODES: &[(&str, &[Part], &[Part])] = &[
     ("audit", HAND, HANDS),
     ("streets", HAND, HANDS),

@@ -1,4 +1,4 @@
-//! Runs over memory, and what they must do.
+//! Runs over memory, and their expected results.
 
 ghost use Rattle.std.specs.Prelude.{◌<◌, IfOk};
 ghost use Rattle.std.specs.List.Sorted.{IsStrictlyIncreasing};
@@ -14,15 +14,15 @@ use std::test::Fail;
 use std::thread::Threads;
 use steal_pool::OpenGate;
 
-/// What a run did.
+/// The result of a run.
 #[derive(Drop)]
 pub(crate) struct Ran {
     pub(crate) status: u8,
     pub(crate) written: Vec<u8>,
 }
 
-/// The ends of a run: how many bytes a read gives and how many a write takes at the most, the calls that fail,
-/// and the room of the sink.
+/// The ends of a run: the most bytes of a read and of a write, the calls that fail, and the room of the
+/// sink.
 #[derive(Clone, Copy)]
 pub(crate) struct Edges {
     pub(crate) piece: usize,
@@ -32,7 +32,7 @@ pub(crate) struct Edges {
     pub(crate) room: usize,
 }
 
-/// Ends with no fault, and with room enough.
+/// Ends without a fault, with enough room.
 pub(crate) const AMPLE: Edges = Edges {
     piece: 4096,
     taken: 4096,
@@ -41,19 +41,19 @@ pub(crate) const AMPLE: Edges = Edges {
     room: 65_536,
 };
 
-/// Ends of which the second read fails: the input has one piece at the most.
+/// Ends whose second read fails. The input has at most one piece.
 pub(crate) const ONE_READ: Edges = Edges {
     read_fault: Some(1),
     ..AMPLE
 };
 
-/// Ends of which the first write fails.
+/// Ends whose first write fails.
 pub(crate) const NO_WRITE: Edges = Edges {
     write_fault: Some(0),
     ..AMPLE
 };
 
-/// The list of one call, or of none.
+/// Returns the list of one call, or of none.
 fn listed(alloc: Global, call: Option<u64>) -> Result<Vec<u64>, AllocError>
     ensures { IfOk result (λ calls. IsStrictlyIncreasing calls.items) }
 {
@@ -64,12 +64,12 @@ fn listed(alloc: Global, call: Option<u64>) -> Result<Vec<u64>, AllocError>
     Ok(calls)
 }
 
-/// The first bytes, so many at the most.
+/// Returns the first bytes: at most `most` of them.
 pub(crate) fn front(bytes: &[u8], most: usize) -> &[u8] {
     &bytes[..most.min(bytes.len())]
 }
 
-/// The words of a command.
+/// Returns the words of a command.
 pub(crate) fn owned(alloc: Global, words: &[&str]) -> Result<Vec<String>, AllocError> {
     let mut owned = Vec::new(alloc);
     for word in words {
@@ -78,7 +78,7 @@ pub(crate) fn owned(alloc: Global, words: &[&str]) -> Result<Vec<String>, AllocE
     Ok(owned)
 }
 
-/// A source of this input.
+/// Returns a source of this input.
 pub(crate) fn source_of(
     alloc: Global,
     input: &[u8],
@@ -88,7 +88,7 @@ pub(crate) fn source_of(
     Ok(MemorySource::new(input.to_vec(alloc)?, edges.piece.max(1), calls))
 }
 
-/// A sink.
+/// Returns a sink.
 pub(crate) fn sink_of(alloc: Global, edges: Edges) -> Result<MemorySink, AllocError> {
     let calls = listed(alloc, edges.write_fault)?;
     match MemorySink::new(alloc, edges.room, edges.taken.max(1), calls) {
@@ -97,7 +97,7 @@ pub(crate) fn sink_of(alloc: Global, edges: Edges) -> Result<MemorySink, AllocEr
     }
 }
 
-/// What a run did that ended with this status.
+/// Returns the result of a run that ended with this status.
 fn ran_so(alloc: Global, status: u8, sink: &MemorySink) -> Result<Ran, AllocError> {
     Ok(Ran {
         status,
@@ -136,7 +136,7 @@ fn between_by_workers<R: Threads + Wait + Sync>(
     ran_so(alloc, status, &sink)
 }
 
-/// The same with several workers, as many as the words say.
+/// Runs these words over this input with the number of workers in the words.
 pub(crate) fn run_by_workers<R: Threads + Wait + Sync>(
     rt: &R,
     alloc: Global,
@@ -150,22 +150,23 @@ pub(crate) fn run_by_workers<R: Threads + Wait + Sync>(
     Ok(between_by_workers(rt, alloc, &owned, source, sink)?)
 }
 
-/// It holds; or the run ends, with this name.
+/// The condition must hold. Otherwise the test program ends and prints this name.
 pub(crate) fn holds(rt: &impl Abort, is_so: bool, name: &str) {
     assert!(rt; is_so, "{name}");
 }
 
-/// Whether the run ended with this status and wrote this.
+/// Returns whether the run ended with this status and wrote this.
 fn is_so(ran: &Ran, status: u8, written: &[u8]) -> bool {
     ran.status == status && ran.written.as_slice() == written
 }
 
-/// The run ended with this status and wrote this.
+/// The run must have ended with this status and written this.
 pub(crate) fn did(rt: &impl Abort, ran: &Ran, status: u8, written: &[u8], name: &str) {
     holds(rt, is_so(ran, status, written), name);
 }
 
-/// Runs these words over this input, on one thread and with several workers, as many as the words say. The two do the same.
+/// Runs these words over this input, on one thread and with the number of workers in the words. Both runs
+/// must have the same result.
 pub(crate) fn run<R: Threads + Wait + Sync + Abort>(
     rt: &R,
     alloc: Global,
@@ -179,7 +180,8 @@ pub(crate) fn run<R: Threads + Wait + Sync + Abort>(
     Ok(one)
 }
 
-/// The run of these words over this input, between these ends, ends with this status and writes these texts.
+/// The run of these words over this input, between these ends, must end with this status and write these
+/// texts.
 pub(crate) fn ends<R: Threads + Wait + Sync + Abort>(
     rt: &R,
     alloc: Global,
@@ -195,7 +197,7 @@ pub(crate) fn ends<R: Threads + Wait + Sync + Abort>(
     Ok(())
 }
 
-/// Texts after each other.
+/// Returns the texts joined.
 pub(crate) fn joined(alloc: Global, texts: &[&str]) -> Result<String, AllocError> {
     let mut whole = String::new(alloc);
     for text in texts {
@@ -208,19 +210,19 @@ pub(crate) fn joined(alloc: Global, texts: &[&str]) -> Result<String, AllocError
 #[derive(Drop)]
 pub(crate) enum Part<'a> {
     Whole(&'a str),
-    /// A text so many times.
+    /// A text several times.
     Times(&'a str, usize),
     All(Hand),
-    /// The lines of a hand from one to another. Lines count from 1.
+    /// The lines of a hand from a first to a last one. Lines count from 1.
     Lines(Hand, usize, usize),
-    /// A hand so many times.
+    /// A hand several times.
     Hands(Hand, usize),
 }
 
-/// As the last of some lines: the last of the text.
+/// As the number of the last line: the last line of the text.
 pub(crate) const LAST: usize = usize::MAX;
 
-/// Adds the lines of a text from one to another.
+/// Adds the lines of a text from a first to a last one.
 fn add_lines(out: &mut Vec<u8>, text: &str, first: usize, last: usize) -> Result<(), AllocError> {
     let mut number = 1usize;
     for byte in text.as_bytes() {
@@ -234,7 +236,7 @@ fn add_lines(out: &mut Vec<u8>, text: &str, first: usize, last: usize) -> Result
     Ok(())
 }
 
-/// Adds a text so many times.
+/// Adds a text `times` times.
 fn add_times(out: &mut Vec<u8>, text: &str, times: usize) -> Result<(), AllocError> {
     for _ in 0..times {
         out.extend_from_slice(text.as_bytes())?;
@@ -253,7 +255,7 @@ fn add_part(out: &mut Vec<u8>, part: &Part) -> Result<(), AllocError> {
     }
 }
 
-/// The input of these parts.
+/// Returns the input of these parts.
 pub(crate) fn input_of(alloc: Global, parts: &[Part]) -> Result<Vec<u8>, AllocError> {
     let mut out = Vec::new(alloc);
     for part in parts {
@@ -262,7 +264,7 @@ pub(crate) fn input_of(alloc: Global, parts: &[Part]) -> Result<Vec<u8>, AllocEr
     Ok(out)
 }
 
-/// A run: its words, its ends and its input; the status that it ends with, and the texts that it writes.
+/// A run: its words, its ends, and its input; its expected status, and its expected texts.
 pub(crate) type Case = (
     &'static [&'static str],
     Edges,
@@ -271,7 +273,7 @@ pub(crate) type Case = (
     &'static [&'static str],
 );
 
-/// A run of a table does what stands there.
+/// A run of a table must have the result in its row.
 fn ends_so<R: Threads + Wait + Sync + Abort>(
     rt: &R,
     alloc: Global,
@@ -282,7 +284,7 @@ fn ends_so<R: Threads + Wait + Sync + Abort>(
     ends(rt, alloc, words, *edges, &input, *status, texts)
 }
 
-/// So it is with each run of the table.
+/// Tries each run of the table.
 pub(crate) fn each_ends<R: Threads + Wait + Sync + Abort>(
     rt: &R,
     alloc: Global,
@@ -294,10 +296,10 @@ pub(crate) fn each_ends<R: Threads + Wait + Sync + Abort>(
     Ok(())
 }
 
-/// An input, the status that a run over it ends with, and what it writes.
+/// An input, the expected status of a run over it, and its expected report.
 pub(crate) type Row = (&'static str, u8, &'static str);
 
-/// Each run of these words over an input of the table does what stands there.
+/// Each run of these words over an input of the table must have the result in its row.
 pub(crate) fn each_reports<R: Threads + Wait + Sync + Abort>(
     rt: &R,
     alloc: Global,
@@ -318,7 +320,7 @@ pub(crate) fn each_reports<R: Threads + Wait + Sync + Abort>(
     Ok(())
 }
 
-/// Words of commands, an input, the status that a run of any of them over it ends with, and what it writes.
+/// Words of commands, an input, and the expected status and report of a run of any of them over it.
 pub(crate) type Told = (
     &'static [&'static [&'static str]],
     &'static str,
@@ -326,7 +328,7 @@ pub(crate) type Told = (
     &'static str,
 );
 
-/// The run of each of these words over this input ends with this status and writes this report.
+/// The run of each of these words over this input must end with this status and write this report.
 fn all_report<R: Threads + Wait + Sync + Abort>(
     rt: &R,
     alloc: Global,
@@ -341,7 +343,7 @@ fn all_report<R: Threads + Wait + Sync + Abort>(
     Ok(())
 }
 
-/// So it is with each row of the table.
+/// Tries each row of the table.
 pub(crate) fn each_told<R: Threads + Wait + Sync + Abort>(
     rt: &R,
     alloc: Global,
@@ -353,10 +355,12 @@ pub(crate) fn each_told<R: Threads + Wait + Sync + Abort>(
     Ok(())
 }
 
-/// A line of a hand by its number from 1, another line in its place, and for what the hand is rejected then.
+/// The number of a line of a hand, from 1, another line in its place, and the cause for which the changed
+/// hand is rejected.
 pub(crate) type Change = (usize, &'static str, &'static str);
 
-/// A change of a hand makes a run of the mode write its report, and end with status 1.
+/// With a changed line the run of the mode must write the report of the rejected hand, and end with status
+/// 1.
 fn change_reports<R: Threads + Wait + Sync + Abort>(
     rt: &R,
     alloc: Global,
@@ -371,7 +375,7 @@ fn change_reports<R: Threads + Wait + Sync + Abort>(
     ends(rt, alloc, &[mode], AMPLE, &input, 1, &[report])
 }
 
-/// So it is with each change of some.
+/// Tries each change of a list.
 fn all_report_so<R: Threads + Wait + Sync + Abort>(
     rt: &R,
     alloc: Global,
@@ -388,7 +392,7 @@ fn all_report_so<R: Threads + Wait + Sync + Abort>(
 /// A mode, a hand, and changes of it.
 pub(crate) type Changed = (&'static str, Hand, &'static [Change]);
 
-/// So it is with each hand of the table.
+/// Tries each hand of the table.
 pub(crate) fn each_change<R: Threads + Wait + Sync + Abort>(
     rt: &R,
     alloc: Global,

@@ -16,7 +16,7 @@ use steal_pool::laws::Seats;
 use steal_pool::{OpenGate, count_alone};
 use tally_book::{Book, Closed, Naming};
 
-/// A count by one worker, of a ledger of its own.
+/// Returns a count by one worker, with a ledger of its own.
 fn counted_alone<N: Naming>(alloc: Global, job: &Job, blank: Blank) -> Result<Closed, Memory>
     requires named { deal_of job.now.table ≡ N.deal }
     requires name { blank.name ≡ N.name }
@@ -28,23 +28,23 @@ fn counted_alone<N: Naming>(alloc: Global, job: &Job, blank: Blank) -> Result<Cl
     Ok(count_alone(job, book, whole, &mut scratch))
 }
 
-/// A count by one worker.
+/// Returns a count by one worker.
 fn by_one(alloc: Global, job: &Job) -> Result<Closed, Memory> {
     counted_alone::<Brand>(alloc, job, Blank::new(1))
 }
 
-/// What two workers did.
+/// The results of two workers.
 #[derive(Drop)]
 struct Work {
-    /// How many blocks they took, each from both deques.
+    /// The number of blocks that they took, each from both deques.
     taken: usize,
-    /// Whether each has an end mark of both deques.
+    /// Whether each of them has an end mark of both deques.
     ended: bool,
-    /// What they counted.
+    /// Their count.
     closed: Closed,
 }
 
-/// How many blocks two workers took, each from both deques.
+/// Returns the number of blocks that two workers took, each from both deques.
 fn taken_by_two<N: Naming>(seats: &Seats<N>) -> usize
     requires { N.all ≡ 3 }
 {
@@ -57,7 +57,8 @@ fn taken_by_two<N: Naming>(seats: &Seats<N>) -> usize
     taken
 }
 
-/// Whether each of two workers has an end mark of both deques.
+/// Returns whether each of two workers has an end mark of both
+/// deques.
 fn have_ended<N: Naming>(seats: &Seats<N>) -> bool
     requires { N.all ≡ 3 }
 {
@@ -71,7 +72,7 @@ fn have_ended<N: Naming>(seats: &Seats<N>) -> bool
     true
 }
 
-/// The seats of two workers, step by step.
+/// Returns the seats of two workers, step by step.
 fn worked<N: Naming + Send + Sync, R: Threads + Wait + Sync>(
     rt: &R,
     alloc: Global,
@@ -95,7 +96,7 @@ fn worked<N: Naming + Send + Sync, R: Threads + Wait + Sync>(
     })
 }
 
-/// The same with a ledger of their own.
+/// Returns what `worked` returns, with a ledger of its own.
 fn by_two<R: Threads + Wait + Sync>(rt: &R, alloc: Global, job: &Job) -> Result<Work, Memory> {
     worked::<Brand, R>(rt, alloc, job, Blank::new(3))
 }

@@ -50,21 +50,21 @@ Seat 1: x (button) (small blind) showed [As Ah] and won (960) with a pair of Ace
 Seat 2: y (big blind) showed [Ks Kh] and lost with a pair of Kings
 ";
 
-/// What a run did.
+/// The result of a run.
 #[derive(Drop)]
 struct Ran {
     status: u8,
     written: Vec<u8>,
 }
 
-/// No call fails.
+/// Returns the list of calls that fail, with none in it.
 fn no_call(alloc: Global) -> Vec<u64>
     ensures { IsStrictlyIncreasing result.items }
 {
     Vec::new(alloc)
 }
 
-/// The words of a command.
+/// Returns the words of a command.
 fn owned(alloc: Global, words: &[&str]) -> Result<Vec<String>, Fail> {
     let mut owned = Vec::new(alloc);
     for word in words {
@@ -73,7 +73,7 @@ fn owned(alloc: Global, words: &[&str]) -> Result<Vec<String>, Fail> {
     Ok(owned)
 }
 
-/// A run of these words over this input with several workers.
+/// Returns the result of these words over this input with several workers.
 fn shared<R: Threads + Wait + Sync, G: Gate + Sync>(
     rt: &R,
     alloc: Global,
@@ -91,7 +91,7 @@ fn shared<R: Threads + Wait + Sync, G: Gate + Sync>(
     })
 }
 
-/// The same on one thread.
+/// Returns the result of these words over this input on one thread.
 fn alone(alloc: Global, words: &[String], input: &[u8]) -> Result<Ran, Fail> {
     let mut source = MemorySource::new(input.to_vec(alloc)?, 4096, no_call(alloc));
     let sink = MemorySink::new(alloc, 4096, 4096, no_call(alloc));
@@ -103,7 +103,8 @@ fn alone(alloc: Global, words: &[String], input: &[u8]) -> Result<Ran, Fail> {
     })
 }
 
-/// Whether so many workers write the same over this input, and end with the same status.
+/// Returns whether a run with `workers` workers writes the same over this input, and ends with the same
+/// status.
 fn is_same<R: Threads + Wait + Sync>(
     rt: &R,
     alloc: Global,
@@ -118,12 +119,13 @@ fn is_same<R: Threads + Wait + Sync>(
     Ok(ran.status == one.status && ran.written.as_slice() == one.written.as_slice())
 }
 
-/// Whether a run on one thread writes something, and ends with this status.
+/// Returns whether a run on one thread writes something, and ends with this status.
 fn is_run(one: &Ran, status: u8) -> bool {
     one.status == status && !one.written.is_empty()
 }
 
-/// Whether by 1, 2 and 16 workers these words over this input write the same and end with this status, as on one thread.
+/// Returns whether runs of these words over this input with 1, 2, and 16 workers write the same as a run
+/// on one thread, and all end with this status.
 fn same_by_workers<R: Threads + Wait + Sync>(
     rt: &R,
     alloc: Global,

@@ -4,8 +4,9 @@ use report_table::{Form, Sheet};
 use std::alloc::Global;
 use std::test::Fail;
 
-/// Lines, each with its words, its name, and its record: the words from the left, empty fields, and the name as the thirteenth field.
-/// A field with a quote, a comma, or an end of a line is put between quotes, and its quotes are doubled.
+/// Lines, each with its words, its name, and its record: the words from the left, empty fields, and the
+/// name as the thirteenth field. A field with a quote, a comma, or an end of a line is put between quotes,
+/// and its quotes are doubled.
 const LINES: &[(&[&str], &str, &str)] = &[
     (&["one"], "name", "one,,,,,,,,,,,,name\n"),
     (
@@ -23,7 +24,7 @@ const LINES: &[(&[&str], &str, &str)] = &[
     (&[], "alone", ",,,,,,,,,,,,alone\n"),
 ];
 
-/// How often the lines come again.
+/// How often the lines are repeated.
 const TIMES: usize = 400;
 
 /// Writes each line once.
@@ -50,7 +51,7 @@ fn sheet_of(alloc: Global) -> Result<Vec<u8>, Fail> {
     Ok(out)
 }
 
-/// Returns the records that the table has, one after the other.
+/// Returns the records of the table, one after another.
 fn records_of(alloc: Global) -> Result<Vec<u8>, Fail> {
     let mut records = Vec::new(alloc);
     for _ in 0..TIMES {

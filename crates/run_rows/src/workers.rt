@@ -15,12 +15,12 @@ use std::test::Fail;
 use std::thread::Threads;
 use steal_pool::{OpenGate, count_with_workers};
 
-/// The job of aces against kings.
+/// Returns the job of aces against kings.
 fn preflop() -> Option<Job> {
     job_of(ACES_AND_KINGS)
 }
 
-/// The tally of a job by one call. Its room isn't kept on the stack.
+/// Returns the tally of a job by one call. Its memory isn't on the stack.
 fn at_once(job: &Job) -> Tally {
     let mut scratch = Scratch::new();
     let mut tally = Tally::zero();
@@ -28,13 +28,13 @@ fn at_once(job: &Job) -> Tally {
     tally
 }
 
-/// Whether two tallies have the same of the runouts for both hands.
+/// Returns whether two tallies have the same numbers of runouts for both hands.
 fn is_same(tally: &Tally, other: &Tally) -> bool {
     tally.cell(0, 0, Side::High) == other.cell(0, 0, Side::High)
         && tally.cell(0, 1, Side::High) == other.cell(0, 1, Side::High)
 }
 
-/// Whether so many workers count all blocks, and what one call counts.
+/// Returns whether `workers` workers count all blocks, and the same as one call.
 fn count_the_same<R: Threads + Wait + Sync>(
     rt: &R,
     alloc: Global,

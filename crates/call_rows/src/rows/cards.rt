@@ -14,24 +14,24 @@ const NAMED: &[([u8; 2], u8, u8, u8)] = &[
 /// Letters that name no card.
 const NAMELESS: &[[u8; 2]] = &[*b"1s", *b"AS", *b"as", *b"sA", *b"  ", *b"10"];
 
-/// A set of three cards, one of which is put in twice.
+/// A set of three cards, one of which is added twice.
 const MIXED: &[u8] = b"Ah2dTc2d";
 
-/// The same cards, rising.
+/// The three cards, rising.
 const RISING: &[[u8; 2]] = &[*b"2d", *b"Tc", *b"Ah"];
 
-/// The first two of them.
+/// The first two of the cards.
 const LEAST: &[[u8; 2]] = &[*b"2d", *b"Tc"];
 
-/// Four players, one of whom is put in twice.
+/// Four players, one of whom is added twice.
 const PLAYERS: &[u8] = &[9, 2, 14, 0, 2];
 
-/// Whether a card has this number, rank, suit and text.
+/// Returns whether a card has this number, rank, suit and text.
 fn is_card(card: Card, text: [u8; 2], number: u8, rank: u8, suit: u8) -> bool {
     card.number() == number && card.rank() == rank && card.suit() == suit && card.text() == text
 }
 
-/// Whether a text, and a rank and a suit, name the card of a number.
+/// Returns whether a text, and a rank and a suit, name the card of a number.
 fn is_named(text: [u8; 2], number: u8, rank: u8, suit: u8) -> bool {
     match (Card::read(text), Card::new(rank, suit)) {
         (Some(card), Some(other)) => {
@@ -41,7 +41,7 @@ fn is_named(text: [u8; 2], number: u8, rank: u8, suit: u8) -> bool {
     }
 }
 
-/// Whether each of these texts names its card.
+/// Returns whether each of these texts names its card.
 fn all_named(table: &[([u8; 2], u8, u8, u8)]) -> bool {
     for (text, number, rank, suit) in table {
         if !is_named(*text, *number, *rank, *suit) {
@@ -51,7 +51,7 @@ fn all_named(table: &[([u8; 2], u8, u8, u8)]) -> bool {
     true
 }
 
-/// Whether none of these texts names a card.
+/// Returns whether none of these texts names a card.
 fn all_nameless(texts: &[[u8; 2]]) -> bool {
     for text in texts {
         if Card::read(*text).is_some() {
@@ -67,7 +67,7 @@ fn letters_name_cards(rt: HostRuntime) {
     assert!(rt; all_nameless(NAMELESS));
 }
 
-/// Whether the cards of a set are these, each after the one before.
+/// Returns whether the cards of a set are these, each after the one before it.
 fn rises(set: CardSet, texts: &[[u8; 2]]) -> bool {
     let mut next = set.first();
     for text in texts {
@@ -82,7 +82,7 @@ fn rises(set: CardSet, texts: &[[u8; 2]]) -> bool {
     next.is_none() && set.count() as usize == texts.len()
 }
 
-/// Whether a set gives these cards, one after the other.
+/// Returns whether a set gives these cards, one after the other.
 fn gives(set: CardSet, texts: &[[u8; 2]]) -> bool {
     let mut left = texts;
     for card in set.iter() {
@@ -97,12 +97,13 @@ fn gives(set: CardSet, texts: &[[u8; 2]]) -> bool {
     left.is_empty()
 }
 
-/// Whether the least cards of a set are these.
+/// Returns whether the least cards of a set are these.
 fn has_least(set: CardSet, count: u32, texts: &[[u8; 2]]) -> bool {
     set.count() >= count && rises(set.least(count), texts)
 }
 
-/// Whether a set has a card, hasn't once it is taken out, and has so many once it is put back.
+/// Returns whether a set has a card, doesn't have it once it is removed, and has `count` cards once
+/// it is added again.
 fn gives_up(set: CardSet, card: Card, count: u32) -> bool {
     let without = set.without(card);
     set.has(card)
@@ -110,7 +111,7 @@ fn gives_up(set: CardSet, card: Card, count: u32) -> bool {
         && without.union(CardSet::empty().with(card)).count() == count
 }
 
-/// Whether this is so of each card of a set.
+/// Returns whether `gives_up` is true for each card of a set.
 fn gives_up_each(set: CardSet, count: u32) -> bool {
     for card in set.iter() {
         if !gives_up(set, card, count) {
@@ -129,7 +130,7 @@ fn a_set_gives_its_cards_rising(rt: HostRuntime) -> Result<(), Fail> {
     Ok(())
 }
 
-/// The set of some players below 16.
+/// Returns the set of some players below 16.
 fn players_of(players: &[u8]) -> PlayerSet {
     let mut set = PlayerSet::empty();
     for player in players {
@@ -140,7 +141,7 @@ fn players_of(players: &[u8]) -> PlayerSet {
     set
 }
 
-/// Whether a set gives these players, one after the other.
+/// Returns whether a set gives these players, one after the other.
 fn gives_players(set: PlayerSet, players: &[u8]) -> bool {
     let mut left = players;
     for player in set.each() {
@@ -155,7 +156,7 @@ fn gives_players(set: PlayerSet, players: &[u8]) -> bool {
     left.is_empty()
 }
 
-/// Whether a number is odd.
+/// Returns whether a number is odd.
 fn is_odd(number: u8) -> bool {
     number % 2 == 1
 }

@@ -1,4 +1,4 @@
-//! Cards from texts, and known cards of which it is tested that they can be known.
+//! Cards from texts, and known cards that are tested to be possible.
 
 ghost use Rattle.std.specs.Prelude.{◌≡◌, ◌≤◌, IfSome, drop, length, nat_le};
 ghost use Rattle.std.specs.List.{list_all};
@@ -10,7 +10,7 @@ use card_sets::{Card, CardSet, Game, Known, are_disjoint};
 /// A game, its hands, the board and the dead cards, each set as a text.
 pub(crate) type Spot = (Game, &'static [&'static [u8]], &'static [u8], &'static [u8]);
 
-/// The cards that a text of two letters a card names.
+/// Returns the cards of a text with two letters for each card.
 pub(crate) fn cards(text: &[u8]) -> Option<CardSet> {
     let mut set = CardSet::empty();
     for letters in text.chunks(2) {
@@ -22,7 +22,7 @@ pub(crate) fn cards(text: &[u8]) -> Option<CardSet> {
     Some(set)
 }
 
-/// The five cards of a text; none where it names others.
+/// Returns the five cards of a text, or `None` if it doesn't name five cards.
 pub(crate) fn five(text: &str) -> Option<CardSet>
     ensures { IfSome result (λ set. length set ≡ 5) }
 {
@@ -30,7 +30,7 @@ pub(crate) fn five(text: &str) -> Option<CardSet>
     if set.count() == 5 { Some(set) } else { None }
 }
 
-/// The five to seven cards of a text; none where it names others.
+/// Returns the five to seven cards of a text, or `None` if it doesn't name as many.
 pub(crate) fn five_or_more(text: &str) -> Option<CardSet>
     ensures least { IfSome result (λ set. 5 ≤ length set) }
     ensures most { IfSome result (λ set. length set ≤ 7) }
@@ -43,7 +43,7 @@ pub(crate) fn five_or_more(text: &str) -> Option<CardSet>
     }
 }
 
-/// The cards of at most ten texts, and no cards after them.
+/// Returns the cards of at most ten texts, followed by empty sets.
 fn hands_of(texts: &[&[u8]]) -> Option<[CardSet; 10]> {
     let mut hands = [CardSet::empty(); 10];
     for (place, text) in texts.iter().enumerate() {
@@ -55,7 +55,7 @@ fn hands_of(texts: &[&[u8]]) -> Option<[CardSet; 10]> {
     Some(hands)
 }
 
-/// Whether no set is larger than so many cards.
+/// Returns whether no set has more than `most` cards.
 fn are_small(sets: &[CardSet], most: u32) -> bool
     ensures { result ≡ list_all (λ set. nat_le (length set) most) sets.now }
 {
@@ -65,14 +65,14 @@ fn are_small(sets: &[CardSet], most: u32) -> bool
     }
 }
 
-/// Whether no set is larger than its place in the game allows.
+/// Returns whether no set is larger than its place in the game allows.
 fn fits(game: Game, hands: &[CardSet; 10], board: CardSet) -> bool
     ensures { result ≡ all_fit game board hands.now }
 {
     board.count() <= game.board_size() && are_small(&hands[..], game.own_size())
 }
 
-/// Whether the hands after so many have no cards.
+/// Returns whether the sets after `count` hands are empty.
 fn are_unused(hands: &[CardSet; 10], count: u8) -> bool
     requires { count ≤ 10 }
     ensures { result ≡ all_empty (drop count hands.now) }
@@ -81,7 +81,7 @@ fn are_unused(hands: &[CardSet; 10], count: u8) -> bool
     are_small(&hands[usize::from(count)..], 0)
 }
 
-/// So many hands, a board and dead cards; none where they can't be known together.
+/// Returns some hands, a board, and dead cards as known cards, or `None` if they aren't possible.
 fn known_of(
     game: Game,
     count: u8,
@@ -110,7 +110,7 @@ fn known_of(
     })
 }
 
-/// The known cards of a spot; none where they can't be known together.
+/// Returns the known cards of a spot, or `None` if they aren't possible.
 pub(crate) fn known(spot: &Spot) -> Option<Known> {
     let (game, hands, board, dead) = *spot;
     if hands.len() > 10 {

@@ -5,10 +5,11 @@ use share_fractions::{Fixed, LONGEST_TEXT, rounded};
 /// The greatest denominator: ten to the power 32.
 const GREATEST: u128 = 100_000_000_000_000_000_000_000_000_000_000;
 
-/// The greatest numerator, twice as great.
+/// The greatest numerator, which is twice the greatest denominator.
 const TWICE: u128 = 200_000_000_000_000_000_000_000_000_000_000;
 
-/// Whether a number is written as this text at the front of a room of underscores, and these bytes stand after it.
+/// Returns whether a number is written as this text at the beginning of a buffer of underscores, and these
+/// bytes follow.
 fn is_written(number: Fixed, text: &[u8], behind: &[u8]) -> bool {
     if number.places > 4 {
         return false;
@@ -18,7 +19,7 @@ fn is_written(number: Fixed, text: &[u8], behind: &[u8]) -> bool {
     &room[..end] == text && room[end..].starts_with(behind)
 }
 
-/// Whether a fraction with so many places is written as this text.
+/// Returns whether a fraction with `places` decimal places is written as this text.
 fn is_rounded(numerator: u128, denominator: u128, places: u32, text: &[u8]) -> bool {
     if denominator == 0 || numerator > TWICE || denominator > GREATEST || places > 4 {
         return false;
@@ -26,7 +27,7 @@ fn is_rounded(numerator: u128, denominator: u128, places: u32, text: &[u8]) -> b
     is_written(rounded(numerator, denominator, places), text, b"")
 }
 
-/// Whether each of these fractions is written as its text.
+/// Returns whether each of these fractions is written as its text.
 fn all_rounded(cases: &[(u128, u128, u32, &[u8])]) -> bool {
     for (numerator, denominator, places, text) in cases {
         if !is_rounded(*numerator, *denominator, *places, text) {
@@ -59,7 +60,7 @@ fn fractions_are_rounded_half_up_and_written_with_their_places(rt: HostRuntime) 
     assert!(rt; all_rounded(CASES));
 }
 
-/// The greatest number with so many places.
+/// Returns the greatest number with `places` decimal places.
 fn greatest(places: u32) -> Fixed {
     Fixed {
         whole: u128::MAX,

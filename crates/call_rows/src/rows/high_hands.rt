@@ -28,7 +28,7 @@ const RISING: &[&str] = &[
     "AsKsQsJsTs", // the royal flush
 ];
 
-/// Fives, and the digits of their category and of the ranks of their groups, T as a to A as e.
+/// Fives, with the digits of their category and of the ranks of their groups, T as a to A as e.
 const FIVES: &[(&str, u32)] = &[
     ("AsKsQsJsTs", 0x8edcba),
     ("9h8h7h6h5h", 0x898765),
@@ -51,7 +51,7 @@ const FIVES: &[(&str, u32)] = &[
     ("7c5d4h3s2c", 0x075432),
 ];
 
-/// Six or seven cards, and the same digits of their best five.
+/// Six or seven cards, with the digits of their best five.
 const BEST: &[(&str, u32)] = &[
     ("AcAdKhKsQcQd2h", 0x2edc00), // three pairs
     ("AcAdKhKs2c2dQh", 0x2edc00), // three pairs, a single card for the fifth
@@ -72,7 +72,7 @@ const BEST: &[(&str, u32)] = &[
     ("QcQdQhAs2c3d", 0x3ce300), // six cards
 ];
 
-/// Hands that are worth the same, whatever their suits and the cards beyond five.
+/// Hands that are worth the same, whatever their suits and their cards beyond five.
 const TIES: &[(&str, &str)] = &[
     ("AcKdQhJs9c", "AsKhQdJc9s"),
     ("AhQh9h5h3h", "AsQs9s5s3s"),
@@ -81,22 +81,23 @@ const TIES: &[(&str, &str)] = &[
     ("AhQh9h5h3h2hKs", "AhQh9h5h3hAsKs"),
 ];
 
-/// The number of what five cards are worth; none where a text names others.
+/// Returns the number of five cards, or `None` if the text doesn't name five.
 fn number_of_five(text: &str) -> Option<u32> {
     Some(high_of_five(five(text)?).number())
 }
 
-/// What the best five of five to seven cards are worth; none where a text names others.
+/// Returns the worth of the best five of five to seven cards, or `None` if the text doesn't name as
+/// many.
 fn best(text: &str) -> Option<HighValue> {
     Some(high_of_set(five_or_more(text)?))
 }
 
-/// The number of it.
+/// Returns the number of the best five.
 fn number_of_best(text: &str) -> Option<u32> {
     Some(best(text)?.number())
 }
 
-/// The first of these fives that hasn't its digits.
+/// Returns the first of these fives that doesn't have its digits.
 fn wrong_five(table: &[(&'static str, u32)]) -> Option<&'static str> {
     for (text, number) in table {
         if number_of_five(*text) != Some(*number) {
@@ -106,7 +107,7 @@ fn wrong_five(table: &[(&'static str, u32)]) -> Option<&'static str> {
     None
 }
 
-/// The first of these hands of which the best five haven't its digits.
+/// Returns the first of these hands whose best five don't have their digits.
 fn wrong_best(table: &[(&'static str, u32)]) -> Option<&'static str> {
     for (text, number) in table {
         if number_of_best(*text) != Some(*number) {
@@ -116,7 +117,7 @@ fn wrong_best(table: &[(&'static str, u32)]) -> Option<&'static str> {
     None
 }
 
-/// Whether a hand is worth more than the one before, where there is one.
+/// Returns whether a hand is worth more than the one before it, if there is one.
 fn is_better(value: HighValue, before: Option<HighValue>) -> bool {
     match before {
         Some(lower) => lower < value,
@@ -124,7 +125,7 @@ fn is_better(value: HighValue, before: Option<HighValue>) -> bool {
     }
 }
 
-/// The first of these hands that doesn't beat the one before, or isn't a hand.
+/// Returns the first of these hands that doesn't beat the one before it, or isn't a hand.
 fn beaten(texts: &[&'static str]) -> Option<&'static str> {
     let mut before: Option<HighValue> = None;
     for text in texts {
@@ -139,7 +140,7 @@ fn beaten(texts: &[&'static str]) -> Option<&'static str> {
     None
 }
 
-/// Whether two hands are worth the same.
+/// Returns whether two hands are worth the same.
 fn is_tie(text: &str, other: &str) -> bool {
     match (best(text), best(other)) {
         (Some(value), Some(same)) => value == same,
@@ -147,7 +148,7 @@ fn is_tie(text: &str, other: &str) -> bool {
     }
 }
 
-/// The first of these hands that isn't worth what the one beside it is.
+/// Returns the first of these hands that isn't worth the same as the one next to it.
 fn untied(table: &[(&'static str, &'static str)]) -> Option<&'static str> {
     for (text, other) in table {
         if !is_tie(*text, *other) {

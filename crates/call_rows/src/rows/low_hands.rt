@@ -52,27 +52,29 @@ const EIGHTS: &[(&str, bool)] = &[
     ("2c3c4cKcAc", false),
 ];
 
-/// What the best of five to seven cards are worth as an ace-to-five low; none where a text names others.
+/// Returns the worth of the best of five to seven cards as an ace-to-five low, or `None` if the text
+/// doesn't name as many.
 fn ace(text: &str) -> Option<LowValue> {
     Some(ace_five(five_or_more(text)?))
 }
 
-/// What five cards are worth as an ace-to-five low, by their groups; none where a text names others.
+/// Returns the worth of five cards as an ace-to-five low, by their groups, or `None` if the text doesn't
+/// name five.
 fn ace_by_groups(text: &str) -> Option<LowValue> {
     Some(ace_of_five(five(text)?))
 }
 
-/// What five cards are worth as a deuce-to-seven low.
+/// Returns the worth of five cards as a deuce-to-seven low.
 fn deuce(text: &str) -> Option<LowValue> {
     Some(deuce_seven(five(text)?))
 }
 
-/// The same by their groups.
+/// Returns the worth of five cards as a deuce-to-seven low, by their groups.
 fn deuce_by_groups(text: &str) -> Option<LowValue> {
     Some(deuce_of_five(five(text)?))
 }
 
-/// Whether a low is worse than the one before, where there is one.
+/// Returns whether a low is worse than the one before it, if there is one.
 fn is_worse(before: Option<LowValue>, value: LowValue) -> bool {
     match before {
         Some(better) => better < value,
@@ -80,7 +82,7 @@ fn is_worse(before: Option<LowValue>, value: LowValue) -> bool {
     }
 }
 
-/// Whether a low is that of its groups, where it has five cards.
+/// Returns whether a low is that of its groups, if it has five cards.
 fn is_by_groups(plain: Option<LowValue>, value: LowValue) -> bool {
     match plain {
         Some(plain) => plain == value,
@@ -88,7 +90,8 @@ fn is_by_groups(plain: Option<LowValue>, value: LowValue) -> bool {
     }
 }
 
-/// The first of these hands that isn't a worse ace-to-five low than the one before, or is another by its groups.
+/// Returns the first of these hands that isn't a worse ace-to-five low than the one before it, or differs
+/// by its groups.
 fn wrong_ace(texts: &[&'static str]) -> Option<&'static str> {
     let mut before: Option<LowValue> = None;
     for text in texts {
@@ -108,7 +111,8 @@ fn ace_to_five_lows_beat_each_other_in_order(rt: HostRuntime) {
     assert_eq!(rt; wrong_ace(ACE_TO_FIVE), None);
 }
 
-/// The first of these hands that isn't a worse deuce-to-seven low than the one before, or is another by its groups.
+/// Returns the first of these hands that isn't a worse deuce-to-seven low than the one before it, or
+/// differs by its groups.
 fn wrong_deuce(texts: &[&'static str]) -> Option<&'static str> {
     let mut before: Option<LowValue> = None;
     for text in texts {
@@ -128,7 +132,8 @@ fn deuce_to_seven_lows_beat_each_other_in_order(rt: HostRuntime) {
     assert_eq!(rt; wrong_deuce(DEUCE_TO_SEVEN), None);
 }
 
-/// Whether a hand has a low of eight or better, which is its ace-to-five low then, or none, as is wanted.
+/// Returns whether a hand qualifies as given: with a low of eight or better that is its ace-to-five low,
+/// or with none.
 fn is_eight(text: &str, qualifies: bool) -> bool {
     let Some(set) = five_or_more(text) else {
         return false;
@@ -139,7 +144,7 @@ fn is_eight(text: &str, qualifies: bool) -> bool {
     }
 }
 
-/// The first of these hands of which that isn't so.
+/// Returns the first of these hands that doesn't qualify as given.
 fn wrong_eight(table: &[(&'static str, bool)]) -> Option<&'static str> {
     for (text, qualifies) in table {
         if !is_eight(*text, *qualifies) {

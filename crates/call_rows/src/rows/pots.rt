@@ -7,7 +7,7 @@ ghost use Rattle.pot_layers.specs.Split.{IsOrder};
 use pot_layers::{OddOrder, Paid, Pot, Share, SideWinners, halves, layers, split, uncalled};
 use std::alloc::Global;
 
-/// Three all in, one of them with less than the others.
+/// Three players all-in, one of them with less than the others.
 const THREE: [Paid; 3] = [
     Paid {
         seat: 1,
@@ -73,7 +73,7 @@ const FOLDED_POTS: &[Pot] = &[
     },
 ];
 
-/// Five units for two winners, of whom the second comes first.
+/// Five units for two winners. The second winner is first in the odd order.
 const FIVE: &[Share] = &[
     Share {
         seat: 1,
@@ -87,7 +87,7 @@ const FIVE: &[Share] = &[
     },
 ];
 
-/// Seven units for the winner of the high and that of the low.
+/// Seven units for the winner of the high and the winner of the low.
 const SEVEN: &[Share] = &[
     Share {
         seat: 1,
@@ -101,7 +101,7 @@ const SEVEN: &[Share] = &[
     },
 ];
 
-/// Whether the pots of what some players paid are these.
+/// Returns whether the pots of what some players paid are these.
 fn has_pots(alloc: Global, paid: &[Paid], pots: &[Pot]) -> bool
     requires { put_in_all paid.now < 2 ^ 64 }
 {
@@ -123,7 +123,7 @@ fn dead_and_folded_chips_are_in_the_pots(rt: HostRuntime) {
     assert!(rt; uncalled(&FOLDED) == Some((2, 100)));
 }
 
-/// What a lone player put in, and one who put in dead chips alone, by himself and beside another.
+/// The chips of a lone player, and of one with dead chips alone, without and with another player.
 const LONE: [Paid; 1] = [Paid {
     seat: 4,
     live: 100,
@@ -160,7 +160,7 @@ fn all_of_a_lone_player_is_uncalled(rt: HostRuntime) {
     assert!(rt; uncalled(&TWO_WITHOUT_LIVE).is_none());
 }
 
-/// Whether so many units are shared so.
+/// Returns whether these units are split into these parts.
 fn has_shares(
     alloc: Global,
     units: u64,

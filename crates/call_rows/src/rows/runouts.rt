@@ -12,7 +12,7 @@ pub(crate) const TURN: Spot = (Game::Holdem, &[b"AsAh", b"KsKh"], b"2c4s7d9h", b
 /// As Ah against Ks Kh, with 2c 7c 9c on the board.
 pub(crate) const FLOP: Spot = (Game::Holdem, &[b"AsAh", b"KsKh"], b"2c7c9c", b"");
 
-/// The same with 2d and 2h dead.
+/// The flop of `FLOP`, with 2d and 2h dead.
 const FLOP_WITH_DEAD_CARDS: Spot = (Game::Holdem, &[b"AsAh", b"KsKh"], b"2c7c9c", b"2d2h");
 
 /// Single draw, two hands that keep four cards each, the deuces and the treys.
@@ -54,7 +54,7 @@ pub(crate) const ONE_EACH: &[Slot] = &[
     },
 ];
 
-/// What is still to come; none where a spot can't be known, or too few cards are left.
+/// Returns the cards still to come, or `None` if a spot isn't possible or too few cards are left.
 fn shape_of(spot: &Spot) -> Option<Shape> {
     match known(spot) {
         Some(known) => shape(&known),
@@ -62,12 +62,12 @@ fn shape_of(spot: &Spot) -> Option<Shape> {
     }
 }
 
-/// Whether a shape has these slots, in this order.
+/// Returns whether a shape has these slots, in this order.
 pub(crate) fn has_slots(shape: &Shape, slots: &[Slot]) -> bool {
     &shape.slots[..usize::from(shape.used)] == slots
 }
 
-/// The numbers of the least and the greatest card of a slot.
+/// Returns the numbers of the least and the greatest card of a slot.
 fn ends(runout: &Runout, slot: u8) -> (u8, u8) {
     let Some(set) = runout.sets().get(usize::from(slot)) else {
         return (52, 52);
@@ -78,8 +78,8 @@ fn ends(runout: &Runout, slot: u8) -> (u8, u8) {
     }
 }
 
-/// What a walk over all runouts sees of a slot: the ends of its first and its last set, and how many
-/// runouts there are.
+/// What a walk over all runouts shows of a slot: the ends of its first and its last set, and the
+/// number of runouts.
 #[derive(Drop)]
 struct Walk {
     first: (u8, u8),
@@ -107,7 +107,8 @@ fn walked(shape: &Shape, slot: u8) -> Walk
     }
 }
 
-/// Whether a shape has these slots, and a walk sees these ends of one of them, and so many runouts.
+/// Returns whether a shape has these slots, and a walk shows these ends of one slot and this number
+/// of runouts.
 fn is_walked(
     shape: &Shape,
     slots: &[Slot],
@@ -123,7 +124,7 @@ fn is_walked(
     seen.first == first && seen.last == last && seen.count == count
 }
 
-/// Whether this is so of the shape of a spot.
+/// Returns whether the shape of a spot has these slots and this walk.
 fn is_listed(
     spot: &Spot,
     slots: &[Slot],
@@ -138,7 +139,7 @@ fn is_listed(
     }
 }
 
-/// How many cards may come.
+/// Returns the number of cards that may come.
 fn unseen(spot: &Spot) -> Option<u32> {
     let shape = shape_of(spot)?;
     Some(shape.unseen.count())
@@ -179,7 +180,8 @@ fn the_second_hand_draws_from_what_the_first_leaves(rt: HostRuntime) {
     assert!(rt; is_listed(&DRAW, ONE_EACH, 1, (9, 9), (50, 50), 44 * 43));
 }
 
-/// Whether a spot has so many slots, and so many runouts; none where they are above a limit.
+/// Returns whether a spot has this number of slots and of runouts; the number is `None` if it is
+/// above a limit.
 fn is_counted(spot: &Spot, used: u8, limit: u64, count: Option<u64>) -> bool {
     match shape_of(spot) {
         Some(shape) => shape.used == used && count_runouts(&shape, limit).ok() == count,

@@ -15,13 +15,14 @@ use std::marker::Brand;
 use std::sync::ledger::{Blank, Ledger};
 use step_count::Steps;
 
-/// How many runouts of a tally a hand wins, ties and loses on a side of a pot: the pot, the hand, the side, and these.
+/// The number of runouts that a hand wins, ties, and loses on a side of a pot: the pot, the hand, the
+/// side, and these numbers.
 pub(crate) type Ends = (u8, u8, Side, [u64; 3]);
 
-/// How many units a hand gets of a pot: the pot, the hand, and these.
+/// The units that a hand receives of a pot: the pot, the hand, and the units.
 pub(crate) type Units = (u8, u8, u64);
 
-/// Own cards, each worth more with 2c 7h 9h Th Js on the board than those before.
+/// Own cards, each worth more than those before with 2c 7h 9h Th Js on the board.
 const RISING: &[&[u8]] = &[
     b"4dAc", // ace high
     b"KcAd", // ace and king high
@@ -48,7 +49,7 @@ const FIRST_ENDS: &[Ends] = &[
     (1, 2, Side::Low, [0, 0, 0]),
 ];
 
-/// What the hands get of it.
+/// The units of the hands for the first river.
 const FIRST_UNITS: &[Units] = &[
     (0, 0, 5040),
     (0, 1, 0),
@@ -65,7 +66,7 @@ const ALL_ENDS: &[Ends] = &[
     (1, 1, Side::High, [0, 42, 0]),
 ];
 
-/// What the hands get of them.
+/// The units of the hands for all rivers.
 const ALL_UNITS: &[Units] = &[(0, 0, 38 * 5040), (0, 2, 4 * 2520), (1, 2, 42 * 2520)];
 
 /// How the first river ends twice.
@@ -75,11 +76,11 @@ const TWICE_ENDS: &[Ends] = &[
     (1, 1, Side::High, [0, 2, 0]),
 ];
 
-/// What the hands get of that.
+/// The units of the hands for the first river twice.
 const TWICE_UNITS: &[Units] = &[(0, 0, 10080), (1, 2, 5040)];
 
-/// What two cards are worth on a side of hold'em with five on the board; the outer none where these can't be
-/// dealt.
+/// Returns the worth of two cards on a side of hold'em with five on the board. The outer option is `None`
+/// if these cards aren't possible.
 fn value_on(side: Side, own: CardSet, board: CardSet) -> Option<Option<u32>> {
     if own.count() != 2 || board.count() != 5 || !own.is_apart(board) {
         return None;
@@ -87,17 +88,17 @@ fn value_on(side: Side, own: CardSet, board: CardSet) -> Option<Option<u32>> {
     Some(side_value(side, Game::Holdem, own, board))
 }
 
-/// The same, each set as a text.
+/// Returns what `value_on` returns, with each set as a text.
 fn value(side: Side, own: &[u8], board: &[u8]) -> Option<Option<u32>> {
     value_on(side, cards(own)?, cards(board)?)
 }
 
-/// What two cards are worth with 2c 7h 9h Th Js on the board.
+/// Returns the worth of two cards with 2c 7h 9h Th Js on the board.
 fn worth(own: &[u8]) -> Option<u32> {
     value(Side::High, own, b"2c7h9hThJs")?
 }
 
-/// Whether each of some hands is worth more than the one before.
+/// Returns whether each of some hands is worth more than the one before it.
 fn are_rising(hands: &[&[u8]]) -> bool {
     let mut below = None;
     for own in hands {
@@ -115,7 +116,7 @@ fn better_hands_have_greater_numbers(rt: HostRuntime) {
     assert!(rt; are_rising(RISING));
 }
 
-/// Whether two hands are worth the same.
+/// Returns whether two hands are worth the same.
 fn is_tie(own: &[u8], other: &[u8]) -> bool {
     match (worth(own), worth(other)) {
         (Some(value), Some(same)) => value == same,
@@ -128,7 +129,7 @@ fn cards_that_do_not_play_do_not_count(rt: HostRuntime) {
     assert!(rt; is_tie(b"3dAs", b"4dAc"));
 }
 
-/// Whether two cards can be dealt with these on the board, and have no low.
+/// Returns whether two cards are possible with these on the board, and have no low.
 fn has_no_low(own: &[u8], board: &[u8]) -> bool {
     value(Side::Low, own, board) == Some(None)
 }
@@ -138,7 +139,7 @@ fn there_is_no_low_in_holdem(rt: HostRuntime) {
     assert!(rt; has_no_low(b"7cAh", b"2c3c4c5c6c"));
 }
 
-/// Three hands with two pots, of which the first hand has no part in the second.
+/// Returns three hands with two pots; the first hand has no part in the second pot.
 fn main_and_side_pot(known: Option<Known>) -> Option<Table> {
     let known = known?;
     if known.count != 3 {
@@ -151,12 +152,12 @@ fn main_and_side_pot(known: Option<Known>) -> Option<Table> {
     })
 }
 
-/// The table of the spot with two pots.
+/// Returns the table of the spot with two pots.
 fn two_pots() -> Option<Table> {
     main_and_side_pot(known(&TWO_POTS))
 }
 
-/// The tally of the first runout alone; none where there is none.
+/// Returns the tally of the first runout alone, or `None` if there is no runout.
 fn first_settled<L: Ledger>(table: &Table, blank: Blank) -> Option<Tally>
     requires name { blank.name ≡ L.name }
     requires parts { blank.parts ≡ L.parts }
@@ -174,7 +175,7 @@ fn first_settled<L: Ledger>(table: &Table, blank: Blank) -> Option<Tally>
     Some(tally)
 }
 
-/// The tally of at most a thousand runouts of a shape, from the first. Each of them takes one step.
+/// Returns the tally of at most a thousand runouts of a shape, from the first. Each takes one step.
 fn settled<L: Ledger>(table: &Table, shape: &Shape, steps: &mut Steps<L>) -> Tally
     requires shape { IsShapeOf (state_of table.now.known) shape.now }
     ensures { steps.new ≡ steps.old + result.runouts }
@@ -191,7 +192,7 @@ fn settled<L: Ledger>(table: &Table, shape: &Shape, steps: &mut Steps<L>) -> Tal
     tally
 }
 
-/// The same of all runouts of a table, with a counter of its own.
+/// Returns the tally of all runouts of a table, with a counter of its own.
 fn all_settled<L: Ledger>(table: &Table, blank: Blank) -> Option<Tally>
     requires name { blank.name ≡ L.name }
     requires parts { blank.parts ≡ L.parts }
@@ -202,12 +203,12 @@ fn all_settled<L: Ledger>(table: &Table, blank: Blank) -> Option<Tally>
     Some(settled(table, &shape, &mut steps))
 }
 
-/// The tally of a table's runouts, where they are at most a thousand.
+/// Returns the tally of a table's runouts, if they are at most a thousand.
 pub(crate) fn own_count(table: &Table) -> Option<Tally> {
     all_settled::<Brand>(table, Blank::new(1))
 }
 
-/// The tally of the runouts of a table that there is.
+/// Returns the tally of the runouts of a table, if there is a table.
 fn whole_count(table: &Option<Table>) -> Option<Tally> {
     match table {
         Some(table) => own_count(table),
@@ -215,7 +216,7 @@ fn whole_count(table: &Option<Table>) -> Option<Tally> {
     }
 }
 
-/// The tally of its first runout.
+/// Returns the tally of the first runout of a table, if there is a table.
 fn first_count(table: &Option<Table>) -> Option<Tally> {
     match table {
         Some(table) => first_settled::<Brand>(table, Blank::new(1)),
@@ -223,7 +224,7 @@ fn first_count(table: &Option<Table>) -> Option<Tally> {
     }
 }
 
-/// Twice that of its first runout, as a sum.
+/// Returns twice the tally of a table's first runout, as a sum.
 fn twice_settled(table: &Table) -> Option<Tally> {
     let mut both = first_settled::<Brand>(table, Blank::new(1))?;
     let other = first_settled::<Brand>(table, Blank::new(1))?;
@@ -231,7 +232,7 @@ fn twice_settled(table: &Table) -> Option<Tally> {
     Some(both)
 }
 
-/// The same of a table that there is.
+/// Returns what `twice_settled` returns of a table, if there is a table.
 fn first_twice(table: &Option<Table>) -> Option<Tally> {
     match table {
         Some(table) => twice_settled(table),
@@ -239,13 +240,13 @@ fn first_twice(table: &Option<Table>) -> Option<Tally> {
     }
 }
 
-/// Whether so many runouts of a tally end so for a hand on a side of a pot.
+/// Returns whether the numbers of runouts that a hand wins, ties, and loses on a side of a pot are these.
 fn has_end(tally: &Tally, end: &Ends) -> bool {
     let (pot, hand, side, [win, tie, lose]) = *end;
     pot < 10 && hand < 10 && tally.cell(pot, hand, side) == Cell { win, tie, lose }
 }
 
-/// Whether this is so of each of these.
+/// Returns whether `has_end` is true for each of these.
 fn has_ends(tally: &Tally, ends: &[Ends]) -> bool {
     for end in ends {
         if !has_end(tally, end) {
@@ -255,7 +256,7 @@ fn has_ends(tally: &Tally, ends: &[Ends]) -> bool {
     true
 }
 
-/// Whether some hands have so many units, each of a pot.
+/// Returns whether each of these hands receives its units of its pot.
 fn has_units(tally: &Tally, units: &[Units]) -> bool {
     for (pot, hand, wanted) in units {
         if *pot >= 10 || *hand >= 10 || tally.units(*pot, *hand) != *wanted {
@@ -265,7 +266,7 @@ fn has_units(tally: &Tally, units: &[Units]) -> bool {
     true
 }
 
-/// Whether there is a tally, with so many runouts, ends and units.
+/// Returns whether there is a tally, with this number of runouts, these ends, and these units.
 pub(crate) fn is_tally(
     tally: &Option<Tally>,
     runouts: u64,

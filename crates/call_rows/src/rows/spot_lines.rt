@@ -5,7 +5,7 @@ use spot_text::{SpotFault, has_word, read_spot};
 use std::alloc::Global;
 use std::test::Fail;
 
-/// Whether the set has the cards that the words name, and no others.
+/// Returns whether the set has the cards that the words name, and no others.
 fn holds(set: CardSet, words: &[[u8; 2]]) -> bool {
     let mut wanted = CardSet::empty();
     for word in words {
@@ -24,7 +24,8 @@ fn fault_of(line: &[u8]) -> Option<SpotFault> {
     }
 }
 
-/// What a line gives: the game, how many hands, some of them by their places, the board and the dead cards.
+/// The meaning of a line: the game, the number of hands, some of them by their places, the board, and the
+/// dead cards.
 type Read = (
     Game,
     u8,
@@ -33,7 +34,7 @@ type Read = (
     &'static [[u8; 2]],
 );
 
-/// Whether hands have these cards.
+/// Returns whether hands have these cards.
 fn has_hands(hands: &[CardSet], wanted: &[(usize, &[[u8; 2]])]) -> bool {
     for (place, words) in wanted {
         match hands.get(*place) {
@@ -44,7 +45,7 @@ fn has_hands(hands: &[CardSet], wanted: &[(usize, &[[u8; 2]])]) -> bool {
     true
 }
 
-/// Whether a line gives this.
+/// Returns whether a line has this meaning.
 fn is_read(line: &[u8], wanted: &Read) -> bool {
     let (game, count, hands, board, dead) = *wanted;
     match read_spot(line) {
@@ -59,7 +60,7 @@ fn is_read(line: &[u8], wanted: &Read) -> bool {
     }
 }
 
-/// Whether each of these lines does.
+/// Returns whether each of these lines has this meaning.
 fn all_read(lines: &[&[u8]], wanted: &Read) -> bool {
     for line in lines {
         if !is_read(line, wanted) {
@@ -110,7 +111,7 @@ fn ten_hands_are_read_in_order(rt: HostRuntime) {
     assert!(rt; all_read(LONG_LINE, &TEN_HANDS));
 }
 
-/// Whether each of these lines is refused for this.
+/// Returns whether each of these lines is refused for this fault.
 fn all_refused(lines: &[&[u8]], fault: &SpotFault) -> bool {
     for line in lines {
         if fault_of(line) != Some(*fault) {
@@ -165,7 +166,7 @@ fn a_word_that_may_not_stand_there_is_a_bad_card(rt: HostRuntime) {
     assert!(rt; all_refused(OTHER_WORDS, &SpotFault::BadCard));
 }
 
-/// Whether a line is refused for this card, which stands twice.
+/// Returns whether a line is refused for this card, which is on it twice.
 fn repeats(line: &[u8], text: [u8; 2]) -> bool {
     match Card::read(text) {
         Some(card) => fault_of(line) == Some(SpotFault::TwiceCard(card)),
@@ -173,7 +174,7 @@ fn repeats(line: &[u8], text: [u8; 2]) -> bool {
     }
 }
 
-/// Whether each of these lines is.
+/// Returns whether each of these lines is refused for its card.
 fn all_repeat(table: &[(&[u8], [u8; 2])]) -> bool {
     for (line, text) in table {
         if !repeats(line, *text) {
@@ -258,7 +259,7 @@ const OTHER_COUNTS_OF_HANDS: &[&[u8]] = &[
     b"triple27 - - - - - - - - - -",
 ];
 
-/// In the last ten hands lack forty cards, and thirty-nine are left.
+/// In the last one, ten hands lack forty cards, and thirty-nine are left.
 const SHORT_DECKS: &[&[u8]] = &[
     b"stud 2c 2d 2h - 2s 3c 3d - 3h 3s 4c - 4d 4h 4s - 5c 5d 5h - 5s 6c 6d - 6h 6s 7c - 7d 7h 7s",
     b"stud8 2c 2d 2h - 2s 3c 3d - 3h 3s 4c - 4d 4h 4s - 5c 5d 5h - 5s 6c 6d - 6h 6s 7c - 7d 7h 7s",
@@ -273,7 +274,8 @@ fn sizes_are_tested_in_order(rt: HostRuntime) {
     assert!(rt; all_refused(SHORT_DECKS, &SpotFault::DeckShort));
 }
 
-/// Whether each of these lines has its game, cards in the first two hands, on the board and dead.
+/// Returns whether each of these lines has its game and these numbers of cards: in the first two hands, on
+/// the board, and dead.
 fn all_sized(table: &[(&[u8], Game, [u32; 2], u32, u32)]) -> bool {
     for (line, game, own, board, dead) in table {
         match read_spot(line) {
@@ -405,7 +407,7 @@ fn each_game_has_its_sizes(rt: HostRuntime) {
     assert!(rt; all_sized(SIZES));
 }
 
-/// A line that goes on with a word again and again.
+/// Returns a line followed by a word several times.
 fn repeated(alloc: Global, front: &[u8], word: &[u8], times: u32) -> Result<Vec<u8>, Fail> {
     let mut line = Vec::from_slice(alloc, front)?;
     for _ in 0..times {
@@ -414,7 +416,8 @@ fn repeated(alloc: Global, front: &[u8], word: &[u8], times: u32) -> Result<Vec<
     Ok(line)
 }
 
-/// A line with the deuces in two hands, and with the cards of all four suits from trey to queen dead.
+/// Returns a line with the deuces in two hands, and with the cards of all four suits from trey to queen
+/// dead.
 fn crowded(alloc: Global) -> Result<Vec<u8>, Fail> {
     let mut line = Vec::from_slice(alloc, b"holdem 2c 2d - 2h 2s /")?;
     for rank in *b"3456789TJQ" {
@@ -425,7 +428,7 @@ fn crowded(alloc: Global) -> Result<Vec<u8>, Fail> {
     Ok(line)
 }
 
-/// Whether a line leaves too few cards. None where it is refused for another fault.
+/// Returns whether a line leaves too few cards, or `None` if it is refused for another fault.
 fn is_short(line: &[u8]) -> Option<bool> {
     match read_spot(line) {
         Ok(_) => Some(false),
@@ -434,7 +437,7 @@ fn is_short(line: &[u8]) -> Option<bool> {
     }
 }
 
-/// Whether a line that goes on with each of these leaves too few cards, or enough.
+/// Returns whether the line, followed by each of these, leaves too few cards, as given.
 fn all_short(line: &mut Vec<u8>, table: &[(&[u8], bool)]) -> Result<bool, Fail> {
     for (words, short) in table {
         line.extend_from_slice(words)?;
@@ -445,7 +448,7 @@ fn all_short(line: &mut Vec<u8>, table: &[(&[u8], bool)]) -> Result<bool, Fail> 
     Ok(true)
 }
 
-/// Four cards in two hands and 43 dead ones leave five, as many as the board takes.
+/// Four cards in two hands and 43 dead ones leave five, which the board needs.
 const MORE_DEAD_CARDS: &[(&[u8], bool)] = &[
     (b" Kc Kd Kh", false),
     (b" Ks", true),
@@ -459,7 +462,7 @@ fn dead_cards_may_leave_too_few_for_the_board(rt: HostRuntime) -> Result<(), Fai
     Ok(())
 }
 
-/// Whether each of these lines has a word, or none.
+/// Returns whether each of these lines has a word, or none.
 fn all_worded(table: &[(&[u8], bool)]) -> bool {
     for (line, has) in table {
         if has_word(line) != *has {

@@ -7,7 +7,7 @@ use std::sync::ledger::{Blank, Ledger};
 use std::test::Fail;
 use step_count::Steps;
 
-/// The greatest of the bytes, and 0 of none. A step is one byte that is looked at.
+/// Returns the greatest of the bytes, or 0 if there are none. A step is one byte that is examined.
 fn greatest<L: Ledger>(bytes: &[u8], steps: &mut Steps<L>) -> u8
     ensures { steps.new ≡ steps.old + length bytes.now }
 {
@@ -21,14 +21,14 @@ fn greatest<L: Ledger>(bytes: &[u8], steps: &mut Steps<L>) -> u8
     greatest
 }
 
-/// The greatest byte of two lists. Its steps are those of both.
+/// Returns the greatest byte of two lists. Its steps are those of both lists.
 fn greatest_of_two<L: Ledger>(left: &[u8], right: &[u8], steps: &mut Steps<L>) -> u8
     ensures { steps.new ≡ steps.old + length left.now + length right.now }
 {
     greatest(left, steps).max(greatest(right, steps))
 }
 
-/// The same with a counter of its own, which begins at 0.
+/// Returns what `greatest_of_two` returns, with a counter of its own that begins at 0.
 fn greatest_counted<L: Ledger>(left: &[u8], right: &[u8], blank: Blank) -> u8
     requires name { blank.name ≡ L.name }
     requires parts { blank.parts ≡ L.parts }

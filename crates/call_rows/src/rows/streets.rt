@@ -1,4 +1,5 @@
-//! Streets of known states, one after the other, and the sums over the choices of their cards, worked out by hand.
+//! Streets of known states, one after another, and the sums over the choices of their cards, worked out by
+//! hand.
 
 ghost use Rattle.std.specs.Prelude.{◌≡◌, ◌<◌, IfSome};
 ghost use Rattle.card_sets.specs.State.{state_of};
@@ -40,8 +41,8 @@ const TURN_AND_OWN_CARDS: &[Slot] = &[
     },
 ];
 
-/// The board of five clubs makes 45 ties; of the others a king without an ace wins for the kings: one time both, 33
-/// times the king of clubs and 41 times that of diamonds. All of that in two ways.
+/// The board of five clubs makes 45 ties. Of the other boards a king without an ace wins for the kings:
+/// once both, 33 times the king of clubs, and 41 times that of diamonds. Each comes in two ways.
 const FLOP_ENDS: &[Ends] = &[
     (0, 0, Side::High, [2 * 870, 2 * 45, 2 * 75]),
     (0, 1, Side::High, [2 * 75, 2 * 45, 2 * 870]),
@@ -60,7 +61,7 @@ const FLUSH_ENDS: &[Ends] = &[(0, 0, Side::High, [0, 0, 41 * 40])];
 
 const FLUSH_UNITS: &[Units] = &[(0, 1, 41 * 40 * 5040)];
 
-/// The table of two hands or of ten in which the first two play for a pot.
+/// Returns the table of two or ten hands in which the first two play for a pot.
 fn table_of(known: Option<Known>) -> Option<Table> {
     let known = known?;
     let eligible = [0b11, 0, 0, 0, 0, 0, 0, 0, 0, 0];
@@ -81,7 +82,7 @@ fn table_of(known: Option<Known>) -> Option<Table> {
     None
 }
 
-/// The shape of the next street. None where too few cards are left, and after the last street.
+/// Returns the shape of the next street, or `None` if too few cards are left, and after the last street.
 fn step_of(known: &Known) -> Option<Shape>
     ensures { IfSome result (λ step. IsNextOf (state_of known.now) step) }
 {
@@ -89,13 +90,13 @@ fn step_of(known: &Known) -> Option<Shape>
     next_street(known)
 }
 
-/// In how many ways a runout divides; none where too few cards are left.
+/// Returns the number of ways in which a runout divides, or `None` if too few cards are left.
 fn divisions_of(known: &Known) -> Option<u64> {
     let _enough = shape(known)?;
     Some(divisions(known))
 }
 
-/// What is known after the first choice of the next street's cards.
+/// Returns the known cards after the first choice of the next street's cards.
 fn behind_first(known: &Known, step: &Shape) -> Known
     requires { IsNextOf (state_of known.now) step.now }
 {
@@ -104,7 +105,7 @@ fn behind_first(known: &Known, step: &Shape) -> Known
     after_street(known, step, &first)
 }
 
-/// What is known after the next street.
+/// Returns the known cards after the next street.
 fn behind(known: &Known) -> Option<Known> {
     match step_of(known) {
         Some(step) => Some(behind_first(known, &step)),
@@ -112,11 +113,11 @@ fn behind(known: &Known) -> Option<Known> {
     }
 }
 
-/// What the next street of a state is: its slots, how many cards may come, in how many ways a runout divides, and
+/// The next street of a state: its slots, how many cards may come, in how many ways a runout divides, and
 /// how many cards the board and the first two hands have after it.
 type Next = (&'static [Slot], u32, u64, [u32; 3]);
 
-/// How many cards the board and the first two hands have.
+/// Returns the number of cards of the board and of each of the first two hands.
 fn counts(known: &Known) -> [u32; 3] {
     [
         known.board.count(),
@@ -125,7 +126,7 @@ fn counts(known: &Known) -> [u32; 3] {
     ]
 }
 
-/// Whether the next street of a state is this.
+/// Returns whether the next street of a state is this.
 fn has_next(known: &Known, street: &Next) -> bool {
     let (slots, unseen, divisions, counted) = *street;
     match step_of(known) {
@@ -139,7 +140,7 @@ fn has_next(known: &Known, street: &Next) -> bool {
     }
 }
 
-/// Whether the next street of a spot is this.
+/// Returns whether the next street of a spot is this.
 fn is_next(spot: &Spot, street: &Next) -> bool {
     match known(spot) {
         Some(known) => has_next(&known, street),
@@ -147,7 +148,7 @@ fn is_next(spot: &Spot, street: &Next) -> bool {
     }
 }
 
-/// How many cards the board has, and how many on each street after; 0 after the last.
+/// Returns the number of cards of the board, now and after each street; 0 after the last.
 fn board_sizes(known: Known) -> [u32; 5] {
     let mut sizes = [0; 5];
     let mut at = known;
@@ -161,7 +162,7 @@ fn board_sizes(known: Known) -> [u32; 5] {
     sizes
 }
 
-/// The sum over the choices of the next street, with a counter of its own.
+/// Returns the sum over the choices of the next street, with a counter of its own.
 fn summed<L: Ledger>(table: &Table, blank: Blank) -> Result<Tally, StreetFault>
     requires name { blank.name ≡ L.name }
     requires parts { blank.parts ≡ L.parts }
@@ -172,7 +173,7 @@ fn summed<L: Ledger>(table: &Table, blank: Blank) -> Result<Tally, StreetFault>
     street_sum(table, &mut scratch, &mut steps)
 }
 
-/// The sum of a table, where it is counted.
+/// Returns the sum of a table, if it is counted.
 fn sum_of(table: &Table) -> Option<Tally> {
     match summed::<Brand>(table, Blank::new(1)) {
         Ok(tally) => Some(tally),
@@ -180,7 +181,7 @@ fn sum_of(table: &Table) -> Option<Tally> {
     }
 }
 
-/// Why a table has no sum; none where it has one.
+/// Returns why a table has no sum, or `None` if it has one.
 fn fault_in(table: &Table) -> Option<StreetFault> {
     match summed::<Brand>(table, Blank::new(1)) {
         Ok(_) => None,
@@ -188,7 +189,7 @@ fn fault_in(table: &Table) -> Option<StreetFault> {
     }
 }
 
-/// Why a table that there is has no sum.
+/// Returns why a table has no sum, if there is a table.
 fn fault_of(table: &Option<Table>) -> Option<StreetFault> {
     match table {
         Some(table) => fault_in(table),
@@ -196,12 +197,12 @@ fn fault_of(table: &Option<Table>) -> Option<StreetFault> {
     }
 }
 
-/// The table of a spot.
+/// Returns the table of a spot.
 fn table_at(spot: &Spot) -> Option<Table> {
     table_of(known(spot))
 }
 
-/// The sum of a spot, where it is counted.
+/// Returns the sum of a spot, if it is counted.
 fn sum_at(spot: &Spot) -> Option<Tally> {
     match table_at(spot) {
         Some(table) => sum_of(&table),
@@ -209,17 +210,17 @@ fn sum_at(spot: &Spot) -> Option<Tally> {
     }
 }
 
-/// Why a spot that there is has no sum.
+/// Returns why a spot has no sum, if the spot is possible.
 fn fault_at(spot: &Spot) -> Option<StreetFault> {
     fault_of(&table_at(spot))
 }
 
-/// Whether a number is twice another.
+/// Returns whether a number is twice another.
 fn is_double(number: u64, of: u64) -> bool {
     of.checked_mul(2) == Some(number)
 }
 
-/// Whether each number of a pot is twice that of another tally.
+/// Returns whether each number of a pot is twice that of another tally.
 fn is_twice(sum: &Tally, own: &Tally, pot: u8) -> bool
     requires { pot < 10 }
 {
@@ -237,7 +238,7 @@ fn is_twice(sum: &Tally, own: &Tally, pot: u8) -> bool
     true
 }
 
-/// Whether each number is twice that of another tally.
+/// Returns whether each number is twice that of another tally.
 fn is_twice_in_each_pot(sum: &Tally, own: &Tally) -> bool {
     for pot in 0..10 {
         if !is_twice(sum, own, pot) {
@@ -247,7 +248,8 @@ fn is_twice_in_each_pot(sum: &Tally, own: &Tally) -> bool {
     true
 }
 
-/// Whether the sum of a table has twice the numbers of its own count, of so many runouts.
+/// Returns whether the sum of a table has twice the numbers of its own count, which has this number of
+/// runouts.
 fn is_twice_the_count(table: &Table, runouts: u64) -> bool {
     match (sum_of(table), own_count(table)) {
         (Some(sum), Some(own)) => own.runouts() == runouts && is_twice_in_each_pot(&sum, &own),
@@ -265,7 +267,7 @@ fn a_runout_from_the_flop_divides_in_two_ways(rt: HostRuntime) -> Result<(), Fai
     Ok(())
 }
 
-/// The numbers of cards on the board of a spot, street by street.
+/// Returns the numbers of cards on the board of a spot, street by street.
 fn sizes_at(spot: &Spot) -> [u32; 5] {
     match known(spot) {
         Some(known) => board_sizes(known),
@@ -280,7 +282,7 @@ fn a_board_of_one_card_goes_to_three(rt: HostRuntime) {
     assert!(rt; sizes_at(&ONE_ON_BOARD) == [1, 3, 4, 5, 0]);
 }
 
-/// Each of two hands with three cards to come gets one, in three ways; who lacks none gets none.
+/// Each of two hands with three cards to come gets one, in three ways. A hand that lacks none gets none.
 #[test]
 fn hands_of_stud_get_one_card(rt: HostRuntime) {
     assert!(rt; is_next(&STUD, &(ONE_EACH, 44, 9, [0, 5, 5])));
@@ -293,7 +295,7 @@ fn hands_of_draw_get_all_cards(rt: HostRuntime) {
     assert!(rt; is_tally(&sum_at(&DRAW), 44 * 43, DRAW_ENDS, &[]));
 }
 
-/// Own cards that aren't known come with the next street, all of them, and the board's one by one.
+/// Own cards that aren't known all come with the next street, and those of the board one by one.
 #[test]
 fn own_cards_of_omaha_come_with_the_board(rt: HostRuntime) {
     assert!(rt;
@@ -310,12 +312,12 @@ fn a_hand_that_lacks_a_card_of_omaha_is_summed(rt: HostRuntime) {
     assert!(rt; is_tally(&sum, 41 * 40, FLUSH_ENDS, FLUSH_UNITS));
 }
 
-/// Whether a state is that of the last street.
+/// Returns whether a state is that of the last street.
 fn is_last(known: &Known) -> bool {
     step_of(known).is_none()
 }
 
-/// Ten hands of stud need more than a deck; ten of draw have far too many runouts; two of stud on the fourth
+/// Ten hands of stud need more than a deck. Ten of draw have far too many runouts. Two of stud on fourth
 /// street have 141,181,040, which divide in nine ways.
 #[test]
 fn sums_are_refused_by_name(rt: HostRuntime) {

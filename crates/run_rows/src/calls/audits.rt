@@ -11,8 +11,8 @@ use history_text::{Street, is_header};
 use line_text::next_line;
 use std::alloc::Global;
 
-/// A hand of four whose stacks make three pots, beside one who sits out. The winner of the last pot is shown by
-/// the summary alone.
+/// A hand of four whose stacks make three pots, with one more player who sits out. Only the summary shows
+/// the winner of the last pot.
 const THREE_POTS: &[u8] =
     b"PokerStars Hand #1: Tournament #5, $1+$0.10 USD Hold'em No Limit - Level I (10/20)
 Table 'x' 6-max Seat #4 is the button
@@ -46,8 +46,8 @@ Total pot 1600 Main pot 400. Side pot-1 600. Side pot-2 600. | Rake 0
 Seat 3: cat mucked [Qd Qh]
 ";
 
-/// A hand in which bob and cat are all-in on the flop, and cat folds after it. Ann's cards are known, and she folds
-/// before it.
+/// A hand in which bob and cat are all-in on the flop, and cat folds after it. Ann's cards are known, and
+/// she folds before the flop.
 pub(crate) const FOLDED_BEHIND: &[u8] =
     b"PokerStars Hand #4: Tournament #5, $1+$0.10 USD Hold'em No Limit - Level I (10/20)
 Table 'x' 3-max Seat #1 is the button
@@ -84,7 +84,7 @@ fn count_lines(bytes: &[u8]) -> usize
     count
 }
 
-/// Whether a text begins with a header line.
+/// Returns whether a text begins with a header line.
 fn is_hand(bytes: &[u8]) -> bool
     ensures { result ≡ begins_hand (lines bytes.now) }
 {
@@ -112,7 +112,7 @@ fn settlement(alloc: Global, bytes: &[u8]) -> Option<Settlement> {
     }
 }
 
-/// Whether a seat alone is paid, and got all that is due to it: so much.
+/// Returns whether only this seat is paid, and received all that is due to it: `gross` units.
 fn is_all_paid_to(paid: &[Payment], winner: u8, gross: u64) -> bool {
     match paid {
         [only] => only.seat == winner && only.got == gross && only.due == gross,
@@ -120,7 +120,8 @@ fn is_all_paid_to(paid: &[Payment], winner: u8, gross: u64) -> bool {
     }
 }
 
-/// Whether a pot holds so much, for these seats, and it is known who wins, and a seat has all of it.
+/// Returns whether a pot has these units and these seats, its winners are known, and one seat receives all
+/// of it.
 fn is_pot(settlement: &Settlement, number: usize, gross: u64, eligible: u16, winner: u8) -> bool {
     match settlement.pots.items().get(number) {
         Some(pot) => {
@@ -134,7 +135,7 @@ fn is_pot(settlement: &Settlement, number: usize, gross: u64, eligible: u16, win
     }
 }
 
-/// Whether a settlement has these three pots.
+/// Returns whether a settlement has these three pots.
 fn has_three_pots(settlement: &Option<Settlement>) -> bool {
     match settlement {
         Some(settlement) => {
@@ -154,7 +155,8 @@ fn three_pots_are_collected_by_their_names(rt: HostRuntime) {
     assert!(rt; has_three_pots(&settlement(rt.alloc(), THREE_POTS)));
 }
 
-/// What is known of a hand's all-in, where it is on this street and of these seats, and one pot is for these.
+/// Returns the known cards of a hand's all-in if it is on this street with these seats, and one pot has
+/// these seats.
 fn known_at(audit: &HandAudit, at: Street, of: [u8; 10], eligible: [u16; 10]) -> Option<Known> {
     match audit {
         HandAudit::Accepted {
@@ -175,7 +177,7 @@ fn known_at(audit: &HandAudit, at: Street, of: [u8; 10], eligible: [u16; 10]) ->
     }
 }
 
-/// Whether a set has just these two cards.
+/// Returns whether a set has exactly these two cards.
 fn is_pair(cards: CardSet, first: [u8; 2], second: [u8; 2]) -> bool {
     match (Card::read(first), Card::read(second)) {
         (Some(first), Some(second)) => {
@@ -185,7 +187,8 @@ fn is_pair(cards: CardSet, first: [u8; 2], second: [u8; 2]) -> bool {
     }
 }
 
-/// Whether these are the hands of bob and cat with three cards on the board, and ann's cards are dead.
+/// Returns whether these are the hands of bob and cat with three cards on the board, with ann's cards
+/// dead.
 fn is_folded_behind(known: &Known) -> bool {
     known.count == 2
         && known.board.count() == 3
@@ -194,7 +197,7 @@ fn is_folded_behind(known: &Known) -> bool {
         && is_pair(known.dead, *b"2c", *b"2d")
 }
 
-/// Whether this is so on the flop of a hand, where bob alone has a part in the pot.
+/// Returns whether a hand has these known cards on its flop, and only bob may win the pot.
 fn is_won_alone(audit: &Option<HandAudit>) -> bool {
     let seats = [2, 3, 0, 0, 0, 0, 0, 0, 0, 0];
     let eligible = [0b1, 0, 0, 0, 0, 0, 0, 0, 0, 0];
@@ -268,7 +271,7 @@ fn the_turn_is_known_after_an_all_in_on_the_flop(rt: HostRuntime) {
     assert!(rt; is_turn_alone(&streets_after(rt.alloc(), FOLDED_BEHIND)));
 }
 
-/// A hand with antes, blinds and dead chips, in which what ann raised comes back to her.
+/// A hand with antes, blinds, and dead chips, in which ann gets her raise back.
 pub(crate) const RETURNED: &[u8] =
     b"PokerStars Hand #6: Tournament #5, $1+$0.10 USD Hold'em No Limit - Level I (10/20)
 Table 'x' 6-max Seat #1 is the button
@@ -296,7 +299,7 @@ ann collected 100 from pot
 Total pot 100 | Rake 0
 ";
 
-/// What each seat had and put in, by its number.
+/// The chips that each seat had and put in, by its number.
 const CHIPS: [[u64; 2]; 7] = [
     [0, 0],
     [1000, 25],
@@ -307,7 +310,7 @@ const CHIPS: [[u64; 2]; 7] = [
     [700, 0],
 ];
 
-/// The verdict on a hand and the chips of its seats.
+/// Returns the verdict on a hand and the chips of its seats.
 fn audit_chips(alloc: Global, bytes: &[u8]) -> Option<AuditedChips> {
     if !is_hand(bytes) {
         return None;
@@ -323,7 +326,7 @@ fn audit_chips(alloc: Global, bytes: &[u8]) -> Option<AuditedChips> {
     Some(AuditedChips { audit, chips })
 }
 
-/// Whether the seats from one on had and put in so much.
+/// Returns whether the seats from one on had and put in these chips.
 fn are_chips(chips: &[SeatChips], wanted: &[[u64; 2]]) -> bool {
     match (chips, wanted) {
         ([seat, seats @ ..], [[had, put], others @ ..]) => {
@@ -334,7 +337,7 @@ fn are_chips(chips: &[SeatChips], wanted: &[[u64; 2]]) -> bool {
     }
 }
 
-/// Whether a hand is accepted, and its seats had and put in so much.
+/// Returns whether a hand is accepted, and its seats had and put in these chips.
 fn has_chips(both: &Option<AuditedChips>, wanted: &[[u64; 2]]) -> bool {
     match both {
         Some(both) => {

@@ -15,7 +15,7 @@ use runout_ranges::JobFault;
 use spot_text::SpotFault;
 use std::alloc::Global;
 
-/// Returns whether any equity may stand beside a verdict, because the hand is accepted without an all-in.
+/// Returns whether the hand is accepted without an all-in, so that any equity fits the verdict.
 fn has_no_all_in(audit: &HandAudit) -> bool
     ensures { (equity : Equity) → IsTrue result → IsOfHand audit.now equity }
 {
@@ -28,7 +28,7 @@ fn has_no_all_in(audit: &HandAudit) -> bool
     }
 }
 
-/// Returns the block of a hand without an all-in, and then the totals over this hand.
+/// Returns the block of a hand without an all-in, and then the totals of this hand.
 fn hand_blocks(alloc: Global) -> Option<Vec<u8>> {
     let audit = audit(alloc, RETURNED)?;
     if !has_no_all_in(&audit) {
@@ -44,7 +44,7 @@ fn hand_blocks(alloc: Global) -> Option<Vec<u8>> {
     Some(out)
 }
 
-/// Returns the block of a street on which a card isn't known, and then the blocks of two lines that are refused.
+/// Returns the block of a street with an unknown card, and then the blocks of two refused lines.
 fn other_blocks(alloc: Global) -> Option<Vec<u8>> {
     let audit = audit(alloc, FOLDED_BEHIND)?;
     let hidden = StreetState {
@@ -126,7 +126,7 @@ fn weighs(hand: &Weighted, cards: [[u8; 2]; 2], weight: u8) -> bool {
     }
 }
 
-/// Returns whether the first range has aces alone, and the second has queens twice and kings once.
+/// Returns whether the first range has only aces, and the second has queens twice and kings once.
 fn are_two_ranges(spot: &RangeSpot) -> bool {
     let [first, second] = spot.ranges.as_slice() else {
         return false;

@@ -1,4 +1,5 @@
-//! Reads that fail at any place, in each mode and form: what was closed by then is reported, and nothing else.
+//! Reads that fail at any place, in each mode and form: the run reports what was closed before, and
+//! nothing else.
 
 use crate::histories::{CUT_AND_WHOLE, Hand, TWICE_REPORT};
 use crate::reports::checks::SIDE_POTS_REPORT;
@@ -10,7 +11,7 @@ use std::sync::Wait;
 use std::test::Fail;
 use std::thread::Threads;
 
-/// What `audit` reports of aces against kings; the counts are those of a listing.
+/// The report of `audit` on aces against kings. The counts are those of a listing.
 const ACES_REPORT: &str = "hand 96 accepted holdem rake 0
 pot 0 gross 2000 rake 0 checked
 paid 2000 y
@@ -23,14 +24,15 @@ expect 1653 x
 expect 347 y
 ";
 
-/// A mode and its input of three hands or lines, which end here and there.
+/// A mode and its input of three hands or lines, which end at these lines.
 struct Broken {
     mode: &'static str,
     input: &'static [Part<'static>],
-    /// The lines that close the first of them and the second. A hand ends where the next header line has its newline.
+    /// The lines that close the first and the second. A hand is closed by the next header line with its
+    /// newline.
     closes: (usize, usize),
-    /// Whether there is one block for all, which is written at the end. Then the texts are the reports of none of them, of the
-    /// first, of the first two and of all; else each has its own.
+    /// Whether there is one block for all, written at the end. The texts are then the reports of none, of
+    /// the first, of the first two, and of all. Otherwise each hand or line has its own.
     is_sum: bool,
     texts: &'static [&'static str],
 }
@@ -139,7 +141,7 @@ total chips hands 1 allins 1 collected 100 expected 9 y
     },
 ];
 
-/// With the all-ins of hands.
+/// Modes that count the all-ins of hands.
 const OF_ALL_INS: &[Broken] = &[
     Broken {
         mode: "audit",
@@ -231,7 +233,7 @@ const OF_LINES: &[Broken] = &[
     },
 ];
 
-/// The blocks of the first hands or lines, so many.
+/// Returns the blocks of the first `count` hands or lines.
 fn blocks_of(row: &Broken, count: usize) -> &'static [&'static str] {
     if row.is_sum {
         let most = row.texts.len();
@@ -241,7 +243,7 @@ fn blocks_of(row: &Broken, count: usize) -> &'static [&'static str] {
     }
 }
 
-/// How many hands or lines are closed where so many lines of text were read.
+/// Returns how many hands or lines are closed once `lines` lines of text are read.
 fn closed_by(row: &Broken, lines: usize) -> usize {
     if lines >= row.closes.1 {
         2
@@ -252,8 +254,8 @@ fn closed_by(row: &Broken, lines: usize) -> usize {
     }
 }
 
-/// The status where the read of this number fails, of so many bytes each, and the blocks that are written. The read after
-/// the last byte finds the end, and a later one isn't made.
+/// Returns the status and the blocks that are written if the read of this number fails, with reads of
+/// `piece` bytes. The read after the last byte finds the end, and no later read is made.
 fn told_behind(
     row: &Broken,
     input: &[u8],
@@ -271,7 +273,7 @@ fn told_behind(
     }
 }
 
-/// Ends of which a read fails, of so many bytes each, and maybe a write.
+/// Returns ends with reads of `piece` bytes, one of which fails, and perhaps a write that fails.
 fn failing(piece: usize, read: usize, write_fault: Option<u64>) -> Edges {
     Edges {
         piece,
@@ -281,7 +283,7 @@ fn failing(piece: usize, read: usize, write_fault: Option<u64>) -> Edges {
     }
 }
 
-/// The run of a mode between these ends ends with this status and leaves these blocks.
+/// The run of a mode between these ends must end with this status and these blocks.
 fn leaves<R: Threads + Wait + Sync + Abort>(
     rt: &R,
     alloc: Global,
@@ -298,8 +300,9 @@ fn leaves<R: Threads + Wait + Sync + Abort>(
     Ok(())
 }
 
-/// How many of the first blocks are written by one write, of reads of so many bytes: in `check` and `settle`, which count no
-/// equity, those of the hands that one read closes, where the input is one piece, and else one.
+/// Returns how many of the first blocks one write has, with reads of `piece` bytes. In `check` and
+/// `settle`, which count no equity, these are the blocks of the hands that one read closes. If the input
+/// is one piece, or in other modes, it is one block.
 fn written_together(row: &Broken, input: &[u8], piece: usize) -> usize {
     if row.mode == "check" || row.mode == "settle" {
         closed_by(row, line_count(front(input, piece))).max(1)
@@ -308,7 +311,7 @@ fn written_together(row: &Broken, input: &[u8], piece: usize) -> usize {
     }
 }
 
-/// Where a read fails and a write of blocks too, the run ends with status 4 and the blocks before.
+/// If a read and a write of blocks fail, the run must end with status 4 and the blocks before the write.
 fn each_block_fails<R: Threads + Wait + Sync + Abort>(
     rt: &R,
     alloc: Global,
@@ -339,8 +342,8 @@ fn each_block_fails<R: Threads + Wait + Sync + Abort>(
     Ok(())
 }
 
-/// Where the read of this number fails, of so many bytes each, the run ends with status 3 and the report of what is
-/// closed.
+/// If the read of this number fails, with reads of `piece` bytes, the run must end with status 3 and the
+/// report of what is closed.
 fn read_fails<R: Threads + Wait + Sync + Abort>(
     rt: &R,
     alloc: Global,
@@ -356,7 +359,7 @@ fn read_fails<R: Threads + Wait + Sync + Abort>(
     each_block_fails(rt, alloc, row, is_csv, input, piece, read, blocks)
 }
 
-/// So it is at each read of so many bytes.
+/// Tries `read_fails` for each read of `piece` bytes.
 fn each_read_of<R: Threads + Wait + Sync + Abort>(
     rt: &R,
     alloc: Global,
@@ -372,10 +375,10 @@ fn each_read_of<R: Threads + Wait + Sync + Abort>(
     Ok(())
 }
 
-/// How many bytes a read gives at the most, and whether the report is of records.
+/// The most bytes that a read gives, and whether the report has records.
 const PIECES: [(usize, bool); 4] = [(1, false), (7, true), (64, false), (4096, true)];
 
-/// So it is at each read, however many bytes it asks for.
+/// Tries `each_read_of` for each size of a piece.
 fn each_read_fails<R: Threads + Wait + Sync + Abort>(
     rt: &R,
     alloc: Global,
@@ -412,7 +415,7 @@ fn any_read_of_lines_may_fail(rt: HostRuntime) -> Result<(), Fail> {
     Ok(())
 }
 
-/// A hand whose all-in several workers share, between those that are cut off and open.
+/// A hand whose all-in several workers share, between one that is cut off and one that is open.
 const SHARED: &[Part] = &[
     Part::Whole(CUT_HAND),
     Part::All(Hand::Aces),
@@ -451,7 +454,7 @@ total chips hands 1 allins 1 collected 2000 expected 347 y
     },
 ];
 
-/// The run of these words, with workers, between these ends ends with this status and leaves these blocks.
+/// The run of these words with workers, between these ends, must end with this status and these blocks.
 fn leaves_by_workers<R: Threads + Wait + Sync + Abort>(
     rt: &R,
     alloc: Global,
@@ -467,7 +470,7 @@ fn leaves_by_workers<R: Threads + Wait + Sync + Abort>(
     Ok(())
 }
 
-/// Each read of 200 bytes fails.
+/// Tries each read of 200 bytes as the one that fails.
 fn each_read_fails_by_workers<R: Threads + Wait + Sync + Abort>(
     rt: &R,
     alloc: Global,
@@ -483,7 +486,7 @@ fn each_read_fails_by_workers<R: Threads + Wait + Sync + Abort>(
     Ok(())
 }
 
-/// So it is by one worker and by two.
+/// Tries it with one worker and with two.
 fn workers_share<R: Threads + Wait + Sync + Abort>(
     rt: &R,
     alloc: Global,

@@ -1,5 +1,5 @@
-//! Writes that fail at any place, in each mode and form: what was taken is a front of the report, and nothing is read or
-//! written after it.
+//! Writes that fail at any place, in each mode and form: the bytes taken are a prefix of the report, and
+//! nothing is read or written after them.
 
 use crate::ends::broken_ends::{HANDS, RANGES, SPOTS, TWELVE_REPORT};
 use crate::ends::faults::SPOT;
@@ -18,7 +18,7 @@ use std::test::Fail;
 use std::thread::Threads;
 use steal_pool::OpenGate;
 
-/// Words, an input, how many bytes a write takes, and each of how many writes is tried.
+/// Words, an input, the most bytes of a write, and how many writes are tried.
 type Writes = (
     &'static [&'static str],
     &'static [Part<'static>],
@@ -26,7 +26,7 @@ type Writes = (
     usize,
 );
 
-/// The status of a run that wrote this much of all that it writes.
+/// Returns the status of a run that wrote these bytes of its whole report.
 fn status_of(written: &[u8], whole: &Ran) -> u8 {
     if written.len() == whole.written.len() {
         whole.status
@@ -35,8 +35,8 @@ fn status_of(written: &[u8], whole: &Ran) -> u8 {
     }
 }
 
-/// Where the write of this number fails, of so many bytes each, the run ends with status 4 and with the front of its
-/// report that was taken.
+/// If the write of this number fails, with writes of at most `taken` bytes, the run must end with status 4
+/// and with the prefix of its report that was taken.
 fn write_fails<R: Threads + Wait + Sync + Abort>(
     rt: &R,
     alloc: Global,
@@ -57,7 +57,7 @@ fn write_fails<R: Threads + Wait + Sync + Abort>(
     Ok(())
 }
 
-/// So it is with each of so many writes, of so many bytes each.
+/// Tries `write_fails` for each of the writes.
 fn all_writes_fail<R: Threads + Wait + Sync + Abort>(
     rt: &R,
     alloc: Global,
@@ -75,7 +75,7 @@ fn all_writes_fail<R: Threads + Wait + Sync + Abort>(
     Ok(())
 }
 
-/// So it is over the input of a row.
+/// Tries the writes of a row over its input.
 fn each_write_fails<R: Threads + Wait + Sync + Abort>(
     rt: &R,
     alloc: Global,
@@ -86,7 +86,7 @@ fn each_write_fails<R: Threads + Wait + Sync + Abort>(
     all_writes_fail(rt, alloc, row.0, row.2, row.3, &input, &whole)
 }
 
-/// Each mode of a command, with an input of it.
+/// Each mode of a command, with an input for it.
 pub(crate) const MODES: &[(&str, &[Part])] = &[
     ("audit", HANDS),
     ("streets", HANDS),
@@ -100,7 +100,7 @@ pub(crate) const MODES: &[(&str, &[Part])] = &[
     ("made", HANDS),
 ];
 
-/// In a mode and a form each seventh write of a byte may fail.
+/// Tries every seventh write of one byte as the one that fails, in a mode and a form.
 fn each_seventh_fails<R: Threads + Wait + Sync + Abort>(
     rt: &R,
     alloc: Global,
@@ -138,14 +138,15 @@ fn the_write_of_any_byte_may_fail(rt: HostRuntime) -> Result<(), Fail> {
     Ok(())
 }
 
-/// Ends of which a read gives and a write takes 64 bytes at the most.
+/// Ends with at most 64 bytes for each read and each write.
 const BY_64: Edges = Edges {
     piece: 64,
     taken: 64,
     ..AMPLE
 };
 
-/// A hand that is cut off and one that isn't. The report of the first has 36 bytes, and that of the second 119.
+/// A hand that is cut off and one that isn't. The report of the first has 36 bytes, and that of the second
+/// 119.
 const WRITES_OF_64: &[Case] = &[
     (
         &["check"],
@@ -197,9 +198,9 @@ fn any_write_of_64_bytes_may_fail(rt: HostRuntime) -> Result<(), Fail> {
     each_ends(&rt, rt.alloc(), WRITES_OF_64)
 }
 
-/// A mode, its input, how many bytes a read gives at the most, and writes by their number, each with how many bytes are left
-/// unread where it fails. There is one write a hand or a line, and no piece closes two. Such a hand has 1,063 bytes, 113 of them
-/// in its header line, and such a line 36.
+/// A mode, its input, the most bytes of a read, and writes by their number, each with the number of bytes
+/// left unread if it fails. Each hand or line has one write, and no piece closes two. Such a hand has
+/// 1,063 bytes, 113 of them in its header line, and such a line has 36.
 type Unread = (
     &'static str,
     &'static [Part<'static>],
@@ -228,7 +229,7 @@ const UNREAD: &[Unread] = &[
     ),
 ];
 
-/// How many bytes a source still gives.
+/// Returns the number of bytes that a source still gives.
 fn bytes_left(source: &mut MemorySource) -> usize {
     let mut piece = [0u8; 128];
     let mut left = 0usize;
@@ -241,7 +242,8 @@ fn bytes_left(source: &mut MemorySource) -> usize {
     left
 }
 
-/// Returns whether a run stopped at the write of this number, and left so many bytes unread. Before the first write nothing is taken.
+/// Returns whether a run stopped at the write of this number, and left `unread` bytes. Before the first
+/// write nothing is taken.
 fn is_stopped(
     status: u8,
     write: u64,
@@ -252,7 +254,7 @@ fn is_stopped(
     status == 4 && (write > 0 || sink.bytes().is_empty()) && bytes_left(source) == left
 }
 
-/// Where the write of this number fails, so many bytes are left unread, by one thread and by workers.
+/// If the write of this number fails, these bytes must be left unread, with one thread and with workers.
 fn leaves_unread<R: Threads + Wait + Sync + Abort>(
     rt: &R,
     alloc: Global,
@@ -287,7 +289,7 @@ fn leaves_unread<R: Threads + Wait + Sync + Abort>(
     Ok(())
 }
 
-/// So it is with the writes of a row.
+/// Tries the writes of a row.
 fn each_leaves_unread<R: Threads + Wait + Sync + Abort>(
     rt: &R,
     alloc: Global,
@@ -301,8 +303,8 @@ fn each_leaves_unread<R: Threads + Wait + Sync + Abort>(
     Ok(())
 }
 
-/// A block is written as soon as its hand or line is closed: where its write fails, all that stands after the piece that closed it
-/// is left.
+/// A block is written as soon as its hand or line is closed. If its write fails, all bytes after the piece
+/// that closed it are left.
 #[test]
 fn a_failed_write_leaves_bytes_unread(rt: HostRuntime) -> Result<(), Fail> {
     for row in UNREAD {

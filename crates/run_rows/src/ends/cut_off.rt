@@ -1,4 +1,4 @@
-//! Hands, spots and ranges that are cut off at any byte, in each mode and form, at once and in pieces.
+//! Hands, spots, and ranges that are cut off at any byte, in each mode and form, at once and in pieces.
 
 use crate::ends::faults::SPOT;
 use crate::histories::{Hand, TWICE_REPORT};
@@ -16,15 +16,15 @@ use std::thread::Threads;
 struct Cut {
     parts: &'static [Part<'static>],
     number: u8,
-    /// What `check` reports of it.
+    /// The report of `check` on the hand.
     report: &'static str,
-    /// The line of its stated pot, from which on it may be accepted.
+    /// The line of its stated pot. From this line on it may be accepted.
     total: usize,
-    /// How many bytes come at once where it comes in pieces.
+    /// The size of a piece, if the hand comes in pieces.
     piece: usize,
 }
 
-/// Whether a report is that of a hand that departs in this line.
+/// Returns whether a report is that of a hand rejected in this line.
 fn departs_in(alloc: Global, hand: u8, line: usize, report: &[u8]) -> Result<bool, AllocError> {
     let rejected = format!(in alloc; "hand {hand} rejected line {line} ")?;
     Ok(report.starts_with(rejected.as_bytes()))
@@ -36,8 +36,8 @@ fn is_unfinished(alloc: Global, hand: u8, line: usize, report: &[u8]) -> Result<
     Ok(report == rejected.as_bytes())
 }
 
-/// What is told of the hand where it is cut off in this line and `check` writes so. Before its header line has the form of
-/// one there is no hand.
+/// Returns what must be reported of the hand if it is cut off in this line and `check` writes this report.
+/// Before its header line has the form of a header line there is no hand.
 fn told_in<'a>(whole: &Cut, line: usize, departs: bool, written: &'a [u8]) -> Verdict<'a> {
     let (status, report, sums) = if departs {
         (1, written, REJECTED_SUMS)
@@ -53,8 +53,9 @@ fn told_in<'a>(whole: &Cut, line: usize, departs: bool, written: &'a [u8]) -> Ve
     }
 }
 
-/// A mode reports of the hand, cut off after this byte, that the line departs. Before the line of its stated pot it can't be
-/// accepted. If the byte ends such a line, the cause is that the hand is unfinished.
+/// A mode must report that the hand, cut off after this byte, is rejected in this line. Before the line of
+/// its stated pot it can't be accepted. If the byte ends such a line, the cause is that the hand is
+/// unfinished.
 fn is_cut_behind<R: Threads + Wait + Sync + Abort>(
     rt: &R,
     alloc: Global,
@@ -76,7 +77,7 @@ fn is_cut_behind<R: Threads + Wait + Sync + Abort>(
     mode_tells(rt, alloc, mode, cut, whole.piece, &verdict)
 }
 
-/// So it is at each byte.
+/// Tries `is_cut_behind` at each byte.
 fn is_cut_at_each_byte<R: Threads + Wait + Sync + Abort>(
     rt: &R,
     alloc: Global,
@@ -158,7 +159,7 @@ fn a_hand_may_be_cut_at_any_byte_for_totals(rt: HostRuntime) -> Result<(), Fail>
     is_cut_at_each_byte(&rt, rt.alloc(), "totals", &TWO)
 }
 
-/// Whether a run over one spot counted or rejected it.
+/// Returns whether a run over one spot counted or rejected it.
 fn is_spot(ran: &Ran, counted: &[u8]) -> bool {
     if ran.status == 0 {
         ran.written.starts_with(counted)
@@ -167,7 +168,7 @@ fn is_spot(ran: &Ran, counted: &[u8]) -> bool {
     }
 }
 
-/// The front of a line is a spot, counted or rejected; in both forms, and byte by byte.
+/// A prefix of a line must be a spot, counted or rejected, in both forms, and byte by byte.
 fn is_spot_so<R: Threads + Wait + Sync + Abort>(
     rt: &R,
     alloc: Global,
@@ -180,7 +181,7 @@ fn is_spot_so<R: Threads + Wait + Sync + Abort>(
     goes_so(rt, alloc, mode, cut, 1, &ran)
 }
 
-/// So it is after each byte.
+/// Tries `is_spot_so` after each byte.
 fn is_spot_at_each_byte<R: Threads + Wait + Sync + Abort>(
     rt: &R,
     alloc: Global,
@@ -195,7 +196,7 @@ fn is_spot_at_each_byte<R: Threads + Wait + Sync + Abort>(
     Ok(())
 }
 
-/// A mode, a line of it, and how the report of it begins where it is counted.
+/// A mode, a line for it, and how the report begins if the line is counted.
 const LINES: &[(&str, &str, &str)] = &[
     ("spots", SPOT, "spot 1 holdem runouts "),
     (

@@ -1,4 +1,4 @@
-//! Words in no form, and failed reads and writes.
+//! Words without a valid form, and failed reads and writes.
 
 use crate::runs::{AMPLE, Case, Edges, NO_WRITE, Part, each_ends, ends};
 use std::alloc::Global;
@@ -19,7 +19,7 @@ hand 2 ev 0.045\n";
 pub(crate) const USAGE: &str =
     "usage: equity MODE [--workers N] [--format text|csv] [--seed S] [--hands H]\n";
 
-/// Ends of which the sink has less room than the report.
+/// Ends whose sink has less room than the report needs.
 const SMALL: Edges = Edges { room: 20, ..AMPLE };
 
 const CASES: &[Case] = &[
@@ -44,7 +44,8 @@ const OPEN: &str = "holdem As Ah - Ks Kh -- 2c 7d 9h 4s\nholdem As Ah";
 
 const OPEN_REPORT: &str = "spot 2 rejected line 2 PlayerCount\n";
 
-/// What a run over both does, read by seven bytes, where a read fails. The eighth finds the end.
+/// Returns the result of a run over both if a read of seven bytes fails. The eighth read finds the
+/// end.
 fn after_reads(call: u64) -> (u8, &'static [&'static str]) {
     if call < 6 {
         (3, &[])
@@ -55,7 +56,7 @@ fn after_reads(call: u64) -> (u8, &'static [&'static str]) {
     }
 }
 
-/// The read of this number fails, of seven bytes each.
+/// The read of this number fails, with reads of seven bytes.
 fn a_read_fails<R: Threads + Wait + Sync + Abort>(
     rt: &R,
     alloc: Global,
@@ -70,7 +71,7 @@ fn a_read_fails<R: Threads + Wait + Sync + Abort>(
     ends(rt, alloc, &["spots"], edges, OPEN.as_bytes(), status, texts)
 }
 
-/// A read that fails ends the input there: the spots whose newline was read are answered.
+/// A read that fails ends the input: the spots whose newline was read are reported.
 #[test]
 fn a_failed_read_keeps_the_closed_spots(rt: HostRuntime) -> Result<(), Fail> {
     for call in 0..24 {

@@ -1,4 +1,4 @@
-//! Inputs of as many bytes as are read, and of more: 1 GiB.
+//! Inputs of 1 GiB, which is the most that a run reads, and of more.
 
 ghost use Rattle.std.specs.Prelude.{◌≤◌, None, length};
 ghost use Rattle.run_rows.specs.Filled.{ReadsFilled, filled_tells};
@@ -14,8 +14,8 @@ use std::process::Abort;
 use std::test::Fail;
 use steal_pool::OpenGate;
 
-/// A source of some bytes, then so many of long lines of one byte, and then some bytes again. It doesn't tell
-/// them.
+/// A source of some bytes, then `left` bytes of long lines of one letter, and then some bytes again. Its
+/// bytes are unknown to clauses.
 #[derive(Drop)]
 struct Filled<'a> {
     front: &'a [u8],
@@ -24,7 +24,7 @@ struct Filled<'a> {
     back: &'a [u8],
 }
 
-/// Moves some first bytes into the front of the piece, as many as it has room for.
+/// Moves the first bytes into the beginning of a piece, as many as fit.
 fn take_front<'a>(piece: &mut [u8], bytes: &'a [u8]) -> (usize, &'a [u8])
     ensures { result.0 ≤ length piece.new }
 {
@@ -63,7 +63,7 @@ impl<'a> Source for Filled<'a> {
     ghost tells = { λ _ _ read given. filled_tells read given };
 }
 
-/// The run of a mode over a source ends with this status and writes this.
+/// The run of a mode over a source must end with this status and write this.
 fn ends_over(
     rt: &impl Abort,
     alloc: Global,
@@ -87,7 +87,7 @@ fn above_the_limit() -> RepeatSource {
     RepeatSource::new(line, INPUT_MAX as u64 + 1, 65_536)
 }
 
-/// One byte above the limit ends the run, and lines that belong to no hand are passed over.
+/// One byte above the limit ends the run. Lines that belong to no hand are skipped.
 #[test]
 fn an_input_above_the_limit_with_no_hand_gives_nothing(rt: HostRuntime) -> Result<(), Fail> {
     ends_over(&rt, rt.alloc(), "audit", &mut above_the_limit(), 5, "")
@@ -103,7 +103,7 @@ fn an_input_above_the_limit_gives_nothing_by_workers(rt: HostRuntime) -> Result<
     Ok(())
 }
 
-/// An input of just the limit is read whole.
+/// An input with exactly as many bytes as the limit is read whole.
 #[test]
 fn an_input_of_the_limit_is_read_whole(rt: HostRuntime) -> Result<(), Fail> {
     let mut source = Filled {
@@ -115,8 +115,8 @@ fn an_input_of_the_limit_is_read_whole(rt: HostRuntime) -> Result<(), Fail> {
     ends_over(&rt, rt.alloc(), "spots", &mut source, 0, REPORT)
 }
 
-/// What closes a hand or a line as the last byte of the limit is reported, and with a byte more before it it isn't. One
-/// byte stands after it.
+/// A hand or a line that the last byte of the limit closes must be reported. With one more byte before
+/// that byte it must not be. One byte follows it.
 fn is_closed_there(
     rt: &impl Abort,
     alloc: Global,
@@ -138,7 +138,7 @@ fn is_closed_there(
     Ok(())
 }
 
-/// A spot whose newline is the last byte of the limit is answered, and one with a byte more isn't.
+/// A spot whose newline is the last byte of the limit is reported, and a spot with one more byte isn't.
 #[test]
 fn a_spot_at_the_limit(rt: HostRuntime) -> Result<(), Fail> {
     let back = input_of(rt.alloc(), &[Part::Whole(SPOT), Part::Whole("x")])?;
@@ -151,8 +151,8 @@ const HAND: &[Part] = &[
     Part::Whole("x"),
 ];
 
-/// A hand that the last byte of the limit closes, the newline of the next header line, is reported, and with
-/// a byte more it isn't.
+/// A hand that the last byte of the limit closes, which is the newline of the next header line, is
+/// reported. With one more byte it isn't.
 #[test]
 fn a_hand_closed_at_the_limit(rt: HostRuntime) -> Result<(), Fail> {
     let back = input_of(rt.alloc(), HAND)?;

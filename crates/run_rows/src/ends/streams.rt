@@ -9,10 +9,10 @@ use std::sync::Wait;
 use std::test::Fail;
 use std::thread::Threads;
 
-/// How many bytes a read gives at the most.
+/// The most bytes that a read gives.
 const PIECES: [usize; 5] = [1, 2, 7, 64, 4096];
 
-/// The mode reports the same of this input however it is cut into pieces.
+/// The mode must report the same of this input for each size of its pieces.
 fn is_the_same<R: Threads + Wait + Sync + Abort>(
     rt: &R,
     alloc: Global,
@@ -36,7 +36,7 @@ fn pieces_change_nothing(rt: HostRuntime) -> Result<(), Fail> {
     Ok(())
 }
 
-/// Where a read of so many bytes fails after a place, the first hand is reported.
+/// If a read of `piece` bytes fails after a place, the first hand must be reported.
 fn is_cut_behind<R: Threads + Wait + Sync + Abort>(
     rt: &R,
     alloc: Global,
@@ -53,7 +53,7 @@ fn is_cut_behind<R: Threads + Wait + Sync + Abort>(
     ends(rt, alloc, &["check"], edges, input, 3, &[report])
 }
 
-/// Where a read fails in the midst of the second hand, the first is reported, however the input is cut.
+/// If a read fails within the second hand, the first is reported, for each size of the pieces.
 #[test]
 fn a_failed_read_between_pieces(rt: HostRuntime) -> Result<(), Fail> {
     let first = input_of(rt.alloc(), &[Part::Lines(Hand::SidePots, 1, 12)])?;

@@ -1,4 +1,4 @@
-//! The spots of a listing: their count by blocks beside the plain one.
+//! The spots of a listing: their counts by blocks, compared with the plain ones.
 
 ghost use Rattle.std.specs.Prelude.{◌≡◌, ◌<◌};
 
@@ -15,7 +15,7 @@ use std::process::Abort;
 use std::sync::ledger::{Blank, Ledger};
 use step_count::Steps;
 
-/// The tally of one walk, with a counter of its own.
+/// Returns the tally of one walk, with a counter of its own.
 fn in_one_walk<L: Ledger>(job: &Job, blank: Blank) -> Tally
     requires name { blank.name ≡ L.name }
     requires parts { blank.parts ≡ L.parts }
@@ -25,7 +25,7 @@ fn in_one_walk<L: Ledger>(job: &Job, blank: Blank) -> Tally
     count_plain(job, &mut steps)
 }
 
-/// Whether two tallies have the same of a pot.
+/// Returns whether two tallies have the same numbers for a pot.
 fn is_same_pot(a: &Tally, b: &Tally, pot: u8) -> bool
     requires { pot < 10 }
 {
@@ -39,7 +39,7 @@ fn is_same_pot(a: &Tally, b: &Tally, pot: u8) -> bool
     true
 }
 
-/// Whether two tallies are the same.
+/// Returns whether two tallies are the same.
 fn is_same(a: &Tally, b: &Tally) -> bool {
     for pot in 0..10 {
         if !is_same_pot(a, b, pot) {
@@ -49,14 +49,15 @@ fn is_same(a: &Tally, b: &Tally) -> bool {
     a.runouts() == b.runouts()
 }
 
-/// The tally of a job by blocks.
+/// Returns the tally of a job by blocks.
 fn by_blocks(job: &Job, scratch: &mut Scratch) -> Tally {
     let mut tally = Tally::zero();
     count_job(job, scratch, &mut tally);
     tally
 }
 
-/// Whether the runouts of a job are counted by blocks as in one walk: in a room that has the parts for it, and in one without any.
+/// Returns whether the runouts of a job are counted by blocks as in one walk, with the memory that the
+/// count needs and without.
 fn is_job_counted_alike(alloc: Global, job: &Job, scratch: &mut Scratch) -> bool {
     if scratch.ready(alloc, job).is_err() {
         return false;
@@ -65,7 +66,7 @@ fn is_job_counted_alike(alloc: Global, job: &Job, scratch: &mut Scratch) -> bool
     is_same(&by_blocks(job, scratch), &walk) && is_same(&by_blocks(job, &mut Scratch::new()), &walk)
 }
 
-/// Whether the runouts of a table are.
+/// Returns whether the runouts of a table are counted alike.
 fn is_counted_alike(alloc: Global, table: &Table, scratch: &mut Scratch) -> bool {
     match Job::make(table) {
         Ok(job) => is_job_counted_alike(alloc, &job, scratch),
@@ -85,7 +86,8 @@ fn three_pots(known: &Known) -> Option<Table> {
     })
 }
 
-/// Whether the runouts of a spot line are, with one pot, and of three hands with side pots too.
+/// Returns whether the runouts of a spot line are counted alike, with one pot and, if it has three hands,
+/// with side pots too.
 fn is_spot_counted_alike(alloc: Global, line: &[u8], scratch: &mut Scratch) -> bool {
     let Ok(known) = read_spot(line) else {
         return false;
@@ -98,7 +100,8 @@ fn is_spot_counted_alike(alloc: Global, line: &[u8], scratch: &mut Scratch) -> b
     is_counted_alike(alloc, &table_alone(known), scratch)
 }
 
-/// All spots of some are, in their order and then in the other, whatever the room held and had before.
+/// Returns whether all spots of a list are counted alike, in their order and in the reverse, whatever the
+/// memory contained before.
 fn are_counted_alike(rt: &impl Abort, alloc: Global, all: &[&[u8]], scratch: &mut Scratch) {
     for line in all {
         assert!(rt; is_spot_counted_alike(alloc, line, scratch));

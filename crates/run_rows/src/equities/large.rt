@@ -1,5 +1,5 @@
-//! More of everything than the other tests have, so that no run ends out of memory that there is: ranges, names, digits,
-//! lines, and the bytes of a hand.
+//! More of everything than the other tests have, so that no run ends out of memory that it could have:
+//! ranges, names, digits, lines, and the bytes of a hand.
 
 use crate::histories::Hand;
 use crate::reports::checks::SIDE_POTS_REPORT;
@@ -31,7 +31,7 @@ const LONG_RECORD: &str = "hand,12345678901234567,rejected,line,2,Unfinished,,,,
 const CHAT: &str =
     "a said, \"0123456789 0123456789 0123456789 0123456789 0123456789 0123456789 0123456789 0123456789 !\"\n";
 
-/// A hand with 42,000 such lines in it: 4.2 MB.
+/// A hand with 42,000 of these lines: 4.2 MB.
 const LONG_HAND: &[Part] = &[
     Part::Lines(Hand::SidePots, 1, 12),
     Part::Times(CHAT, 42_000),
@@ -87,7 +87,7 @@ fn large_inputs_are_answered(rt: HostRuntime) -> Result<(), Fail> {
     each_ends(&rt, rt.alloc(), CASES)
 }
 
-/// How many hands there are, of three players each, whose names no other hand has.
+/// The number of hands, each with three players whose names no other hand has.
 const HANDS: u32 = 334;
 
 /// Adds a hand that nobody calls, by its number.
@@ -123,7 +123,7 @@ total hundredths hands 1 allins 0 collected 0.00 expected 0.00 c{number}
     out.push_str(&lines)
 }
 
-/// Ends with room for a line a name.
+/// Ends with room for a line for each name.
 const LONG_TOTALS: Edges = Edges {
     room: 131_072,
     ..AMPLE

@@ -1,4 +1,4 @@
-//! The laws that a crate above may want to call, called from one.
+//! The laws for crates above, called from one.
 
 #[test]
 fn the_laws_of_cards_and_pots_can_be_called() {

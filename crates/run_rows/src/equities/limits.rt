@@ -18,7 +18,7 @@ use step_count::Steps;
 /// Two stud hands on the fourth street.
 const FOURTH_STREET: &[u8] = b"stud As Ad Ah Ac - Ks Kd Kh Kc";
 
-/// Spot lines, each with the numbers of its runouts and of its blocks where it is counted.
+/// Spot lines, each with the numbers of its runouts and of its blocks if it is counted.
 const SIZES: &[(&[u8], Option<(u64, u32)>)] = &[
     (FOURTH_STREET, Some((141_181_040, 2155))),
     (b"stud As Ad Ah - Ks Kd Kh", None),
@@ -32,7 +32,7 @@ const SIZES: &[(&[u8], Option<(u64, u32)>)] = &[
     ),
 ];
 
-/// The job of a spot line.
+/// Returns the job of a spot line.
 fn job_of(line: &[u8]) -> Option<Job> {
     let Ok(known) = read_spot(line) else {
         return None;
@@ -55,7 +55,7 @@ fn most_runouts_and_more(rt: HostRuntime) {
     }
 }
 
-/// The tally of the first block of a job, with a counter of its own.
+/// Returns the tally of the first block of a job, with a counter of its own.
 fn first_block<L: Ledger>(job: &Job, blank: Blank) -> Tally
     requires some_block { 0 < blocks_of (length (runouts_after (state_of job.now.table.known))) }
     requires name { blank.name ≡ L.name }
@@ -67,7 +67,7 @@ fn first_block<L: Ledger>(job: &Job, blank: Blank) -> Tally
     count_block(job, 0, &mut scratch, &mut steps)
 }
 
-/// Whether a hand wins so many runouts of a tally, and loses so many.
+/// Returns whether a hand wins `win` runouts of a tally, and loses `lose`.
 fn wins(tally: &Tally, hand: u8, win: u64, lose: u64) -> bool
     requires { hand < 10 }
 {

@@ -1,4 +1,4 @@
-//! The count of a job in one walk over its runouts: what the count by blocks is measured by.
+//! The count of a job in one walk over its runouts, with which the count by blocks is compared.
 
 ghost use Rattle.std.specs.Prelude.{◌≡◌, ◌+◌, ◌<◌, length};
 ghost use Rattle.card_sets.specs.State.{state_of};
@@ -11,7 +11,8 @@ use showdown_tally::{Tally, settle_runout};
 use std::sync::ledger::Ledger;
 use step_count::Steps;
 
-/// The tally of all runouts of a job, one runout after another. It takes one step a runout, and no memory.
+/// Returns the tally of all runouts of a job, one runout after another. It takes one step for each runout,
+/// and no memory.
 pub(crate) fn count_plain<L: Ledger>(job: &Job, steps: &mut Steps<L>) -> Tally
     ensures counts { Counts (deal_of job.now.table)
         (runouts_after (state_of job.now.table.known)) result }

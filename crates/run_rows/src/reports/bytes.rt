@@ -1,4 +1,4 @@
-//! The bytes of the input: marks, blanks, ends of lines, and lines that are no spots.
+//! The bytes of the input: marks, blanks, ends of lines, and lines that aren't spots.
 
 use crate::runs::{AMPLE, Row, each_reports, ends};
 use std::test::Fail;
@@ -15,8 +15,8 @@ hand 1 ev 0.955\n\
 hand 2 high win 2 4.55 tie 0 0.00 lose 42 95.45\n\
 hand 2 ev 0.045\n";
 
-/// A byte order mark, carriage returns, tabs, blank lines and a missing last newline are no matter, and
-/// nothing gives nothing.
+/// A byte order mark, carriage returns, tabs, blank lines, and a missing last newline change nothing.
+/// An empty input has an empty report.
 const INPUTS: &[Row] = &[
     (
         "holdem As Ah - Ks Kh -- 2c 7d 9h 4s\nholdem As Ah - Ks Kh -- 2c 7d 9h 4s\n",
@@ -60,7 +60,7 @@ hand 2 ev 0.045\n\
 spot 3 rejected line 4 BadCard\n\
 spot 4 rejected line 5 TwiceCard As\n";
 
-/// A line that is no spot is rejected with its number, and the others are answered.
+/// A line that isn't a spot is rejected with its number, and the other lines are counted.
 #[test]
 fn the_other_spots_are_answered(rt: HostRuntime) -> Result<(), Fail> {
     ends(

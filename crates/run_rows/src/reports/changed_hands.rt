@@ -1,5 +1,5 @@
-//! Hands that somebody changed, in each mode and form: each line dropped, doubled or exchanged with the next, many
-//! seats, odd names. The verdicts are worked out by hand.
+//! Changed hands in each mode and form: each line dropped, doubled, or exchanged with the next; many
+//! seats; odd names. The verdicts are worked out by hand.
 
 use crate::histories::{Hand, TWICE_REPORT};
 use crate::reports::checks::SIDE_POTS_REPORT;
@@ -13,10 +13,10 @@ use std::sync::Wait;
 use std::test::Fail;
 use std::thread::Threads;
 
-/// What `check` reports where a line is dropped, is there twice, and stands after the next one.
+/// The reports of `check` if a line is dropped, is there twice, and is exchanged with the next one.
 type Verdicts = (&'static str, &'static str, &'static str);
 
-/// The pot is unseen where nobody shows one of the hands.
+/// The pot is unseen if nobody shows one of the hands.
 const UNSEEN: &str = "hand 2 accepted holdem rake 0 twice
 pot 0 gross 200 rake 0 unseen
 paid 100 x
@@ -31,7 +31,8 @@ paid 100 x
 paid 100 y
 ";
 
-/// For each line of the hand that is run twice. Its report where the line says nothing of the play or is said later.
+/// The verdicts for each line of the hand that is run twice. They are those of the hand itself if the line
+/// has no part in the play or may come later.
 const VERDICTS: &[Verdicts] = &[
     ("", TWO_HANDS, TWICE_REPORT),
     (TWICE_REPORT, TWICE_REPORT, TWICE_REPORT),
@@ -139,7 +140,7 @@ const VERDICTS: &[Verdicts] = &[
     ),
 ];
 
-/// The sums with which `totals` begins, of no hand, of one or of two.
+/// Returns the sums with which `totals` begins, for no hand, one, or two.
 fn sums_of(report: &str) -> &'static [u8] {
     if report.is_empty() {
         NO_SUMS
@@ -152,7 +153,7 @@ fn sums_of(report: &str) -> &'static [u8] {
     }
 }
 
-/// What is told of an input of which `check` reports so.
+/// Returns what must be reported of an input of which `check` reports this.
 fn verdict_of(report: &str) -> Verdict<'_> {
     let status = if report.contains(" rejected ") { 1 } else { 0 };
     Verdict {
@@ -162,7 +163,7 @@ fn verdict_of(report: &str) -> Verdict<'_> {
     }
 }
 
-/// Each mode tells so of this input.
+/// Each mode must report this of the input.
 fn is_told_so<R: Threads + Wait + Sync + Abort>(
     rt: &R,
     alloc: Global,
@@ -175,7 +176,7 @@ fn is_told_so<R: Threads + Wait + Sync + Abort>(
     Ok(())
 }
 
-/// Each mode reports so of the input of these parts.
+/// Each mode must report this of the input of these parts.
 fn is_judged<R: Threads + Wait + Sync + Abort>(
     rt: &R,
     alloc: Global,
@@ -222,7 +223,7 @@ fn any_line_may_be_another(rt: HostRuntime) -> Result<(), Fail> {
     Ok(())
 }
 
-/// The hand of which the first player has a name that ends like a seat line.
+/// The hand with a first player whose name ends like a seat line.
 const ODD_NAME: &[Part] = &[
     Part::Lines(Hand::SidePots, 1, 2),
     Part::Whole("Seat 1: a (9 in chips) (4000 in chips)\n"),
@@ -276,7 +277,7 @@ const OTHERS: &[(&[Part], &str)] = &[
         "hand 88 rejected line 8 StreetOrder\n",
     ),
     (ODD_NAME, ODD_NAME_REPORT),
-    // A stack of as many chips as may be, of which some are left behind.
+    // A stack of the greatest amount, with some chips left at the end.
     (
         &[
             Part::Lines(Hand::SidePots, 1, 2),
@@ -297,7 +298,7 @@ fn other_hands_are_changed(rt: HostRuntime) -> Result<(), Fail> {
     Ok(())
 }
 
-/// The seat lines of so many players.
+/// Returns the seat lines of `count` players.
 fn seats(alloc: Global, count: u32) -> Result<String, AllocError> {
     let mut lines = String::new(alloc);
     for seat in 1..=count {
@@ -306,7 +307,7 @@ fn seats(alloc: Global, count: u32) -> Result<String, AllocError> {
     Ok(lines)
 }
 
-/// Of 200 seats the eleventh is one too many.
+/// In a hand of 200 seats the eleventh is one too many.
 #[test]
 fn hands_may_have_many_seats(rt: HostRuntime) -> Result<(), Fail> {
     let lines = seats(rt.alloc(), 200)?;

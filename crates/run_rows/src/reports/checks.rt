@@ -4,7 +4,7 @@ use crate::histories::{CUT_AND_WHOLE, Hand};
 use crate::runs::{AMPLE, Case, Change, Changed, LAST, ONE_READ, Part, each_change, each_ends};
 use std::test::Fail;
 
-/// What is reported of the hand with side pots.
+/// The report on the hand with side pots.
 pub(crate) const SIDE_POTS_REPORT: &str = "hand 88 accepted holdem rake 0\n\
 pot 0 gross 1500 rake 0 checked\n\
 paid 1500 a\n\
@@ -115,13 +115,13 @@ const CHANGED: &[Changed] = &[
     ("check", Hand::HeadsUp, HEADS_UP_CHANGES),
 ];
 
-/// One line of a hand is another, and so is its verdict.
+/// A changed line changes the verdict.
 #[test]
 fn another_line_has_another_verdict(rt: HostRuntime) -> Result<(), Fail> {
     each_change(&rt, rt.alloc(), CHANGED)
 }
 
-/// Of a hand that is cut off.
+/// The report on a hand that is cut off.
 const CUT_REPORT: &str = "hand 88 rejected line 12 Unfinished\n";
 
 const HEADER: &str = "PokerStars Hand #1: Hold'em No Limit (1/2)\n";
@@ -151,7 +151,7 @@ expect 100.83 carl\n\
 expect 20.17 dora\n";
 
 const MARKED: &[Case] = &[
-    // A byte order mark, carriage returns, chat and a time-out are no matter.
+    // A byte order mark, carriage returns, chat, and a time-out change nothing.
     (
         &["check"],
         AMPLE,

@@ -1,4 +1,4 @@
-//! The modes and the forms beside each other: what one says of an input, the others say too.
+//! The modes and the forms compared: their reports of an input agree.
 
 use crate::runs::{AMPLE, Edges, Ran, did, holds, run};
 use std::alloc::{AllocError, Global};
@@ -7,7 +7,8 @@ use std::sync::Wait;
 use std::test::Fail;
 use std::thread::Threads;
 
-/// Records as lines of text: their fields that aren't empty, with a space between. No field has a comma or a quote.
+/// Returns records as lines of text: the fields that aren't empty, with a space between them. No field has
+/// a comma or a quote.
 fn as_text(alloc: Global, records: &[u8]) -> Result<Vec<u8>, AllocError> {
     let mut text = Vec::new(alloc);
     let mut is_apart = false;
@@ -25,7 +26,7 @@ fn as_text(alloc: Global, records: &[u8]) -> Result<Vec<u8>, AllocError> {
     Ok(text)
 }
 
-/// Whether each record has thirteen fields.
+/// Returns whether each record has thirteen fields.
 fn has_thirteen_each(records: &[u8]) -> bool {
     let mut commas = 0u32;
     for byte in records {
@@ -41,7 +42,8 @@ fn has_thirteen_each(records: &[u8]) -> bool {
     commas == 0
 }
 
-/// What the run of a mode over this input, between these ends, did in the form of records, with what they say as text.
+/// Returns the result of a run of a mode over this input, between these ends, in the form of records, with
+/// the records as text.
 fn told_by_records<R: Threads + Wait + Sync + Abort>(
     rt: &R,
     alloc: Global,
@@ -57,7 +59,7 @@ fn told_by_records<R: Threads + Wait + Sync + Abort>(
     })
 }
 
-/// What the run did in this form.
+/// Returns the result of a run in this form.
 pub(crate) fn told<R: Threads + Wait + Sync + Abort>(
     rt: &R,
     alloc: Global,
@@ -73,12 +75,12 @@ pub(crate) fn told<R: Threads + Wait + Sync + Abort>(
     }
 }
 
-/// Ends of which a read gives so many bytes at the most.
+/// Returns ends whose reads give at most `piece` bytes.
 pub(crate) fn pieces(piece: usize) -> Edges {
     Edges { piece, ..AMPLE }
 }
 
-/// The runs of a mode over this input in both forms, where it comes in such pieces, do what this one did.
+/// The runs of a mode over this input in both forms, in pieces of this size, must have this result.
 pub(crate) fn goes_so<R: Threads + Wait + Sync + Abort>(
     rt: &R,
     alloc: Global,
@@ -94,7 +96,7 @@ pub(crate) fn goes_so<R: Threads + Wait + Sync + Abort>(
     Ok(())
 }
 
-/// How many lines a text has.
+/// Returns how many lines a text has.
 pub(crate) fn line_count(text: &[u8]) -> usize {
     let mut count = 0usize;
     for byte in text {
@@ -105,7 +107,8 @@ pub(crate) fn line_count(text: &[u8]) -> usize {
     count
 }
 
-/// What is told of an input of hands: the status, what `check` reports, and the sums with which `totals` begins.
+/// What must be reported of an input of hands: the status, the report of `check`, and the sums with which
+/// `totals` begins.
 #[derive(Drop)]
 pub(crate) struct Verdict<'a> {
     pub(crate) status: u8,
@@ -113,7 +116,7 @@ pub(crate) struct Verdict<'a> {
     pub(crate) sums: &'a [u8],
 }
 
-/// The lines of a report that say of a hand whether it is accepted.
+/// Returns the lines of a report that say of a hand whether it is accepted.
 fn hand_lines(alloc: Global, report: &[u8]) -> Result<Vec<u8>, AllocError> {
     let mut kept = Vec::new(alloc);
     let mut line = Vec::new(alloc);
@@ -129,13 +132,14 @@ fn hand_lines(alloc: Global, report: &[u8]) -> Result<Vec<u8>, AllocError> {
     Ok(kept)
 }
 
-/// What follows the first word of a report.
+/// Returns the text after the first word of a report.
 fn behind<'a>(report: &'a [u8], word: &str) -> &'a [u8] {
     &report[word.len().min(report.len())..]
 }
 
-/// Whether a run of the mode wrote so: `check` that report, `audit` and `streets` what goes on from it, `results` and `settle` the
-/// same line of each hand, and `totals` and `balance` what begins with these sums.
+/// Returns whether the report of a mode agrees: `check` writes this report, `audit` and `streets` extend
+/// it, `results` and `settle` have its line for each hand, and `totals` and `balance` begin with these
+/// sums.
 fn is_told(
     alloc: Global,
     mode: &str,
@@ -155,7 +159,7 @@ fn is_told(
     Ok(told)
 }
 
-/// Whether a run of the mode says no more than `check` where no hand is accepted.
+/// Returns whether the report of a mode has no more than that of `check` if no hand is accepted.
 fn ends_there(mode: &str, verdict: &Verdict, written: &[u8]) -> bool {
     mode == "totals"
         || mode == "balance"
@@ -163,7 +167,7 @@ fn ends_there(mode: &str, verdict: &Verdict, written: &[u8]) -> bool {
         || written == verdict.report
 }
 
-/// A mode tells so of this input, in both forms, and where the input comes in pieces.
+/// A mode must report this of the input, in both forms, and if the input comes in pieces.
 pub(crate) fn mode_tells<R: Threads + Wait + Sync + Abort>(
     rt: &R,
     alloc: Global,
@@ -179,7 +183,7 @@ pub(crate) fn mode_tells<R: Threads + Wait + Sync + Abort>(
     goes_so(rt, alloc, mode, input, piece, &ran)
 }
 
-/// The sums of no hand, and of one with this verdict.
+/// The sums of no hand, and of one hand with this verdict.
 pub(crate) const NO_SUMS: &[u8] = b"totals hands 0 accepted 0 rejected 0\n";
 
 pub(crate) const REJECTED_SUMS: &[u8] = b"totals hands 1 accepted 0 rejected 1\n";

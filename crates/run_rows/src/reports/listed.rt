@@ -1,4 +1,4 @@
-//! Spots of each game. What a run writes of them stands in the cases of `run_cases`.
+//! Spots of each game. The cases of `run_cases` have the reports of runs over them.
 
 const SPOTS: &[&[u8]] = &[
     b"holdem Qd Qh - 8s 9s -- 2h 7s Ts",
@@ -37,7 +37,7 @@ const SPOTS: &[&[u8]] = &[
     b"triple27 9c 5d 4h - 8d 6h 5s 3s - 7c 4s 3c 2d / 2h 3h 4c 4d 5h 6d 6s 7h 7s 8c 8h 9d 9h Tc Td Th Ts Jc Jh Js Qc Qd Qh Qs Kd Kh Ks Ac Ad As",
 ];
 
-/// All of them.
+/// Returns all spots.
 pub(crate) fn spots() -> &'static [&'static [u8]] {
     SPOTS
 }

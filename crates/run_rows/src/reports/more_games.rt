@@ -1,4 +1,4 @@
-//! Hands of triple draw and of five card draw, with lines of them that are others. The verdicts are worked out by hand.
+//! Hands of triple draw and of five card draw, with changed lines. The verdicts are worked out by hand.
 
 use crate::histories::Hand;
 use crate::runs::{Change, Changed, each_change};

@@ -1,5 +1,5 @@
-//! A hand of Razz and a hand of Single Draw, with lines of them that are others. The verdicts are worked out by
-//! hand: the board of neither hand can change who wins.
+//! A hand of Razz and a hand of Single Draw, with changed lines. The verdicts are worked out by hand: the
+//! board of neither hand can change the winner.
 
 use crate::histories::Hand;
 use crate::runs::{Change, Changed, each_change};
@@ -98,8 +98,8 @@ const RAZZ_CHANGES: &[Change] = &[
     ),
 ];
 
-/// Lines that single draw refuses. The same hands are judged by the high in five card draw, in which eight high beats
-/// seven high.
+/// Lines that single draw refuses. In five card draw the same hands are ranked as high hands, and eight
+/// high beats seven high.
 const DRAW_CHANGES: &[Change] = &[
     (
         1,
@@ -157,8 +157,8 @@ Seat 2: c ($50 in chips)
 a: posts small blind $1
 ";
 
-/// Other numbers in its fifth line. Seat numbers of any length are told apart: a second line of one number ends the search
-/// for players, and so a is none, whose post stands after it.
+/// Other numbers in its fifth line. Seat numbers of any length are compared: the second line of a number
+/// ends the search for players. So a is no player, and a's post follows it.
 const SEAT_CHANGES: &[Change] = &[
     (
         5,
@@ -184,7 +184,7 @@ const CHANGED: &[Changed] = &[
     ("audit", Hand::LongSeats, SEAT_CHANGES),
 ];
 
-/// Lines that stud and draw alone refuse, that all games but these do, and seat numbers.
+/// Lines that only stud and draw refuse, lines that all other games refuse, and seat numbers.
 #[test]
 fn refusals_of_stud_and_draw(rt: HostRuntime) -> Result<(), Fail> {
     each_change(&rt, rt.alloc(), CHANGED)

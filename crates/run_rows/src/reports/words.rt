@@ -5,8 +5,8 @@ use crate::ends::faults::{REPORT, SPOT, USAGE};
 use crate::runs::{Told, each_told};
 use std::test::Fail;
 
-/// Options stand before the mode or after it, with their values after an equals sign or as words of
-/// their own, up to their bounds.
+/// Options come before the mode or after it, with their values after an equals sign or as the next word,
+/// up to their bounds.
 const IN_FORM: &[&[&str]] = &[
     &["--workers", "16", "spots"],
     &["spots", "--workers=1"],
@@ -21,8 +21,9 @@ const IN_FORM: &[&[&str]] = &[
     ],
 ];
 
-/// Other words than a mode; an option twice, without a value, with a value beyond its bounds or no number, a word that begins with a
-/// hyphen as a value, an option that there isn't, and a second mode are in no form.
+/// These have no valid form: a word that isn't a mode; an option twice, without a value, or with a value
+/// beyond its bounds or that isn't a number; a value that begins with a hyphen; an unknown option; and a
+/// second mode.
 const IN_NO_FORM: &[&[&str]] = &[
     &[],
     &["--help"],
@@ -61,8 +62,8 @@ hand,2,ev,0.045,,,,,,,,,\n";
 /// A rejected line is a record too.
 const REJECTED: &str = "spot,1,rejected,line,1,UnknownWord,,,,,,,\n";
 
-/// Words in no form give the usage line. A record of CSV has thirteen fields: the words from the left, and the name in
-/// the last.
+/// Words without a valid form give the usage line. A record of CSV has thirteen fields: the words from the
+/// left, and the name in the last.
 const TOLD: &[Told] = &[
     (IN_FORM, SPOT, 0, REPORT),
     (IN_NO_FORM, SPOT, 2, USAGE),

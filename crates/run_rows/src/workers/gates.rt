@@ -1,4 +1,4 @@
-//! Gates that hold workers until others have come.
+//! Gates that hold workers until other workers have come.
 
 use std::sync::atomic::{AtomicU64, Ordering};
 use steal_pool::Gate;
@@ -6,18 +6,18 @@ use steal_pool::Gate;
 /// A bit for each of the 27 blocks of aces against kings before the flop, of 1,712,304 runouts.
 const BLOCKS: u64 = (1 << 27) - 1;
 
-/// After how many turns in which nobody came a held worker is let go.
+/// The number of turns without a new worker after which a held worker is released.
 const TURNS: u64 = 1_000_000_000;
 
-/// Holds the worker that enters the first block until all others are entered, which only another worker can do
-/// meanwhile.
+/// Holds the worker that enters the first block until all other blocks are entered. Only another worker
+/// can do this meanwhile.
 #[derive(Drop)]
 pub(crate) struct HoldsTheFirst {
     /// A bit for each block that was entered.
     entered: AtomicU64,
     /// Blocks that were entered twice.
     again: AtomicU64,
-    /// Whether the worker was let go since nobody came.
+    /// Whether the worker was released because nobody came.
     in_vain: AtomicU64,
 }
 
@@ -30,14 +30,15 @@ impl HoldsTheFirst {
         }
     }
 
-    /// Whether each block was entered once, and the held worker was let go since all others were.
+    /// Returns whether each block was entered once, and the held worker was released because all others
+    /// were entered.
     pub(crate) fn was_released(&self) -> bool {
         self.in_vain.load(Ordering::SeqCst) == 0
             && self.entered.load(Ordering::SeqCst) == BLOCKS
             && self.again.load(Ordering::SeqCst) == 0
     }
 
-    /// Returns when all blocks are entered, or none was for many turns.
+    /// Returns when all blocks are entered, or when none was entered for many turns.
     fn hold(&self) {
         let mut seen = 0;
         let mut turns: u64 = 0;
@@ -71,12 +72,12 @@ impl Gate for HoldsTheFirst {
     }
 }
 
-/// Holds each worker that enters until four different ones are inside.
+/// Holds each worker that enters until four different workers are inside.
 #[derive(Drop)]
 pub(crate) struct HoldsUntilFour {
     /// A bit for each worker that entered.
     inside: AtomicU64,
-    /// Whether a worker was let go since nobody came.
+    /// Whether a worker was released because nobody came.
     in_vain: AtomicU64,
 }
 
@@ -88,7 +89,7 @@ impl HoldsUntilFour {
         }
     }
 
-    /// Whether the workers 0 to 3 were inside at once, and no other one ever.
+    /// Returns whether the workers 0 to 3 were inside at once, and never another one.
     pub(crate) fn were_four(&self) -> bool {
         self.in_vain.load(Ordering::SeqCst) == 0 && self.inside.load(Ordering::SeqCst) == 0b1111
     }
@@ -106,7 +107,7 @@ impl Gate for HoldsUntilFour {
     }
 }
 
-/// Notes whether a worker entered.
+/// Whether a worker entered.
 #[derive(Drop)]
 pub(crate) struct Notes {
     entered: AtomicU64,
@@ -119,7 +120,7 @@ impl Notes {
         }
     }
 
-    /// Whether a worker entered a block.
+    /// Returns whether a worker entered a block.
     pub(crate) fn has_some(&self) -> bool {
         self.entered.load(Ordering::SeqCst) == 1
     }

@@ -1,4 +1,4 @@
-//! The ends in memory as a caller meets them, and std's readers and writers below the others.
+//! The ends in memory as a caller uses them, and std's readers and writers below the other ends.
 
 ghost use Rattle.std.specs.Prelude.{◌<◌};
 
@@ -9,7 +9,7 @@ use std::alloc::Global;
 use std::io;
 use std::io::{ErrorKind, Read, Write};
 
-/// A reader and a writer of which every call fails.
+/// A reader and a writer whose every call fails.
 #[derive(Drop)]
 struct Broken;
 
@@ -43,13 +43,13 @@ impl Write for Closed {
     }
 }
 
-/// A read: into how many bytes, what it gives, and what the piece ends with then.
+/// A read: the length of the piece, the result, and the bytes at the end of the piece afterwards.
 type Turn = (usize, Result<usize, Failed>, &'static [u8]);
 
-/// Bytes that are written, and how many of them are.
+/// Bytes to write, and how many of them are taken.
 type Taken = (&'static [u8], Result<usize, Failed>);
 
-/// Bytes that are to be written to the end, and whether they are.
+/// Bytes to write completely, and whether they are.
 type Whole = (&'static [u8], Result<(), Failed>);
 
 /// Pieces of eight bytes, of at most three each.
@@ -61,7 +61,7 @@ const PIECES: &[Turn] = &[
     (4, Ok(0), b"fgh-"),
 ];
 
-/// Reads of which two fail.
+/// Reads, two of which fail.
 const FAILING: &[Turn] = &[
     (2, Ok(2), b"ab"),
     (2, Err(Failed), b"ab"),
@@ -96,7 +96,7 @@ const FILLING: &[Taken] = &[
 /// A write that fails.
 const REFUSED: &[Taken] = &[(b"a", Err(Failed))];
 
-/// A write of which nothing is taken, and one of nothing.
+/// A write of which nothing is taken, and a write of nothing.
 const NOT_TAKEN: &[Taken] = &[(b"a", Err(Failed)), (b"", Ok(0))];
 
 /// Writes into a room of seven bytes.
@@ -108,14 +108,14 @@ const TOO_MANY: &[Whole] = &[(b"", Ok(())), (b"h", Err(Failed))];
 /// A write that fails on the way.
 const CUT: &[Whole] = &[(b"abcdefg", Err(Failed))];
 
-/// A write after it.
+/// A write after the failed one.
 const BEHIND: &[Whole] = &[(b"xyz", Ok(()))];
 
 /// Writes of five bytes.
 const FIVE: &[Whole] = &[(b"abc", Ok(())), (b"de", Ok(()))];
 
-/// Reads into the first bytes of a piece, so many. Whether that gives so many or fails, and the piece ends with these
-/// bytes then.
+/// Returns whether a read into the first `size` bytes of a piece has this result, and the piece then
+/// ends with these bytes.
 fn reads<S: Source>(
     source: &mut S,
     piece: &mut [u8],
@@ -129,7 +129,7 @@ fn reads<S: Source>(
     source.read(&mut piece[..size]) == wanted && piece.ends_with(end)
 }
 
-/// Whether each of these reads is so.
+/// Returns whether each of these reads has its result.
 fn all_read<S: Source>(source: &mut S, piece: &mut [u8], turns: &[Turn]) -> bool {
     for (size, wanted, end) in turns {
         if !reads(source, piece, *size, *wanted, end) {
@@ -139,7 +139,7 @@ fn all_read<S: Source>(source: &mut S, piece: &mut [u8], turns: &[Turn]) -> bool
     true
 }
 
-/// Whether of each of these bytes so many are written, or the write fails.
+/// Returns whether the given number of bytes is taken of each of these, or the write fails.
 fn all_take<K: Sink>(sink: &mut K, turns: &[Taken]) -> bool {
     for (bytes, wanted) in turns {
         if sink.write(bytes) != *wanted {
@@ -149,7 +149,7 @@ fn all_take<K: Sink>(sink: &mut K, turns: &[Taken]) -> bool {
     true
 }
 
-/// Whether each of these is written to the end, or a write fails.
+/// Returns whether each of these is written completely, or its write fails.
 fn all_write<K: Sink>(sink: &mut K, turns: &[Whole]) -> bool {
     for (bytes, wanted) in turns {
         if write_all(sink, bytes) != *wanted {
@@ -159,12 +159,12 @@ fn all_write<K: Sink>(sink: &mut K, turns: &[Whole]) -> bool {
     true
 }
 
-/// Whether these are the bytes that a sink has taken.
+/// Returns whether these are the bytes that a sink has taken.
 fn has_taken(sink: &MemorySink, bytes: &[u8]) -> bool {
     sink.bytes() == bytes
 }
 
-/// A source of bytes in pieces, of which no read fails; none when out of memory.
+/// Returns a source of bytes in pieces whose reads all succeed, or `None` if out of memory.
 fn source_of(alloc: Global, bytes: &[u8], piece: usize) -> Option<MemorySource>
     requires { 0 < piece }
 {
@@ -172,7 +172,7 @@ fn source_of(alloc: Global, bytes: &[u8], piece: usize) -> Option<MemorySource>
     Some(MemorySource::new(bytes, piece, Vec::new(alloc)))
 }
 
-/// The same, of which the second read and the third fail.
+/// Returns a source as `source_of` does, whose second and third reads fail.
 fn failing_source(alloc: Global, bytes: &[u8], piece: usize) -> Option<MemorySource>
     requires { 0 < piece }
 {
@@ -181,14 +181,14 @@ fn failing_source(alloc: Global, bytes: &[u8], piece: usize) -> Option<MemorySou
     Some(MemorySource::new(bytes, piece, fails))
 }
 
-/// A sink with room, of which no write fails; none when out of memory.
+/// Returns a sink with room whose writes all succeed, or `None` if out of memory.
 fn sink_of(alloc: Global, room: usize, piece: usize) -> Option<MemorySink>
     requires { 0 < piece }
 {
     MemorySink::new(alloc, room, piece, Vec::new(alloc)).ok()
 }
 
-/// The same, of which the third write fails.
+/// Returns a sink as `sink_of` does, whose third write fails.
 fn failing_sink(alloc: Global, room: usize, piece: usize) -> Option<MemorySink>
     requires { 0 < piece }
 {
@@ -196,7 +196,7 @@ fn failing_sink(alloc: Global, room: usize, piece: usize) -> Option<MemorySink>
     MemorySink::new(alloc, room, piece, fails).ok()
 }
 
-/// Whether a source that there is gives this.
+/// Returns whether there is a source, and its reads have these results.
 fn gives(source: Option<MemorySource>, piece: &mut [u8], turns: &[Turn]) -> bool {
     match source {
         Some(mut source) => all_read(&mut source, piece, turns),
@@ -216,7 +216,7 @@ fn the_listed_reads_fail_and_lose_no_byte(rt: HostRuntime) {
     assert!(rt; gives(source, &mut [b'-'; 2], FAILING));
 }
 
-/// A source of a line of x again and again, up to so many bytes.
+/// Returns a source that repeats a line of x, up to `left` bytes.
 fn repeated(left: u64, piece: usize) -> RepeatSource
     requires { 0 < piece }
 {
@@ -231,7 +231,8 @@ fn a_repeat_source_gives_its_line_again_and_again_and_then_the_end(rt: HostRunti
     assert!(rt; all_read(&mut source, &mut [b'-'; 70], REPEATED));
 }
 
-/// Whether a sink that there is takes so much of these, and these bytes in all.
+/// Returns whether there is a sink, it takes these parts of the pieces, and it has taken these bytes in
+/// all.
 fn takes(sink: Option<MemorySink>, turns: &[Taken], bytes: &[u8]) -> bool {
     match sink {
         Some(mut sink) => all_take(&mut sink, turns) && has_taken(&sink, bytes),
@@ -244,7 +245,8 @@ fn a_memory_sink_takes_pieces_until_its_room_is_full(rt: HostRuntime) {
     assert!(rt; takes(sink_of(rt.alloc(), 5, 3), FILLING, b"abcde"));
 }
 
-/// Whether a sink that there is has taken these bytes after the first writes, and these after the others.
+/// Returns whether there is a sink that has taken the first bytes after the first writes, and the second
+/// after the others.
 fn writes(
     sink: Option<MemorySink>,
     first: &[Whole],

@@ -11,7 +11,7 @@ fn cut_at(bytes: &[u8], at: usize) -> Option<(usize, usize, usize)> {
     Some((line.first, line.end, line.next))
 }
 
-/// The place after the line at a place, where its text is this.
+/// Returns the place after the line at a place, if the text of the line is this.
 fn behind(bytes: &[u8], at: usize, text: &[u8]) -> Option<usize> {
     if at > bytes.len() {
         return None;
@@ -24,7 +24,7 @@ fn behind(bytes: &[u8], at: usize, text: &[u8]) -> Option<usize> {
     }
 }
 
-/// The texts of all lines are these, one after the other, and the walk ends at the end.
+/// Returns whether the texts of all lines are these, one after another, and the walk ends at the end.
 fn has_texts(bytes: &[u8], texts: &[&[u8]]) -> bool {
     let mut at = 0;
     for text in texts {
@@ -36,7 +36,7 @@ fn has_texts(bytes: &[u8], texts: &[&[u8]]) -> bool {
     at == bytes.len() && cut_at(bytes, at).is_none()
 }
 
-/// Whether each of these texts has the lines beside it.
+/// Returns whether each of these texts has the lines next to it.
 fn all_cut(table: &[(&[u8], &[&[u8]])]) -> bool {
     for (bytes, texts) in table {
         if !has_texts(bytes, texts) {
@@ -67,7 +67,7 @@ fn each_text_is_cut_into_its_lines(rt: HostRuntime) {
     assert!(rt; all_cut(TEXTS));
 }
 
-/// Whether the line at each of these places of a text has the places beside it.
+/// Returns whether the line at each of these places of a text has the places next to it.
 fn all_placed(bytes: &[u8], table: &[(usize, Option<(usize, usize, usize)>)]) -> bool {
     for (at, wanted) in table {
         if cut_at(bytes, *at) != *wanted {
@@ -90,7 +90,8 @@ fn a_line_tells_where_its_text_and_the_next_line_begin(rt: HostRuntime) {
     assert!(rt; all_placed(TWO_LINES, PLACES));
 }
 
-/// Whether an amount stands at a place of a text, of so many units and up to that place, or this fault.
+/// Returns whether the amount at a place of a text has these units and ends at that place, or has this
+/// fault.
 fn is_read(
     text: &[u8],
     at: usize,
@@ -104,7 +105,8 @@ fn is_read(
     }
 }
 
-/// Whether each of these texts begins with its amount, of so many units and bytes, or has its fault.
+/// Returns whether each of these texts begins with an amount of these units and length, or has its
+/// fault.
 fn all_read(table: &[(&[u8], bool, Result<(u64, usize), AmountFault>)]) -> bool {
     for (text, hundredths, wanted) in table {
         if !is_read(text, 0, *hundredths, *wanted) {

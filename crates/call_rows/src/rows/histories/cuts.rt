@@ -1,10 +1,10 @@
-//! Streams that come in pieces.
+//! Streams in pieces.
 
 ghost use Rattle.std.specs.Prelude.{◌≡◌, false};
 
 use hand_cuts::{CutKind, Cutter};
 
-/// Takes a piece of an open stream. Whether it is short, and there was memory for it.
+/// Gives a piece to an open stream. Returns whether the piece is short, and there was memory for it.
 fn takes(cutter: &mut Cutter, piece: &[u8]) -> bool
     requires { cutter.old.closed ≡ false }
     ensures { cutter.new.closed ≡ false }
@@ -15,8 +15,8 @@ fn takes(cutter: &mut Cutter, piece: &[u8]) -> bool
     cutter.give(piece).is_ok()
 }
 
-/// Whether the next hand or line is this text and begins with this line; for no text, whether none is
-/// left.
+/// Returns whether the next hand or line is this text and begins with this line. If there is no text,
+/// returns whether no hand or line is left.
 fn hands_out(cutter: &mut Cutter, text: &[u8], line: u32) -> bool
     ensures { cutter.new.closed ≡ cutter.old.closed }
 {
@@ -26,7 +26,7 @@ fn hands_out(cutter: &mut Cutter, text: &[u8], line: u32) -> bool
     }
 }
 
-/// Whether each of these is the next hand or line, with the line that it begins with.
+/// Returns whether each of these is the next hand or line, with its first line.
 fn hands_all_out(cutter: &mut Cutter, units: &[(&[u8], u32)]) -> bool
     ensures { cutter.new.closed ≡ cutter.old.closed }
 {
@@ -38,7 +38,7 @@ fn hands_all_out(cutter: &mut Cutter, units: &[(&[u8], u32)]) -> bool
     true
 }
 
-/// Whether these are handed out after a piece of an open stream.
+/// Returns whether these units are returned after a piece of an open stream.
 fn goes_on(cutter: &mut Cutter, piece: &[u8], units: &[(&[u8], u32)]) -> bool
     requires { cutter.old.closed ≡ false }
     ensures { cutter.new.closed ≡ false }
@@ -49,13 +49,13 @@ fn goes_on(cutter: &mut Cutter, piece: &[u8], units: &[(&[u8], u32)]) -> bool
     hands_all_out(cutter, units)
 }
 
-/// Whether these are handed out after the end.
+/// Returns whether these units are returned after the end.
 fn ends(cutter: &mut Cutter, units: &[(&[u8], u32)]) -> bool {
     cutter.close();
     hands_all_out(cutter, units)
 }
 
-/// Whether these are the bytes that are held after what is forgotten.
+/// Returns whether these bytes are kept after `forget`.
 fn forgets(cutter: &mut Cutter, rest: &[u8]) -> bool {
     cutter.forget();
     cutter.held() == rest

@@ -1,10 +1,10 @@
-//! Deals, draws and markers of each game.
+//! Deals, draws, and markers of each game.
 
 use crate::rows::histories::names::{SEATED, names_of};
 use card_sets::Game;
 use history_text::*;
 
-/// What a line of play says in a game.
+/// Returns the event of a line of play in a game.
 fn played(names: &Names, game: Game, line: &[u8]) -> Result<Event, TextFault> {
     let header = Header {
         game,
@@ -15,7 +15,7 @@ fn played(names: &Names, game: Game, line: &[u8]) -> Result<Event, TextFault> {
     read_line(names, &header, Part::Play, line)
 }
 
-/// The seat of a deal, a discard, a stand-pat or a post, and how many cards it names.
+/// Returns the seat of a deal, a discard, a stand-pat, or a post, and the number of its cards.
 fn cards_of(e: &Event) -> Option<(u8, usize)> {
     match e {
         Event::Deal { seat, cards, .. } | Event::Discard { seat, cards, .. } => {
@@ -26,7 +26,7 @@ fn cards_of(e: &Event) -> Option<(u8, usize)> {
     }
 }
 
-/// Whether a line says this of a seat's cards, or has this fault.
+/// Returns whether a line has this seat and this number of cards, or this fault.
 fn is_dealt(
     names: &Names,
     game: Game,
@@ -40,7 +40,7 @@ fn is_dealt(
     }
 }
 
-/// Whether each of these lines says this of a seat's cards.
+/// Returns whether each of these lines has its seat and its number of cards, or its fault.
 fn all_dealt(
     names: &Option<Names>,
     table: &[(Game, &[u8], Result<(u8, usize), TextFault>)],
@@ -130,7 +130,8 @@ fn each_game_has_its_deals_and_draws(rt: HostRuntime) {
     assert!(rt; all_dealt(&names, DEALS));
 }
 
-/// The street that a marker begins in a game. None where the line is no marker of it.
+/// Returns the street that a marker begins in a game, or `None` if the line isn't a marker of the
+/// game.
 fn street_in(names: &Names, game: Game, line: &[u8]) -> Option<Street> {
     match played(names, game, line) {
         Ok(Event::Street { street, .. }) => Some(street),
@@ -138,7 +139,7 @@ fn street_in(names: &Names, game: Game, line: &[u8]) -> Option<Street> {
     }
 }
 
-/// Whether a line begins this street, or none.
+/// Returns whether a line begins this street, or none.
 fn is_marked(names: &Names, game: Game, line: &[u8], wanted: Option<Street>) -> bool {
     match (street_in(names, game, line), wanted) {
         (Some(found), Some(street)) => found == street,
@@ -147,7 +148,7 @@ fn is_marked(names: &Names, game: Game, line: &[u8], wanted: Option<Street>) -> 
     }
 }
 
-/// Whether each of these markers begins its street.
+/// Returns whether each of these markers begins its street.
 fn all_marked(names: &Option<Names>, table: &[(Game, &[u8], Option<Street>)]) -> bool {
     let Some(names) = names else {
         return false;

@@ -6,7 +6,7 @@ use history_text::*;
 const CASH_TITLE: &[u8] =
     b"PokerStars Hand #240000000001: Hold'em No Limit ($0.50/$1.00 USD) - 2023/01/15 20:11:05 ET";
 
-/// Whether a line is a header line and says this header.
+/// Returns whether a line is a header line with this header.
 fn says_header(line: &[u8], wanted: &Header) -> bool {
     if !is_header(line) {
         return false;
@@ -17,7 +17,7 @@ fn says_header(line: &[u8], wanted: &Header) -> bool {
     }
 }
 
-/// A header.
+/// Returns a header.
 fn of(game: Game, limit: Limit, hundredths: bool, big: u64) -> Header {
     Header {
         game,
@@ -27,7 +27,7 @@ fn of(game: Game, limit: Limit, hundredths: bool, big: u64) -> Header {
     }
 }
 
-/// Whether each of these lines says its header.
+/// Returns whether each of these lines has its header.
 fn all_headers(table: &[(&[u8], Game, Limit, bool, u64)]) -> bool {
     for (line, game, limit, hundredths, big) in table {
         if !says_header(line, &of(*game, *limit, *hundredths, *big)) {
@@ -37,7 +37,7 @@ fn all_headers(table: &[(&[u8], Game, Limit, bool, u64)]) -> bool {
     true
 }
 
-/// Whether a line is no header line.
+/// Returns whether a line is no header line.
 fn is_no_header(line: &[u8]) -> bool {
     !is_header(line)
 }
@@ -129,7 +129,7 @@ fn headers_are_read(rt: HostRuntime) {
     assert!(rt; is_no_header(b"PokerStars Hand #x"));
 }
 
-/// Whether a line is a header line in which the number of the hand stands there.
+/// Returns whether a line is a header line with the number of the hand at this place.
 fn is_numbered(line: &[u8], place: (usize, usize)) -> bool {
     is_header(line) && hand_number(line) == place
 }
@@ -139,7 +139,7 @@ fn the_number_of_a_hand_is_found(rt: HostRuntime) {
     assert!(rt; is_numbered(CASH_TITLE, (17, 29)));
 }
 
-/// Whether a header line has a fault.
+/// Returns whether a header line has a fault.
 fn has_header_fault(line: &[u8], fault: TextFault) -> bool {
     if !is_header(line) {
         return false;
@@ -150,7 +150,7 @@ fn has_header_fault(line: &[u8], fault: TextFault) -> bool {
     }
 }
 
-/// Whether each of these header lines has its fault.
+/// Returns whether each of these header lines has its fault.
 fn all_refused(table: &[(&[u8], TextFault)]) -> bool {
     for (line, fault) in table {
         if !has_header_fault(line, *fault) {

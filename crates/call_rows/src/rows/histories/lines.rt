@@ -11,7 +11,7 @@ const CASH: Header = Header {
     big: 100,
 };
 
-/// Whether a line has a fault, in a hand with these names.
+/// Returns whether a line has a fault, in a hand with these names.
 fn has_fault(names: &Names, part: Part, line: &[u8], fault: TextFault) -> bool {
     match read_line(names, &CASH, part, line) {
         Ok(_) => false,
@@ -19,7 +19,7 @@ fn has_fault(names: &Names, part: Part, line: &[u8], fault: TextFault) -> bool {
     }
 }
 
-/// Whether each of these lines has its fault, in a hand with these names.
+/// Returns whether each of these lines has its fault, in a hand with these names.
 fn all_faulty(names: &Option<Names>, table: &[(Part, &[u8], TextFault)]) -> bool {
     let Some(names) = names else {
         return false;
@@ -106,7 +106,7 @@ fn lines_have_their_first_fault(rt: HostRuntime) {
     assert!(rt; all_faulty(&names, LINE_FAULTS));
 }
 
-/// Whether an event is this act of a seat.
+/// Returns whether an event is this act of a seat.
 fn is_act(names: &Names, line: &[u8], of: u8, wanted: Act, last: bool) -> bool {
     match read_line(names, &CASH, Part::Play, line) {
         Ok(
@@ -121,7 +121,7 @@ fn is_act(names: &Names, line: &[u8], of: u8, wanted: Act, last: bool) -> bool {
     }
 }
 
-/// Whether a line is the marker of a street, on a board with so many new cards.
+/// Returns whether a line is the marker of a street on a board, with this number of new cards.
 fn is_marker(names: &Names, line: &[u8], at: Street, on: BoardNumber, new: usize) -> bool {
     match read_line(names, &CASH, Part::Play, line) {
         Ok(
@@ -135,7 +135,7 @@ fn is_marker(names: &Names, line: &[u8], at: Street, on: BoardNumber, new: usize
     }
 }
 
-/// Whether a line seats a player with these chips, whose name stands there.
+/// Returns whether a line seats a player with these chips, and the name is at this place.
 fn is_seat(names: &Names, line: &[u8], of: u8, chips: u64, place: (usize, usize)) -> bool {
     match read_line(names, &CASH, Part::Preamble, line) {
         Ok(
@@ -150,7 +150,7 @@ fn is_seat(names: &Names, line: &[u8], of: u8, chips: u64, place: (usize, usize)
     }
 }
 
-/// Whether a line is the total line with this pot and rake.
+/// Returns whether a line is the total line with this pot and rake.
 fn is_total(names: &Names, line: &[u8], pot: u64, taken: u64) -> bool {
     match read_line(names, &CASH, Part::Summary, line) {
         Ok(Event::Total { units, rake }) => units == pot && rake == taken,
@@ -158,7 +158,7 @@ fn is_total(names: &Names, line: &[u8], pot: u64, taken: u64) -> bool {
     }
 }
 
-/// Whether each of these lines is this act of a seat.
+/// Returns whether each of these lines is this act of a seat.
 fn all_acts(names: &Names, table: &[(&[u8], u8, Act, bool)]) -> bool {
     for (line, seat, act, last) in table {
         if !is_act(names, line, *seat, *act, *last) {
@@ -168,7 +168,7 @@ fn all_acts(names: &Names, table: &[(&[u8], u8, Act, bool)]) -> bool {
     true
 }
 
-/// Whether each of these lines is this marker.
+/// Returns whether each of these lines is this marker.
 fn all_markers(names: &Names, table: &[(&[u8], Street, BoardNumber, usize)]) -> bool {
     for (line, street, board, new) in table {
         if !is_marker(names, line, *street, *board, *new) {
@@ -207,7 +207,7 @@ const SEAT: &[u8] = b"Seat 5: emil ($100 in chips)";
 
 const TOTAL: &[u8] = b"Total pot $121 | Rake $2.50";
 
-/// Whether acts, markers, a seat and a total are read.
+/// Returns whether acts, markers, a seat, and a total are read.
 fn all_read(names: &Option<Names>) -> bool {
     match names {
         Some(names) => {

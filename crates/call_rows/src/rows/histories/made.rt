@@ -1,4 +1,4 @@
-//! Made hands against those that another program made by the same rules.
+//! Made hands, compared with those that another program made by the same rules.
 
 use made_hands::made_input;
 use std::alloc::Global;
@@ -91,7 +91,7 @@ B collected $27 from pot\n\
 *** SUMMARY ***\n\
 Total pot $54 | Rake $0\n";
 
-/// A seed, how many hands, and their text.
+/// A seed, a number of hands, and their text.
 const MADE: &[(u64, u32, &str)] = &[
     (1, 2, TWO_OF_SEED_1),
     (9, 1, ONE_OF_SEED_9),
@@ -99,7 +99,7 @@ const MADE: &[(u64, u32, &str)] = &[
     (1, 0, ""),
 ];
 
-/// Whether the hands of a seed have this text.
+/// Returns whether the hands of a seed have this text.
 fn is_made(alloc: Global, seed: u64, hands: u32, text: &str) -> bool {
     match made_input(alloc, seed, hands) {
         Ok(made) => made.as_slice() == text.as_bytes(),
@@ -107,7 +107,7 @@ fn is_made(alloc: Global, seed: u64, hands: u32, text: &str) -> bool {
     }
 }
 
-/// Whether this is so of each of these.
+/// Returns whether each of these seeds has its text.
 fn all_made(alloc: Global, table: &[(u64, u32, &str)]) -> bool {
     for (seed, hands, text) in table {
         if !is_made(alloc, *seed, *hands, *text) {
@@ -122,7 +122,7 @@ fn hands_are_those_of_another_program(rt: HostRuntime) {
     assert!(rt; all_made(rt.alloc(), MADE));
 }
 
-/// Whether the text of 200 hands has as many bytes as they may have.
+/// Returns whether the text of 200 hands has the most bytes that it may have.
 fn is_long(alloc: Global, seed: u64) -> bool {
     match made_input(alloc, seed, 200) {
         Ok(made) => made.len() > 200 * 400 && made.len() <= 200 * 1000,

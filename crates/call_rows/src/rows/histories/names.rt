@@ -6,7 +6,7 @@ use std::alloc::Global;
 /// The names of two seats.
 pub(crate) const SEATED: &[(u8, &[u8])] = &[(3, b"carl"), (4, b"dora")];
 
-/// The names of some seats; none when out of memory.
+/// Returns the names of some seats, or `None` if out of memory.
 pub(crate) fn names_of(alloc: Global, seats: &[(u8, &[u8])]) -> Option<Names> {
     let mut names = Names::new(alloc);
     for (seat, name) in seats {

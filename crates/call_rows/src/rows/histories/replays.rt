@@ -1,4 +1,4 @@
-//! Hands in text, judged by hand.
+//! Hands in text, with verdicts worked out by hand.
 
 ghost use Rattle.std.specs.Prelude.{◌<◌, ◌≤◌, ◌^◌, IsTrue};
 ghost use Rattle.betting_replay.specs.Events.{SeatFits};
@@ -24,14 +24,14 @@ const DOLLARS: Header = Header {
 /// The names of three seats.
 const THREE_NAMES: &[(u8, &[u8])] = &[(1, b"ann"), (2, b"bob"), (3, b"cat")];
 
-/// Whether an amount is within the limit.
+/// Returns whether an amount is within the limit.
 fn is_amount(units: u64) -> bool
     ensures { IsTrue result → units < 10 ^ 15 }
 {
     units < 1_000_000_000_000_000
 }
 
-/// Whether the amounts of an act are.
+/// Returns whether the amounts of an act are within the limit.
 fn act_fits(act: Act) -> bool
     ensures { IsTrue result → ActFits act }
 {
@@ -42,7 +42,7 @@ fn act_fits(act: Act) -> bool
     }
 }
 
-/// Whether the amounts of an event are.
+/// Returns whether the amounts of an event are within the limit.
 fn amounts_fit(e: &Event) -> bool
     ensures { IsTrue result → AmountsFit e.now }
 {
@@ -57,7 +57,7 @@ fn amounts_fit(e: &Event) -> bool
     }
 }
 
-/// Whether a seat is one of the ten.
+/// Returns whether a seat is one of the ten.
 fn is_seat(seat: u8) -> bool
     ensures first { IsTrue result → 1 ≤ seat }
     ensures last { IsTrue result → seat ≤ 10 }
@@ -65,7 +65,7 @@ fn is_seat(seat: u8) -> bool
     seat >= 1 && seat <= 10
 }
 
-/// Whether the seat of an event is.
+/// Returns whether the seat of an event is one of the ten.
 fn seat_fits(e: &Event) -> bool
     ensures { IsTrue result → SeatFits e.now }
 {
@@ -84,7 +84,7 @@ fn seat_fits(e: &Event) -> bool
     }
 }
 
-/// Goes on by a line of a part of a hand. None where it can't be read.
+/// Applies a line of a part of a hand. Returns `None` if it can't be read.
 fn step_line(
     replay: &mut Replay,
     names: &Names,
@@ -104,7 +104,7 @@ fn step_line(
     }
 }
 
-/// How many of some lines may stand, and what the first that may not is refused for.
+/// Returns how many of some lines are accepted, and why the next one is refused.
 fn step_lines(
     replay: &mut Replay,
     names: &Names,
@@ -118,17 +118,17 @@ fn step_lines(
     Some((lines.len(), None))
 }
 
-/// Whether all of some lines may stand.
+/// Returns whether all of some lines are accepted.
 fn all_stand(replay: &mut Replay, names: &Names, lines: &[&[u8]]) -> bool {
     step_lines(replay, names, lines) == Some((lines.len(), None))
 }
 
-/// Whether all of some lines may stand but the last, which is refused for this.
+/// Returns whether all of some lines are accepted except the last, which is refused for this fault.
 fn is_refused(replay: &mut Replay, names: &Names, lines: &[&[u8]], fault: &BetFault) -> bool {
     step_lines(replay, names, lines) == Some((lines.len().saturating_sub(1), Some(*fault)))
 }
 
-/// The card of a number.
+/// Returns the card of a number.
 fn card(number: u8) -> Card
     requires { number < 52 }
 {
@@ -167,17 +167,17 @@ const REST: [&[u8]; 9] = [
     b"*** SUMMARY ***",
 ];
 
-/// Whether this is the state of the hand before its flop.
+/// Returns whether this is the state of the hand before its flop.
 fn is_before_the_flop(replay: &Replay) -> bool {
     replay.owes().is_none() && replay.button() == 1
 }
 
-/// Whether this is the state of the hand after its flop.
+/// Returns whether this is the state of the hand after its flop.
 fn is_behind_the_flop(replay: &Replay) -> bool {
     replay.owes() == Some(1) && replay.street() == Some(Street::Turn) && replay.stack(1) == 4700
 }
 
-/// Whether the board has this many cards on its streets.
+/// Returns whether the board has this many cards on its streets.
 fn has_boards(replay: &Replay) -> bool {
     replay.board_at(Street::First).count() == 0
         && replay.board_at(Street::Flop).count() == 3
@@ -186,7 +186,7 @@ fn has_boards(replay: &Replay) -> bool {
         && replay.board_at(Street::River).has(card(36))
 }
 
-/// Whether two have shown, and the first of them aces.
+/// Returns whether two have shown, and the first of them aces.
 fn has_shown(replay: &Replay) -> bool {
     let Some(shown) = replay.final_cards(1) else {
         return false;
@@ -197,7 +197,7 @@ fn has_shown(replay: &Replay) -> bool {
         && shown.has(card(50))
 }
 
-/// Whether the hand goes on so, and ends so.
+/// Returns whether the hand goes on and ends in this way.
 fn is_stepped_through(names: &Option<Names>) -> bool {
     let Some(names) = names else {
         return false;
@@ -227,7 +227,7 @@ const THREE_SEATS: [&[u8]; 6] = [
     b"*** HOLE CARDS ***",
 ];
 
-/// Whether lines like these are refused at their last after those of three seats.
+/// Returns whether the last line of each of these lists is refused after the lines of three seats.
 fn all_refused(names: &Option<Names>, table: &[(&[&[u8]], BetFault)]) -> bool {
     let Some(names) = names else {
         return false;
@@ -249,7 +249,7 @@ fn each_refusal_comes_with_what_it_carries(rt: HostRuntime) {
     assert!(rt; all_refused(&names, &refusals()));
 }
 
-/// Each refusal once.
+/// Returns each refusal once.
 fn refusals() -> [(&'static [&'static [u8]], BetFault); 16] {
     [
         (&[b"cat: folds", b"cat: calls $1"], BetFault::NotInHand),

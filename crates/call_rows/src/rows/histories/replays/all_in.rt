@@ -1,4 +1,4 @@
-//! All-in points, and the cards known there, of hands worked out by hand.
+//! All-in points and the cards known there, of hands worked out by hand.
 
 use super::{DOLLARS, THREE_NAMES, all_stand, step_line};
 use crate::rows::histories::names::names_of;
@@ -6,7 +6,7 @@ use betting_replay::Replay;
 use card_sets::{Card, CardSet, Game};
 use history_text::{Header, Limit, Names, Part, Street};
 
-/// The set of some cards.
+/// Returns the set of some cards.
 fn cards(texts: &[[u8; 2]]) -> Option<CardSet> {
     let mut set = CardSet::empty();
     for text in texts {
@@ -15,7 +15,7 @@ fn cards(texts: &[[u8; 2]]) -> Option<CardSet> {
     Some(set)
 }
 
-/// Whether the cards that are known are these.
+/// Returns whether the cards that are known are these.
 fn is_known(found: Option<CardSet>, texts: &[[u8; 2]]) -> bool {
     match (found, cards(texts)) {
         (Some(found), Some(wanted)) => {
@@ -25,7 +25,7 @@ fn is_known(found: Option<CardSet>, texts: &[[u8; 2]]) -> bool {
     }
 }
 
-/// Goes on by lines of a part. Whether all may stand.
+/// Applies the lines of a part. Returns whether all are accepted.
 fn go(replay: &mut Replay, names: &Names, header: &Header, part: Part, lines: &[&[u8]]) -> bool {
     for line in lines {
         match step_line(replay, names, header, part, *line) {
@@ -36,7 +36,7 @@ fn go(replay: &mut Replay, names: &Names, header: &Header, part: Part, lines: &[
     true
 }
 
-/// Three seats, of which the third is all in and the first folds.
+/// Three seats. The third is all-in, and the first folds.
 const BEFORE_CALL: [&[u8]; 9] = [
     b"Seat 1: ann ($50 in chips)",
     b"Seat 2: bob ($50 in chips)",
@@ -59,12 +59,12 @@ const AFTER_CALL: [&[u8]; 7] = [
     b"bob: mucks hand",
 ];
 
-/// Whether no all-in point is known.
+/// Returns whether no all-in point is known.
 fn has_no_point(replay: &Replay) -> bool {
     replay.all_in_point().is_none() && replay.all_in_contenders() == 0 && replay.dead().count() == 0
 }
 
-/// Whether the point is before the flop, with the cards of the folded first seat and of the third.
+/// Returns whether the point is before the flop, with the cards of the folded first seat and of the third.
 fn has_first_point(replay: &Replay) -> bool {
     replay.all_in_point() == Some(Street::First)
         && replay.all_in_contenders() == 12
@@ -73,7 +73,7 @@ fn has_first_point(replay: &Replay) -> bool {
         && replay.cards_at(2, Street::First).is_none()
 }
 
-/// Whether the point is known from the call on, and stays.
+/// Returns whether the point is known from the call on, and remains.
 fn keeps_the_first_point(names: &Option<Names>) -> bool {
     let Some(names) = names else {
         return false;
@@ -139,7 +139,7 @@ fn chips(game: Game) -> Header {
 /// The names of two seats.
 const TWO_NAMES: &[(u8, &[u8])] = &[(1, b"x"), (2, b"y")];
 
-/// A hand of razz in which the second player's cards face down are shown at the end alone.
+/// A hand of razz in which the second player's cards face down are shown only at the end.
 const RAZZ: [&[u8]; 22] = [
     b"Seat 1: x (31 in chips)",
     b"Seat 2: y (500 in chips)",
@@ -174,7 +174,7 @@ const RAZZ_END: [&[u8]; 4] = [
 
 const RAZZ_SHOWN: [&[u8]; 1] = [b"Seat 2: y mucked [8c 8d Kc Kd Qc Qd 9h]"];
 
-/// Whether the point is on the fifth street, with the cards of the first seat alone.
+/// Returns whether the point is on fifth street, with only the cards of the first seat known.
 fn has_one_hand(replay: &Replay) -> bool {
     replay.all_in_point() == Some(Street::Fifth)
         && is_known(
@@ -185,7 +185,8 @@ fn has_one_hand(replay: &Replay) -> bool {
         && replay.final_cards(2).is_none()
 }
 
-/// Whether the cards of the second seat are known on the fifth street and the third, and in the end.
+/// Returns whether the cards of the second seat are known on fifth street, on third street, and at the
+/// end.
 fn has_shown_hand(replay: &Replay) -> bool {
     is_known(
         replay.cards_at(2, Street::Fifth),
@@ -196,7 +197,7 @@ fn has_shown_hand(replay: &Replay) -> bool {
         && replay.final_cards(1).is_none()
 }
 
-/// Whether the second hand isn't known before the summary, and is so after it.
+/// Returns whether the second hand isn't known before the summary, and is known after it.
 fn is_shown_late(names: &Option<Names>) -> bool {
     let Some(names) = names else {
         return false;
@@ -215,18 +216,19 @@ fn cards_face_down_are_those_of_a_later_bracket(rt: HostRuntime) {
     assert!(rt; is_shown_late(&names_of(rt.alloc(), TWO_NAMES)));
 }
 
-/// How many cards are known.
+/// Returns the number of the known cards.
 fn count(cards: Option<CardSet>) -> Option<u32> {
     Some(cards?.count())
 }
 
-/// What y shows in the end.
+/// The cards that y shows at the end.
 const SHOWN: [&[u8]; 2] = [b"*** SHOW DOWN ***", b"y: shows [8d 6h 5s 4c 2d]"];
 
-/// What the two do on a draw, how many cards each keeps, and how many are dead.
+/// The acts of the two players on a draw, how many cards each keeps, and how many are dead.
 type Drawn = ([&'static [u8]; 2], Option<u32>, Option<u32>, u32);
 
-/// Whether lines of a hand and then of a draw leave as many known on the all-in's street, and dead.
+/// Returns whether the lines of a hand and of a draw leave these numbers of cards known on the street of
+/// the all-in, and dead.
 fn is_kept(names: &Names, header: &Header, lines: &[&[u8]], at: Street, drawn: &Drawn) -> bool {
     let mut replay = Replay::new(header, 6);
     go(&mut replay, names, header, Part::Preamble, lines)
@@ -239,7 +241,7 @@ fn is_kept(names: &Names, header: &Header, lines: &[&[u8]], at: Street, drawn: &
         && replay.dead().count() == drawn.3
 }
 
-/// Whether this is so of each of these draws in a game.
+/// Returns whether each of these draws leaves its numbers of cards, in a game.
 fn all_kept(
     names: &Option<Names>,
     game: Game,
@@ -259,7 +261,7 @@ fn all_kept(
     true
 }
 
-/// A draw before which both are all in.
+/// A draw before which both players are all-in.
 const DRAW: [&[u8]; 8] = [
     b"Seat 1: x (100 in chips)",
     b"Seat 2: y (100 in chips)",
@@ -271,7 +273,7 @@ const DRAW: [&[u8]; 8] = [
     b"y: calls 80 and is all-in",
 ];
 
-/// Each rule of what is kept.
+/// Each rule of the cards that a player keeps.
 const WAYS_TO_DRAW: &[Drawn] = &[
     (
         [b"x: stands pat on [7c 5d 4h 3s 2c]", b"y: stands pat"],
@@ -306,7 +308,8 @@ fn what_is_kept_goes_by_the_discards(rt: HostRuntime) {
     assert!(rt; all_kept(&names, Game::Draw5, &DRAW, Street::First, WAYS_TO_DRAW));
 }
 
-/// Two draws, after which both are all in. A card that x threw away on the first is dealt to him on the second.
+/// Two draws, after which both players are all-in. A card that x discarded on the first draw is dealt to x
+/// on the second.
 const TWO_DRAWS: [&[u8]; 21] = [
     b"Seat 1: x (100 in chips)",
     b"Seat 2: y (100 in chips)",
@@ -331,8 +334,8 @@ const TWO_DRAWS: [&[u8]; 21] = [
     b"*** THIRD DRAW ***",
 ];
 
-/// Each rule of what is kept on the third draw. The queen is dead in all of them, and the king where it is thrown away
-/// once more.
+/// Each rule of the cards kept on the third draw. The queen is dead in all of them, and the king if it is
+/// discarded again.
 const WAYS_TO_DRAW_LAST: &[Drawn] = &[
     (
         [b"y: stands pat", b"x: discards 1 card [Kc]"],

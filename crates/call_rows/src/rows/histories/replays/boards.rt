@@ -6,7 +6,7 @@ use betting_replay::{BetFault, Replay};
 use card_sets::{Card, CardSet};
 use history_text::{Names, Street};
 
-/// Two seats that are all in before the flop.
+/// Two seats that are all-in before the flop.
 const ALL_IN: [&[u8]; 7] = [
     b"Seat 1: ann ($50 in chips)",
     b"Seat 2: bob ($50 in chips)",
@@ -30,12 +30,12 @@ const BOARDS: [&[u8]; 9] = [
     b"*** SUMMARY ***",
 ];
 
-/// Whether a set has five cards, this one and not that.
+/// Returns whether a set has five cards, with this one and without that one.
 fn is_board(board: CardSet, one: Card, other: Card) -> bool {
     board.count() == 5 && board.has(one) && !board.has(other)
 }
 
-/// Whether there is a second board, of five cards, this one and not that.
+/// Returns whether there is a second board of five cards, with this one and without that one.
 fn is_second_board(replay: &Replay, one: Card, other: Card) -> bool {
     match replay.second_board() {
         Some(second) => is_board(second, one, other),
@@ -43,7 +43,7 @@ fn is_second_board(replay: &Replay, one: Card, other: Card) -> bool {
     }
 }
 
-/// Whether a hand is run twice from before the flop, with a jack and a queen on the rivers.
+/// Returns whether a hand is run twice from before the flop, with a jack and a queen on the rivers.
 fn has_two_boards(replay: &Replay) -> bool {
     replay.is_twice()
         && replay.all_in_point() == Some(Street::First)
@@ -51,7 +51,7 @@ fn has_two_boards(replay: &Replay) -> bool {
         && is_second_board(replay, card(40), card(36))
 }
 
-/// Whether a hand isn't run twice before its boards, and is so after them.
+/// Returns whether a hand isn't run twice before its boards, and is after them.
 fn deals_two_boards(names: &Option<Names>) -> bool {
     let Some(names) = names else {
         return false;
@@ -78,7 +78,8 @@ const RIVERS: [&[u8]; 6] = [
     b"*** SUMMARY ***",
 ];
 
-/// Whether the second board has the first card of the flop, and a queen and no jack on the river.
+/// Returns whether the second board has the first card of the flop, and a queen and no jack on the
+/// river.
 fn shares_the_flop(replay: &Replay) -> bool {
     match replay.second_board() {
         Some(second) => second.has(card(0)) && is_board(second, card(40), card(36)),
@@ -86,7 +87,7 @@ fn shares_the_flop(replay: &Replay) -> bool {
     }
 }
 
-/// Whether this is so after two rivers.
+/// Returns whether the second board shares the flop after two rivers.
 fn deals_two_rivers(names: &Option<Names>) -> bool {
     let Some(names) = names else {
         return false;
@@ -102,13 +103,13 @@ fn two_boards_share_the_cards_before(rt: HostRuntime) {
     assert!(rt; deals_two_rivers(&names_of(rt.alloc(), THREE_NAMES)));
 }
 
-/// Whether lines like these are refused at their last after the all-in.
+/// Returns whether the last of some lines is refused after the all-in.
 fn is_refused_behind(names: &Names, lines: &[&[u8]], fault: &BetFault) -> bool {
     let mut replay = Replay::new(&DOLLARS, 6);
     all_stand(&mut replay, names, &ALL_IN) && is_refused(&mut replay, names, lines, fault)
 }
 
-/// Whether each of these is for its order.
+/// Returns whether the last line of each of these lists is refused for its order.
 fn all_disordered(names: &Names, table: &[&[&[u8]]]) -> bool {
     for lines in table {
         if !is_refused_behind(names, lines, &BetFault::StreetOrder) {
@@ -118,7 +119,7 @@ fn all_disordered(names: &Names, table: &[&[&[u8]]]) -> bool {
     true
 }
 
-/// Lines of which the last is out of order.
+/// Lines, the last of which is out of order.
 const DISORDERED: &[&[&[u8]]] = &[
     // a plain street after one of a first board
     &[
@@ -139,14 +140,14 @@ const DISORDERED: &[&[&[u8]]] = &[
         b"*** FIRST RIVER *** [2c 7d 9h 4s] [Jc]",
         b"*** SHOW DOWN ***",
     ],
-    // a showdown of two boards where there is one
+    // a showdown of two boards in a hand that has one
     &[
         b"*** FLOP *** [2c 7d 9h]",
         b"*** TURN *** [2c 7d 9h] [4s]",
         b"*** RIVER *** [2c 7d 9h 4s] [Jc]",
         b"*** FIRST SHOW DOWN ***",
     ],
-    // the second showdown with none before
+    // the second showdown without one before it
     &[
         b"*** FLOP *** [2c 7d 9h]",
         b"*** TURN *** [2c 7d 9h] [4s]",
@@ -164,7 +165,7 @@ const SHARED: [&[u8]; 4] = [
     b"*** SECOND RIVER *** [2c 7d 9h 4s] [4s]",
 ];
 
-/// And one of the first board alone.
+/// A card of the first board alone comes on the second.
 const OF_THE_FIRST: [&[u8]; 4] = [
     b"*** FLOP *** [2c 7d 9h]",
     b"*** TURN *** [2c 7d 9h] [4s]",
@@ -172,7 +173,7 @@ const OF_THE_FIRST: [&[u8]; 4] = [
     b"*** SECOND RIVER *** [2c 7d 9h 4s] [Jc]",
 ];
 
-/// Whether lines out of order are refused, and a card that comes twice on the second board.
+/// Returns whether lines out of order are refused, and a card that comes twice on the second board.
 fn come_in_order(names: &Option<Names>) -> bool {
     match names {
         Some(names) => {
@@ -189,7 +190,7 @@ fn markers_of_two_boards_come_in_their_order(rt: HostRuntime) {
     assert!(rt; come_in_order(&names_of(rt.alloc(), THREE_NAMES)));
 }
 
-/// Two seats with chips behind them.
+/// Two seats with chips left.
 const CALLED: [&[u8]; 8] = [
     b"Seat 1: ann ($50 in chips)",
     b"Seat 2: bob ($50 in chips)",
@@ -201,7 +202,7 @@ const CALLED: [&[u8]; 8] = [
     b"*** FIRST FLOP *** [2c 7d 9h]",
 ];
 
-/// Whether the marker of a first board is refused there.
+/// Returns whether the marker of a first board is refused in such a hand.
 fn stays_one_board(names: &Option<Names>) -> bool {
     let Some(names) = names else {
         return false;

@@ -21,7 +21,7 @@ const RAISED: [&[u8]; 10] = [
     b"*** FLOP *** [2c 7d 9h]",
 ];
 
-/// An ante of one player, calls up to a big blind that is short, and a bet that comes back.
+/// An ante of one player, calls up to a short big blind, and the return of a bet.
 const CALLED: [&[u8]; 12] = [
     b"Seat 1: ann ($50 in chips)",
     b"Seat 2: bob ($0.60 in chips)",
@@ -37,7 +37,7 @@ const CALLED: [&[u8]; 12] = [
     b"cat: folds",
 ];
 
-/// What only the sums of the street let come back.
+/// A return that only the sums of the street allow.
 const RETURNED: [&[u8]; 1] = [b"Uncalled bet ($2) returned to ann"];
 
 /// Both blinds at once.
@@ -52,7 +52,7 @@ const BOTH: [&[u8]; 8] = [
     b"cat: checks",
 ];
 
-/// Whether after these lines a seat has so much in, of which so much is live and so much dead.
+/// Returns whether a seat has these chips in after some lines: live and dead.
 fn is_paid(names: &Names, lines: &[&[u8]], seat: u8, live: u64, dead: u64) -> bool
     requires { seat < 11 }
 {
@@ -64,7 +64,8 @@ fn is_paid(names: &Names, lines: &[&[u8]], seat: u8, live: u64, dead: u64) -> bo
     paid.live == live && paid.dead == dead
 }
 
-/// Whether a second small blind is dead beside what is live, and of both blinds the small one is.
+/// Returns whether a second small blind is dead next to live chips, and of both blinds the small
+/// one is dead.
 fn are_live_or_dead(names: &Option<Names>) -> bool {
     match names {
         Some(names) => { is_paid(names, &RAISED, 3, 200, 50) && is_paid(names, &BOTH, 3, 100, 50) }
@@ -77,7 +78,7 @@ fn posts_are_live_or_dead(rt: HostRuntime) {
     assert!(rt; are_live_or_dead(&names_of(rt.alloc(), THREE_NAMES)));
 }
 
-/// Whether a bet is in before it comes back, and with its player after that.
+/// Returns whether a bet counts before its return, and is with its player after it.
 fn comes_back(names: &Option<Names>) -> bool {
     let Some(names) = names else {
         return false;
