@@ -19,7 +19,7 @@ WORDS = {
     "bench/README.md": 3_500,
     "all": 67_000,
 }
-HELD = {"README.md", "CONTRIBUTING.md", "docs/ARCHITECTURE.md", "docs/HANDS.md", "docs/DECISIONS.md", "docs/FORMATS.md", "docs/CLAIMS.md", "examples/README.md"}
+HELD = {"README.md", "CONTRIBUTING.md", "bench/README.md", "docs/ARCHITECTURE.md", "docs/HANDS.md", "docs/DECISIONS.md", "docs/FORMATS.md", "docs/CLAIMS.md", "examples/README.md"}
 README_LINES = 175
 
 # documents that don't count in the sum of all
