@@ -17,13 +17,13 @@ ON = [
     documents.links,
     documents.pages,
     documents.sizes,
+    documents.repeats,
     scripts.scripts,
     printed.printed,
     printed.archive,
 ]
 # what it tries by name only, because it doesn't hold yet
 LATER = [
-    documents.repeats,
     style.words,
     style.asserts,
 ]

@@ -6,7 +6,7 @@ from typing import NamedTuple
 
 from .shared import lines, parts, read
 
-# The most words of each document. A limit holds if the document is in HELD, and otherwise `docs/check sizes --verbose` prints it.
+# the most words of each document
 WORDS = {
     "README.md": 2_500,
     "CONTRIBUTING.md": 2_600,
@@ -19,7 +19,6 @@ WORDS = {
     "bench/README.md": 3_500,
     "all": 67_000,
 }
-HELD = {"README.md", "CONTRIBUTING.md", "bench/README.md", "docs/ARCHITECTURE.md", "docs/HANDS.md", "docs/DECISIONS.md", "docs/FORMATS.md", "docs/CLAIMS.md", "examples/README.md"}
 README_LINES = 175
 
 # documents that don't count in the sum of all
@@ -116,26 +115,28 @@ def pages():
 
 def counts():
     """Returns the number of words of each Markdown file and manual page, and of all together."""
-    found = {document: len(read(document).split()) for document in [*documents(), *map(str, Path().glob("*.1"))]}
+    pages = [*Path().glob("*.1"), *sorted(Path("man").glob("*.[1-9]"))]
+    found = {document: len(read(document).split()) for document in [*documents(), *map(str, pages)]}
     found["all"] = sum(count for document, count in found.items() if not UNCOUNTED.fullmatch(document))
     return found
 
 
 def sizes():
-    """README.md has at most 175 lines and 2,500 words. With --verbose, prints the words and the limit of each document."""
+    """README.md has at most 175 lines, and no document nor all together have more words than WORDS in docs/checks/documents.py says. With
+    --verbose, prints the words and the limit of each document."""
     count = len(lines("README.md"))
     if count > README_LINES:
         yield f"README.md has {count} lines, and at most {README_LINES} are allowed"
     for document, count in counts().items():
-        if document in HELD and count > WORDS[document]:
+        if count > WORDS.get(document, count):
             yield f"{document} has {count:,} words, and at most {WORDS[document]:,} are allowed"
 
 
 def all_sizes():
-    """Yields a line for each document: its words, its limit, and whether the limit holds."""
+    """Yields a line for each document: its words and its limit."""
     for document, count in counts().items():
         limit = f"of {WORDS[document]:,}" if document in WORDS else ""
-        yield f"{count:7,} words {limit:10} {'held' if document in HELD else '':5} {document}"
+        yield f"{count:7,} words {limit:10} {document}"
 
 
 def prose(document):
