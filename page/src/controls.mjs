@@ -70,10 +70,10 @@ export const connectControls = ({ state, set }, choose, { say, go }) => {
         },
         /** Shows the hands of a group alone. */
         pick: (/** @type {string} */ group, /** @type {string} */ key) => {
-            const none = /^no\b/.test(key), { filters } = choose(), isDay = group === 'day';
-            const name = group === 'month' || isDay ? 'dates' : group, isText = ['table', 'tournament'].includes(name);
+            const isNone = ['none', 'no date', `no ${group}`].includes(key), { filters } = choose();
+            const isDay = group === 'day' && !isNone, name = group === 'month' || group === 'day' ? 'dates' : group;
             const options = (filters.find((it) => it.name === name) || { options: [] }).options;
-            const value = none ? isText ? '' : 'none' : isDay ? `${key}..${key}` : group === 'session'
+            const value = isNone ? 'none' : isDay ? `${key}..${key}` : group === 'session'
                 ? (options.find((it) => it.value.startsWith(key)) || { value: '' }).value : key;
             if (isDay || options.some((it) => it.value === value))
                 set({ filters: { ...state.filters, [name]: value } });

@@ -7,7 +7,7 @@ import { button, head, node, save } from './dom.mjs';
 import { CASHED, LIMIT } from './part.mjs';
 import { counted, many } from './progress.mjs';
 import { written } from './reports.mjs';
-import { byKey, hundredsOf, keysOf, sumsBy } from './sums.mjs';
+import { buyInsOf, byKey, hundredsOf, keysOf, sumsBy } from './sums.mjs';
 import { showTable } from './table.mjs';
 import { dayText, gameText, monthText, ratioText, signOf, stakesText, sumText, toneOf, unitText } from './words.mjs';
 
@@ -57,6 +57,11 @@ export const figure = (name, value, { tone = '', isFirst = false, more = '' }) =
     node(isFirst ? 'div.fig.first' : 'div.fig', node('dt', name), node(tone ? `dd.${tone}` : 'dd', value),
         ...more ? [node('dd.more', more)] : []);
 
+/** @param {ReturnType<typeof buyInsOf>} buyIns */
+const buyInFigure = ({ tournaments, sums, unknown }) => figure('Buy-ins, without prizes',
+    sums.map(([sign, sum]) => sumText(sum, { isMoney: true, sign })).join(' + ') || (unknown ? 'not known' : '0'),
+    { more: `${many(tournaments, 'tournament')}${unknown && sums.length ? `, ${counted(unknown)} not known` : ''}` });
+
 /**
  * @param {HTMLElement} place
  * @param {Choice} choice
@@ -67,6 +72,7 @@ export const showFigures = (place, choice) => {
     const say = (/** @type {bigint} */ it, plus = false) => sumText(it, { ...form, plus });
     const hundred = (/** @type {number | undefined} */ it) => it === undefined ? '' : `${ratioText(it)} ${word}`;
     const count = new Set(sessions(played.map(({ hand }) => hands.columns.clock[hand])).filter(Boolean)).size;
+    const buyIns = buyInsOf(hands, played);
     const first = (/** @type {bigint} */ it, /** @type {string} */ more) =>
         ({ tone: toneOf(it), isFirst: true, more });
     place.replaceChildren(
@@ -75,7 +81,8 @@ export const showFigures = (place, choice) => {
         figure('Luck at all-ins', say(luck, true), first(luck,
             sum.unknown ? `not known of ${many(sum.unknown, 'hand')}` : 'won less adjusted')),
         figure('Hands', counted(sum.hands), { more: many(count, 'session') }),
-        figure('Rake paid', say(BigInt(Math.round(sum.rake))), { more: hundred(per?.rake) }),
+        buyIns.tournaments && !isMoney ? buyInFigure(buyIns)
+            : figure('Rake paid', say(BigInt(Math.round(sum.rake))), { more: hundred(per?.rake) }),
         figure('Showdown winnings', say(sum.shown), { tone: toneOf(sum.shown), more: 'blue line' }),
         figure('Non-showdown winnings', say(sum.net - sum.shown), { tone: toneOf(sum.net - sum.shown),
             more: 'red line' }));

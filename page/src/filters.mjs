@@ -1,8 +1,9 @@
 // Filters over the hands of a player, and how many hands each option of each filter would leave.
 
+import { leadOptions } from './ahead.mjs';
 import { dayNames, dayOf, sessions, timeOf } from './clock.mjs';
 import { SHOWDOWN, SHOWN } from './part.mjs';
-import { NO_ROW } from './played.mjs';
+import { allInOf, NO_ROW } from './played.mjs';
 import { POSITIONS, POSITION_WORDS } from './positions.mjs';
 import { byKey } from './sums.mjs';
 import { dayText, gameText, momentText, monthText, stakesText } from './words.mjs';
@@ -11,7 +12,8 @@ import { dayText, gameText, momentText, monthText, stakesText } from './words.mj
 /** @typedef {import('./played.mjs').Played} Played */
 
 export const FILTERS = [
-    'dates', 'stakes', 'game', 'table', 'tournament', 'position', 'players', 'session', 'all-in', 'showdown'
+    'dates', 'stakes', 'game', 'table', 'tournament', 'position', 'players', 'session', 'all-in', 'ahead',
+    'showdown'
 ];
 
 /**
@@ -49,7 +51,7 @@ const coded = (count, valueOf) => {
  * @returns {Option[]}
  */
 const optionsOf = (values, textOf, order) => {
-    const all = values.map((value, code) => ({ value: String(value), text: textOf(value), codes: [code] }));
+    const all = values.map((value, code) => ({ value: String(value) || 'none', text: textOf(value), codes: [code] }));
     return order ? all.sort((a, b) => order.indexOf(values[a.codes[0]]) - order.indexOf(values[b.codes[0]]))
                  : all.sort((a, b) => byKey(a.text, b.text));
 };
@@ -83,9 +85,9 @@ const datesOf = (/** @type {(string | number)[]} */ values) => {
 
 /** A street, any street, or none. */
 const streetsOf = (/** @type {(string | number)[]} */ values) => {
-    const streets = optionsOf(values, (it) => it || 'none'), some = streets.filter(({ value }) => value);
+    const streets = optionsOf(values, (it) => it || 'none'), some = streets.filter(({ value }) => value !== 'none');
     return [...some.length > 1 ? [{ value: 'any', text: 'any street', codes: some.flatMap((it) => it.codes) }] : [],
-        ...streets.map((it) => ({ ...it, value: it.value || 'none' }))];
+        ...streets];
 };
 
 /**
@@ -95,7 +97,7 @@ const streetsOf = (/** @type {(string | number)[]} */ values) => {
  * @returns {Coded[]}
  */
 export const codedFilters = (hands, entries) => {
-    const { columns, texts } = hands, { clock, first, position, flags, marks, street } = columns, day = dayNames();
+    const { columns, texts } = hands, { clock, first, position, flags, marks, ahead } = columns, day = dayNames();
     const { length } = entries, handOf = (/** @type {number} */ at) => entries[at].hand;
     const make = (/** @type {string} */ name, /** @type {(at: number) => string | number} */ valueOf,
         /** @type {(values: (string | number)[]) => Option[]} */ options) => {
@@ -114,20 +116,19 @@ export const codedFilters = (hands, entries) => {
     numbers.forEach((number, at) => { if (!begins.has(number)) begins.set(number, clock[handOf(at)]); });
     const stakes = byText('stakes', (it) => it);
     const games = new Set(stakes.values.map((it) => String(it).replace(/ ?\S*$/, '')));
-    for (const it of stakes.options) it.text = stakesText(it.value, games.size > 1);
+    for (const it of stakes.options) it.text = stakesText(String(stakes.values[it.codes[0]]), games.size > 1);
     const rows = (/** @type {number} */ at) => first[handOf(at) + 1] - first[handOf(at)];
     return [
         make('dates', (at) => day(clock[handOf(at)]), datesOf), stakes, byText('game', gameText),
         byText('table', (it) => it || 'no table'), byText('tournament', (it) => it || 'no tournament'),
         make('position', (at) => entries[at].row === NO_ROW ? '' : POSITIONS[position[entries[at].row]],
-            (values) => optionsOf(values, (it) => it ? `${it}, ${POSITION_WORDS[it]}` : 'none', POSITIONS)
-                .map((it) => ({ ...it, value: it.value || 'none' }))),
+            (values) => optionsOf(values, (it) => it ? `${it}, ${POSITION_WORDS[it]}` : 'none', POSITIONS)),
         make('players', rows, (values) => optionsOf(values, String)),
         make('session', (at) => numbers[at], (values) => optionsOf(values,
             (it) => it ? momentText(begins.get(it)) : 'no date', [...values].sort((a, b) => Number(b) - Number(a)))
             .map((it) => ({ ...it, value: it.value === '0' ? 'none' : timeOf(begins.get(Number(it.value))) }))),
-        // a player who folded before isn't in the all-in
-        make('all-in', (at) => entries[at].row === NO_ROW || isShown(at) ? texts[street[handOf(at)]] : '', streetsOf),
+        make('all-in', (at) => texts[allInOf(hands, entries[at])], streetsOf),
+        make('ahead', (at) => entries[at].row === NO_ROW ? 0 : ahead[entries[at].row], leadOptions),
         make('showdown', (at) => isShown(at) ? 'yes' : 'no', (values) => optionsOf(values, String, ['yes', 'no']))
     ];
 };

@@ -90,7 +90,7 @@ export const makeHand = ({ report, ask, heroOf }) => {
                 : step.removeAttribute('aria-current'));
         };
         game.streets.forEach(({ name }, at) => {
-            const step = node('button', name.replace('showdown', 'Showdown'));
+            const step = node('button', name.replace('showdown', 'Showdown').replace(/ street$/, ''));
             step.setAttribute('type', 'button');
             step.onclick = () => go(at);
             steps.append(step);

@@ -6,8 +6,8 @@ import { reportOf } from './keep.mjs';
 import { progressOf } from './progress.mjs';
 
 const REPORTS = [
-    ['keep-audit', 'audit', 'text'], ['keep-csv', 'audit', 'csv'], ['keep-results', 'results', 'csv'],
-    ['keep-settle', 'settle', 'text']
+    ['keep-audit', 'audit', 'text'], ['keep-csv', 'audit', 'csv'], ['keep-streets', 'streets', 'text'],
+    ['keep-results', 'results', 'csv'], ['keep-settle', 'settle', 'text']
 ];
 
 /**

@@ -3,7 +3,7 @@
 import { unpacked } from './cards.mjs';
 import { causeOf } from './causes.mjs';
 import { having, icon, node } from './dom.mjs';
-import { handAt, NO_ROW } from './played.mjs';
+import { allInOf, handAt, NO_ROW } from './played.mjs';
 import { UNKNOWN } from './part.mjs';
 import { inLine } from './play.mjs';
 import { POSITIONS, POSITION_WORDS } from './positions.mjs';
@@ -47,14 +47,14 @@ export const rowNode = ({ hands, isEvery, unit }, { hand, row }) => {
     const position = isOf ? POSITIONS[columns.position[row]] : '', pot = columns.pot[hand];
     const isIn = isOf && it.isAccepted;
     const net = isIn ? columns.net[row] : 0n, isKnown = isIn && !(columns.marks[row] & UNKNOWN);
-    const luck = isKnown ? net - columns.even[row] : 0n, street = hands.texts[columns.street[hand]];
+    const luck = isKnown ? net - columns.even[row] : 0n, street = hands.texts[allInOf(hands, { hand, row })];
     const stakes = stakesText(it.stakes, isEvery), settle = settleText(it);
     const amount = (/** @type {bigint} */ sum, plus = true) =>
         sumText(sum, { isMoney, plus, sign: unit ? '' : signOf(it.unit) });
     const pill = position ? [having(node(position === 'BTN' ? 'span.posn.is-btn' : 'span.posn', position),
         { title: POSITION_WORDS[position] })] : [];
     const phone = it.isAccepted ? [[position, stakes, street && `all-in ${street}`].filter(Boolean).join(' · ')]
-        : [position ? `${position} ` : '', verdictNode(it)];
+        : [position ? `${position} ` : '', verdictNode(it), isEvery && settle ? ` ${settle}` : ''];
     return node('tr',
         node('td.col-time', ...timeNode(it.clock)),
         node('td.col-stakes', stakes),

@@ -7,7 +7,7 @@ import { makeGraph } from './graph.mjs';
 import { drawList } from './listpanel.mjs';
 import { makeLuck } from './luck.mjs';
 import { ACCEPTED } from './part.mjs';
-import { EVERYBODY } from './played.mjs';
+import { allInOf, EVERYBODY } from './played.mjs';
 import { counted, many } from './progress.mjs';
 import { LINES, seriesOf } from './series.mjs';
 import { showHeads } from './status.mjs';
@@ -152,7 +152,7 @@ export const drawPanels = (store, choose, ask, filter) => {
     const luck = makeLuck($('luck'), ask);
     panel(CHOSEN, () => {
         if (state.isPartial || choose().isEvery) return;
-        const { hands, played } = choose(), count = played.filter(({ hand }) => hands.columns.street[hand]).length;
+        const { hands, played } = choose(), count = played.filter((it) => allInOf(hands, it)).length;
         $('all-ins').textContent = `All ${many(count, 'all-in')}`;
         luck(choose());
     }, OVERVIEW);

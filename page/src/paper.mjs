@@ -4,12 +4,15 @@ import { cardsIn } from './cards.mjs';
 import { head, icon, node } from './dom.mjs';
 import { inLine } from './play.mjs';
 import { table } from './table.mjs';
+import { MINUS } from './words.mjs';
 
 /** @typedef {import('./sheet.mjs').Sheet} Sheet */
 /**
  * What a sheet says of the file and the program.
  * @typedef {{ file: string, fileSum: string, version: string, moduleSum: string, date: string }} Origin
  */
+
+const minus = (/** @type {string} */ amount) => amount.replace(/^-/, MINUS);
 
 /**
  * Returns the pots of a hand: what the rules give of each, and who got what.
@@ -19,11 +22,11 @@ export const potNodes = ({ pots, board, paid }) => [...board ? [node('p', `Board
     ...pots.flatMap((pot) => [node('h4', `${pot.name}: ${pot.gross}${pot.rake ? `, less rake ${pot.rake}` : ''}`),
                         ...pot.rules.length ? [node('p.rule', pot.rules.join(' '))] : [],
                         ...pot.winners.map((it) => node('p', it)),
-                        ...pot.shares.length ? [table(['player', 'cards', 'due', 'got', 'difference'],
-                            pot.shares.map((it) => [it.name, it.cards, it.due, it.got, it.gap]), {})]
+                        ...pot.shares.length ? [table(['Player', 'Cards', 'Due', 'Got', 'Difference'],
+                            pot.shares.map((it) => [it.name, it.cards, it.due, it.got, minus(it.gap)]), {})]
                                              : [],
 ]),
-    ...paid.length ? [node('h4', 'Paid'), table(['player', 'got'], paid.map((it) => [it.name, it.got]), {})] : [],
+    ...paid.length ? [node('h4', 'Paid'), table(['Player', 'Got'], paid.map((it) => [it.name, it.got]), {})] : [],
 ];
 
 /**
@@ -37,8 +40,8 @@ export const potTable = ({ pots, paid }) => {
             ...rake ? [node('span.faint', `, rake ${rake}`)] : []]),
         node('td.name', share ? share.name : '', ' ', ...share ? inLine(cardsIn(share.cards)) : []),
         node('td.number', share ? share.due : ''), node('td.number', share ? share.got : ''),
-        node(share && share.due !== share.got && share.gap ? 'td.number.bad' : 'td.number.faint',
-            share ? share.gap.replace(/^-/, '\u2212') : ''))));
+        node(share && share.due !== share.got && share.gap ? 'td.number.off' : 'td.number.faint',
+            share ? minus(share.gap) : ''))));
     const paidRows = paid.map(({ name, got }) => node('tr', head('row', 'th', 'Paid'), node('td.name', name),
         node('td.number', ''), node('td.number', got), node('td.number', '')));
     const rules = [...new Set(pots.flatMap((it) => it.rules))];

@@ -1,6 +1,7 @@
 // A part of a file as columns: what the proved program says of its hands, and what their texts say beside that.
 // A worker makes it, so the page's own thread only puts columns together.
 
+import { leads } from './ahead.mjs';
 import { packed } from './cards.mjs';
 import { positionsOf } from './positions.mjs';
 import { handsOf, settlementsOf, units } from './reports.mjs';
@@ -27,7 +28,7 @@ export const UNKNOWN = 1, SHOWN = 2, DEALT = 4, SEATED = 8;
  *     tournament: Uint32Array, street: Uint32Array, cause: Uint32Array, rake: BigInt64Array, pot: BigInt64Array,
  *     big: Float64Array, board: Float64Array }} OfHands
  * @typedef {{ name: Uint32Array, net: BigInt64Array, even: BigInt64Array, got: BigInt64Array, position: Uint8Array,
- *     marks: Uint8Array, cards: Float64Array }} OfRows
+ *     marks: Uint8Array, cards: Float64Array, ahead: Uint8Array }} OfRows
  * @typedef {Bare & OfHands & OfRows} Part
  */
 
@@ -62,7 +63,7 @@ export const HAND_COLUMNS = {
 };
 
 /**
- * The columns of the players of hands, with the kind of each.
+ * The columns of the players of hands, with the kind of each. `ahead` has the marks of `leadsOf`.
  * @type {{ [column: string]: ColumnKind }}
  */
 export const ROW_COLUMNS = {
@@ -72,7 +73,8 @@ export const ROW_COLUMNS = {
     got: BigInt64Array,
     position: Uint8Array,
     marks: Uint8Array,
-    cards: Float64Array
+    cards: Float64Array,
+    ahead: Uint8Array
 };
 
 /** The columns whose values are indices of texts. */
@@ -136,9 +138,13 @@ export const readPart = (report, bytes) => {
     const { texts, number } = numbering(), hands = filling(HAND_COLUMNS), rows = filling(ROW_COLUMNS), first = [0];
     /** @type {Owed[]} */
     const owed = [];
+    const wholes = places.map(({ start, end }) => decoder.decode(bytes.subarray(start, end)));
+    const streets = wholes.map(allInStreet);
+    const allIns = streets.flatMap((street, at) => street && judged[at].isAccepted ? [at] : []);
+    const ahead = leads(report, allIns.map((at) => bytes.subarray(places[at].start, places[at].end)), allIns);
     judged.forEach((hand, at) => {
         const { line, start, end } = places[at], { settle, pots } = settled[at];
-        const whole = decoder.decode(bytes.subarray(start, end)), text = facts(whole);
+        const whole = wholes[at], text = facts(whole), lead = ahead.get(at);
         const isMoney = hand.isAccepted ? hand.isMoney : text.isMoney === true;
         const isUneven = pots.some((pot) => pot.shares.some(({ due, got }) => due !== null && due !== got));
         const flags = [[ACCEPTED, hand.isAccepted], [MONEY, isMoney], [TWICE, hand.isTwice],
@@ -151,7 +157,7 @@ export const readPart = (report, bytes) => {
             flags: flags.reduce((all, [flag, isSet]) => isSet ? all | Number(flag) : all, 0),
             unit: number(unitOf(isMoney, text.currency)), game: number(game),
             stakes: number(`${game} ${text.limit} ${text.stakes}`.trim()), table: number(text.table),
-            tournament: number(text.tournament), street: number(allInStreet(whole)),
+            tournament: number([text.tournament, text.buyIn].filter(Boolean).join(', ')), street: number(streets[at]),
             pot: pots.reduce((sum, { gross }) => sum + units(gross), 0n), big: bigOf({ ...text, isMoney }),
             board: packed(boardOf(whole))
         });
@@ -163,7 +169,8 @@ export const readPart = (report, bytes) => {
             const marks = (even === null ? UNKNOWN : 0) | (isShown ? SHOWN : 0) | (text.dealt.has(name) ? DEALT : 0)
                 | (hand.isAccepted ? 0 : SEATED);
             rows.add({ name: number(name), net, even: even === null ? net : even, got, marks,
-                position: positions.get(name) || 0, cards: packed(cards.get(name) || '') });
+                position: positions.get(name) || 0, cards: packed(cards.get(name) || ''),
+                ahead: lead && lead.get(name) || 0 });
         }
         first.push(rows.columns.name.length);
     });

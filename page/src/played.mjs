@@ -1,7 +1,7 @@
 // Which hands there are, in order of time, and which of them a player played.
 
 import { byPlace } from './hands.mjs';
-import { ACCEPTED, CASHED, DEALT, MONEY, OWED, SEATED, UNIT_KNOWN } from './part.mjs';
+import { ACCEPTED, CASHED, DEALT, MONEY, OWED, SEATED, SHOWN, UNIT_KNOWN } from './part.mjs';
 
 /** @typedef {import('./hands.mjs').Hands} Hands */
 
@@ -153,6 +153,14 @@ export const unitsOf = (hands, order, name) => {
     }
     return [...counts].sort((a, b) => b[1] - a[1]).map(([it]) => hands.texts[it]);
 };
+
+/**
+ * Returns the text of the street of an all-in. A player who folded before isn't in it.
+ * @param {Hands} hands
+ * @param {Played} entry
+ */
+export const allInOf = ({ columns }, { hand, row }) =>
+    row === NO_ROW || columns.marks[row] & SHOWN ? columns.street[hand] : 0;
 
 /**
  * What the list of hands shows of one.

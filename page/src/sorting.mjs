@@ -2,7 +2,7 @@
 
 import { codesIn, rankOf } from './cards.mjs';
 import { ACCEPTED, OWED, UNKNOWN } from './part.mjs';
-import { NO_ROW } from './played.mjs';
+import { allInOf, NO_ROW } from './played.mjs';
 
 /** @typedef {import('./hands.mjs').Hands} Hands */
 /** @typedef {import('./played.mjs').Played} Played */
@@ -32,7 +32,7 @@ const KEYS = {
         row === NO_ROW || !(columns.flags[hand] & ACCEPTED) ? 0 : Number(columns.net[row]),
     luck: ({ columns }, { hand, row }) => row === NO_ROW || !(columns.flags[hand] & ACCEPTED)
         || columns.marks[row] & UNKNOWN ? 0 : Number(columns.net[row] - columns.even[row]),
-    'all-in': ({ columns, texts }, { hand }) => STREETS.indexOf(texts[columns.street[hand]]),
+    'all-in': (hands, it) => STREETS.indexOf(hands.texts[allInOf(hands, it)]),
     verdict: ({ columns }, { hand }) =>
         (columns.flags[hand] & ACCEPTED ? 0 : 2) + (columns.flags[hand] & OWED ? 1 : 0)
 };

@@ -4,7 +4,7 @@ import { codedFilters, filtered } from './filters.mjs';
 import { found } from './find.mjs';
 import { noHands } from './hands.mjs';
 import { ACCEPTED } from './part.mjs';
-import { entriesOf, EVERYBODY, inOrder, namesOf, parted, unitsOf } from './played.mjs';
+import { allInOf, entriesOf, EVERYBODY, inOrder, namesOf, parted, unitsOf } from './played.mjs';
 import { LINES } from './series.mjs';
 import { sorted } from './sorting.mjs';
 import { sumOf } from './sums.mjs';
@@ -112,7 +112,7 @@ const kept = (keyOf, compute) => {
  * @type {{ [which: string]: (hands: Hands, it: Played) => boolean }}
  */
 const SHOWS = {
-    'all-in': ({ columns }, { hand }) => columns.street[hand] !== 0,
+    'all-in': (hands, it) => allInOf(hands, it) !== 0,
     rejected: ({ columns }, { hand }) => !(columns.flags[hand] & ACCEPTED),
     owed: (hands, { hand }) => !(hands.columns.flags[hand] & ACCEPTED) && hands.owed.has(hand)
 };

@@ -80,6 +80,26 @@ export const hundredsOf = ({ bigs }) => {
  */
 export const sumOf = (hands, played) => played.reduce((sum, it) => add(hands, sum, it), none());
 
+/**
+ * Returns how many tournaments there are, what their buy-ins cost by the headers, by the sign of the currency and in
+ * hundredths, and of how many that isn't known. A freeroll costs nothing. Whether a player bought in again isn't known.
+ * @param {Hands} hands
+ * @param {Played[]} played
+ */
+export const buyInsOf = ({ columns, texts }, played) => {
+    const all = [...new Set(played.map(({ hand }) => columns.tournament[hand]))].filter(Boolean);
+    /** @type {Map<string, bigint>} */
+    const sums = new Map();
+    let unknown = 0;
+    for (const it of all) {
+        const amounts = [...texts[it].matchAll(/([$€£])([0-9]+)(?:\.([0-9]{2}))?/g)];
+        if (!amounts.length && !texts[it].endsWith('Freeroll')) unknown++;
+        for (const [, sign, whole, part = '00'] of amounts)
+            sums.set(sign, (sums.get(sign) || 0n) + BigInt(whole + part));
+    }
+    return { tournaments: all.length, sums: [...sums], unknown };
+};
+
 /** What hands can be grouped by. */
 export const GROUPS = ['month', 'day', 'session', 'stakes', 'game', 'position', 'table', 'tournament'];
 

@@ -12,6 +12,8 @@ const WORDS = new Map([['Hold\'em', 'holdem'], ['Omaha', 'omaha'], ['Omaha Hi/Lo
     ['Single Draw 2-7 Lowball', 'lowball27'], ['Triple Draw 2-7 Lowball', 'triple27']]);
 const LIMITS = ['No Limit', 'Pot Limit', 'Limit'];
 const AMOUNTS = /(?:\(|, )([$€£]?)([0-9]+(?:\.[0-9][0-9])?)\/[$€£]?([0-9]+(?:\.[0-9][0-9])?)(?: ([A-Z]{3})\))?/;
+/** The number of a tournament, and its buy-in as the header has it. */
+const TOURNAMENT = /Tournament #([0-9]+)(?:, ([$€£]?[0-9][0-9.+$€£]*(?: [A-Z]{3})?|Freeroll)\b)?/;
 const SIGNS = new Map([['$', 'USD'], ['€', 'EUR'], ['£', 'GBP']]);
 const NEWLINE = 10, LETTER_P = 0x50, LETTER_O = 0x6f, MARK = 0xef;
 // a header is recognized by its beginning
@@ -147,7 +149,7 @@ export const seatsOf = (lines) => {
  */
 export const facts = (text) => {
     const lines = text.split(/\r?\n/), header = lines[0];
-    const tournament = /Tournament #([0-9]+)/.exec(header);
+    const tournament = TOURNAMENT.exec(header);
     const table = /^Table '(.*)' [0-9]+-max/m.exec(text) || /^Table '(.*)'/m.exec(text),
           button = /^Table '.* Seat #([0-9]+) is the button/m.exec(text);
     const folded = new Set(), dealt = new Set();
@@ -161,6 +163,7 @@ export const facts = (text) => {
         ...stakesOf(header),
         clock: readClock(header),
         tournament: tournament ? tournament[1] : '',
+        buyIn: tournament && tournament[2] || '',
         table: table ? table[1] : '',
         button: button ? Number(button[1]) : 0,
         seats: seatsOf(lines),

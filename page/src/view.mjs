@@ -70,6 +70,9 @@ export const answer = makeSpots({
     workers: ready.then(({ spots }) => spots)
 });
 
+// beside the line there is room for the grid
+$('choose').open = matchMedia('(min-width: 1000px)').matches;
+
 /** Asks a line as a spot, as if somebody typed it. */
 const ask = (/** @type {string} */ line) => {
     views.go('spots');

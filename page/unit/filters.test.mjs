@@ -1,11 +1,14 @@
 import assert from 'node:assert/strict';
 import test from 'node:test';
+import { leadOptions, leads, leadsOf } from '../src/ahead.mjs';
 import { chosenText, codedFilters, daysOf, filtered } from '../src/filters.mjs';
 import { addPart, noHands } from '../src/hands.mjs';
 import { readPart } from '../src/part.mjs';
 import { entriesOf, EVERYBODY, inOrder } from '../src/played.mjs';
 import { POSITIONS, positionsOf } from '../src/positions.mjs';
 import { allInStreet } from '../src/streets.mjs';
+import { buyInsOf } from '../src/sums.mjs';
+import { facts } from '../src/texts.mjs';
 import { fileOf, made, reporter } from './made.mjs';
 
 const handsOf = (all) => {
@@ -49,11 +52,12 @@ test('filters over hands have their options', () => {
         stakes: ['holdem No Limit 0.50/1.00: 0.50/1.00', 'holdem No Limit 1/2: 1/2'],
         game: ['holdem: Hold\u2019em'],
         table: ['Ceres', 'Vesta'],
-        tournament: [': no tournament'],
+        tournament: ['none: no tournament'],
         position: ['BB: BB, big blind'],
         players: ['2'],
         session: ['2026-12-24 10:00:00: 24 Dec 2026 10:00', '2026-11-02 10:00:00: 2 Nov 2026 10:00', 'none: no date'],
         'all-in': ['none'],
+        ahead: [],
         showdown: ['yes', 'no']
     });
     assert.deepEqual(textsOf('Ann').position, ['BTN: BTN, button']);
@@ -103,4 +107,43 @@ test('the street of an all-in is that of the last act, if cards came after it', 
     assert.equal(allInStreet(hand(...board, ...allIn)), '');
     assert.equal(allInStreet(hand(...board, 'a: bets $5', 'b: calls $5')), '');
     assert.equal(allInStreet(hand('a: bets $5 and is all-in', 'b: calls $5', board[0], 'b: bets $1', 'c: folds')), '');
+});
+
+test('who is ahead on a street has the greatest part of the main pot', () => {
+    const ev = (pot, part, name) => `pot,${pot},ev,${part},,,,,,,,,${name}\n`;
+    const csv = 'hand,1,accepted,holdem,rake,0,,,,,,,\nall-in,preflop,runouts,1712304,,,,,,,,,\n'
+        + `${ev(0, '0.378', 'ann')}${ev(0, '0.399', 'ben')}${ev(1, '0.473', 'ann')}${ev(1, '0.527', 'ben')}`
+        + `street,turn,runouts,42,,,,,,,,,\n${ev(0, '0.500', 'ann')}${ev(0, '0.500', 'ben')}`
+        + `street,river,runouts,1,,,,,,,,,\n${ev(0, '1.000', 'ann')}${ev(0, '0.000', 'ben')}`
+        + 'hand,2,rejected,line,7,Chips,84.20,2.50,,,,,\nhand,3,accepted,holdem,rake,0,,,,,,,\n'
+        + 'all-in,flop,unknown,,,,,,,,,,\n';
+    const [first, ...others] = leadsOf(csv), values = [0, ...first.values()];
+    assert.deepEqual(others.map((it) => it.size), [0, 0]);
+    const has = (name) => leadOptions(values).filter(({ codes }) => codes.some((it) => values[it] === first.get(name)))
+        .map(({ text }) => text);
+    assert.deepEqual(has('ann'), ['not ahead preflop', 'not ahead on the turn']);
+    assert.deepEqual(has('ben'), ['ahead preflop', 'not ahead on the turn']);
+    assert.deepEqual(leadOptions([0]), []);
+    assert.equal(leads(() => '', [], []).size, 0);
+});
+
+test('a tournament has its buy-in', () => {
+    const tournament = (header) => {
+        const it = facts(`PokerStars Hand #1: ${header}`);
+        return [it.tournament, it.buyIn];
+    };
+    for (const [header, ...wanted] of [
+        ['Tournament #61, $20+$2 USD Hold\'em No Limit - Level VI (50/100)', '61', '$20+$2 USD'],
+        ['Tournament #62, €4.40+€0.60 EUR Omaha Pot Limit', '62', '€4.40+€0.60 EUR'],
+        ['Tournament #63, Freeroll  Hold\'em No Limit - Level I', '63', 'Freeroll'],
+        ['Tournament #64, 500+0 Hold\'em No Limit', '64', '500+0'], ['Hold\'em No Limit ($1/$2 USD)', '', '']
+    ]) assert.deepEqual(tournament(header), wanted);
+});
+
+test('buy-ins of tournaments are added up by currency, each once', () => {
+    const texts = ['', '1, $20+$2 USD', '2, $4.40+$0.60 USD', '3, €10+€1 EUR', '4', '5, Freeroll', '6, 500+0'];
+    const hands = { texts, columns: { tournament: Uint32Array.from([1, 1, 2, 3, 4, 5, 6, 0]) } };
+    const played = hands.columns.tournament.reduce((all, it, hand) => [...all, { hand, row: 0 }], []);
+    assert.deepEqual(buyInsOf(/** @type {any} */ (hands), played),
+        { tournaments: 6, sums: [['$', 2700n], ['€', 1100n]], unknown: 2 });
 });
