@@ -5,6 +5,7 @@ import { causeOf } from './causes.mjs';
 import { sessions } from './clock.mjs';
 import { button, head, node, save } from './dom.mjs';
 import { CASHED, LIMIT } from './part.mjs';
+import { POSITIONS } from './positions.mjs';
 import { counted, many } from './progress.mjs';
 import { written } from './reports.mjs';
 import { buyInsOf, byKey, hundredsOf, keysOf, sumsBy } from './sums.mjs';
@@ -110,9 +111,11 @@ const valuesOf = (sum) => {
 const groupsOf = ({ hands, played }, { group, sortBy, isRising }) => {
     const all = [...sumsBy(hands, played, keysOf(hands, played, group))]
         .map(([key, sum]) => ({ key, sum, values: valuesOf(sum) }));
+    const byName = (/** @type {string} */ a, /** @type {string} */ b) => group === 'position'
+        ? POSITIONS.indexOf(a) - POSITIONS.indexOf(b) : byKey(a, b);
     return all.sort((a, b) => {
         const one = a.values[sortBy - 1], other = b.values[sortBy - 1];
-        return (sortBy === 0 ? byKey(a.key, b.key) : one < other ? -1 : one > other ? 1 : 0) * (isRising ? 1 : -1);
+        return (sortBy === 0 ? byName(a.key, b.key) : one < other ? -1 : one > other ? 1 : 0) * (isRising ? 1 : -1);
     });
 };
 

@@ -54,7 +54,7 @@ export const rowNode = ({ hands, isEvery, unit }, { hand, row }) => {
     const pill = position ? [having(node(position === 'BTN' ? 'span.posn.is-btn' : 'span.posn', position),
         { title: POSITION_WORDS[position] })] : [];
     const phone = it.isAccepted ? [[position, stakes, street && `all-in ${street}`].filter(Boolean).join(' · ')]
-        : [position ? `${position} ` : '', verdictNode(it), isEvery && settle ? ` ${settle}` : ''];
+        : [position ? `${position} ` : '', isEvery && settle ? `${settle} ` : '', verdictNode(it)];
     return node('tr',
         node('td.col-time', ...timeNode(it.clock)),
         node('td.col-stakes', stakes),
