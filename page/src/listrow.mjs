@@ -33,8 +33,11 @@ export const settleText = (it) => it.isAccepted ? '' : it.settle.map(({ name, am
     `${name} ${sayer(it.unit)(amount).replace(/^-/, MINUS).replace(/^(?!\u2212)/, '+')}`).join(', ');
 
 /** @param {number} clock */
-const timeNode = (clock) => Number.isNaN(clock) ? [node('span.faint', 'no date')]
-    : [dayText(clock), ' ', node('span.faint', hourText(clock))];
+const timeNode = (clock) => {
+    if (Number.isNaN(clock)) return [node('span.faint', 'no date')];
+    const [, day, year] = /^(.*)( \d+)$/.exec(dayText(clock)) || ['', dayText(clock), ''];
+    return [day, node('span.year', year), ' ', node('span.faint', hourText(clock))];
+};
 
 /**
  * Returns the row of a hand.
