@@ -1,7 +1,7 @@
 //! Counted steps, at no cost.
 //!
-//! A step is a runout that is examined and added. That each step is counted in the loop that adds
-//! its runout is read in the code, and isn't proved.
+//! A step is a runout that is examined and added. That the loop that adds a runout counts its step is
+//! read in the code, and isn't proved.
 //!
 //! A bound on a function's work is a clause on the number of its steps: `steps.new ≡ steps.old + n`.
 //! The function takes a `&mut Steps<L>` and calls `tick` right before the one operation that is
