@@ -4,10 +4,10 @@ ghost use Rattle.std.specs.Prelude.{◌≡◌, ◌-◌, ◌<◌, ◌≤◌, ◌^
 ghost use Rattle.card_sets.specs.PlayerSets.{hands_below, set_of_players};
 ghost use Rattle.showdown_tally.specs.SetShares.{set_cell};
 ghost use Rattle.showdown_tally.specs.Showdown.{part_of};
-ghost use Rattle.showdown_tally.specs.Settling.{greater, is_top, top_below, tops_of};
+ghost use Rattle.showdown_tally.specs.Settling.{top_below, tops_of};
 
 use card_sets::PlayerSet;
-use showdown_tally::Cell;
+use showdown_tally::{Cell, greater, is_top};
 
 /// How a runout that some of the first hands win ends for one of them.
 #[inline]
@@ -41,29 +41,6 @@ pub(crate) fn units_beside(winners: PlayerSet, count: u8, hand: u8) -> u64
         5040 / u64::from(winners.below(count).count())
     } else {
         0
-    }
-}
-
-/// The greater of two values, where there are any.
-#[inline]
-fn greater(a: Option<u32>, b: Option<u32>) -> Option<u32>
-    ensures { result ≡ greater a b }
-{
-    match (a, b) {
-        (Some(a), Some(b)) => Some(a.max(b)),
-        (None, b) => b,
-        (a, None) => a,
-    }
-}
-
-/// Whether a value is the greatest.
-#[inline]
-fn is_top(value: Option<u32>, top: Option<u32>) -> bool
-    ensures { result ≡ is_top value top }
-{
-    match (value, top) {
-        (Some(value), Some(top)) => value == top,
-        _ => false,
     }
 }
 

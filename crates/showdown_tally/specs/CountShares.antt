@@ -32,7 +32,7 @@ units_of_set halved count hand set = part_of (whole_of halved) (hands_below set 
 abbrev pub units_of_places : List ℕ → Bool → ℕ → ℕ → ℕ → ℕ
 units_of_places row halved count hand n = places_sum row (units_of_set halved count hand) (units_of_set true count hand) n
 
--- the cells and units that the hands of a mask below n get of a side of a pot that a set wins so many times
+-- the cells and units that the hands of a mask below n get of a side of a pot that a set wins a number of times
 abbrev pub times_cells : ℕ → Side → ℕ → ℕ → ℕ → ℕ → ℕ → ℕ → ℕ → Side → Cell
 times_cells pot side mask count set times n p h s = if (p == pot) && is_side s side && nat_lt h n && (bit_at mask h == 1) then cell_times times (set_cell count h set) else no_runout
 

@@ -9,7 +9,7 @@ abbrev pub sum_below : (ℕ → ℕ) → ℕ → ℕ
 sum_below f zero = 0
 sum_below f (suc n) = sum_below f n + f n
 
--- a cell so many times
+-- a cell, times a number
 abbrev pub cell_times : ℕ → Cell → Cell
 cell_times n cell = record { win = cell.win * n; tie = cell.tie * n; lose = cell.lose * n }
 

@@ -32,7 +32,7 @@ abbrev pub CountsGrow : Showdown → List (List (List ℕ)) → List (List ℕ) 
 CountsGrow deal all old new = (pot place : ℕ) (side : Side) → pot < length deal.pots → has_side side deal.state.game ≡ true → place < 2048
     → count_at new pot side place ≡ count_at old pot side place + count_by (λ runout. count_place deal pot side runout == place) all
 
--- the counts have room for so many runouts more
+-- the counts have room for a number of runouts more
 abbrev pub CountsFit : Showdown → List (List ℕ) → ℕ → Type 0
 CountsFit deal counts more = (pot place : ℕ) (side : Side) → pot < length deal.pots → has_side side deal.state.game ≡ true → place < 2048
     → count_at counts pot side place + more < 2 ^ 32

@@ -26,9 +26,13 @@ use card_sets::{Game, PlayerSet, Side};
 /// A side of a pot, and those of the first `count` hands that play for it.
 #[derive(Clone, Copy)]
 struct Stake {
+    /// The pot, from 0.
     pot: u8,
+    /// The side of it.
     side: Side,
+    /// The hands that are eligible.
     hands: PlayerSet,
+    /// The number of hands in the deal.
     count: u8,
 }
 
@@ -67,7 +71,7 @@ pub(crate) fn units_in(halved: bool, set: u16, count: u8, hand: u8) -> u64
     }
 }
 
-/// So many runouts that end so.
+/// Returns the cell of `times` runouts with one outcome.
 #[inline]
 fn times_of(outcome: Outcome, times: u64) -> Cell
     ensures { result ≡ cell_times times (cell_of outcome) }
@@ -87,8 +91,8 @@ fn times_of(outcome: Outcome, times: u64) -> Cell
     }
 }
 
-/// So many runouts more for the hands that play for a side of a pot, which a set of hands wins, and
-/// their units: of the pot, or of half of it.
+/// Adds `times` runouts in which a set of hands wins a side of a pot, and the units of its winners: of
+/// the pot, or of half of it.
 #[inline]
 fn give_set(stake: &Stake, set: u16, times: u64, halved: bool, tally: &mut Tally)
     // A set of the first hands, of up to ten, and a pot of ten.
@@ -96,7 +100,7 @@ fn give_set(stake: &Stake, set: u16, times: u64, halved: bool, tally: &mut Tally
     requires pot { stake.now.pot < 10 }
     requires set { set < 2 ^ stake.now.count }
 
-    // A count fits 32 bits, and what stands there, at most 2^60, can grow by so many times 5040 units.
+    // A count fits 32 bits, and what stands there, at most 2^60, can grow by `times` times 5040 units.
     requires times { times < 4294967296 }
     requires cells { (h : ℕ) → h < 10
         → CellWithin (cell_at tally.old stake.now.pot h stake.now.side) 1152921504606846976 }
@@ -213,7 +217,7 @@ fn give_side(table: &Table, counts: &[[u32; 2048]], pot: u8, side: Side, tally: 
     give_row(&stake, is_halved(game, side), row, tally);
 }
 
-/// Makes a tally of no runout that of so many, by the counts of the sides of each pot.
+/// Fills a tally of no runout with `runouts` runouts, by the counts of the sides of each pot.
 fn give_pots(table: &Table, runouts: u64, counts: &[[u32; 2048]], tally: &mut Tally)
     requires rows { 2 * table.now.pots ≤ length counts.now }
     requires runouts { tally.old.runouts ≡ 0 }
@@ -232,7 +236,7 @@ fn give_pots(table: &Table, runouts: u64, counts: &[[u32; 2048]], tally: &mut Ta
     tally.end_runouts(runouts);
 }
 
-/// Makes a tally, whatever it held, that of so many runouts, by how often each set of hands wins each
+/// Makes a tally, whatever it held, that of `runouts` runouts, by how often each set of hands wins each
 /// side of each pot. A pot has two rows of counts, the high's before the low's, and a set stands for
 /// the number with the bits of its hands. The high's row has the runouts in which a set wins the high
 /// and nobody has a low at the place of the set, and those in which somebody has one at 1,024 more; the
