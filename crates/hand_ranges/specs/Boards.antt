@@ -95,7 +95,7 @@ worth ends by_set each = worth_from 0 ends.sets by_set + ends.choices * each
 abbrev pub EndsGrow : Ends → Ends → ((ℕ → ℕ) → ℕ → ℕ) → Type 0
 EndsGrow old new more = (by_set : ℕ → ℕ) (each : ℕ) → worth new by_set each ≡ worth old by_set each + more by_set each
 
--- all sets together won no more often than so many choices of four hands can
+-- all sets together won no more often than the choices of four hands can
 abbrev pub AreEndsWithin : Ends → Type 0
 AreEndsWithin ends = worth ends (λ set. 1) 0 ≤ ends.choices * 2 ^ 32
 
@@ -107,7 +107,7 @@ open_cards board dead = minus (minus deck board) dead
 abbrev pub board_adds : List (List Weighted) → List ℕ → (ℕ → ℕ) → ℕ → ℕ
 board_adds ranges full by_set each = walked (map (filter (is_off full)) ranges) [] (adds_beside full by_set each)
 
--- what they add beside all boards that so many of some cards fill
+-- what they add beside all boards that are filled with a number of some cards
 abbrev pub boards_add : List (List Weighted) → List ℕ → ℕ → List ℕ → (ℕ → ℕ) → ℕ → ℕ
 boards_add ranges board missing rest by_set each =
     sum_by (λ cards. board_adds ranges (union board cards) by_set each) (choose missing rest)
@@ -117,7 +117,7 @@ abbrev pub ends_adds : ℕ → ℕ → ℕ → Versus → (ℕ → ℕ) → ℕ 
 ends_adds winners count weight v by_set each =
     weight * v.less * by_set winners + weight * v.same * by_set (winners + 2 ^ count) + weight * v.more * by_set (2 ^ count) + v.hands * each
 
--- the numbers that the counts make for the first hands of so many players, where each choice has so many runouts
+-- the numbers that the counts make for the first hands of some players, by the number of runouts of each choice
 abbrev pub ends_number_below : Ends → ℕ → ℕ → ℕ → Column → ℕ
 ends_number_below ends players n runouts Choices = ends.choices / runouts
 ends_number_below ends players n runouts Weight = worth ends (λ set. 1) 0 / runouts

@@ -42,7 +42,7 @@ fn add_board(spot: &RangeSpot, full: CardSet, room: &mut [ShownRange; 4], ends: 
     add_shown(&room[..count], full, &Taken::none(), ends);
 }
 
-/// Adds the choices beside each board that so many of some cards fill.
+/// Adds the choices beside each board that is filled with `missing` of the cards `rest`.
 fn add_boards(
     spot: &RangeSpot,
     board: CardSet,
@@ -53,7 +53,7 @@ fn add_boards(
 )
     requires sound { IsSound (ranges_in spot.now) }
 
-    // The board lacks so many cards, and none of it is among the others.
+    // The board lacks `missing` cards, and none of its cards is in `rest`.
     requires five { length board + missing ≡ 5 }
     requires apart { apart rest board ≡ true }
 

@@ -173,7 +173,7 @@ fn are_few(spot: &RangeSpot) -> bool
     }
 }
 
-/// The same, in the faster of two ways.
+/// Returns the sums over all choices, by the faster of two ways.
 fn count_all(spot: &RangeSpot, runouts: u64, scratch: &mut Scratch) -> RangeTally
     requires sound { IsSound (ranges_in spot.now) }
     requires runouts { runouts ≡ runouts_of_choice (ranges_in spot.now) }

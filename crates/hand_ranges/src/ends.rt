@@ -40,7 +40,7 @@ impl Ends {
         let _sets: &[u128] = &self.sets;
     }
 
-    /// A set wins so many times more.
+    /// Adds wins of a set.
     #[inline]
     fn put(&mut self, place: u16, times: u64)
         requires place { place < 16 }
@@ -71,7 +71,7 @@ impl Ends {
         self.put(hand, weight * versus.more);
         self.choices += u128::from(versus.hands);
     }
-    /// What the counts are worth, where a win of a set is worth so much.
+    /// Adds up what all counted wins are worth, given what a win of each set is worth.
     fn worth<F: Fn(u16) -> u64>(&self, share: F) -> u128
         // Each share can be had, and is small.
         requires callable { (set : ℕ) → set < 16 → F.pre share set }
@@ -88,7 +88,7 @@ impl Ends {
         worth
     }
 
-    /// How the runouts end for a hand of so many.
+    /// How the runouts end for one of the first `count` hands.
     fn cell(&self, count: u8, hand: u8) -> RangeCell
         requires few { count ≤ 4 }
         requires hand { hand < count }
@@ -104,7 +104,7 @@ impl Ends {
         }
     }
 
-    /// The units of a hand of so many.
+    /// The units of one of the first `count` hands.
     fn units(&self, count: u8, hand: u8) -> u128
         requires few { count ≤ 4 }
         requires hand { hand < count }
@@ -122,7 +122,7 @@ impl Ends {
         self.worth(|_| 1)
     }
 
-    /// The tally of so many hands, where each choice has so many runouts. It says none of a runout itself.
+    /// The tally of `count` hands, if each choice has `runouts` runouts. It leaves the number of runouts at 0.
     pub(crate) fn tally(&self, count: u8, runouts: u64) -> RangeTally
         requires few { count ≤ 4 }
         requires some { 0 < runouts }

@@ -8,7 +8,7 @@ use card_sets::Side;
 use range_lines::{RangeCell, RangeTally};
 use showdown_tally::{Cell, Tally};
 
-/// A number, and so many times another more.
+/// Returns a sum, with `number` added `weight` times.
 #[inline]
 fn more(sum: u128, weight: u64, number: u64) -> u128
     requires sum { sum ≤ 2 ^ 124 }
@@ -18,7 +18,7 @@ fn more(sum: u128, weight: u64, number: u64) -> u128
     sum + u128::from(weight) * u128::from(number)
 }
 
-/// A cell, and so many times the runouts of another more.
+/// Returns a cell, with the runouts of another added `weight` times.
 #[inline]
 fn cell_more(sum: RangeCell, weight: u64, cell: Cell) -> RangeCell
     requires win { sum.win ≤ 2 ^ 124 }
@@ -34,7 +34,7 @@ fn cell_more(sum: RangeCell, weight: u64, cell: Cell) -> RangeCell
     }
 }
 
-/// So many times how the runouts of a choice end for a player.
+/// Adds how the runouts of a choice end for a player, `weight` times.
 #[inline]
 pub(crate) fn add_hand(total: &mut RangeTally, hand: u8, weight: u64, cell: Cell, units: u64)
     requires hand { hand < 4 }
@@ -49,7 +49,7 @@ pub(crate) fn add_hand(total: &mut RangeTally, hand: u8, weight: u64, cell: Cell
     total.units[place] = more(given, weight, units);
 }
 
-/// The same for the first so many players.
+/// Adds how the runouts of a choice end for the first `count` players, `weight` times.
 fn add_hands(total: &mut RangeTally, count: u8, weight: u64, tally: &Tally)
     // There are four hands at the most, and the weight is that of a choice of them.
     requires count { count ≤ 4 }
@@ -83,7 +83,7 @@ pub(crate) fn end_choice(total: &mut RangeTally, weight: u64)
     total.weight += u128::from(weight);
 }
 
-/// Adds the count of a choice of so many hands, as often as it counts.
+/// Adds the count of a choice of `count` hands, as often as it counts.
 pub(crate) fn add_count(total: &mut RangeTally, count: u8, weight: u64, tally: &Tally)
     // There are four hands at the most, and the weight is that of a choice of them.
     requires count { count ≤ 4 }

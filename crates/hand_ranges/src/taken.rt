@@ -36,7 +36,7 @@ pub(crate) struct Taken {
     ghost light: { weight ≤ 256 ^ count },
 }
 
-/// A weight, so many times more.
+/// Returns the product of two weights.
 #[inline]
 fn times(weight: u64, more: u8) -> u64
     requires { weight ≤ 2 ^ 32 }
@@ -160,7 +160,7 @@ impl Taken {
     }
 }
 
-/// All of so many hands, as the number with their bits.
+/// Returns the first `count` hands, as the number with their bits.
 fn all_of(count: u8) -> u16
     requires { count ≤ 4 }
     ensures all { hands_of result ≡ numbers_below count }

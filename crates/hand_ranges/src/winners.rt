@@ -44,7 +44,7 @@ pub(crate) fn units_beside(winners: PlayerSet, count: u8, hand: u8) -> u64
     }
 }
 
-/// The greatest of the first so many values.
+/// Returns the greatest of the first `count` values.
 #[inline]
 pub(crate) fn top_of(values: &[Option<u32>; 4], count: u8) -> Option<u32>
     requires { count ≤ 4 }
@@ -57,7 +57,7 @@ pub(crate) fn top_of(values: &[Option<u32>; 4], count: u8) -> Option<u32>
     top
 }
 
-/// The first so many hands whose values are the greatest.
+/// Returns which of the first `count` hands have the greatest value.
 #[inline]
 pub(crate) fn tops(values: &[Option<u32>; 4], count: u8) -> PlayerSet
     requires { count ≤ 4 }

@@ -1,21 +1,60 @@
 -- A table of the weights of all hands: its hands as a list, and an item added to them.
-use Rattle.std.proofs.Common.{◌≡◌, ℕ, ◌+◌, ◌*◌, ◌<◌, ◌≤◌, Bool, true, false, ◌==◌, ◌&&◌, ◌||◌, List, [], ◌∷◌, ◌++◌, map, length, get_or, refl, sym, ap, ◌∙◌, arith}
+use Rattle.std.proofs.Common.{◌≡◌, ℕ, ◌+◌, ◌*◌, ◌<◌, ◌≤◌, Bool, true, false, cond, ◌==◌, ◌&&◌, ◌||◌, List, [], ◌∷◌, ◌++◌, map, length, get_or, refl, sym, ap, ◌∙◌, arith}
 use Rattle.std.specs.Prelude.{nat_le, nat_lt}
 use Rattle.std.specs.List.{list_all, flat_map}
-use Rattle.std.proofs.lemmas.Bool.{and_from, leb-true}
+use Rattle.std.proofs.lemmas.Bool.Decides.{nat_tests}
+use Rattle.std.proofs.lemmas.Bool.{and_from, leb-true, ltb-true}
 use mathlib.Core.Bool.{true≢false}
 use Rattle.card_sets.specs.Bits.{has-cards_where}
-use Rattle.card_sets.specs.Cards.{cards_above, deck, has_card, suit_of}
+use Rattle.card_sets.specs.Cards.{cards_above, deck, has_card, rank_of, suit_of}
 use Rattle.card_sets.proofs.CallerLemmas.{and_first, and_second}
 use Rattle.range_lines.specs.declared.items.Entry.{Entry}
+use Rattle.range_lines.specs.declared.items.Item.{Item}
+use Rattle.range_lines.specs.declared.items.Item.TheVariants.{Pairs, Ranks, Cards}
 use Rattle.range_lines.specs.declared.pairs.Pair.{Pair}
+use Rattle.range_lines.specs.Items.{names, suits_fit}
 use Rattle.range_lines.specs.Hands.{pair, pairs_of, all_pairs, amount, added, cleared, has_room}
-use Rattle.range_lines.specs.Weights.{weight_at, with_weight, pairs_in, IsTable, AddedWhere, Heavy}
+use Rattle.range_lines.specs.Weights.{has_low, weight_at, with_weight, pairs_in, IsTable, AddedWhere, Heavy}
 use Rattle.range_lines.proofs.PairOrder.{InOrder, pairs_in_order}
 
 -- the hands of a lower card whose higher card has one of the first suits
 abbrev pub first_suits : ℕ → ℕ → ℕ → ℕ → Bool
 first_suits low suit l h = (l == low) && nat_lt (suit_of h) suit
+
+-- an item adds nothing to a hand whose lower card it hasn't
+and_false : (b : Bool) → (b && false) ≡ false
+and_false true = refl
+and_false false = refl
+
+names_none : (item : Item) (low high : ℕ) → has_low item low ≡ false → names item low high ≡ false
+names_none (Pairs from to) low high h = ap (λ b. (rank_of low == rank_of high) && b) h ∙ and_false (rank_of low == rank_of high)
+names_none (Ranks top from to suits) low high h = ap (λ b. (rank_of high == top) && (b && suits_fit suits low high)) h ∙ and_false (rank_of high == top)
+names_none (Cards a b) low high h = at (low == a) (low == b) h
+  where
+    at : (x y : Bool) → (x || y) ≡ false → ((x && (high == b)) || (y && (high == a))) ≡ false
+    at true y e = cc
+    at false true e = cc
+    at false false e = refl
+
+amount_none : (e : Entry) (low high : ℕ) → has_low e.item low ≡ false → amount e low high ≡ 0
+amount_none e low high h = ap (λ b. cond b e.weight 0) (names_none e.item low high h)
+
+pub none_before : (e : Entry) (cells : List ℕ) (n : ℕ) → ((low : ℕ) → low < n → has_low e.item low ≡ false) → AddedWhere e (λ low high. nat_lt low n) cells cells
+none_before e cells n none low high l h = at (nat_lt low n) refl
+  where
+    at : (b : Bool) → nat_lt low n ≡ b → weight_at cells low high ≡ weight_at cells low high + cond b (amount e low high) 0
+    at true is = let zero : amount e low high ≡ 0 = amount_none e low high (none low (ltb-true low n is)) in omega (arith, zero)
+    at false is = omega arith
+
+pub none_past : (e : Entry) (old new : List ℕ) (n : ℕ) → AddedWhere e (λ low high. nat_lt low n) old new → ((low : ℕ) → n ≤ low → low < 52 → has_low e.item low ≡ false) → AddedWhere e (λ low high. true) old new
+none_past e old new n more none low high l h = at (nat_lt low n) refl (more low high l h)
+  where
+    at : (b : Bool) → nat_lt low n ≡ b → weight_at new low high ≡ weight_at old low high + cond b (amount e low high) 0 → weight_at new low high ≡ weight_at old low high + amount e low high
+    at true is m = m
+    at false is m =
+        let past : n ≤ low = grind (arith, nat_tests) in
+        let zero : amount e low high ≡ 0 = amount_none e low high (none low past (omega (arith, l, h))) in
+        omega (arith, m, zero)
 
 -- an item added to a table is added to the list of its hands
 added_each : (e : Entry) (old new : List ℕ) (from : ℕ) (ps : List Pair) → InOrder from ps → AddedWhere e (λ low high. true) old new → map (with_weight new) ps ≡ map (added e) (map (with_weight old) ps)

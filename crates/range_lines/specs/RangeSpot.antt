@@ -1,5 +1,5 @@
 -- What a line with ranges says.
-use Rattle.std.specs.Prelude.{ℕ, Bool, ◌==◌, ◌+◌, ◌-◌, ◌*◌, ◌&&◌, ◌≡◌, if◌then◌else◌, nat_lt, List, [], ◌∷◌, ◌++◌, length, map, Option, Some, None, Result, Ok, Err}
+use Rattle.std.specs.Prelude.{ℕ, Bool, ◌==◌, ◌+◌, ◌-◌, ◌*◌, ◌&&◌, ◌≡◌, if◌then◌else◌, true, nat_lt, List, [], ◌∷◌, ◌++◌, length, map, Option, Some, None, Result, Ok, Err}
 use Rattle.std.specs.List.{list_all, flat_map}
 use Rattle.std.specs.Str.{bytes_eq}
 use Rattle.card_sets.specs.Games.{game_word, board_size, own_size}
@@ -27,6 +27,13 @@ ranges_in spot = record { board = spot.board; dead = spot.dead; ranges = spot.ra
 -- whether the ranges are one word each, and the board and the dead cards are cards
 abbrev pub is_one_word : List (List ℕ) → Bool
 is_one_word hand = length hand == 1
+
+-- the words from the first mark after the ranges on, which are one word each
+pub record IsBehindRanges (words others : List (List ℕ)) : Type 0 where
+  pub one : list_all is_one_word (hand_words words) ≡ true
+  pub hands : hand_words others ≡ [] ∷ []
+  pub board : board_words others ≡ board_words words
+  pub dead : dead_words others ≡ dead_words words
 
 abbrev pub is_form : List (List ℕ) → Bool
 is_form others = list_all is_one_word (hand_words others)

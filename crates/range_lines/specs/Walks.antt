@@ -114,7 +114,7 @@ all_added spot ranges taken column = walked ranges taken (added_by spot column)
 abbrev pub IsAllOf : Ranges → RangeTally → Type 0
 IsAllOf spot tally = (column : Column) → number_in tally column ≡ all_added spot spot.ranges [] column
 
--- a cell, and so many times the runouts of another more
+-- a cell, and a number of times the runouts of another more
 abbrev pub cell_and : RangeCell → ℕ → Cell → RangeCell
 cell_and sum weight cell =
     record {
@@ -127,7 +127,7 @@ cell_and sum weight cell =
 abbrev pub GrowsBy : RangeTally → RangeTally → (Column → ℕ) → Type 0
 GrowsBy old new more = (column : Column) → number_in new column ≡ number_in old column + more column
 
--- no number is greater than so many choices of four hands can make it
+-- no number is greater than the choices of four hands can make it
 abbrev pub IsWithin : RangeTally → Type 0
 IsWithin tally = (column : Column) → number_in tally column ≤ tally.choices * 2 ^ 96
 

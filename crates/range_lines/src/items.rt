@@ -1,6 +1,6 @@
 //! The items of a range.
 
-ghost use Rattle.std.specs.Prelude.{◌≡◌, ◌<◌, ◌≤◌, IfSome, position};
+ghost use Rattle.std.specs.Prelude.{◌≡◌, ◌<◌, ◌≤◌, ℕ, false, IfSome, position};
 ghost use Rattle.range_lines.specs.Items.{rank_named, names, suits_fit, ranks_item, plain_item, suits_named, suited_item, cards_item, item_of, weight_named, is_colon, entry_of};
 ghost use Rattle.range_lines.specs.Hands.{amount};
 ghost use Rattle.range_lines.specs.Weights.{has_low, rank_beside};
@@ -24,19 +24,27 @@ pub(crate) enum Suits {
 pub(crate) enum Item {
     /// The pairs from a rank on to another.
     Pairs {
+        /// The lowest rank.
         from: u8,
+        /// The highest rank.
         to: u8,
     },
     /// A rank with each of the ranks from one on to another, which are below it.
     Ranks {
+        /// The rank of the higher card.
         top: u8,
+        /// The lowest rank of the lower card.
         from: u8,
+        /// The highest rank of the lower card.
         to: u8,
+        /// Whether the cards are of one suit.
         suits: Suits,
     },
     /// One hand, in either order.
     Cards {
+        /// One card.
         first: Card,
+        /// The other card.
         second: Card,
     },
 }
@@ -44,7 +52,9 @@ pub(crate) enum Item {
 /// An item, and how much it adds to the weight of its hands, 1 to 100.
 #[derive(Clone, Copy)]
 pub(crate) struct Entry {
-    item: Item,
+    /// The item.
+    pub(crate) item: Item,
+    /// The weight, 1 to 100.
     weight: u8,
 }
 
@@ -213,8 +223,31 @@ impl Item {
 }
 
 impl Item {
+    /// Returns a number that no lower card of the item's hands is below.
+    pub(crate) fn first_low(&self) -> u8
+        ensures { (low : ℕ) → low < result → has_low self.now low ≡ false }
+    {
+        match *self {
+            Item::Pairs { from, .. } => 4 * from.min(13),
+            Item::Ranks { from, .. } => 4 * from.min(13),
+            Item::Cards { first, second } => first.number().min(second.number()),
+        }
+    }
+
+    /// Returns a number that all lower cards of the item's hands are below.
+    pub(crate) fn end_low(&self) -> u8
+        ensures past { (low : ℕ) → result ≤ low → low < 52 → has_low self.now low ≡ false }
+        ensures bound { result ≤ 52 }
+    {
+        match *self {
+            Item::Pairs { to, .. } => 4 * to.min(12) + 4,
+            Item::Ranks { to, .. } => 4 * to.min(12) + 4,
+            Item::Cards { first, second } => first.number().max(second.number()) + 1,
+        }
+    }
+
     /// Whether a card is the lower card of a hand that it may name.
-    fn has_low(&self, low: Card) -> bool
+    pub(crate) fn has_low(&self, low: Card) -> bool
         ensures { result ≡ has_low self.now low }
     {
         match *self {
@@ -226,7 +259,7 @@ impl Item {
     }
 
     /// The rank of the higher card of each hand that it names with a lower card.
-    fn rank_beside(&self, low: Card) -> u8
+    pub(crate) fn rank_beside(&self, low: Card) -> u8
         ensures { result ≡ rank_beside self.now low }
     {
         match *self {
@@ -257,20 +290,6 @@ impl Suits {
 }
 
 impl Entry {
-    /// Whether a card is the lower card of a hand to which it may add.
-    pub(crate) fn has_low(&self, low: Card) -> bool
-        ensures { result ≡ has_low self.now.item low }
-    {
-        self.item.has_low(low)
-    }
-
-    /// The rank of the higher card of each hand with a lower card to which it adds.
-    pub(crate) fn rank_beside(&self, low: Card) -> u8
-        ensures { result ≡ rank_beside self.now.item low }
-    {
-        self.item.rank_beside(low)
-    }
-
     /// How much it adds to the weight of a hand.
     pub(crate) fn amount(&self, low: Card, high: Card) -> u8
         ensures value { result ≡ amount self.now low high }

@@ -10,8 +10,11 @@ use card_sets::{Card, CardSet};
 /// The hand of two cards, the lower first, and how much it weighs.
 #[derive(Clone, Copy)]
 pub(crate) struct Pair {
+    /// The lower card.
     pub(crate) low: Card,
+    /// The higher card.
     pub(crate) high: Card,
+    /// The weight, 0 to 100.
     pub(crate) weight: u8,
 }
 

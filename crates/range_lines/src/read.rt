@@ -5,10 +5,10 @@ ghost use Rattle.range_lines.specs.RangeSpot.{ranges_of, ranges_in, is_dealt_out
 
 use crate::RangeFault;
 use crate::spot::RangeSpot;
-use crate::walks::{are_ranges, behind_ranges, ranges_of};
+use crate::walks::{behind_ranges, count_ranges, ranges_of};
 use crate::weights::CELLS;
 use card_sets::Game;
-use spot_text::{Words, board_cards, board_fits, dead_cards, in_form, player_count, repeated_card};
+use spot_text::{Words, board_fits, collect, players_within};
 use std::alloc::Global;
 
 /// Whether fewer cards are left than the board lacks, once each of some players has a hand.
@@ -36,34 +36,33 @@ pub fn read_ranges(alloc: Global, line: &[u8]) -> Result<RangeSpot, RangeFault>
     if word != Game::Holdem.word().as_bytes() {
         return Err(RangeFault::UnknownWord);
     }
-    let Some(table) = behind_ranges(words) else {
+    let Some(others) = behind_ranges(words) else {
         return Err(RangeFault::BadCard);
     };
-    if !in_form(table) {
+    // The words after the ranges are those of a spot with one hand, which has no card.
+    let Some(table) = collect(Game::Holdem, others) else {
         return Err(RangeFault::BadCard);
-    }
+    };
     let mut cells = [0; CELLS];
-    if !are_ranges(&mut cells, words) {
+    let Some(count) = count_ranges(&mut cells, words) else {
         return Err(RangeFault::BadRange);
-    }
-    if let Some(card) = repeated_card(table) {
+    };
+    if let Some(card) = table.twice {
         return Err(RangeFault::TwiceCard(card));
     }
-    if !board_fits(Game::Holdem, table) {
+    if !board_fits(Game::Holdem, table.board.count()) {
         return Err(RangeFault::BoardSize);
     }
-    let Some(count) = player_count(words, 4) else {
+    if !players_within(4, count) {
         return Err(RangeFault::PlayerCount);
-    };
-    let board = board_cards(table);
-    let dead = dead_cards(table);
-    if is_dealt_out(board.count(), dead.count(), count) {
+    }
+    if is_dealt_out(table.board.count(), table.dead.count(), count) {
         return Err(RangeFault::DeckShort);
     }
-    let ranges = ranges_of(alloc, &mut cells, words, board, dead)?;
+    let ranges = ranges_of(alloc, &mut cells, words, table.board, table.dead)?;
     Ok(RangeSpot {
-        board,
-        dead,
+        board: table.board,
+        dead: table.dead,
         ranges,
     })
 }

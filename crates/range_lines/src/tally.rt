@@ -4,11 +4,11 @@
 /// choice counts.
 #[derive(Clone, Copy)]
 pub struct RangeCell {
-    /// Those in which his hand alone is best.
+    /// The runouts in which the player's hand alone is best.
     pub win: u128,
-    /// Those in which it is one of several best.
+    /// The runouts in which it is one of several best.
     pub tie: u128,
-    /// Those in which it is neither.
+    /// The runouts in which a better hand is best.
     pub lose: u128,
 }
 

@@ -8,6 +8,7 @@ ghost use Rattle.range_lines.specs.Texts.{is_comma, texts_of, texts_left};
 /// The texts of a word, from the left.
 #[derive(Clone, Copy)]
 pub(crate) struct Texts<'a> {
+    /// The rest of the word, if a text is left.
     rest: Option<&'a [u8]>,
 }
 

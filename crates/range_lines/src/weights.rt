@@ -49,7 +49,7 @@ fn add_beside(cells: &mut [u8], low: Card, entry: &Entry) -> bool
         → AddedWhere entry.now (λ l h. l == low) cells.old cells.new }
     ensures heavy { result ≡ false → HeavyBeside entry.now cells.old low }
 {
-    let rank = entry.rank_beside(low);
+    let rank = entry.item.rank_beside(low);
     for suit in 0..4u8 {
         let Some(high) = Card::new(rank, suit) else {
             continue;
@@ -68,11 +68,11 @@ fn add(cells: &mut [u8], entry: &Entry) -> bool
     ensures added { result ≡ true → AddedWhere entry.now (λ l h. true) cells.old cells.new }
     ensures heavy { result ≡ false → Heavy entry.now cells.old }
 {
-    for number in 0..52u8 {
+    for number in entry.item.first_low()..entry.item.end_low() {
         let Some(low) = Card::new(number / 4, number % 4) else {
             continue;
         };
-        if entry.has_low(low) && !add_beside(cells, low, entry) {
+        if entry.item.has_low(low) && !add_beside(cells, low, entry) {
             return false;
         }
     }

@@ -4,10 +4,8 @@ use Rattle.std.specs.Prelude.{Option, is_some}
 use Rattle.std.specs.Option.{option_map_or}
 use Rattle.std.specs.List.{list_all, onto_first, before_first, after_first}
 use Rattle.card_sets.specs.CardText.{card_of_text}
-use Rattle.spot_text.specs.declared.form.Section.{Section}
-use Rattle.spot_text.specs.declared.form.Section.TheVariants.{Hands, Board, Dead}
 use Rattle.spot_text.specs.Parts.{is_slash, is_dashes, is_dash, hand_words, board_words, dead_words, all_cards, in_form}
-use Rattle.spot_text.specs.Sections.{behind_card, section_behind, stands_from}
+use Rattle.spot_text.specs.Sections.{Section, Hands, Board, Dead, behind_card, section_behind, stands_from}
 use Rattle.spot_text.proofs.PartsByWord.{before_yes, before_no, after_yes, after_no, slash_first, dashes_first, hand_first, none_first}
 
 -- what stands after a word that may or may not stand where it is
@@ -73,17 +71,3 @@ pub stands_none : (s : Section) → stands_from s [] ≡ true
 stands_none Hands = rw (none_first.0, none_first.1, none_first.2) refl
 stands_none Board = refl
 stands_none Dead = refl
-
--- the steps of the reading
-pub stands_not : (s : Section) (w : List ℕ) (ws left : List (List ℕ)) (o : Option Section) (all : Bool) → stands_from s left ≡ all →
-    left ≡ w ∷ ws → o ≡ section_behind s w → o ≡ None → false ≡ all
-stands_not s w ws left o all h more is none =
-    sym (sym h ∙ ap (stands_from s) more ∙ stands_step s w ws ∙ ap (rest_stands ws) (sym is ∙ none))
-
-pub stands_more : (s t : Section) (w : List ℕ) (ws left : List (List ℕ)) (o : Option Section) (all : Bool) → stands_from s left ≡ all →
-    left ≡ w ∷ ws → o ≡ section_behind s w → o ≡ Some t → stands_from t ws ≡ all
-stands_more s t w ws left o all h more is some =
-    sym (sym h ∙ ap (stands_from s) more ∙ stands_step s w ws ∙ ap (rest_stands ws) (sym is ∙ some))
-
-pub stands_all : (s : Section) (left : List (List ℕ)) (all : Bool) → stands_from s left ≡ all → left ≡ [] → true ≡ all
-stands_all s left all h none = sym (stands_none s) ∙ ap (stands_from s) (sym none) ∙ h

@@ -4,13 +4,11 @@ use Rattle.std.specs.Prelude.{Option, IsTrue, MatchOption, is_some}
 use Rattle.std.specs.List.{onto_first, before_first, after_first}
 use Rattle.card_sets.specs.CardText.{card_of_text}
 use Rattle.card_sets.proofs.CallerLemmas.{false_unless}
-use Rattle.spot_text.specs.declared.form.Section.{Section}
-use Rattle.spot_text.specs.declared.form.Section.TheVariants.{Hands, Board, Dead}
 use Rattle.spot_text.specs.declared.walk.Mark.{Mark}
 use Rattle.spot_text.specs.declared.walk.Mark.TheVariants.{Dash, Dashes, Slash, End, Other}
 use Rattle.spot_text.specs.declared.walk.Table.{Table}
 use Rattle.spot_text.specs.Parts.{is_slash, is_dashes, is_dash, hand_words, board_words, dead_words, cards_of, set_of, in_form}
-use Rattle.spot_text.specs.Sections.{section_behind, stands_from}
+use Rattle.spot_text.specs.Sections.{Section, Hands, Board, Dead, section_behind, stands_from}
 use Rattle.spot_text.specs.Fronts.{front_cards, from_mark, mark_of, ends_hands}
 use Rattle.spot_text.specs.Collected.{HasTable}
 use Rattle.spot_text.proofs.PartsByWord.{before_yes, before_no, after_yes, after_no, slash_first, dashes_first, hand_first, none_first, onto_words}

@@ -17,32 +17,13 @@ use Rattle.card_sets.specs.Games.{all_fit, own_size, board_size}
 use Rattle.card_sets.specs.State.{State}
 use Rattle.spot_text.specs.Parts.{is_slash, is_dashes, is_dash, hand_words, board_words, dead_words, cards_of, set_of}
 use Rattle.spot_text.specs.Games.{least_own, hand_fits, board_fits}
+use Rattle.spot_text.specs.Collected.{spread}
 use Rattle.spot_text.specs.Spot.{all_differ, hands_fit, repeated_after, state_of_words}
 use Rattle.card_sets.proofs.CallerLemmas.{and_first, and_second, or_first, or_second, or_either, false_unless, has_past, NoneIn, apart-NoneIn}
 use Rattle.spot_text.proofs.PartsByWord.{before_yes, before_no, after_yes, after_no, slash_first, dashes_first, hand_first, none_first}
 use Rattle.spot_text.proofs.CardsByWord.{set_of-nil}
 use Rattle.spot_text.proofs.RepeatedCard.{none_repeated}
 use Rattle.spot_text.proofs.SetSizes.{length-set_of, length-cards_of}
-
--- ten sets, or n, from the hands: those of the hands first, and then empty ones
-abbrev pub spread : ℕ → List (List (List ℕ)) → List (List ℕ)
-spread zero hands = []
-spread (suc n) [] = [] ∷ spread n []
-spread (suc n) (hand ∷ hands) = set_of (cards_of hand) ∷ spread n hands
-
-pub spread_is : (n : ℕ) (sets : List (List ℕ)) (hands : List (List (List ℕ))) → length sets ≡ n →
-    ((k : ℕ) → k < n → get_or sets k [] ≡ set_of (cards_of (get_or hands k []))) → sets ≡ spread n hands
-spread_is zero [] hands long h = refl
-spread_is zero (s ∷ sets) hands long h = absurd (omega arith)
-spread_is (suc n) [] hands long h = absurd (omega arith)
-spread_is (suc n) (s ∷ sets) [] long h =
-    let first : s ≡ [] = h 0 (omega arith) ∙ set_of-nil in
-    let rest : sets ≡ spread n [] = spread_is n sets [] (omega arith) (λ k lt. h (suc k) (omega arith)) in
-    ap (λ x. x ∷ sets) first ∙ ap (λ r. [] ∷ r) rest
-spread_is (suc n) (s ∷ sets) (hand ∷ hands) long h =
-    let first : s ≡ set_of (cards_of hand) = h 0 (omega arith) in
-    let rest : sets ≡ spread n hands = spread_is n sets hands (omega arith) (λ k lt. h (suc k) (omega arith)) in
-    ap (λ x. x ∷ sets) first ∙ ap (λ r. set_of (cards_of hand) ∷ r) rest
 
 pub take_spread : (n : ℕ) (hands : List (List (List ℕ))) → length hands ≤ n → take (length hands) (spread n hands) ≡ map (λ hand. set_of (cards_of hand)) hands
 take_spread zero [] few = refl

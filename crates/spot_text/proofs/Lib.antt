@@ -1,7 +1,6 @@
 pub mod FirstWord
 pub mod PartsByWord
 pub mod FormByWord
-pub mod SizesByWord
 pub mod CardsByWord
 pub mod SetSizes
 pub mod RepeatedCard

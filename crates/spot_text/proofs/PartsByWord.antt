@@ -1,5 +1,5 @@
 -- The parts of a spot, word by word.
-use Rattle.std.proofs.Common.{◌≡◌, ℕ, suc, ◌+◌, ◌≤◌, Bool, true, false, cond, List, [], ◌∷◌, length, take, drop, refl, ap, ◌∙◌, arith}
+use Rattle.std.proofs.Common.{◌≡◌, ℕ, suc, ◌+◌, ◌≤◌, Bool, true, false, cond, ◌||◌, List, [], ◌∷◌, length, take, drop, refl, ap, ◌∙◌, arith}
 use Rattle.std.specs.List.{slice_split, onto_first, position_or_len, before_first, after_first}
 use Rattle.std.proofs.lemmas.List.Splits.{length-slice_split}
 use Rattle.spot_text.specs.Parts.{is_slash, is_dashes, is_dash, hand_words, board_words, dead_words}
@@ -75,3 +75,26 @@ pub onto_empty : (ws : List (List ℕ)) (hands : List (List (List ℕ))) → ont
 unfolding onto_words
 onto_empty [] hands = refl
 onto_empty (w ∷ ws) hands = ap (onto_first w) (onto_empty ws hands)
+
+-- the hands end at a mark after them
+pub hands_end : (w : List ℕ) (ws : List (List ℕ)) → (is_slash w || is_dashes w) ≡ true → hand_words (w ∷ ws) ≡ [] ∷ []
+hands_end w ws h = at (is_slash w) (is_dashes w) refl refl h
+  where
+    at : (a b : Bool) → is_slash w ≡ a → is_dashes w ≡ b → (a || b) ≡ true → hand_words (w ∷ ws) ≡ [] ∷ []
+    at true b e f g = (slash_first w ws e).0
+    at false true e f g = (dashes_first w ws e f).0
+    at false false e f g = cc
+
+either_no : (a b : Bool) → (a || b) ≡ false → (a ≡ false) × (b ≡ false)
+either_no true b h = cc
+either_no false b h = (refl, h)
+
+pub hands_dash : (w : List ℕ) (ws : List (List ℕ)) → (is_slash w || is_dashes w) ≡ false → is_dash w ≡ true → hand_words (w ∷ ws) ≡ [] ∷ hand_words ws
+hands_dash w ws h dash =
+    let no = either_no (is_slash w) (is_dashes w) h in
+    (hand_first w ws no.0 no.1).0 ∙ ap (λ b. cond b ([] ∷ hand_words ws) (onto_first w (hand_words ws))) dash
+
+pub hands_card : (w : List ℕ) (ws : List (List ℕ)) → (is_slash w || is_dashes w) ≡ false → is_dash w ≡ false → hand_words (w ∷ ws) ≡ onto_first w (hand_words ws)
+hands_card w ws h dash =
+    let no = either_no (is_slash w) (is_dashes w) h in
+    (hand_first w ws no.0 no.1).0 ∙ ap (λ b. cond b ([] ∷ hand_words ws) (onto_first w (hand_words ws))) dash

@@ -1,10 +1,12 @@
 -- What a walk over the words of a spot collects.
-use Rattle.std.specs.Prelude.{ℕ, ◌≡◌, ◌≤◌, ◌<◌, List, [], ◌∷◌, length, IsTrue, false, Option, Some, None, slice_index_or}
+use Rattle.std.specs.Prelude.{ℕ, zero, suc, ◌≡◌, Bool, List, [], ◌∷◌, length, min, IsTrue, Option, Some, None}
+use Rattle.std.specs.List.{list_all}
+use Rattle.card_sets.specs.declared.games.Game.{Game}
 use Rattle.spot_text.specs.declared.walk.Seen.{Seen}
 use Rattle.spot_text.specs.declared.walk.Table.{Table}
 use Rattle.spot_text.specs.declared.walk.Collected.{Collected}
-use Rattle.spot_text.specs.declared.walk.Uncollected.{Uncollected}
-use Rattle.spot_text.specs.declared.walk.Uncollected.TheVariants.{BadWord, Crowd}
+use Rattle.spot_text.specs.declared.walk.ReadHands.{ReadHands}
+use Rattle.spot_text.specs.Games.{hand_fits}
 use Rattle.spot_text.specs.Parts.{hand_words, board_words, dead_words, in_form, cards_of, set_of}
 use Rattle.spot_text.specs.Spot.{repeated_after}
 
@@ -26,18 +28,26 @@ pub record HasTable (others : List (List ℕ)) (table : Table) : Type 0 where
   pub board : table.board ≡ set_of (cards_of (board_words others))
   pub dead : table.dead ≡ set_of (cards_of (dead_words others))
 
--- the words are in form, and these are the sets of their parts and the first card that stands there twice
-pub record IsCollected (others : List (List ℕ)) (parts : Collected) : Type 0 where
+-- the sets of n hands, and empty sets where there are fewer
+abbrev pub spread : ℕ → List (List (List ℕ)) → List (List ℕ)
+spread zero hands = []
+spread (suc n) [] = [] ∷ spread n []
+spread (suc n) (hand ∷ hands) = set_of (cards_of hand) ∷ spread n hands
+
+-- the game allows the number of different cards in each hand
+abbrev pub sets_fit : Game → List (List (List ℕ)) → Bool
+sets_fit game hands = list_all (λ hand. hand_fits game (length (set_of (cards_of hand)))) hands
+
+-- hands that were read: their number up to eleven, the sets of the first ten, and whether all fit
+pub record AreRead (game : Game) (hands : List (List (List ℕ))) (read : ReadHands) : Type 0 where
+  pub count : read.count ≡ min 11 (length hands)
+  pub sets : read.sets ≡ spread 10 hands
+  pub fit : read.fit ≡ sets_fit game hands
+
+-- the words are in form, and these are their parts and the first card that appears twice
+pub record IsCollected (game : Game) (others : List (List ℕ)) (parts : Collected) : Type 0 where
   pub form : IsTrue (in_form others)
-  pub count : parts.count ≡ length (hand_words others)
-  pub few : parts.count ≤ 10
-  pub hands : (k : ℕ) → k < 10 → slice_index_or parts.hands k []
-      ≡ set_of (cards_of (slice_index_or (hand_words others) k []))
+  pub hands : AreRead game (hand_words others) parts.hands
   pub board : parts.board ≡ set_of (cards_of (board_words others))
   pub dead : parts.dead ≡ set_of (cards_of (dead_words others))
   pub twice : parts.twice ≡ repeated_after [] (cards_of others)
-
--- why the parts of words aren't collected
-abbrev pub IsUncollected : List (List ℕ) → Uncollected → Type 0
-IsUncollected others BadWord = in_form others ≡ false
-IsUncollected others Crowd = 10 < length (hand_words others)

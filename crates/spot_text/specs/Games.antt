@@ -20,10 +20,10 @@ game_named word = named_among all_games word
 abbrev pub least_own : Game → ℕ
 least_own game = if has_draw game then 0 else (dealt_on game First).down + (dealt_on game First).up
 
--- whether a hand has so many cards
+-- whether a hand may have a number of cards
 abbrev pub hand_fits : Game → ℕ → Bool
 hand_fits game count = nat_le (least_own game) count && nat_le count (own_size game)
 
--- whether a board has so many: none, or a flop, or a turn, or a river
+-- whether a board may: none, or those of a flop, a turn, or a river
 abbrev pub board_fits : Game → ℕ → Bool
 board_fits game count = (count == 0) || (nat_le 3 count && nat_le count (board_size game))

@@ -2,11 +2,14 @@
 use Rattle.std.specs.Prelude.{ℕ, Bool, ◌&&◌, if◌then◌else◌, List, Option, Some, None, is_some}
 use Rattle.std.specs.List.{before_first, after_first}
 use Rattle.card_sets.specs.CardText.{card_of_text}
-use Rattle.spot_text.specs.declared.form.Section.{Section}
-use Rattle.spot_text.specs.declared.form.Section.TheVariants.{Hands, Board, Dead}
 use Rattle.spot_text.specs.Parts.{is_slash, is_dashes, is_dash, all_cards, in_form}
 
--- the same section after a card, and none after another word
+pub data Section : Type 0 where
+  Hands : Section
+  Board : Section
+  Dead : Section
+
+-- a card leads to no other section, and no other word may stand
 abbrev pub behind_card : Section → List ℕ → Option Section
 behind_card section word = if is_some (card_of_text word) then Some section else None
 

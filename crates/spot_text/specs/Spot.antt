@@ -30,7 +30,7 @@ all_in_deck cards = list_all (λ card. nat_lt card 52) cards
 abbrev pub hands_fit : Game → List (List (List ℕ)) → Bool
 hands_fit game hands = list_all (λ hand. hand_fits game (length hand)) hands
 
--- there are two players or more, and no more than so many; on a spot line they are two to ten
+-- there are two players or more, and at most a given number; on a spot line they are two to ten
 abbrev pub players_within : ℕ → ℕ → Bool
 players_within most count = nat_le 2 count && nat_le count most
 

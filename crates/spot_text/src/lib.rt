@@ -8,28 +8,25 @@
 //! `razz`, and up to five that are kept in `draw5`, `lowball27` and `triple27`. Only the first three have
 //! a board, of three, four or five cards.
 //!
-//! A line is read where it lies, in one walk over its words: it collects each hand, the board, the dead
-//! cards and the first card that stands twice, and ends at a word that may not stand where it stands. The
-//! sizes and the number of hands are looked at after it. Only a line of more than ten hands, which is no
-//! spot, is walked again, once for each fault that it may have. So a line is read in time that grows with
-//! it alone. The crate takes no memory, and it knows neither where a line comes from nor what is counted
-//! of it.
+//! A line is read in place, in one walk over its words. The walk collects the hands, the board, the dead
+//! cards, and the first card that appears twice. It ends at a word that is out of place. It keeps ten hands,
+//! counts them up to eleven, and remembers whether the game allows the size of each. So a line is read in
+//! time that grows with its length alone. `range_lines` reads the board and the dead cards of a line with
+//! ranges by the same walk. The crate takes no memory. It knows neither where a line comes from nor what is
+//! counted of it.
 #![tactic(auto)]
 
-mod counts;
+mod cards;
 mod faults;
-mod form;
 mod games;
-mod gather;
 mod marks;
 mod spot;
 mod walk;
 mod words;
 
-pub use counts::{board_fits, player_count};
 pub use faults::SpotFault;
-pub use form::{card_of, in_form};
-pub use gather::{board_cards, dead_cards, repeated_card};
-pub use marks::{ends_hands, is_dash, is_dashes, is_slash};
+pub use games::{board_fits, players_within};
+pub use marks::{ends_hands, is_dash};
 pub use spot::read_spot;
+pub use walk::{Collected, ReadHands, collect};
 pub use words::{Words, has_word};

@@ -10,14 +10,14 @@ const DASHES: &[u8] = b"--";
 const SLASH: &[u8] = b"/";
 
 /// The mark before the dead cards.
-pub fn is_slash(word: &[u8]) -> bool
+pub(crate) fn is_slash(word: &[u8]) -> bool
     ensures { result ≡ is_slash word.now }
 {
     word == SLASH
 }
 
 /// The mark before the board.
-pub fn is_dashes(word: &[u8]) -> bool
+pub(crate) fn is_dashes(word: &[u8]) -> bool
     ensures { result ≡ is_dashes word.now }
 {
     word == DASHES

@@ -1,19 +1,21 @@
 //! One walk over the words of a spot, which collects the cards of its parts.
 
-ghost use Rattle.std.specs.Prelude.{◌≡◌, ◌∷◌, ◌<◌, ℕ, List, [], drop, IsTrue, IfSome, MatchOption, MatchResult, false, if◌then◌else◌, Some, None};
+ghost use Rattle.std.specs.Prelude.{◌≡◌, ◌∷◌, ◌++◌, ◌<◌, ◌&&◌, ℕ, List, [], drop, IsTrue, IfSome, MatchOption, false, if◌then◌else◌, Some, None};
 ghost use Rattle.std.specs.List.{before_first, after_first};
-ghost use Rattle.spot_text.specs.declared.form.Section.TheVariants.{Board, Dead};
+ghost use Rattle.card_sets.specs.declared.games.Game.{Game};
 ghost use Rattle.spot_text.specs.Words.{words_left};
+ghost use Rattle.spot_text.specs.Games.{hand_fits};
 ghost use Rattle.spot_text.specs.Parts.{is_slash, in_form, cards_of, set_of};
-ghost use Rattle.spot_text.specs.Sections.{stands_from};
+ghost use Rattle.spot_text.specs.Sections.{Board, Dead, stands_from};
 ghost use Rattle.spot_text.specs.Spot.{repeated_after};
 ghost use Rattle.spot_text.specs.Fronts.{front_cards, from_mark, mark_of, ends_hands};
-ghost use Rattle.spot_text.specs.Collected.{twice_or, IsSeen, HasTable, IsCollected, IsUncollected};
+ghost use Rattle.spot_text.specs.Collected.{twice_or, IsSeen, HasTable, AreRead, IsCollected};
 
-use crate::form::card_of;
+use crate::cards::card_of;
+use crate::games::hand_fits;
 use crate::marks::{is_dash, is_dashes, is_slash};
 use crate::words::Words;
-use card_sets::{Card, CardSet};
+use card_sets::{Card, CardSet, Game};
 
 /// What stands after some cards.
 #[derive(Clone, Copy)]
@@ -102,6 +104,7 @@ impl Seen {
 /// Cards that stand side by side.
 #[derive(Drop)]
 struct Part {
+    /// The cards.
     cards: CardSet,
     /// What stands after them.
     mark: Mark,
@@ -221,48 +224,83 @@ fn read_table(mark: Mark, words: &mut Words, seen: &mut Seen) -> Option<Table>
     }
 }
 
+/// The hands of a spot, which were read from the left.
+#[derive(Clone, Copy)]
+pub struct ReadHands {
+    /// The number of hands, or 11 if there are more than ten.
+    pub(crate) count: u8,
+    /// The cards of the first ten hands, and empty sets after them.
+    pub(crate) sets: [CardSet; 10],
+    /// Whether the game allows the number of different cards in each hand.
+    pub(crate) fit: bool,
+}
+
+/// Whether some hands fit, and one more of `count` cards.
+fn all_fit(fit: bool, game: Game, count: u32) -> bool
+    ensures { result ≡ (fit && hand_fits game count) }
+{
+    fit && hand_fits(game, count)
+}
+
+impl ReadHands {
+    /// Returns the value before the first hand.
+    fn none() -> ReadHands
+        ensures { (game : Game) → AreRead game [] result }
+    {
+        ReadHands {
+            count: 0,
+            sets: [CardSet::empty(); 10],
+            fit: true,
+        }
+    }
+
+    /// Adds the next hand.
+    fn add_hand(&mut self, game: Game, cards: CardSet)
+        ensures { (hands : List (List (List ℕ))) (hand : List (List ℕ))
+            → AreRead game hands self.old → cards ≡ set_of (cards_of hand)
+            → AreRead game (hands ++ hand ∷ []) self.new }
+    {
+        self.fit = all_fit(self.fit, game, cards.count());
+        if self.count >= 10 {
+            self.count = 11;
+            return;
+        }
+        self.sets[usize::from(self.count)] = cards;
+        self.count += 1;
+    }
+}
+
 /// The parts of a spot.
 #[derive(Drop)]
-pub(crate) struct Collected {
-    /// How many hands there are.
-    pub(crate) count: u8,
-    /// The hands, and empty sets after them.
-    pub(crate) hands: [CardSet; 10],
+pub struct Collected {
+    /// The hands.
+    pub(crate) hands: ReadHands,
     /// The board.
-    pub(crate) board: CardSet,
+    pub board: CardSet,
     /// The dead cards.
-    pub(crate) dead: CardSet,
-    /// The first card, from the left, that stands there twice.
-    pub(crate) twice: Option<Card>,
+    pub dead: CardSet,
+    /// The first card, from the left, that appears twice.
+    pub twice: Option<Card>,
 }
 
-/// Why the parts of a spot aren't collected.
-#[derive(Drop)]
-pub(crate) enum Uncollected {
-    /// A word is neither a card nor a mark in its place.
-    BadWord,
-    /// There are more than ten hands.
-    Crowd,
-}
-
-/// The parts of a spot, in one walk over its words.
-pub(crate) fn collect(words: Words) -> Result<Collected, Uncollected>
-    ensures { MatchResult result
-        (λ parts. IsCollected (words_left words.entry) parts)
-        (λ why. IsUncollected (words_left words.entry) why) }
+/// Collects the parts of a spot in one walk over its words, whatever the number of hands. Returns `None`
+/// if a word is neither a card nor a mark in its place.
+pub fn collect(game: Game, words: Words) -> Option<Collected>
+    ensures { MatchOption result
+        (in_form (words_left words.entry) ≡ false)
+        (λ parts. IsCollected game (words_left words.entry) parts) }
 {
     let mut left = words;
     let mut seen = Seen::none();
-    let mut hands = [CardSet::empty(); 10];
-    for number in 0..10u8 {
+    let mut hands = ReadHands::none();
+    loop {
         let part = read_part(&mut left, &mut seen);
-        hands[usize::from(number)] = part.cards;
+        hands.add_hand(game, part.cards);
         if part.mark.ends_hands() {
             let Some(table) = read_table(part.mark, &mut left, &mut seen) else {
-                return Err(Uncollected::BadWord);
+                return None;
             };
-            return Ok(Collected {
-                count: number + 1,
+            return Some(Collected {
                 hands,
                 board: table.board,
                 dead: table.dead,
@@ -270,5 +308,4 @@ pub(crate) fn collect(words: Words) -> Result<Collected, Uncollected>
             });
         }
     }
-    Err(Uncollected::Crowd)
 }

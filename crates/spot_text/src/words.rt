@@ -7,6 +7,7 @@ ghost use Rattle.spot_text.specs.Words.{is_gap, words, is_blank, words_left};
 /// The words of a line, from the left.
 #[derive(Clone, Copy)]
 pub struct Words<'a> {
+    /// The rest of the line.
     rest: &'a [u8],
 }
 

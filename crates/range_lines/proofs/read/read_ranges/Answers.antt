@@ -1,101 +1,85 @@
-use Rattle.std.proofs.Common.{◌≡◌, sym, ap, ◌∙◌, length, true, false, rules}
+use Rattle.std.proofs.Common.{◌≡◌, sym, ap, ◌∙◌, rules}
 use Rattle.std.proofs.lemmas.Result.{err_from_is_err_and}
+use Rattle.card_sets.specs.declared.games.Game.TheVariants.{Holdem}
+use Rattle.spot_text.specs.Games.{board_fits}
 use Rattle.spot_text.specs.Words.{words_left}
-use Rattle.range_lines.specs.RangeSpot.{is_dealt_out}
-use Rattle.range_lines.proofs.LineTests.{Passed, Sized, passed_twice, passed_board, passed_count, sized_short, sized_ok}
+use Rattle.range_lines.proofs.LineTests.{Passed, Sized, passed_twice, passed_board, sized_count, last_test, sized_short, sized_ok}
 use Rattle.range_lines.proofs.read.read_ranges.Goals as goal
 
-pub returns-in-Some-repeated_card : goal.returns-in-Some-repeated_card
-returns-in-Some-repeated_card c =
-    let passed : Passed c.args.line.now c.in-Some.word.now (words_left c.next.new.self) (words_left c.in-Some-behind_ranges.table) = record {
+pub returns-in-Some-twice : goal.returns-in-Some-twice
+returns-in-Some-twice c =
+    let passed : Passed c.args.line.now c.in-Some.word.now (words_left c.next.new.self) (words_left c.in-Some-behind_ranges.others) c.in-Some-collect.table = record {
       first = sym c.of-words.ensures ∙ c.in-Some.ensures.steps;
       game = search rules;
-      hands = search rules;
-      none = c.in-Some-behind_ranges.ensures.hands;
-      board = c.in-Some-behind_ranges.ensures.board;
-      dead = c.in-Some-behind_ranges.ensures.dead;
-      form = sym c.in_form.ensures ∙ search rules;
-      ranges = sym c.are_ranges.ensures.value ∙ search rules;
+      behind = c.in-Some-behind_ranges.ensures;
+      collected = c.in-Some-collect.ensures;
+      ranges = c.in-Some-count_ranges.ensures.value.0;
     } in
-    passed_twice _ _ _ _ c.in-Some-repeated_card.card passed (sym c.repeated_card.ensures ∙ c.in-Some-repeated_card.is)
+    passed_twice _ _ _ _ _ c.in-Some-twice.card passed c.in-Some-twice.is
 
 pub returns-then-not-board_fits : goal.returns-then-not-board_fits
 returns-then-not-board_fits c =
-    let passed : Passed c.args.line.now c.in-Some.word.now (words_left c.next.new.self) (words_left c.in-Some-behind_ranges.table) = record {
+    let passed : Passed c.args.line.now c.in-Some.word.now (words_left c.next.new.self) (words_left c.in-Some-behind_ranges.others) c.in-Some-collect.table = record {
       first = sym c.of-words.ensures ∙ c.in-Some.ensures.steps;
       game = search rules;
-      hands = search rules;
-      none = c.in-Some-behind_ranges.ensures.hands;
-      board = c.in-Some-behind_ranges.ensures.board;
-      dead = c.in-Some-behind_ranges.ensures.dead;
-      form = sym c.in_form.ensures ∙ search rules;
-      ranges = sym c.are_ranges.ensures.value ∙ search rules;
+      behind = c.in-Some-behind_ranges.ensures;
+      collected = c.in-Some-collect.ensures;
+      ranges = c.in-Some-count_ranges.ensures.value.0;
     } in
-    passed_board _ _ _ _ passed (sym c.repeated_card.ensures ∙ c.in_default-repeated_card.is) (sym c.board_fits.ensures ∙ search rules)
+    passed_board _ _ _ _ _ passed c.in_default-twice.is (ap (board_fits Holdem) (sym c.count.ensures.value) ∙ sym c.board_fits.ensures ∙ c.if-not-board_fits.true)
 
-pub returns-in_default-player_count : goal.returns-in_default-player_count
-returns-in_default-player_count c =
-    let passed : Passed c.args.line.now c.in-Some.word.now (words_left c.next.new.self) (words_left c.in-Some-behind_ranges.table) = record {
+pub returns-then-not-players_within : goal.returns-then-not-players_within
+returns-then-not-players_within c =
+    let passed : Passed c.args.line.now c.in-Some.word.now (words_left c.next.new.self) (words_left c.in-Some-behind_ranges.others) c.in-Some-collect.table = record {
       first = sym c.of-words.ensures ∙ c.in-Some.ensures.steps;
       game = search rules;
-      hands = search rules;
-      none = c.in-Some-behind_ranges.ensures.hands;
-      board = c.in-Some-behind_ranges.ensures.board;
-      dead = c.in-Some-behind_ranges.ensures.dead;
-      form = sym c.in_form.ensures ∙ search rules;
-      ranges = sym c.are_ranges.ensures.value ∙ search rules;
+      behind = c.in-Some-behind_ranges.ensures;
+      collected = c.in-Some-collect.ensures;
+      ranges = c.in-Some-count_ranges.ensures.value.0;
     } in
-    passed_count _ _ _ _ passed (sym c.repeated_card.ensures ∙ c.in_default-repeated_card.is) (sym c.board_fits.ensures ∙ search rules) (sym c.player_count.ensures ∙ c.in_default-player_count.is)
+    let sized : Sized c.args.line.now c.in-Some.word.now (words_left c.next.new.self) (words_left c.in-Some-behind_ranges.others) c.in-Some-collect.table c.in-Some-count_ranges.count = record {
+      passed = passed;
+      once = c.in_default-twice.is;
+      fits = ap (board_fits Holdem) (sym c.count.ensures.value) ∙ sym c.board_fits.ensures ∙ c.if-not-board_fits.false;
+      counted = c.in-Some-count_ranges.ensures.value.1;
+    } in
+    sized_count _ _ _ _ _ _ sized (sym c.players_within.ensures ∙ c.if-not-players_within.true)
 
 pub returns-then-is_dealt_out : goal.returns-then-is_dealt_out
 returns-then-is_dealt_out c =
-    let passed : Passed c.args.line.now c.in-Some.word.now (words_left c.next.new.self) (words_left c.in-Some-behind_ranges.table) = record {
+    let passed : Passed c.args.line.now c.in-Some.word.now (words_left c.next.new.self) (words_left c.in-Some-behind_ranges.others) c.in-Some-collect.table = record {
       first = sym c.of-words.ensures ∙ c.in-Some.ensures.steps;
       game = search rules;
-      hands = search rules;
-      none = c.in-Some-behind_ranges.ensures.hands;
-      board = c.in-Some-behind_ranges.ensures.board;
-      dead = c.in-Some-behind_ranges.ensures.dead;
-      form = sym c.in_form.ensures ∙ search rules;
-      ranges = sym c.are_ranges.ensures.value ∙ search rules;
+      behind = c.in-Some-behind_ranges.ensures;
+      collected = c.in-Some-collect.ensures;
+      ranges = c.in-Some-count_ranges.ensures.value.0;
     } in
-    let sized : Sized c.args.line.now c.in-Some.word.now (words_left c.next.new.self) (words_left c.in-Some-behind_ranges.table) c.in-Some-player_count.count c.board_cards-board.result c.dead_cards-dead.result = record {
+    let sized : Sized c.args.line.now c.in-Some.word.now (words_left c.next.new.self) (words_left c.in-Some-behind_ranges.others) c.in-Some-collect.table c.in-Some-count_ranges.count = record {
       passed = passed;
-      once = sym c.repeated_card.ensures ∙ c.in_default-repeated_card.is;
-      fits = sym c.board_fits.ensures ∙ search rules;
-      few = sym c.player_count.ensures ∙ c.in-Some-player_count.is;
-      board_is = c.board_cards-board.ensures;
-      dead_is = c.dead_cards-dead.ensures;
+      once = c.in_default-twice.is;
+      fits = ap (board_fits Holdem) (sym c.count.ensures.value) ∙ sym c.board_fits.ensures ∙ c.if-not-board_fits.false;
+      counted = c.in-Some-count_ranges.ensures.value.1;
     } in
-    let short : is_dealt_out (length c.board_cards-board.result) (length c.dead_cards-dead.result) c.in-Some-player_count.count ≡ true =
-    ap (λ n. is_dealt_out n (length c.dead_cards-dead.result) c.in-Some-player_count.count) (sym c.count.ensures.value)
-    ∙ ap (λ n. is_dealt_out c.count.result n c.in-Some-player_count.count) (sym c.count-2.ensures.value) ∙ sym c.is_dealt_out.ensures ∙ c.if-is_dealt_out.true in
-    sized_short _ _ _ _ _ _ _ sized short
+    sized_short _ _ _ _ _ _ sized (sym c.players_within.ensures ∙ c.if-not-players_within.false)
+    (last_test _ _ _ _ _ _ c.count-2.ensures.value c.count-3.ensures.value c.is_dealt_out.ensures ∙ c.if-is_dealt_out.true)
 
 pub returns-in_err-ranges : goal.returns-in_err-ranges
 returns-in_err-ranges c = let p = err_from_is_err_and c.from_residual.result c.from_residual.ensures.1 in rw (p.1, p.2) tt
 
 pub returns : goal.returns
 returns c =
-    let passed : Passed c.args.line.now c.in-Some.word.now (words_left c.next.new.self) (words_left c.in-Some-behind_ranges.table) = record {
+    let passed : Passed c.args.line.now c.in-Some.word.now (words_left c.next.new.self) (words_left c.in-Some-behind_ranges.others) c.in-Some-collect.table = record {
       first = sym c.of-words.ensures ∙ c.in-Some.ensures.steps;
       game = search rules;
-      hands = search rules;
-      none = c.in-Some-behind_ranges.ensures.hands;
-      board = c.in-Some-behind_ranges.ensures.board;
-      dead = c.in-Some-behind_ranges.ensures.dead;
-      form = sym c.in_form.ensures ∙ search rules;
-      ranges = sym c.are_ranges.ensures.value ∙ search rules;
+      behind = c.in-Some-behind_ranges.ensures;
+      collected = c.in-Some-collect.ensures;
+      ranges = c.in-Some-count_ranges.ensures.value.0;
     } in
-    let sized : Sized c.args.line.now c.in-Some.word.now (words_left c.next.new.self) (words_left c.in-Some-behind_ranges.table) c.in-Some-player_count.count c.board_cards-board.result c.dead_cards-dead.result = record {
+    let sized : Sized c.args.line.now c.in-Some.word.now (words_left c.next.new.self) (words_left c.in-Some-behind_ranges.others) c.in-Some-collect.table c.in-Some-count_ranges.count = record {
       passed = passed;
-      once = sym c.repeated_card.ensures ∙ c.in_default-repeated_card.is;
-      fits = sym c.board_fits.ensures ∙ search rules;
-      few = sym c.player_count.ensures ∙ c.in-Some-player_count.is;
-      board_is = c.board_cards-board.ensures;
-      dead_is = c.dead_cards-dead.ensures;
+      once = c.in_default-twice.is;
+      fits = ap (board_fits Holdem) (sym c.count.ensures.value) ∙ sym c.board_fits.ensures ∙ c.if-not-board_fits.false;
+      counted = c.in-Some-count_ranges.ensures.value.1;
     } in
-    let enough : is_dealt_out (length c.board_cards-board.result) (length c.dead_cards-dead.result) c.in-Some-player_count.count ≡ false =
-    ap (λ n. is_dealt_out n (length c.dead_cards-dead.result) c.in-Some-player_count.count) (sym c.count.ensures.value)
-    ∙ ap (λ n. is_dealt_out c.count.result n c.in-Some-player_count.count) (sym c.count-2.ensures.value) ∙ sym c.is_dealt_out.ensures ∙ c.if-is_dealt_out.false in
-    sized_ok _ _ _ _ _ _ _ c.in_ok-ranges.ranges.items sized enough c.in_ok-ranges.ensures
+    sized_ok _ _ _ _ _ _ c.in_ok-ranges.ranges.items sized (sym c.players_within.ensures ∙ c.if-not-players_within.false)
+    (last_test _ _ _ _ _ _ c.count-2.ensures.value c.count-3.ensures.value c.is_dealt_out.ensures ∙ c.if-is_dealt_out.false) c.in_ok-ranges.ensures

@@ -11,35 +11,40 @@ loop-word-init c =
     let e : words_left c.into_iter-word-iterator.result ≡ words_left c.args.words = ap words_left c.into_iter-word-iterator.ensures.into_iter_gives in
     record { more = tt; ends = tt; left = sym e; board = ap board_words e; dead = ap dead_words e; one = ap (λ l. one_from false (hand_words l)) e ∙ one_all _ (some_hand (words_left c.args.words)) }
 
-pub returns-then-full-clause-some : goal.returns-then-full-clause-some
-returns-then-full-clause-some c =
-    sym c.if-full.true ∙ sym (one_end c.loop-word.full _ _ (sym c.ends_hands.ensures ∙ c.if-ends_hands.true))
-    ∙ ap (λ l. one_from c.loop-word.full (hand_words l)) (sym c.in-Some.ensures.steps) ∙ c.loop-word.invariant.one
+pub returns-then-full : goal.returns-then-full
+returns-then-full c =
+    let left = c.loop-word.invariant.left in
+    record {
+      one = sym (sym c.if-full.true ∙ sym (one_end c.loop-word.full _ _ (sym c.ends_hands.ensures ∙ c.if-ends_hands.true))
+          ∙ ap (λ l. one_from c.loop-word.full (hand_words l)) (sym c.in-Some.ensures.steps) ∙ c.loop-word.invariant.one);
+      hands = ap hand_words (left ∙ c.in-Some.ensures.steps) ∙ hands_end _ _ (sym c.ends_hands.ensures ∙ c.if-ends_hands.true);
+      board = ap board_words left ∙ c.loop-word.invariant.board;
+      dead = ap dead_words left ∙ c.loop-word.invariant.dead;
+    }
 
-pub returns-then-full-clause-hands : goal.returns-then-full-clause-hands
-returns-then-full-clause-hands c =
-    ap hand_words (c.loop-word.invariant.left ∙ c.in-Some.ensures.steps) ∙ hands_end _ _ (sym c.ends_hands.ensures ∙ c.if-ends_hands.true)
+pub returns-else-full : goal.returns-else-full
+returns-else-full c =
+    sym (sym c.if-full.false ∙ sym (one_end c.loop-word.full _ _ (sym c.ends_hands.ensures ∙ c.if-ends_hands.true))
+    ∙ ap (λ l. one_from c.loop-word.full (hand_words l)) (sym c.in-Some.ensures.steps) ∙ c.loop-word.invariant.one)
 
-pub returns-else-full-clause-some : goal.returns-else-full-clause-some
-returns-else-full-clause-some c =
-    sym c.if-full.false ∙ sym (one_end c.loop-word.full _ _ (sym c.ends_hands.ensures ∙ c.if-ends_hands.true))
-    ∙ ap (λ l. one_from c.loop-word.full (hand_words l)) (sym c.in-Some.ensures.steps) ∙ c.loop-word.invariant.one
+pub returns-then-full-2 : goal.returns-then-full-2
+returns-then-full-2 c =
+    let left = c.loop-word.invariant.left in
+    record {
+      one = sym (sym c.if-full-2.true ∙ sym (one_none c.loop-word.full) ∙ ap (λ l. one_from c.loop-word.full (hand_words l)) (sym c.in-None.ensures.steps.0) ∙ c.loop-word.invariant.one);
+      hands = ap hand_words (left ∙ c.in-None.ensures.steps.0) ∙ none_first.0;
+      board = ap board_words left ∙ c.loop-word.invariant.board;
+      dead = ap dead_words left ∙ c.loop-word.invariant.dead;
+    }
 
-pub returns-then-full-2-clause-some : goal.returns-then-full-2-clause-some
-returns-then-full-2-clause-some c =
-    sym c.if-full-2.true ∙ sym (one_none c.loop-word.full) ∙ ap (λ l. one_from c.loop-word.full (hand_words l)) (sym c.in-None.ensures.steps.0) ∙ c.loop-word.invariant.one
-
-pub returns-then-full-2-clause-hands : goal.returns-then-full-2-clause-hands
-returns-then-full-2-clause-hands c = ap hand_words (c.loop-word.invariant.left ∙ c.in-None.ensures.steps.0) ∙ none_first.0
-
-pub returns-else-full-2-clause-some : goal.returns-else-full-2-clause-some
-returns-else-full-2-clause-some c =
-    sym c.if-full-2.false ∙ sym (one_none c.loop-word.full) ∙ ap (λ l. one_from c.loop-word.full (hand_words l)) (sym c.in-None.ensures.steps.0) ∙ c.loop-word.invariant.one
+pub returns-else-full-2 : goal.returns-else-full-2
+returns-else-full-2 c =
+    sym (sym c.if-full-2.false ∙ sym (one_none c.loop-word.full) ∙ ap (λ l. one_from c.loop-word.full (hand_words l)) (sym c.in-None.ensures.steps.0) ∙ c.loop-word.invariant.one)
 
 pub loop-word-preserved : goal.loop-word-preserved
 loop-word-preserved c =
     let later = table_later _ _ (sym c.ends_hands.ensures ∙ c.if-ends_hands.false) in
-    let same : words_left c.next-word.new.self ≡ words_left c.next.new.self = step_same c.loop-word.table c.next-word.new.self c.next-word.result _ _ c.next-word.ensures.steps (c.loop-word.invariant.left ∙ c.in-Some.ensures.steps) in
+    let same : words_left c.next-word.new.self ≡ words_left c.next.new.self = step_same c.loop-word.others c.next-word.new.self c.next-word.result _ _ c.next-word.ensures.steps (c.loop-word.invariant.left ∙ c.in-Some.ensures.steps) in
     record {
       more = tt;
       ends = tt;
@@ -50,7 +55,7 @@ loop-word-preserved c =
           ∙ ap (λ l. one_from c.loop-word.full (hand_words l)) (sym c.in-Some.ensures.steps) ∙ c.loop-word.invariant.one;
     }
 
-pub returns-then-is_dash-full-clause-some : goal.returns-then-is_dash-full-clause-some
-returns-then-is_dash-full-clause-some c =
-    sym (one_not c.loop-word.full _ _ (sym c.ends_hands.ensures ∙ c.if-ends_hands.false) (sym c.is_dash.ensures ∙ are_other _ _ c.if-is_dash-full.true))
-    ∙ ap (λ l. one_from c.loop-word.full (hand_words l)) (sym c.in-Some.ensures.steps) ∙ c.loop-word.invariant.one
+pub returns-then-is_dash-full : goal.returns-then-is_dash-full
+returns-then-is_dash-full c =
+    sym (sym (one_not c.loop-word.full _ _ (sym c.ends_hands.ensures ∙ c.if-ends_hands.false) (sym c.is_dash.ensures ∙ are_other _ _ c.if-is_dash-full.true))
+    ∙ ap (λ l. one_from c.loop-word.full (hand_words l)) (sym c.in-Some.ensures.steps) ∙ c.loop-word.invariant.one)

@@ -10,7 +10,7 @@ abbrev pub invariant-loop-word : goal.invariant-loop-word
 invariant-loop-word l = record {
   more : (goal.iterator-loop-word).can_next l.word-iterator;
   ends : (goal.iterator-loop-word).is_finite l.word-iterator;
-  left : words_left l.table ≡ words_left l.word-iterator;
+  left : words_left l.others ≡ words_left l.word-iterator;
   board : board_words (words_left l.word-iterator) ≡ board_words (words_left l.fn.words);
   dead : dead_words (words_left l.word-iterator) ≡ dead_words (words_left l.fn.words);
   one : one_from l.full (hand_words (words_left l.word-iterator)) ≡ list_all is_one_word (hand_words (words_left l.fn.words));

@@ -2,8 +2,7 @@ use Rattle.std.proofs.Common.{◌∙◌, ap, sym, drop}
 use Rattle.spot_text.specs.Words.{words_left}
 use Rattle.spot_text.specs.Parts.{cards_of, set_of}
 use Rattle.spot_text.specs.Fronts.{from_mark}
-use Rattle.spot_text.specs.declared.form.Section.TheVariants.{Dead}
-use Rattle.spot_text.specs.Sections.{stands_from}
+use Rattle.spot_text.specs.Sections.{Dead, stands_from}
 use Rattle.spot_text.proofs.CardsByWord.{set_of-nil}
 use Rattle.spot_text.proofs.SeenCards.{seen_whole}
 use Rattle.spot_text.proofs.FrontsByWord.{mark_end, board_stands, board_slash, board_stops}

@@ -16,7 +16,7 @@ loop-word-preserved c =
     record {
       more = tt;
       ends = tt;
-      cards = gathered_card _ _ _ (front_cards (words_left c.next.new.self)) _ _ _ _ c.loop-word.invariant.cards (ap cards_of front.0) c.card_of.ensures.value c.in-Some-card_of.is c.with-cards.ensures;
+      cards = gathered_card _ _ (front_cards (words_left c.next.new.self)) _ _ _ c.loop-word.invariant.cards (cards_more _ _ _ _ _ front.0 c.card_of.ensures.value c.in-Some-card_of.is) c.with-cards.ensures;
       mark = sym front.1 ∙ c.loop-word.invariant.mark;
       seen = λ all seen. c.add.ensures _ all
           (seen_left _ _ _ all (c.loop-word.invariant.seen all seen) (cards_more _ _ _ _ _ c.in-Some.ensures.steps c.card_of.ensures.value c.in-Some-card_of.is));

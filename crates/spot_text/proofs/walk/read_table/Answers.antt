@@ -1,6 +1,5 @@
 use Rattle.std.proofs.Common.{◌∙◌, ap, sym, refl}
-use Rattle.spot_text.specs.declared.form.Section.TheVariants.{Hands, Dead}
-use Rattle.spot_text.specs.Sections.{stands_from}
+use Rattle.spot_text.specs.Sections.{Hands, Dead, stands_from}
 use Rattle.spot_text.specs.Fronts.{from_mark}
 use Rattle.spot_text.specs.Parts.{cards_of, set_of}
 use Rattle.spot_text.proofs.CardsByWord.{set_of-nil}
