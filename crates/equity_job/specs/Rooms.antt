@@ -6,7 +6,7 @@ use Rattle.draw_runouts.specs.Draws.{are_draws}
 use Rattle.job_blocks.specs.declared.jobs.Job.{Job}
 use Rattle.equity_job.specs.declared.scratch.Scratch.{Scratch}
 
--- there are so many rows of counts, or more
+-- there are at least `rows` rows of counts
 abbrev pub HasRows : ℕ → Option (Vec (List ℕ) Global) → Type 0
 HasRows rows counts = MatchOption counts ⊥ (λ some. rows ≤ length some.items)
 

@@ -39,7 +39,7 @@ pub fn count_block<L: Ledger>(
     tally
 }
 
-/// The same into a tally that is lent, whatever it held: so no tally is moved.
+/// Makes a tally that of the runouts of a block, whatever it held. The caller lends the tally, so none is moved. It takes one step a runout.
 pub fn fill_block<L: Ledger>(
     job: &Job,
     block: u32,
@@ -75,8 +75,7 @@ pub fn fill_block<L: Ledger>(
     fill_without(&span, boards, draws, tally, steps);
 }
 
-/// Makes a tally that of a block, with counts of its own, which take 164 kB of the stack. It has a frame of its own for them.
-#[inline(never)]
+/// Makes a tally that of a block, with counts of its own on the stack.
 fn fill_without<L: Ledger>(
     span: &Span,
     boards: &mut Option<Boards>,
@@ -86,7 +85,28 @@ fn fill_without<L: Ledger>(
 )
     ensures { FillsBlock span.now.job.now span.now.number tally.new steps.old steps.new }
 {
-    let mut counts = [[0; 2048]; 20];
+    if span.job.table.pots <= 2 {
+        fill_in_rows::<4, L>(span, boards, draws, tally, steps);
+    } else {
+        fill_in_rows::<20, L>(span, boards, draws, tally, steps);
+    }
+}
+
+/// Makes a tally that of a block, with `ROWS` rows of counts of 8 kB each. They are in a frame of their own, so a count of one pot or two
+/// needs 32 kB of the stack, and only more pots need 160 kB.
+#[inline(never)]
+fn fill_in_rows<const ROWS: usize, L: Ledger>(
+    span: &Span,
+    boards: &mut Option<Boards>,
+    draws: &mut Option<Draws>,
+    tally: &mut Tally,
+    steps: &mut Steps<L>,
+)
+    // Each pot has its two rows, and there are at most ten pots.
+    requires { (2 * span.now.job.now.table.pots ≤ ROWS) × (ROWS ≤ 20) }
+    ensures { FillsBlock span.now.job.now span.now.number tally.new steps.old steps.new }
+{
+    let mut counts = [[0; 2048]; ROWS];
     count_by_leaf(span, &mut counts, boards, draws, steps);
     let table = &span.job.table;
     fill_tally(table, span.end - span.first, &counts, tally);

@@ -49,7 +49,7 @@ pub fn count_blocks<L: Ledger>(
     add_others(job, scratch, total, steps);
 }
 
-/// The same with a counter of its own, which begins at 0.
+/// Makes a tally that of all runouts of a job, with a counter of steps of its own, which begins at 0.
 fn count_on<L: Ledger>(job: &Job, scratch: &mut Scratch, total: &mut Tally, blank: Blank)
     requires name { blank.name ≡ L.name }
     requires parts { blank.parts ≡ L.parts }

@@ -23,7 +23,7 @@ pub struct Scratch {
     pub(crate) draws: Option<Draws>,
 }
 
-/// So many rows of counts.
+/// Returns `rows` rows of counts, all 0.
 fn rows_of(alloc: Global, rows: usize) -> Result<Vec<[u32; 2048]>, Memory>
     ensures { IfOk result (λ counts. length counts.items ≡ rows) }
 {
@@ -67,7 +67,8 @@ impl Scratch {
         Ok(())
     }
 
-    /// The same for boards of so many pots that lack two cards or more, whichever they are.
+    /// Asks for the parts that boards of up to `pots` pots use that lack two cards or more, whichever they are, if they aren't there. After
+    /// `Memory` it has what it had.
     pub fn ready_for_boards(&mut self, alloc: Global, pots: u8) -> Result<(), Memory>
         ensures counts { OnOk result (HasRows (2 * pots) self.new.counts) }
         ensures boards { OnOk result (IsSome self.new.boards) }
@@ -79,7 +80,7 @@ impl Scratch {
         Ok(())
     }
 
-    /// Whether there are so many rows of counts.
+    /// Returns whether there are `rows` rows of counts or more.
     fn has_rows(&self, rows: usize) -> bool
         ensures { IsTrue result → HasRows rows self.now.counts }
     {

@@ -1,6 +1,6 @@
 use Rattle.job_blocks.specs.Blocks.{block_of}
 use Rattle.equity_job.specs.CountedBlocks.{runouts_of}
-use Rattle.equity_job.proofs.blocks.fill_without.Goals as goal
+use Rattle.equity_job.proofs.blocks.fill_in_rows.Goals as goal
 
 pub returns : goal.returns
 returns g c =
