@@ -7,7 +7,7 @@ use Rattle.worker_seats.specs.declared.lanes.Lane.{Lane}
 use Rattle.worker_seats.specs.declared.lanes.Got.{Got}
 use Rattle.worker_seats.specs.declared.lanes.Got.TheVariants.{Block, End, Nothing}
 
--- the blocks for the deque of a number, of so many workers, rising
+-- the blocks for the deque of this number, in rising order
 abbrev pub blocks_to : ℕ → ℕ → ℕ → List ℕ
 blocks_to workers blocks deque = filter (λ b. b % workers == deque) (range_with_len 0 blocks)
 

@@ -44,7 +44,7 @@ pub record IsFreshSitting (workers blocks : ℕ) (sitting : Sitting) : Type 0 wh
 abbrev pub taken_weight : (ℕ → ℕ) → ℕ → Sitting → ℕ
 taken_weight weight deque sitting = sum_by (λ taken. sum_by weight (slice_index_or taken deque [])) sitting.taken
 
--- how often all workers took a block from the first so many deques
+-- how often all workers took a block from the deques below a number
 abbrev pub times_taken : ℕ → ℕ → Sitting → ℕ
 times_taken deques block sitting = sum_by (λ deque. taken_weight (one_at block) deque sitting) (range_with_len 0 deques)
 

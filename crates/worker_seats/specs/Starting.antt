@@ -11,7 +11,7 @@ use Rattle.worker_seats.specs.declared.lanes.Lane.{Lane}
 use Rattle.worker_seats.specs.declared.seat.Seat.{Seat}
 
 module _ {N C : Type 0} where
-  -- a seat with a way to each of the first so many deques, and room for the others
+  -- a seat with a way to each deque below `made`, and room for the others
   pub record IsSeated (workers blocks made : ℕ) (seat : Seat N C) : Type 0 where
     pub count : length seat.lanes.items ≡ made
     pub room : workers ≤ vec_capacity seat.lanes
@@ -19,7 +19,7 @@ module _ {N C : Type 0} where
     pub untouched : (d : ℕ) (x : Lane N) → d < made → IsUntouched (slice_index_or seat.lanes.items d x)
     pub part : seat.desk.part ≡ record { parts = 1; amount = 0; words = no_blocks }
 
-  -- one way to each of the first so many deques is its owner's
+  -- one way to each deque below `made` is its owner's
   abbrev pub HasWays : ℕ → ℕ → List (Seat N C) → Type 0
   HasWays workers made seats = (d : ℕ) → d < made → (id : RowsId × Global) × ((w : ℕ) (x : Seat N C) (y : Lane N) → w < workers
       → (w ≡ d → IsOwn id (slice_index_or (slice_index_or seats w x).lanes.items d y).reach) × ((w ≡ d → ⊥) → IsOther id (slice_index_or (slice_index_or seats w x).lanes.items d y).reach))

@@ -11,13 +11,17 @@ use tally_book::Naming;
 /// What a pass knows of its deque: for how many of the passes of the start it stands, what was pushed, and what
 /// was taken with it. It is there for proofs alone: no value of it is made.
 pub struct Claim {
+    /// How many passes of the start this pass represents.
     pub stands_for: u64,
+    /// What was pushed to the deque.
     pub pushed: LinkedList<u32>,
+    /// What was taken from the deque with this pass.
     pub taken: LinkedList<u32>,
 }
 
 /// The rule over one deque of `N`'s seats.
 pub struct OneDeque<N: Naming> {
+    /// Whose seats they are.
     of: PhantomData<N>,
 }
 
@@ -41,6 +45,7 @@ impl Outcome<u32, Claim> for Pushes {
 
 /// A pop or a steal from a deque of `N`'s seats.
 pub struct Takes<N: Naming> {
+    /// Whose seats they are.
     of: PhantomData<N>,
 }
 

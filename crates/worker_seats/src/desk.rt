@@ -14,8 +14,11 @@ use tally_book::{Naming, Part};
 /// What one worker counts with: its part in the book, and a counter of blocks and a tally of its own.
 #[derive(Drop)]
 pub struct Desk<N: Naming, C> {
+    /// The part of the ledger by which the worker posts.
     pub(crate) part: Part<N>,
+    /// What counts a block.
     pub(crate) counter: C,
+    /// The tally of the last block that was counted.
     pub(crate) tally: Tally,
 }
 

@@ -35,13 +35,16 @@ pub enum Got {
 /// an end mark.
 #[derive(Drop)]
 pub struct Lane<N: Naming> {
+    /// How the worker takes from the deque.
     pub(crate) reach: Reach<N>,
+    /// The blocks that were taken, in order.
     pub(crate) taken: Vec<u32>,
+    /// An end mark was taken.
     pub(crate) ended: bool,
 }
 
 impl<N: Naming> Lane<N> {
-    /// With room for so many blocks, none of them taken.
+    /// Returns a lane with room for `room` blocks, of which none is taken.
     pub(crate) fn new(alloc: Global, reach: Reach<N>, room: usize) -> Result<Lane<N>, Memory>
         ensures reach { IfOk result (λ lane. lane.reach ≡ reach) }
         ensures untouched { IfOk result (λ lane. IsUntouched lane) }

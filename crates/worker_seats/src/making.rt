@@ -38,7 +38,9 @@ pub(crate) fn seats_without_ways<N: Naming, C: BlockCounter>(
     Ok(seats)
 }
 
-/// Adds a seat with no way yet, with a part of its own and who counts its blocks.
+/// Adds a seat with no way yet, with a part of its own and who counts its blocks. It has a frame of its own, because a seat goes
+/// through the stack.
+#[inline(never)]
 fn push_seat<N: Naming, C: BlockCounter>(
     alloc: Global,
     job: &Job,

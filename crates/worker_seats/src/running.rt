@@ -45,7 +45,7 @@ pub(crate) fn work_seats<
     work_all(rt, seats.as_mut_slice(), job, gate, book);
 }
 
-/// The same of a slice.
+/// Runs all seats of a slice, and joins their passes.
 fn work_all<
     N: Naming + Send + Sync,
     C: BlockCounter + Send,

@@ -17,7 +17,9 @@ use tally_book::Naming;
 /// What one worker works with: a way to each deque, and what it counts with.
 #[derive(Drop)]
 pub struct Seat<N: Naming, C> {
+    /// A way to each deque, by its number.
     pub(crate) lanes: Vec<Lane<N>>,
+    /// What the worker counts with.
     pub(crate) desk: Desk<N, C>,
 }
 

@@ -30,9 +30,13 @@ use tally_book::{Book, Closed, Naming, Part};
 /// what the passes of the deque hold, or, once the work is done, what they held as they were joined.
 #[derive(Drop)]
 pub struct Seats<N: Naming, C> {
+    /// A seat for each worker, by its number.
     seats: Vec<Seat<N, C>>,
+    /// The book, in its lock.
     book: SharedBook<N>,
+    /// The part of the ledger that no worker has.
     spare: Part<N>,
+    /// The workers are done.
     worked: bool,
 }
 
@@ -53,7 +57,9 @@ impl<N: Naming, C> Model for Seats<N, C> {
 impl<N: Naming, C: BlockCounter> Seats<N, C> {
     /// Seats for 1 to 16 workers, of a blank with a part for each and one more. Each block is pushed
     /// to the deque of its number modulo the workers, in rising order, and then one end mark for each
-    /// worker to each deque. It takes all memory whose refusal is answered.
+    /// worker to each deque. It takes all memory whose refusal is answered. It has a frame of its own, because seats and tallies
+    /// go through the stack.
+    #[inline(never)]
     pub fn start(
         alloc: Global,
         job: &Job,
@@ -120,7 +126,8 @@ impl<N: Naming, C: BlockCounter> Seats<N, C> {
     }
 
     /// Posts each block that isn't marked, and closes the book. `by_workers` is how many blocks the
-    /// workers posted. It takes no memory.
+    /// workers posted. It takes no memory. It has a frame of its own, because tallies go through the stack.
+    #[inline(never)]
     pub fn finish(self, job: &Job) -> Closed
         requires named { deal_of job.now.table ≡ N.deal }
         requires worked { self.worked ≡ true }

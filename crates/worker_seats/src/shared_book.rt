@@ -14,6 +14,7 @@ use tally_book::{Book, Naming, Part};
 /// block is counted while the book is locked.
 #[derive(Drop)]
 pub(crate) struct SharedBook<N: Naming> {
+    /// The book, in a lock that only this module takes.
     book: Mutex<Book<N>>,
 }
 
