@@ -15,7 +15,7 @@ both a b = record {
   unknown = a.unknown + b.unknown;
 }
 
--- sums that so many hands may give a player: one hand gives at most 2 ^ 95 units
+-- sums that a number of hands may give a player: one hand gives at most 2 ^ 95 units
 pub record AreOfSeats (count : ℕ) (sums : BalanceSums) : Type 0 where
   pub hands : sums.hands ≤ count
   pub got : sums.got ≤ count * 2 ^ 95

@@ -75,7 +75,7 @@ made_sums hands = record {
   all_ins = sums_over hands;
 }
 
--- the first words of the line of so many hands that were made, as `made hands 100 accepted 100`
+-- the first words of the line of a number of hands that were made, as `made hands 100 accepted 100`
 unfoldable pub made_title : ℕ → ℕ → List (List ℕ)
 made_title hands accepted =
     codes "made" ∷ codes "hands" ∷ decimal hands ∷ codes "accepted" ∷ decimal accepted ∷ []
@@ -86,11 +86,11 @@ made_columns sums =
     codes "runouts" ∷ money false sums.runouts ∷ codes "first" ∷ money false sums.first
     ∷ codes "second" ∷ money false sums.second ∷ []
 
--- the line of so many hands that were made
+-- the line of a number of hands that were made
 unfoldable pub made_line : ℕ → ℕ → AllInSums → Line
 made_line hands accepted sums = plain (made_title hands accepted ++ made_columns sums)
 
--- the block of so many hands that were made, by the verdicts on them
+-- the block of a number of hands that were made, by the verdicts on them
 abbrev pub made_block : Form → ℕ → List HandAudit → List ℕ
 made_block form hands audits =
     line_in form (made_line hands (made_sums audits).accepted (made_sums audits).all_ins)

@@ -9,7 +9,7 @@ use Rattle.report_sheet.specs.Lines.{Line, line_in}
 use Rattle.player_totals.specs.Totals.{Player, same_player}
 use Rattle.report_sheet.specs.declared.form.Form.{Form}
 
--- a kind of sums: those of no hand, those of two parts of the hands, and whether so many hands may come to some
+-- a kind of sums: those of no hand, those of two parts of the hands, and whether a number of hands may give some sums
 pub record AreSums {S : Type 0} (nothing : S) (plus : S → S → S) (AreOf : ℕ → S → Type 0) : Type 0 where
   pub before : (a : S) → plus nothing a ≡ a
   pub behind : (a : S) → plus a nothing ≡ a
@@ -18,7 +18,7 @@ pub record AreSums {S : Type 0} (nothing : S) (plus : S → S → S) (AreOf : �
   pub one : (count : ℕ) (a b : S) → AreOf count a → AreOf 1 b → AreOf (count + 1) (plus a b)
   pub more : (count most : ℕ) (a : S) → count ≤ most → AreOf count a → AreOf most a
 
--- the sums of each player are of so many hands
+-- the sums of each player are those that a number of hands may give
 abbrev pub AllAreOf : {S : Type 0} → (ℕ → S → Type 0) → ℕ → List (Player × S) → Type 0
 AllAreOf AreOf count entries = AllByRecursion (λ entry. AreOf count entry.1) entries
 

@@ -53,7 +53,7 @@ each_once (player ∷ later) =
 abbrev pub all_players : List HandAudit → List Player
 all_players hands = each_once (flat_map players_in hands)
 
--- what a seat collected of a hand with so many pots: out of each of them, and by the payments of the hand, which there are where
+-- what a seat collected of a hand with this number of pots: out of each of them, and by the payments of the hand, which there are where
 -- the names of the collections don't fit the pots
 abbrev pub collected_by : Settlement → ℕ → ℕ → ℕ
 collected_by s count seat =

@@ -87,7 +87,7 @@ first_at names players place =
     if is_none (seat_named who.1 (playing (take place names) players)) then Some who else None)
     (player_at names players place)
 
--- sums that so many hands may give a player: one hand gives at most 2 ^ 95 units
+-- sums that a number of hands may give a player: one hand gives at most 2 ^ 95 units
 pub record AreOfHands (count : ℕ) (sums : PlayerSums) : Type 0 where
   pub hands : sums.hands ≤ count
   pub all_ins : sums.all_ins ≤ count

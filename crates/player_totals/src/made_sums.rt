@@ -29,7 +29,7 @@ pub struct AllInSums {
     pub second: u128,
 }
 
-/// Those of a hand without a counted all-in.
+/// The sums of a hand without a counted all-in.
 const NO_ALL_IN: AllInSums = AllInSums {
     runouts: 0,
     first: 0,
@@ -131,7 +131,7 @@ impl Model for MadeSums {
 }
 
 impl MadeSums {
-    /// Those of no hand.
+    /// Creates the sums of no hands.
     pub fn new() -> MadeSums
         ensures { result ≡ made_sums [] }
     {
@@ -167,7 +167,7 @@ impl MadeSums {
         self.accepted
     }
 
-    /// Appends the line of so many hands that were made. Out of memory it leaves `out` as it was.
+    /// Appends the line of this number of hands that were made. Out of memory, it leaves `out` unchanged.
     pub fn write(&self, out: &mut Vec<u8>, hands: u64, form: Form) -> Result<(), Memory>
         ensures block { OnOk result (out.new.items
             ≡ out.old.items ++ line_in form (made_line hands self.now.accepted self.now.all_ins)) }
@@ -179,7 +179,7 @@ impl MadeSums {
     }
 }
 
-/// The first words of the line of so many hands that were made.
+/// Writes the first words of the line of this number of hands that were made.
 #[tactic(auto, using(report_sheet::proofs::CallerLemmas::word_steps), unfolding(crate::specs::Made::made_title))]
 fn made_title(sheet: &mut Sheet, hands: u64, accepted: u64) -> Result<(), AllocError>
     ensures { OnOk result (sheet.new ≡ with_words sheet.old (made_title hands accepted)) }
@@ -199,7 +199,7 @@ fn made_columns(sheet: &mut Sheet, sums: &AllInSums) -> Result<(), AllocError>
     sheet.name_and_money("second", false, sums.second)
 }
 
-/// The line of so many hands that were made.
+/// Writes the line of this number of hands that were made.
 #[tactic(auto, using(report_sheet::proofs::CallerLemmas::sheet_steps), unfolding(crate::specs::Made::made_line))]
 fn made_line(
     sheet: &mut Sheet,

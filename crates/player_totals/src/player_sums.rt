@@ -29,7 +29,7 @@ pub struct PlayerSums {
 }
 
 impl PlayerSums {
-    /// Those of no hand.
+    /// The sums of no hands.
     const NONE: PlayerSums = PlayerSums {
         hands: 0,
         all_ins: 0,
@@ -37,7 +37,7 @@ impl PlayerSums {
         expected: 0,
     };
 
-    /// Those of a hand that he plays, without a counted all-in of his.
+    /// The sums of a hand that the player plays without a counted all-in.
     const HAND_ALONE: PlayerSums = PlayerSums {
         hands: 1,
         all_ins: 0,
@@ -92,7 +92,7 @@ impl<'a> Gives<PlayerSums> for PlayedHand<'a> {
     }
 }
 
-/// What a seat collected of a hand with so many pots.
+/// Returns the amount that a seat collected from the first `count` pots of a hand and from its payments.
 fn collected_by(settlement: &Settlement, count: u8, seat: u8) -> u128
     requires { count ≤ 10 }
     ensures value { result ≡ collected_by settlement.now count seat }

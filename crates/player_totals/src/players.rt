@@ -89,7 +89,7 @@ impl<'a> Lineup<'a> {
         false
     }
 
-    /// The same as `player_at`, where no seat that plays has the name before.
+    /// Returns what `player_at` returns, if no earlier seat that plays has the name.
     fn first_at(&self, place: usize) -> Option<(u8, &'a [u8])>
         requires { place ≤ length self.now.names.now }
         ensures { option_map (λ who. (who.0, who.1.now)) result
@@ -137,7 +137,7 @@ fn add_each_player<S: Sums>(
     Ok(())
 }
 
-/// The same, and out of memory it changes nothing.
+/// Gives each player of a hand sums of no hands, if the player has none yet. Out of memory, it leaves the players unchanged.
 fn add_players<S: Sums>(
     players: &mut Players<S>,
     keys: &[PlayerKey],

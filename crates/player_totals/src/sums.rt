@@ -14,26 +14,26 @@ use std::alloc::AllocError;
 
 /// What some hands of one unit of money come to for a player.
 pub(crate) trait Sums: Copy {
-    /// Those of no hand.
+    /// The sums of no hands.
     ghost nothing: { Self };
 
-    /// Those of two parts of the hands.
+    /// The sums of two parts of the hands together.
     ghost plus: { Self → Self → Self };
 
-    /// Whether so many hands may come to them.
+    /// Whether a number of hands may give such sums.
     ghost AreOf: { ℕ → Self → Type 0 };
 
-    /// How these go together.
+    /// The laws of the three members above.
     ghost laws: { AreSums nothing plus AreOf };
 
     /// The line of a player.
     ghost line: { Player → Self → Line };
 
-    /// Those of no hand.
+    /// Returns the sums of no hands.
     fn none() -> Self
         ensures { result ≡ nothing };
 
-    /// The sums with those of one hand more.
+    /// Returns these sums together with those of one more hand.
     fn with(&self, more: &Self) -> Self
         requires sums { AreOf (2 ^ 32 + 1) self.now }
         requires more { AreOf 1 more.now }

@@ -128,7 +128,8 @@ fn write_lines<S: Sums>(
     write_players(out, players, form)
 }
 
-/// The same, and out of memory leaves `out` as it was.
+/// Appends a line of all hands, with the word of the sums, and the lines of all players. Out of memory, it leaves `out`
+/// unchanged.
 pub(crate) fn write_sums<S: Sums>(
     out: &mut Vec<u8>,
     word: &str,

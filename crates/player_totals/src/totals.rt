@@ -49,7 +49,7 @@ impl Model for Totals {
 }
 
 impl Totals {
-    /// Those of no hand.
+    /// Creates the sums of no hands.
     pub fn new(alloc: Global) -> Totals
         ensures { result ≡ totals_of [] }
     {

@@ -2,7 +2,7 @@
 use Rattle.std.specs.Prelude.{ℕ, ◌-◌, ◌*◌, nat_lt, Bool, if◌then◌else◌, List, [], ◌∷◌, ◌++◌, codes, decimal}
 use Rattle.share_fractions.specs.Round.{round, fixed_text}
 
--- so many units of money: chips as a whole number, hundredths with a point and two digits after it
+-- a number of units of money: chips as a whole number, hundredths with a point and two digits after it
 unfoldable pub money : Bool → ℕ → List ℕ
 money hundredths units = fixed_text units (if hundredths then 2 else 0)
 
@@ -12,7 +12,7 @@ difference hundredths amount less =
     if nat_lt amount less then codes "-" ++ money hundredths (less - amount)
     else money hundredths (amount - less)
 
--- so many of all runouts, in percent with two decimal places
+-- a count of all runouts, in percent with two decimal places
 unfoldable pub percent : ℕ → ℕ → List ℕ
 percent count all = fixed_text (round (100 * count) all 2) 2
 

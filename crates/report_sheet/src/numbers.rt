@@ -27,7 +27,7 @@ impl Sheet {
         self.word(buffer.format(number).as_bytes())
     }
 
-    /// A fraction with so many decimal places, rounded once, a half up.
+    /// Writes a fraction with this number of decimal places, rounded once, a half up.
     fn fraction(
         &mut self,
         numerator: u128,
@@ -94,7 +94,7 @@ impl Sheet {
         self.money(hundredths, amount - less)
     }
 
-    /// So many of all runouts, in percent with two decimal places.
+    /// Writes a share of all runouts, in percent with two decimal places.
     #[tactic(auto, unfolding(crate::specs::Numbers::percent))]
     fn percent(&mut self, count: u128, all: u128) -> Result<(), AllocError>
         requires some { 0 < all }
@@ -117,7 +117,7 @@ impl Sheet {
         self.fraction(units, 5040 * all, 3)
     }
 
-    /// The same with numbers of a tally.
+    /// Writes an expected part of the pot, from the numbers of a tally.
     pub fn expected(&mut self, units: u64, all: u64) -> Result<(), AllocError>
         requires some { 0 < all }
         ensures { OnOk result (self.new ≡ with_words self.old (expected units all ∷ [])) }

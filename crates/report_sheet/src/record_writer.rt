@@ -18,6 +18,7 @@ const WORDS: usize = 12;
 /// Whole records, and the fields of the next record so far.
 #[derive(Drop)]
 pub(crate) struct RecordWriter {
+    /// The writer of the fields. It has the whole records, and the fields of the next one.
     writer: Writer<Vec<u8>>,
     /// How many more words the next record takes before its name.
     left: usize,

@@ -14,13 +14,16 @@ use std::marker::Model;
 /// Lines in one form.
 #[derive(Drop)]
 enum Lines {
+    /// Words with blanks between them.
     Text(TextLines),
+    /// Records of CSV.
     Csv(Records),
 }
 
 /// Whole lines of the report, and the words of the next line so far.
 #[derive(Drop)]
 pub struct Sheet {
+    /// The lines, in the form of the report.
     lines: Lines,
 }
 

@@ -79,7 +79,7 @@ impl Sheet {
         self.share("lose", lose, all)
     }
 
-    /// The same with a cell of a tally.
+    /// Writes how all runouts end for a hand on a side, from a cell of a tally.
     pub fn side_columns(&mut self, all: u64, side: Side, cell: Cell) -> Result<(), AllocError>
         requires some { 0 < all }
         ensures { OnOk result (self.new ≡ with_words self.old (side_columns all side cell)) }
@@ -123,7 +123,7 @@ impl Sheet {
         self.end()
     }
 
-    /// The same with a cell of a tally.
+    /// Writes the line of a hand on a side, from a cell of a tally. Hands count from 0.
     pub fn side_line(
         &mut self,
         all: u64,

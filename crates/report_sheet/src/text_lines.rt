@@ -13,6 +13,7 @@ const WORDS: usize = 12;
 /// Whole lines, and the words of the next line so far.
 #[derive(Drop)]
 pub(crate) struct TextLines {
+    /// Bytes of the lines, and of the words of the next line.
     bytes: Vec<u8>,
     /// Whether the next line has a word.
     begun: bool,
