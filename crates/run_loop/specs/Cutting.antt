@@ -30,7 +30,7 @@ pub record Cuts (limit : ℕ) (kind : CutKind) (input : Input) (bytes : List ℕ
 abbrev pub Begins : CutKind → Ending → List ℕ → List UnitLines → Type 0
 Begins kind ending bytes done = (more : List UnitLines) × (units_in kind (is_whole ending) 1 bytes ≡ done ++ more)
 
--- what counts of one more read where so many bytes were given: of a piece no more than the limit, and nothing of a read that failed
+-- what counts of one more read after this number of bytes was given: of a piece no more than the limit, and nothing of a read that failed
 abbrev pub counted : ℕ → ℕ → Option (List ℕ) → List ℕ
 counted limit given None = []
 counted limit given (Some more) = take (limit - given) more

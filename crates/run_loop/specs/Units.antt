@@ -2,6 +2,8 @@
 use Rattle.std.specs.Prelude.{◌≡◌, ℕ, ◌+◌, ◌-◌, ◌≤◌, Bool, true, false, List, length}
 use Rattle.hand_audit.specs.Departs.{begins_hand}
 use Rattle.hand_cuts.specs.Cutters.{new_cutter, seen}
+use Rattle.hand_cuts.specs.Units.{UnitLines}
+use Rattle.line_text.specs.Lines.{lines}
 use Rattle.hand_cuts.specs.declared.units.CutKind.{CutKind}
 use Rattle.hand_cuts.specs.declared.units.CutKind.TheVariants.{Hands}
 use Rattle.hand_cuts.specs.declared.units.Unit.{Unit as UnitPlace}
@@ -10,6 +12,7 @@ use Rattle.run_loop.specs.Plans.{cut_in, plan_of}
 use Rattle.run_loop.specs.declared.reading.Ending.{Ending}
 use Rattle.run_loop.specs.declared.reading.Ending.TheVariants.{Whole, Failed, TooLong, Open}
 use Rattle.run_loop.specs.declared.reading.Input.{Input}
+use Rattle.run_loop.specs.declared.units.UnitText.{UnitText}
 
 -- what the input of a mode is cut into
 abbrev pub unit_kind : Mode → CutKind
@@ -36,3 +39,7 @@ pub record IsUnit (limit : ℕ) (kind : CutKind) (held : List ℕ) (unit : UnitP
   pub ordered : unit.first ≤ unit.end
   pub within : unit.end ≤ length held
   pub numbers : unit.first_line + length (seen held unit).lines ≤ limit + 1
+
+-- the lines of a unit, with the number of the first line
+abbrev pub unit_lines : UnitText → UnitLines
+unit_lines text = record { first = text.first; lines = lines text.bytes.now }

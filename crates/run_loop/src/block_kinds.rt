@@ -1,13 +1,13 @@
 //! What has a block each in a report.
 
-/// How much is told of a hand.
+/// The detail in which a hand is reported.
 #[derive(Clone, Copy)]
 pub(crate) enum Detail {
-    /// Its verdict.
+    /// The verdict on the hand.
     Verdict,
-    /// Also the equity of its all-in.
+    /// The verdict, and the equity of the hand's all-in.
     AllIn,
-    /// Also that on each later street.
+    /// The verdict, the equity of the all-in, and the equity on each later street.
     LaterStreets,
 }
 
@@ -15,7 +15,7 @@ impl Detail {
     ghost use Rattle.std.specs.Prelude.{◌≡◌};
     ghost use Rattle.run_loop.specs.Histories.{tells_all_in};
 
-    /// Whether the equity of an all-in is told.
+    /// Returns whether the equity of an all-in is reported.
     pub(crate) fn tells_all_in(self) -> bool
         ensures { result ≡ tells_all_in self }
     {
@@ -26,7 +26,7 @@ impl Detail {
     }
 }
 
-/// What a player of a spot line has.
+/// The holding of each player of a spot line.
 #[derive(Clone, Copy)]
 pub(crate) enum SpotKind {
     /// The cards of a hand.
@@ -35,24 +35,23 @@ pub(crate) enum SpotKind {
     Ranges,
 }
 
-/// The spots of the input, or its hands, or the results of its hands; given is what the players of a spot
-/// have, and how much is told of each hand.
+/// The kind of the blocks of a report.
 #[derive(Clone, Copy)]
 pub(crate) enum BlockKind {
-    Spots { holding: SpotKind },
-    Hands { told: Detail },
+    /// One block for each spot.
+    Spots {
+        /// Holding of each player.
+        holding: SpotKind,
+    },
+    /// One block for each hand.
+    Hands {
+        /// Detail in which each hand is reported.
+        told: Detail,
+    },
+    /// The results of each hand, in one block.
     Results,
+    /// The settlement of each hand, in one block.
     Settle,
-}
-
-/// The numbers of a spot or a hand: the place from 1 that its block has in the report, and the number of
-/// its first line.
-#[derive(Clone, Copy)]
-pub(crate) struct UnitPosition {
-    /// Place of the block among those of the report, from 1.
-    pub(crate) place: u64,
-    /// Number of its first line in the input, from 1.
-    pub(crate) line: u32,
 }
 
 impl BlockKind {

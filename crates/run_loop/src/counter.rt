@@ -1,4 +1,4 @@
-//! Who counts equities, and the last one that was asked for.
+//! The counter of equities, and the last equity that was counted.
 
 ghost use Rattle.std.specs.Prelude.{◌≡◌, ⊤, OnOk, true};
 ghost use Rattle.card_sets.specs.State.{state_of};
@@ -16,13 +16,14 @@ use job_blocks::Job;
 use range_lines::{RangeJobFault, RangeSpot, RangeTally};
 use report_table::Equity;
 use showdown_tally::{Table, Tally};
+use std::marker::{Model, PhantomData};
 
-/// Counts jobs, and spots with ranges.
+/// A counter of jobs, and of spots with ranges.
 pub trait Counter {
     /// What is known of a call that it makes in its turn, if it makes one.
     ghost ready: { Type 0 } = { ⊤ };
 
-    /// Makes a tally that of all runouts of a job, whatever it held, with so many workers at the most.
+    /// Replaces a tally by that of all runouts of a job, counted with at most this number of workers.
     fn count(&mut self, job: &Job, workers: u32, tally: &mut Tally) -> Result<(), Memory>
         requires { ready }
         ensures { OnOk result (Counts (deal_of job.now.table)
@@ -34,20 +35,20 @@ pub trait Counter {
         ensures { IsCountOf (ranges_in spot.now) result };
 }
 
-/// Who counts the equities of a run, with how many workers, and the last equity that was asked for. It is
-/// kept, so that its tally is made once in a run.
+/// A counter of equities, the number of its workers, and the last equity that was asked for. The equity is kept, so that its
+/// tally is made once in a run.
 #[derive(Drop)]
 pub struct EquityCounter<C> {
-    /// Who counts.
+    /// The counter.
     pub(crate) counter: C,
-    /// How many workers it may have.
+    /// Number of workers that the counter may have.
     pub(crate) workers: u32,
-    /// The last equity.
+    /// The last equity that was asked for.
     pub(crate) equity: Equity,
 }
 
 impl<C> EquityCounter<C> {
-    /// Has one count equities, of which none was asked for yet.
+    /// Creates a counter of equities that was asked for none yet.
     pub fn new(counter: C) -> EquityCounter<C>
         ensures { result.counter ≡ counter }
     {
@@ -60,23 +61,7 @@ impl<C> EquityCounter<C> {
 }
 
 impl<C: Counter> EquityCounter<C> {
-    /// Asks for nothing.
-    pub(crate) fn ask_nothing(&mut self)
-        ensures { self.new.equity ≡ Equity.NotAsked }
-    {
-        self.equity = Equity::NotAsked;
-    }
-
-    /// Asks for an equity that nobody will look at.
-    fn ask_any(&mut self)
-        ensures { is_asked self.new.equity ≡ true }
-    {
-        if !self.equity.is_asked() {
-            self.equity = Equity::Counted(Tally::zero());
-        }
-    }
-
-    /// Counts a job.
+    /// Counts a job. Its tally is the last equity.
     fn ask_job(&mut self, job: &Job) -> Result<(), Memory>
         requires ready { C.ready }
         ensures { OnOk result (IsEquityOf (deal_of job.now.table) self.new.equity) }
@@ -89,26 +74,101 @@ impl<C: Counter> EquityCounter<C> {
         self.equity = Equity::Counted(tally);
         Ok(())
     }
+}
 
-    /// Asks for the equity of a table: counted over all runouts, or why it isn't.
-    pub(crate) fn ask_table(&mut self, table: &Table) -> Result<(), Memory>
+/// Evidence that the calls of a counter may be made. It is known to proofs alone, and has no bytes.
+#[derive(Drop)]
+struct Ready<C: Counter> {
+    /// The type of the counter.
+    of: PhantomData<C>,
+}
+
+impl<C: Counter> Model for Ready<C> {
+    ghost Value = { Unit {0} };
+
+    ghost view = { λ _. tt };
+
+    ghost invariant = { λ _. C.ready };
+}
+
+impl<C: Counter> Ready<C> {
+    /// Keeps that the calls may be made.
+    fn new() -> Ready<C>
         requires ready { C.ready }
-        ensures { OnOk result (IsEquityOf (deal_of table.now) self.new.equity) }
     {
+        Ready { of: PhantomData }
+    }
+
+    /// A law: the calls may be made.
+    fn law_ready(&self)
+        ensures { C.ready }
+    {
+        let _ = &self.of;
+    }
+}
+
+/// The equities of a run: a counter that may be called, and the last equity that was asked for.
+#[derive(Drop)]
+pub(crate) struct Equities<'a, C: Counter> {
+    /// The counter, and the last equity.
+    pub(crate) counter: &'a mut EquityCounter<C>,
+    /// The calls of the counter may be made.
+    ready: Ready<C>,
+}
+
+impl<'a, C: Counter> Equities<'a, C> {
+    /// Returns the equities that a counter counts with at most this number of workers.
+    pub(crate) fn new(counter: &'a mut EquityCounter<C>, workers: u32) -> Equities<'a, C>
+        requires ready { C.ready }
+    {
+        counter.workers = workers;
+        Equities {
+            counter,
+            ready: Ready::new(),
+        }
+    }
+
+    /// Returns the last equity that was asked for.
+    pub(crate) fn last(&self) -> &Equity
+        ensures { result.now ≡ self.now.counter.now.equity }
+    {
+        &self.counter.equity
+    }
+
+    /// Asks for nothing.
+    fn ask_nothing(&mut self)
+        ensures { self.new.counter.now.equity ≡ Equity.NotAsked }
+    {
+        self.counter.equity = Equity::NotAsked;
+    }
+
+    /// Asks for an equity at which nobody looks.
+    fn ask_any(&mut self)
+        ensures { is_asked self.new.counter.now.equity ≡ true }
+    {
+        if !self.counter.equity.is_asked() {
+            self.counter.equity = Equity::Counted(Tally::zero());
+        }
+    }
+
+    /// Asks for the equity of a table: counted over all runouts, or the reason why it isn't counted.
+    pub(crate) fn ask_table(&mut self, table: &Table) -> Result<(), Memory>
+        ensures { OnOk result (IsEquityOf (deal_of table.now) self.new.counter.now.equity) }
+    {
+        self.ready.law_ready();
         match Job::make(table) {
-            Ok(job) => self.ask_job(&job),
+            Ok(job) => self.counter.ask_job(&job),
             Err(fault) => {
-                self.equity = Equity::Refused(fault);
+                self.counter.equity = Equity::Refused(fault);
                 Ok(())
             }
         }
     }
 
-    /// Asks for the equity of an all-in. Where its cards aren't known it is one that nobody looks at.
+    /// Asks for the equity of an all-in. If the cards of the all-in aren't known, nobody looks at its equity.
     fn ask_all_in(&mut self, all_in: &AllIn) -> Result<(), Memory>
-        requires ready { C.ready }
-        ensures equity { OnOk result (IsOfAllIn all_in.now self.new.equity) }
-        ensures asked { OnOk result (is_asked self.new.equity ≡ true) }
+        ensures equity { OnOk result (IsOfAllIn all_in.now self.new.counter.now.equity) }
+        ensures asked { OnOk result (is_asked self.new.counter.now.equity ≡ true) }
     {
         match all_in {
             AllIn::None | AllIn::Unknown => {
@@ -119,12 +179,10 @@ impl<C: Counter> EquityCounter<C> {
         }
     }
 
-    /// Asks for the equity of a street after an all-in. Where its cards aren't known it is one that nobody
-    /// looks at.
+    /// Asks for the equity of a street after an all-in. If the cards of the street aren't known, nobody looks at its equity.
     pub(crate) fn ask_street(&mut self, state: &StreetState) -> Result<(), Memory>
-        requires ready { C.ready }
         requires counted { IsCountedStreet state.now }
-        ensures { OnOk result (IsOfStreet state.now self.new.equity) }
+        ensures { OnOk result (IsOfStreet state.now self.new.counter.now.equity) }
     {
         if let Some(table) = &state.table {
             self.ask_table(table)?;
@@ -132,11 +190,10 @@ impl<C: Counter> EquityCounter<C> {
         Ok(())
     }
 
-    /// Asks for the equity of a hand, where it is wanted.
+    /// Asks for the equity of a hand, if it is wanted.
     pub(crate) fn ask_hand(&mut self, wanted: bool, audit: &HandAudit) -> Result<(), Memory>
-        requires ready { C.ready }
-        ensures equity { OnOk result (IsOfHand audit.now self.new.equity) }
-        ensures asked { OnOk result (is_asked self.new.equity ≡ wanted) }
+        ensures equity { OnOk result (IsOfHand audit.now self.new.counter.now.equity) }
+        ensures asked { OnOk result (is_asked self.new.counter.now.equity ≡ wanted) }
     {
         if !wanted {
             self.ask_nothing();

@@ -1,4 +1,4 @@
-//! What is counted after an all-in: where its equity is, so is that of each later street.
+//! The later streets of a counted all-in are counted.
 
 ghost use Rattle.std.specs.Prelude.{◌≡◌, ℕ, List, All, Some, true};
 ghost use Rattle.hand_audit.specs.LaterCards.{KnowsNoLessThan};
@@ -14,7 +14,7 @@ use hand_verdict::{AllIn, HandAudit, StreetState};
 use runout_ranges::law_no_more_runouts;
 use showdown_tally::Table;
 
-/// The table of a street that knows no less than that of an all-in is counted where this is.
+/// A law: the table of a later street that knows no less than the table of an all-in is counted if the table of the all-in is.
 fn is_counted_street(table: &Table, state: &StreetState)
     ensures { KnowsNoLessThan table.now state.now → is_counted (deal_of table.now) ≡ true
         → IsCountedStreet state.now }
@@ -24,7 +24,7 @@ fn is_counted_street(table: &Table, state: &StreetState)
     }
 }
 
-/// The same of some streets.
+/// A law: `is_counted_street` holds of each of these streets.
 fn are_counted_streets(table: &Table, states: &[StreetState])
     ensures { All (KnowsNoLessThan table.now) states.now → is_counted (deal_of table.now) ≡ true
         → All IsCountedStreet states.now }
@@ -34,7 +34,7 @@ fn are_counted_streets(table: &Table, states: &[StreetState])
     }
 }
 
-/// The same of the streets after an all-in.
+/// A law: if an all-in is counted, each later street that knows no less is counted.
 fn are_counted_behind(all_in: &AllIn, states: &[StreetState])
     ensures { (table : Table) → table_in all_in.now ≡ Some table
         → All (KnowsNoLessThan table) states.now → is_counted (deal_of table) ≡ true
@@ -46,8 +46,8 @@ fn are_counted_behind(all_in: &AllIn, states: &[StreetState])
     }
 }
 
-/// A law: where the all-in of a hand is counted, so is each later street whose cards are known. As many cards may come as are
-/// lacking there, and there are no more runouts than at the all-in.
+/// A law: if the all-in of a hand is counted, so is each later street whose cards are known. Enough cards are left for the
+/// street, and it has no more runouts than the all-in.
 pub fn law_later_streets_are_counted(audit: &HandAudit, states: &[StreetState])
     ensures { (first : ℕ) (lines : List (List ℕ)) → audit_of first lines ≡ Some audit.now
         → states.now ≡ streets_of audit.now lines → has_counted audit.now ≡ true

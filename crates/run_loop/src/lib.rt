@@ -4,14 +4,16 @@
 //! knows none: `run_engine` has those of the program.
 //!
 //! 1. *Words* (`runs`). `read_words` of `command_words` makes a `Command` of them, or none; its items are passed on here.
-//! 2. *Reading* (`reading`). Pieces of 16 kB are given to a `Cutter` until a hand, or a line of spots, is closed. What was handed out is
+//! 2. *A run* (`run`). A `Run` has the command, the input, and the writer of blocks. Its calls borrow the source and the sink.
+//! 3. *Reading* (`reading`). Pieces of 16 kB are given to a `Cutter` until a hand, or a line of spots, is closed. What was handed out is
 //!    forgotten. More than `INPUT_MAX` bytes are too long.
-//! 3. *Blocks* (`report`, `gathering`, `hands`, `spots`). Each hand or spot has a block, which is made whole in memory and then written.
+//! 4. *Blocks* (`report`, `gathering`, `hands`, `spots`). Each hand or spot has a block, which is made whole in memory and then written.
 //!    Where none takes long, those that a piece closes are written together. So whatever fails, what stands in the output are whole blocks
 //!    of the report, but where the output itself took a part of one.
-//! 4. *Sums* (`sums`, `totals`, `made`). In other modes one loop adds up the hands, and one block is written at the end.
-//! 5. *Who counts* (`counter`). An `EquityCounter` has a `Counter`, and the last equity that was asked for.
-//! 6. *Status* (`runs`). Which end failed is told by its count of faults, and each status has its clause.
+//! 5. *Sums* (`sums`, `totals`, `made`). In other modes one loop adds up the hands, and one block is written at the end.
+//! 6. *Counting* (`counter`). An `EquityCounter` has a `Counter`, and the last equity that was asked for. The `Equities` of a run borrow
+//!    it, and keep for proofs that its calls may be made.
+//! 7. *Status* (`runs`). Which end failed is told by its count of faults, and each status has its clause.
 //!
 //! It owns no poker and no figure: what is written is defined in `hand_blocks` and `player_totals`, what a hand is by
 //! `hand_audit`. It opens no file, since the ends are lent to it, and starts no thread.
@@ -29,11 +31,13 @@ mod plans;
 mod ranges;
 mod reading;
 mod report;
+mod run;
 mod runs;
 mod spots;
 mod sums;
 mod text_source;
 mod totals;
+mod units;
 mod write_fault;
 
 pub use closing::law_closed_blocks_stay;

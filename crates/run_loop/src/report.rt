@@ -8,188 +8,146 @@ ghost use Rattle.run_loop.specs.Order.{GoesOn};
 ghost use Rattle.run_loop.specs.Reporting.{told_status};
 ghost use Rattle.run_loop.specs.UnitBlocks.{MakesBlock, block_kind_in, counts_equities, listed_kind};
 ghost use Rattle.run_loop.specs.Plans.{cut_of, plan_of};
-ghost use Rattle.run_loop.specs.Units.{started};
+ghost use Rattle.run_loop.specs.Units.{started, unit_lines};
 ghost use Rattle.run_loop.specs.declared.plans.Plan.TheVariants.{Reads};
 ghost use Rattle.run_loop.specs.declared.plans.Prints.TheVariants.{Sums};
 ghost use Rattle.run_loop.specs.declared.reading.Ending.TheVariants.{Open};
 
-use crate::block_kinds::{BlockKind, UnitPosition};
-use crate::counter::{Counter, EquityCounter};
+use crate::block_kinds::BlockKind;
+use crate::counter::Counter;
 use crate::gathering::{gather, next_written, write_rest};
-use crate::hands::{write_lines, write_result_lines, write_settlement_lines};
 use crate::plans::{Prints, SumKind};
-use crate::reading::Input;
-use crate::spots::write_spot_line;
-use crate::totals::write_sums;
+use crate::run::{BlockWriter, Run};
+use crate::units::{ListedUnit, UnitText};
 use crate::write_fault::WriteFault;
 use byte_ends::{Sink, Source};
 use card_sets::Memory;
-use command_words::Command;
 use hand_cuts::INPUT_MAX;
-use report_table::{Balance, Form, Totals};
-use std::alloc::Global;
+use report_table::{Balance, Totals};
 
-/// Appends the block of a hand or a line, and answers whether the hand or the spot is rejected; none where
-/// a line has no word. The bytes are its lines. Nothing is ready where an equity may be counted: what was gathered has been
-/// written.
-fn write_unit<C: Counter>(
-    alloc: Global,
-    form: Form,
-    listed: BlockKind,
-    numbers: UnitPosition,
-    bytes: &[u8],
-    ready: &[u8],
-    equities: &mut EquityCounter<C>,
-    block: &mut Vec<u8>,
-) -> Result<Option<bool>, Memory>
-    requires ready { C.ready }
-    requires idle { counts_equities listed ≡ true → ready.now ≡ [] }
-    requires empty { block.old.items ≡ [] }
-    requires header { listed_kind listed ≡ Hands → begins_hand (lines bytes.now) ≡ true }
-    requires few { numbers.line + length (lines bytes.now) < 2 ^ 32 }
-    ensures { IfOk result (λ told. MakesBlock form listed numbers.place
-        (record { first = numbers.line; lines = lines bytes.now }) block.new.items told) }
-{
-    match listed {
-        BlockKind::Spots { holding } => {
-            write_spot_line(alloc, block, form, holding, numbers, bytes, ready, equities)
-        }
-        BlockKind::Hands { told } => {
-            let rejected = write_lines(
-                alloc,
-                form,
-                told,
-                bytes,
-                numbers.line,
-                ready,
-                equities,
-                block,
-            )?;
-            Ok(Some(rejected))
-        }
-        BlockKind::Results => {
-            let rejected = write_result_lines(
-                alloc,
-                form,
-                bytes,
-                numbers.line,
-                ready,
-                equities,
-                block,
-            )?;
-            Ok(Some(rejected))
-        }
-        BlockKind::Settle => {
-            let rejected = write_settlement_lines(alloc, form, bytes, numbers.line, block)?;
-            Ok(Some(rejected))
+impl<'a, C: Counter> BlockWriter<'a, C> {
+    /// Appends the block of a hand or of a spot line, and returns whether the hand or the spot is rejected. Returns `None` if a
+    /// line has no word. If an equity may be counted, no block waits meanwhile.
+    fn write_unit(
+        &mut self,
+        listed: BlockKind,
+        unit: &ListedUnit<'_>,
+        ready: &[u8],
+    ) -> Result<Option<bool>, Memory>
+        requires idle { counts_equities listed ≡ true → ready.now ≡ [] }
+        requires empty { self.old.block.items ≡ [] }
+        requires header { listed_kind listed ≡ Hands
+            → begins_hand (lines unit.now.text.bytes.now) ≡ true }
+        requires few { unit.now.text.first + length (lines unit.now.text.bytes.now) < 2 ^ 32 }
+        ensures { IfOk result (λ told. MakesBlock unit.now.form listed unit.now.place
+            (unit_lines unit.now.text) self.new.block.items told) }
+    {
+        match listed {
+            BlockKind::Spots { holding } => self.write_spot_line(holding, unit, ready),
+            BlockKind::Hands { told } => {
+                let rejected = self.write_lines(told, unit, ready)?;
+                Ok(Some(rejected))
+            }
+            BlockKind::Results => {
+                let rejected = self.write_result_lines(unit, ready)?;
+                Ok(Some(rejected))
+            }
+            BlockKind::Settle => {
+                let rejected = self.write_settlement_lines(unit)?;
+                Ok(Some(rejected))
+            }
         }
     }
 }
 
-/// Writes the blocks of the input, one after the other, each made whole before any of it is written. Each is
-/// written by itself, or with those that the same piece closes; all are written before the next piece is
-/// read. Answers how many spots or hands are rejected.
-fn write_blocks<C: Counter, S: Source, K: Sink>(
-    alloc: Global,
-    asked: Command,
-    listed: BlockKind,
-    source: &mut S,
-    input: &mut Input,
-    equities: &mut EquityCounter<C>,
-    sink: &mut K,
-) -> Result<u64, WriteFault>
-    requires ready { C.ready }
-    requires listed { block_kind_in asked.mode ≡ Some listed }
-    requires start { input.old ≡ started (listed_kind listed) }
-    ensures { GoesOn S.reads K.writes INPUT_MAX asked Open [] [] source.old sink.old
-        (told_status input.new.ending result) source.new sink.new }
-{
-    let waits = listed.may_wait();
-    let mut block = Vec::new(alloc);
-    let mut ready = Vec::new(alloc);
-    let mut place = 1;
-    let mut rejects = 0;
-    'each: loop {
-        let next = match next_written(source, input, &mut ready, sink) {
-            Ok(next) => next,
-            Err(fault) => return Err(fault),
-        };
-        let Some(unit) = next else {
-            return Ok(rejects);
-        };
-        block.clear();
-        let numbers = UnitPosition {
-            place,
-            line: unit.first_line,
-        };
-        let bytes = &input.cutter.held()[unit.first..unit.end];
-        let told = match write_unit(
-            alloc, asked.form, listed, numbers, bytes, &ready, equities, &mut block,
-        ) {
-            Ok(told) => told,
-            Err(Memory) => return Err(write_rest(&ready, sink)),
-        };
-        let Some(rejected) = told else {
-            continue;
-        };
-        match gather(waits, &block, &mut ready, sink) {
-            Ok(()) => {}
-            Err(_) => return Err(WriteFault::Failed),
-        }
-        place += 1;
-        rejects += u64::from(rejected);
-    }
-}
-
-/// Writes the report of a command whose report is one block for all hands. Answers how many hands are
-/// rejected.
-fn write_summed<C: Counter, S: Source, K: Sink>(
-    alloc: Global,
-    asked: Command,
-    kind: SumKind,
-    source: &mut S,
-    input: &mut Input,
-    equities: &mut EquityCounter<C>,
-    sink: &mut K,
-) -> Result<u64, WriteFault>
-    requires ready { C.ready }
-    requires plan { plan_of asked.mode ≡ Reads (Sums kind) }
-    requires start { input.old ≡ started Hands }
-    ensures { GoesOn S.reads K.writes INPUT_MAX asked Open [] [] source.old sink.old
-        (told_status input.new.ending result) source.new sink.new }
-{
-    match kind {
-        SumKind::Totals => {
-            let mut totals = Totals::new(alloc);
-            write_sums(alloc, asked, source, input, equities, sink, &mut totals)
-        }
-        SumKind::Balance => {
-            let mut balance = Balance::new(alloc);
-            write_sums(alloc, asked, source, input, equities, sink, &mut balance)
+impl<'a, C: Counter> Run<'a, C> {
+    /// Writes the blocks of the input in order. Each block is complete in memory before any of it is written. A block is written
+    /// alone, or with those that the same piece closes. All are written before the next piece is read. Returns the number of
+    /// rejected spots or hands.
+    fn write_blocks<S: Source, K: Sink>(
+        &mut self,
+        listed: BlockKind,
+        source: &mut S,
+        sink: &mut K,
+    ) -> Result<u64, WriteFault>
+        requires listed { block_kind_in self.old.asked.mode ≡ Some listed }
+        requires start { self.old.input ≡ started (listed_kind listed) }
+        ensures { GoesOn S.reads K.writes INPUT_MAX self.old.asked Open [] [] source.old sink.old
+            (told_status self.new.input.ending result) source.new sink.new }
+    {
+        let form = self.asked.form;
+        let waits = listed.may_wait();
+        let mut ready = Vec::new(self.writer.alloc);
+        let mut place = 1;
+        let mut rejects = 0;
+        'each: loop {
+            let next = match next_written(source, &mut self.input, &mut ready, sink) {
+                Ok(next) => next,
+                Err(fault) => return Err(fault),
+            };
+            let Some(unit) = next else {
+                return Ok(rejects);
+            };
+            self.writer.block.clear();
+            let bytes = &self.input.cutter.held()[unit.first..unit.end];
+            let first = unit.first_line;
+            let text = UnitText { first, bytes };
+            let whole = ListedUnit { form, place, text };
+            let told = match self.writer.write_unit(listed, &whole, &ready) {
+                Ok(told) => told,
+                Err(Memory) => return Err(write_rest(&ready, sink)),
+            };
+            let Some(rejected) = told else {
+                continue;
+            };
+            match gather(waits, &self.writer.block, &mut ready, sink) {
+                Ok(()) => {}
+                Err(_) => return Err(WriteFault::Failed),
+            }
+            place += 1;
+            rejects += u64::from(rejected);
         }
     }
-}
 
-/// Writes what a command prints of its input. Answers how many spots or hands are rejected.
-pub(crate) fn write_report<C: Counter, S: Source, K: Sink>(
-    alloc: Global,
-    asked: Command,
-    prints: Prints,
-    source: &mut S,
-    input: &mut Input,
-    equities: &mut EquityCounter<C>,
-    sink: &mut K,
-) -> Result<u64, WriteFault>
-    requires ready { C.ready }
-    requires plan { plan_of asked.mode ≡ Reads prints }
-    requires start { input.old ≡ started (cut_of prints) }
-    ensures { GoesOn S.reads K.writes INPUT_MAX asked Open [] [] source.old sink.old
-        (told_status input.new.ending result) source.new sink.new }
-{
-    match prints {
-        Prints::Blocks(listed) => {
-            write_blocks(alloc, asked, listed, source, input, equities, sink)
+    /// Writes one block for all hands of the input. Returns the number of rejected hands.
+    fn write_summed<S: Source, K: Sink>(
+        &mut self,
+        kind: SumKind,
+        source: &mut S,
+        sink: &mut K,
+    ) -> Result<u64, WriteFault>
+        requires plan { plan_of self.old.asked.mode ≡ Reads (Sums kind) }
+        requires start { self.old.input ≡ started Hands }
+        ensures { GoesOn S.reads K.writes INPUT_MAX self.old.asked Open [] [] source.old sink.old
+            (told_status self.new.input.ending result) source.new sink.new }
+    {
+        match kind {
+            SumKind::Totals => {
+                let mut totals = Totals::new(self.writer.alloc);
+                self.write_sums(source, sink, &mut totals)
+            }
+            SumKind::Balance => {
+                let mut balance = Balance::new(self.writer.alloc);
+                self.write_sums(source, sink, &mut balance)
+            }
         }
-        Prints::Sums(kind) => write_summed(alloc, asked, kind, source, input, equities, sink),
+    }
+
+    /// Writes what the command prints of its input. Returns the number of rejected spots or hands.
+    pub(crate) fn write_report<S: Source, K: Sink>(
+        &mut self,
+        prints: Prints,
+        source: &mut S,
+        sink: &mut K,
+    ) -> Result<u64, WriteFault>
+        requires plan { plan_of self.old.asked.mode ≡ Reads prints }
+        requires start { self.old.input ≡ started (cut_of prints) }
+        ensures { GoesOn S.reads K.writes INPUT_MAX self.old.asked Open [] [] source.old sink.old
+            (told_status self.new.input.ending result) source.new sink.new }
+    {
+        match prints {
+            Prints::Blocks(listed) => self.write_blocks(listed, source, sink),
+            Prints::Sums(kind) => self.write_summed(kind, source, sink),
+        }
     }
 }

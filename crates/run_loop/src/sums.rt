@@ -1,4 +1,4 @@
-//! Sums over hands, of whatever kind: one loop over the hands serves all.
+//! Sums over hands. One loop over the hands serves each kind of sums.
 
 ghost use Rattle.std.specs.Prelude.{◌≡◌, ◌<◌, ◌≤◌, ◌+◌, ◌^◌, ◌++◌, ◌∷◌, [], ℕ, List, OnOk, IsTrue, length, true};
 ghost use Rattle.std.specs.List.{filter_map};
@@ -12,48 +12,45 @@ ghost use Rattle.report_sheet.specs.declared.form.Form.{Form as FormOf};
 ghost use Rattle.run_loop.specs.Histories.{chips_hand, verdict_of};
 ghost use Rattle.hand_cuts.specs.declared.units.CutKind.TheVariants.{Hands as HandUnits};
 ghost use Rattle.run_loop.specs.UnitSums.{SumsInOrder, few_told};
-ghost use Rattle.run_loop.specs.Units.{started};
+ghost use Rattle.run_loop.specs.Units.{started, unit_lines};
 
-use crate::counter::{Counter, EquityCounter};
+use crate::counter::Counter;
 use crate::hands::audit_chips;
-use crate::reading::{Input, next_unit};
+use crate::reading::next_unit;
+use crate::run::{BlockWriter, Run};
 use crate::text_source::TextSource;
+use crate::units::UnitText;
 use byte_ends::Source;
 use card_sets::Memory;
 use hand_audit::audit_hand;
-use hand_cuts::{CutKind, INPUT_MAX};
+use hand_cuts::INPUT_MAX;
 use report_table::{Balance, Form, MadeSums, Totals};
-use std::alloc::Global;
 
-/// Sums over some hands, to which one hand after the other is added.
+/// Sums over hands, which are added one after the other.
 pub(crate) trait HandSums {
-    // the sums of some hands, and how many hands some sums are of
+    // the sums of a list of hands, and the number of hands of such sums
     ghost sums_of: { List UnitLines → Self };
 
     ghost count: { Self → ℕ };
 
-    /// Adds a hand, whose lines the bytes are; its header line comes first and has the number `first`.
+    /// Adds a hand. The writer reads the hand and has its equity counted.
     fn add_lines<C: Counter>(
         &mut self,
-        alloc: Global,
-        bytes: &[u8],
-        first: u32,
-        equities: &mut EquityCounter<C>,
+        text: &UnitText<'_>,
+        writer: &mut BlockWriter<'_, C>,
     ) -> Result<(), Memory>
-        requires ready { C.ready }
-        requires header { IsTrue (begins_hand (lines bytes.now)) }
-        requires numbers { first + length (lines bytes.now) < 2 ^ 32 }
+        requires header { IsTrue (begins_hand (lines text.now.bytes.now)) }
+        requires numbers { text.now.first + length (lines text.now.bytes.now) < 2 ^ 32 }
         requires few { count self.old < 2 ^ 32 }
         ensures { (hands : List UnitLines) → self.old ≡ sums_of hands
-            → OnOk result (self.new
-            ≡ sums_of (hands ++ (record { first = first; lines = lines bytes.now }) ∷ [])) };
+            → OnOk result (self.new ≡ sums_of (hands ++ unit_lines text.now ∷ [])) };
 
     ghost counted: { (hands : List UnitLines) → count (sums_of hands) ≤ length hands };
 }
 
-/// Sums that are written as one block.
+/// Sums over hands that are written as one block.
 pub(crate) trait BlockSums: HandSums {
-    // the block of some sums, and how many of their hands are rejected
+    // the block of such sums, and the number of rejected hands
     ghost block: { FormOf → Self → List ℕ };
 
     ghost rejects: { Self → ℕ };
@@ -62,7 +59,7 @@ pub(crate) trait BlockSums: HandSums {
     fn write_block(&self, out: &mut Vec<u8>, form: Form) -> Result<(), Memory>
         ensures { OnOk result (out.new.items ≡ out.old.items ++ block form self.now) };
 
-    /// How many of the hands are rejected.
+    /// Returns the number of rejected hands.
     fn rejected_hands(&self) -> u64
         ensures { result ≡ rejects self.now };
 }
@@ -74,14 +71,12 @@ impl HandSums for Totals {
 
     fn add_lines<C: Counter>(
         &mut self,
-        alloc: Global,
-        bytes: &[u8],
-        first: u32,
-        equities: &mut EquityCounter<C>,
+        text: &UnitText<'_>,
+        writer: &mut BlockWriter<'_, C>,
     ) -> Result<(), Memory> {
-        let audit = audit_hand(alloc, bytes, first)?;
-        equities.ask_hand(true, &audit)?;
-        self.add(&audit, &equities.equity)
+        let audit = audit_hand(writer.alloc, text.bytes, text.first)?;
+        writer.equities.ask_hand(true, &audit)?;
+        self.add(&audit, writer.equities.last())
     }
 
     ghost counted = { few_told verdict_of };
@@ -108,14 +103,12 @@ impl HandSums for Balance {
 
     fn add_lines<C: Counter>(
         &mut self,
-        alloc: Global,
-        bytes: &[u8],
-        first: u32,
-        equities: &mut EquityCounter<C>,
+        text: &UnitText<'_>,
+        writer: &mut BlockWriter<'_, C>,
     ) -> Result<(), Memory> {
-        let hand = audit_chips(alloc, bytes, first)?;
-        equities.ask_hand(true, &hand.audit)?;
-        self.add(&hand, &equities.equity)
+        let hand = audit_chips(writer.alloc, text)?;
+        writer.equities.ask_hand(true, &hand.audit)?;
+        self.add(&hand, writer.equities.last())
     }
 
     ghost counted = { few_told chips_hand };
@@ -142,63 +135,56 @@ impl HandSums for MadeSums {
 
     fn add_lines<C: Counter>(
         &mut self,
-        alloc: Global,
-        bytes: &[u8],
-        first: u32,
-        equities: &mut EquityCounter<C>,
+        text: &UnitText<'_>,
+        writer: &mut BlockWriter<'_, C>,
     ) -> Result<(), Memory> {
-        let audit = audit_hand(alloc, bytes, first)?;
-        equities.ask_hand(true, &audit)?;
-        self.add(&audit, &equities.equity);
+        let audit = audit_hand(writer.alloc, text.bytes, text.first)?;
+        writer.equities.ask_hand(true, &audit)?;
+        self.add(&audit, writer.equities.last());
         Ok(())
     }
 
     ghost counted = { few_told verdict_of };
 }
 
-/// Adds all hands of the input to the sums of none.
-pub(crate) fn add_units<C: Counter, S: Source, H: HandSums>(
-    alloc: Global,
-    source: &mut S,
-    input: &mut Input,
-    equities: &mut EquityCounter<C>,
-    sums: &mut H,
-) -> Result<(), Memory>
-    requires ready { C.ready }
-    requires start { input.old ≡ started HandUnits }
-    requires none { sums.old ≡ H.sums_of [] }
-    ensures { SumsInOrder S.reads H.sums_of INPUT_MAX source.old source.new
-        input.new.ending sums.new result }
-{
-    'hands: loop {
-        let next = match next_unit(source, input) {
-            Ok(next) => next,
-            Err(Memory) => return Err(Memory),
-        };
-        let Some(unit) = next else {
-            return Ok(());
-        };
-        let hand = &input.cutter.held()[unit.first..unit.end];
-        match sums.add_lines(alloc, hand, unit.first_line, equities) {
-            Ok(()) => {}
-            Err(Memory) => return Err(Memory),
+impl<'a, C: Counter> Run<'a, C> {
+    /// Adds all hands of the input to the sums of no hands.
+    pub(crate) fn add_units<S: Source, H: HandSums>(
+        &mut self,
+        source: &mut S,
+        sums: &mut H,
+    ) -> Result<(), Memory>
+        requires start { self.old.input ≡ started HandUnits }
+        requires none { sums.old ≡ H.sums_of [] }
+        ensures { SumsInOrder S.reads H.sums_of INPUT_MAX source.old source.new
+            self.new.input.ending sums.new result }
+    {
+        'hands: loop {
+            let next = match next_unit(source, &mut self.input) {
+                Ok(next) => next,
+                Err(Memory) => return Err(Memory),
+            };
+            let Some(unit) = next else {
+                return Ok(());
+            };
+            let bytes = &self.input.cutter.held()[unit.first..unit.end];
+            let first = unit.first_line;
+            let text = UnitText { first, bytes };
+            match sums.add_lines(&text, &mut self.writer) {
+                Ok(()) => {}
+                Err(Memory) => return Err(Memory),
+            }
         }
     }
-}
 
-/// Adds all hands of a text to the sums of none.
-pub(crate) fn add_hands<C: Counter, H: HandSums>(
-    alloc: Global,
-    text: &[u8],
-    equities: &mut EquityCounter<C>,
-    sums: &mut H,
-) -> Result<(), Memory>
-    requires ready { C.ready }
-    requires small { length text.now ≤ INPUT_MAX }
-    requires none { sums.old ≡ H.sums_of [] }
-    ensures { OnOk result (sums.new ≡ H.sums_of (hands_from 1 (lines text.now))) }
-{
-    let mut source = TextSource { left: text };
-    let mut input = Input::start(alloc, CutKind::Hands);
-    add_units(alloc, &mut source, &mut input, equities, sums)
+    /// Adds all hands of a text to the sums of no hands. The run has read nothing yet.
+    pub(crate) fn add_hands<H: HandSums>(&mut self, text: &[u8], sums: &mut H) -> Result<(), Memory>
+        requires start { self.old.input ≡ started HandUnits }
+        requires small { length text.now ≤ INPUT_MAX }
+        requires none { sums.old ≡ H.sums_of [] }
+        ensures { OnOk result (sums.new ≡ H.sums_of (hands_from 1 (lines text.now))) }
+    {
+        let mut source = TextSource { left: text };
+        self.add_units(&mut source, sums)
+    }
 }

@@ -3,8 +3,8 @@ use Rattle.std.specs.Prelude.{option_map}
 use Rattle.hand_cuts.specs.Units.{UnitLines}
 use Rattle.hand_audit.specs.SeatChips.{chips_of}
 use Rattle.hand_verdict.specs.declared.seat_chips.AuditedChips.{AuditedChips}
-use Rattle.line_text.specs.Lines.{lines}
 use Rattle.std.specs.List.{filter_map}
+use Rattle.run_loop.specs.Units.{unit_lines}
 use Rattle.run_loop.specs.Histories.{chips_hand, verdict_of, with_chips}
 use Rattle.run_loop.proofs.SumOrder.{told_more}
 use Rattle.run_loop.proofs.sums.BalanceHandSums.add_lines.Goals as goal
@@ -12,7 +12,7 @@ use Rattle.run_loop.proofs.sums.BalanceHandSums.add_lines.Goals as goal
 pub returns : goal.returns
 unfolding verdict_of chips_hand
 returns g c = λ hands e.
-    let hand : UnitLines = record { first = c.args.first; lines = lines c.args.bytes.now } in
+    let hand : UnitLines = unit_lines c.args.text.now in
     let both = c.in_ok-hand.hand in
     let chips : chips_of both.audit hand.lines ≡ both.chips = sym c.in_ok-hand.ensures.chips in
     let told : chips_hand hand ≡ Some both =

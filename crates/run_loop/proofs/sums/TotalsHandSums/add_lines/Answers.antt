@@ -1,6 +1,6 @@
 use Rattle.hand_cuts.specs.Units.{UnitLines}
-use Rattle.line_text.specs.Lines.{lines}
 use Rattle.std.specs.List.{filter_map}
+use Rattle.run_loop.specs.Units.{unit_lines}
 use Rattle.run_loop.specs.Histories.{verdict_of}
 use Rattle.run_loop.proofs.SumOrder.{told_more}
 use Rattle.run_loop.proofs.sums.TotalsHandSums.add_lines.Goals as goal
@@ -8,5 +8,5 @@ use Rattle.run_loop.proofs.sums.TotalsHandSums.add_lines.Goals as goal
 pub returns : goal.returns
 unfolding verdict_of
 returns g c = λ hands e.
-    let hand : UnitLines = record { first = c.args.first; lines = lines c.args.bytes.now } in
+    let hand : UnitLines = unit_lines c.args.text.now in
     rw (told_more verdict_of hands hand c.in_ok-audit.audit c.in_ok-audit.ensures.verdict) at (c.add.ensures.added (filter_map verdict_of hands) e)

@@ -1,5 +1,0 @@
-use Rattle.run_loop.proofs.LaterFacts.{of_street}
-use Rattle.run_loop.proofs.counter.EquityCounter.ask_street.Goals as goal
-
-pub returns-in_ok-ask_table : goal.returns-in_ok-ask_table
-returns-in_ok-ask_table g c = of_street c.args.state.now c.in-Some.table c.ask_table.new.self.equity c.in-Some.is c.requires.counted c.in_ok-ask_table.ensures

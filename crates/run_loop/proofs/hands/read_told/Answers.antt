@@ -1,0 +1,14 @@
+use Rattle.std.proofs.Common.{arith}
+use Rattle.line_text.specs.Lines.{lines}
+use Rattle.run_loop.proofs.hands.read_told.Goals as goal
+
+pub into_verdict-audit-requires : goal.into_verdict-audit-requires
+into_verdict-audit-requires c = record { numbers = (let few = c.in_ok-hand.ensures.read.few in let n = c.requires.numbers in omega (arith, few, n)) }
+
+pub returns-clause-verdict : goal.returns-clause-verdict
+returns-clause-verdict c = c.into_verdict-audit.ensures.audit (lines c.args.text.now.bytes.now) c.in_ok-hand.ensures.read
+
+pub returns-clause-streets : goal.returns-clause-streets
+returns-clause-streets c =
+    let all = lines c.args.text.now.bytes.now in
+    c.in_ok-later.ensures c.args.text.now.first all c.into_verdict-audit.result.audit c.in_ok-hand.ensures.read (c.into_verdict-audit.ensures.audit all c.in_ok-hand.ensures.read)
