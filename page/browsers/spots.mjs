@@ -144,6 +144,14 @@ const grid = async (tab, driver) => {
         expect(await run(`${cell(name)}.title`) === `${name}: ${wanted}`, `the equity of ${name}: ${await run(`${cell(name)}.title`)}, and not ${wanted}`);
     }
     await tab.shoot('heat.png');
+    // against two players
+    await run(`(document.getElementById('spot').value = 'TT+ vs QQ+ vs AK on 2c 7d 9h', page.answer())`);
+    expect(await tab.until(`document.getElementById('choose').textContent.includes('against QQ+ and AK.') && ${cell('AA')}.querySelector('small') && !${stop}`), 'the equities against two players are there');
+    for (const name of ['99', 'AKs', '72o']) {
+        const said = own(`holdem ${name} - QQ+ - AK -- 2c 7d 9h\n`, 'ranges').stdout.toString(), wanted = Number(/^hand 1 ev (\S+)/m.exec(said)[1]);
+        const title = await run(`${cell(name)}.title`), part = Number.parseFloat(title.split(': ')[1]) / 100;
+        expect(Math.abs(part - wanted) < 0.0006, `the equity of ${name} against two players: ${title}, and not ${wanted}`);
+    }
     await run(`(document.getElementById('spot').value = 'AsKs vs TT+, AQs+, AKo', page.answer(), 0)`);
     // on a slow machine a count that takes long begins with a click
     const start = `[...document.querySelectorAll('#choose button')].find((it) => it.textContent === 'Count')`;

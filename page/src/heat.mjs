@@ -1,4 +1,4 @@
-// The equity of each cell of the grid against a range, cell by cell.
+// The equity of each cell of the grid against one range or two, cell by cell.
 
 import { fixed, shareOf } from './answers.mjs';
 import { combosOf } from './combos.mjs';
@@ -16,19 +16,20 @@ const MOST = 6e7;
  */
 
 /**
- * Plans the cells against a range, which is the only one of the spot. The jobs have parts of cells, in the order of
- * the grid.
+ * Plans the cells against the ranges of a spot, of which there are one or two. The jobs have parts of cells, in the
+ * order of the grid.
  * @param {Spot} spot
  */
 export const planHeat = (spot) => {
-    const [range] = spot.sides, gone = [...spot.board, ...spot.dead];
-    const runouts = runoutsOf({ ...spot, sides: [range, range] }), size = combosOf(range, gone).length;
+    const { sides } = spot, gone = [...spot.board, ...spot.dead];
+    const runouts = runoutsOf({ ...spot, sides: [sides[0], ...sides] });
+    const size = sides.reduce((product, range) => product * combosOf(range, gone).length, 1);
     const cells = NAMES.flat().map((name) => ({ name, ways: combosOf(name, gone).length * size }));
     const jobs = function* () {
         /** @type {HeatJob} */
         let job = { lines: [], cost: 0, cells: [] };
         for (const { name, ways } of cells) {
-            const plan = ways ? planOf({ ...spot, sides: [name, range] }, 1, Math.min(LIMIT, MOST)) : null;
+            const plan = ways ? planOf({ ...spot, sides: [name, ...sides] }, 1, Math.min(LIMIT, MOST)) : null;
             for (const part of plan ? plan.parts() : []) {
                 const cost = part.ways * runouts;
                 if (job.cost && job.cost + cost > MOST) {
@@ -53,7 +54,8 @@ export const planHeat = (spot) => {
  * @param {Spot} spot
  */
 export const makeHeat = (spot) => {
-    const [range] = spot.sides;
+    const planFor = (/** @type {string} */ name) =>
+        planOf({ ...spot, sides: [name, ...spot.sides] }, 1, Math.min(LIMIT, MOST));
     /** @type {Map<string, { plan: import('./wide.mjs').Plan, sum: import('./answers.mjs').Answer, left: number }>} */
     const open = new Map();
     return (/** @type {HeatJob} */ job, /** @type {import('./answers.mjs').Read[]} */ reads) => {
@@ -61,7 +63,7 @@ export const makeHeat = (spot) => {
         const whole = new Map();
         let at = 0;
         for (const { name, count } of job.cells) {
-            const plan = open.get(name)?.plan || planOf({ ...spot, sides: [name, range] }, 1, Math.min(LIMIT, MOST));
+            const plan = open.get(name)?.plan || planFor(name);
             const it = open.get(name) || { plan, sum: noAnswer(plan), left: plan.count };
             open.set(name, it);
             for (const read of reads.slice(at, at + count)) addPart(it.sum, read);

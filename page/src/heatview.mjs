@@ -1,4 +1,5 @@
-// Shows the equity of each cell of the grid against a range, in the background, with the time left and a way to stop.
+// Shows the equity of each cell of the grid against one range or two, in the background, with the time left and a way
+// to stop.
 
 import { countJobs, durationText, makeProgress, secondsFor } from './counting.mjs';
 import { node } from './dom.mjs';
@@ -11,9 +12,9 @@ import { control } from './spotbars.mjs';
 const LONG = 300;
 
 /**
- * Makes the switch between choosing cells and their equities. `against` returns the range of another player with board
- * and dead cards, or null if there is none; `mark` draws the grid.
- * @param {{ workers: Promise<import('./counting.mjs').Workers> | undefined, against: () => Spot | null,
+ * Makes the switch between choosing cells and their equities. `against` returns the ranges of the other players with
+ * board and dead cards, or a sentence if they can't be counted; `mark` draws the grid.
+ * @param {{ workers: Promise<import('./counting.mjs').Workers> | undefined, against: () => Spot | string,
  *     mark: () => void }} panel
  */
 export const makeHeatView = ({ workers, against, mark }) => {
@@ -29,7 +30,7 @@ export const makeHeatView = ({ workers, against, mark }) => {
         const { cost, jobs } = planHeat(spot), seconds = secondsFor(cost, pool.size);
         cells = new Map();
         mark();
-        const title = `Equity in percent against ${spot.sides[0].split(',').join(', ')}`;
+        const title = `Equity in percent against ${spot.sides.map((it) => it.split(',').join(', ')).join(' and ')}`;
         if (seconds > LONG && !isWanted) {
             note.textContent = `${title}: about ${durationText(seconds)} on ${pool.size} workers. `;
             note.append(control('Count', () => count(spot, true)));
@@ -59,11 +60,11 @@ export const makeHeatView = ({ workers, against, mark }) => {
         const spot = against(), key = JSON.stringify(spot);
         if (!cells || key === asked) return;
         asked = key;
-        if (spot) await count(spot, false);
+        if (typeof spot !== 'string') await count(spot, false);
         else {
             number++;
             cells = new Map();
-            note.textContent = 'Write a range for another player, such as vs TT+, AK.';
+            note.textContent = spot;
             places.replaceChildren();
             mark();
         }

@@ -109,12 +109,14 @@ export const makeSpots = ({ field, answer, grid, whose, clear, chosen, report, w
         shift();
         later();
     };
-    /** Returns the range of the first other player, with the board and the dead cards. */
+    /** Returns the ranges of the other players, with the board and the dead cards, or a sentence. */
     const against = () => {
         const { sides, board, dead, game, fault } = typed, at = Number(whose.value);
-        const other = sides.find((side, index) => index !== at && side.range);
+        const others = sides.filter((side, index) => index !== at && side.range).map((side) => side.range);
         const isSound = !fault || /no hand yet/.test(fault.says);
-        return game === 'holdem' && other && isSound ? { sides: [other.range], board, dead } : null;
+        if (others.length > 2) return 'Equities are against one other player, or against two.';
+        return game === 'holdem' && others.length && isSound ? { sides: others, board, dead }
+            : 'Write a range for another player, such as vs TT+, AK.';
     };
 
     for (const percent of WEIGHTS) {
