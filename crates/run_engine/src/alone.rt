@@ -23,7 +23,9 @@ use tally_book::{Book, Naming};
 /// a book, and for the parts of the room that a count uses and that aren't there.
 #[derive(Drop)]
 pub(crate) struct Alone {
+    /// Where memory is requested.
     alloc: Global,
+    /// The tables, which are kept from count to count.
     scratch: Scratch,
 }
 
@@ -59,7 +61,7 @@ fn count_booked(
     count_named::<Brand>(alloc, job, Blank::new(1), scratch, tally)
 }
 
-/// The same with the ledger that `N` names.
+/// Makes a tally that of all runouts of a job, with the ledger that `N` names.
 fn count_named<N: Naming>(
     alloc: Global,
     job: &Job,

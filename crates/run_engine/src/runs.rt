@@ -40,9 +40,9 @@ pub fn run_alone<S: Source, K: Sink>(
     run_with(alloc, words, &mut equities, source, sink)
 }
 
-/// The same with several workers, as many as the words ask for, where an equity has many runouts: threads that
-/// the runtime starts, each of which the gate is told of before it counts a block. What is written and answered
-/// is as `run_alone` says, whatever the workers do. It waits for them, and promises nothing of how long.
+/// Runs the command like `run_alone`, but counts an equity of many runouts with the number of workers that the words ask for. The
+/// runtime starts their threads, and a worker enters the gate before it counts a block. The report and the status are those of
+/// `run_alone`, whatever the workers do. The call waits for the workers, and no clause says how long.
 pub fn run<R: Threads + Wait + Sync, S: Source, K: Sink, G: Gate + Sync>(
     rt: &R,
     alloc: Global,

@@ -28,7 +28,7 @@ const BLOCKS_MIN: u32 = 8;
 /// be shared is known in the function alone whose bound says so.
 #[derive(Drop)]
 pub(crate) struct Shared<'a, F> {
-    /// Counts a job with so many workers.
+    /// Counts a job with a number of workers.
     pub(crate) by_workers: F,
     /// Counts what is counted on this thread.
     pub(crate) alone: &'a mut Alone,
@@ -58,8 +58,7 @@ impl<'a, F: Fn(&Job, u32) -> Result<Tally, Memory>> Counter for Shared<'a, F> {
     }
 }
 
-/// The tally of a job by so many workers, 1 to 16 of them. It has a frame of its own, since seats and tallies go through
-/// the stack.
+/// Returns the tally of a job by 1 to 16 workers. It has a frame of its own, because tallies go through the stack.
 #[inline(never)]
 pub(crate) fn count_shared<R: Threads + Wait + Sync, G: Gate + Sync>(
     rt: &R,

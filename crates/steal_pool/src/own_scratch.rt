@@ -13,6 +13,7 @@ use worker_seats::{BlockCounter, Gate};
 /// A scratch of a worker's own, with the parts that the count of a job uses.
 #[derive(Drop)]
 pub struct OwnScratch {
+    /// The tables that the worker counts with.
     scratch: Scratch,
 }
 
