@@ -44,7 +44,7 @@ pub record AreWorthWith (game : Game) (own board : List ℕ) (low high : ℕ) (v
   pub as_high : (full : List ℕ) → IsBoardWith own board low high full → value ≡ plain_number game own full
   pub as_low : (full : List ℕ) → IsBoardWith own board low high full → turned ≡ low_number game own full
 
--- there are so many of each rank among own cards and a board
+-- the counts of each rank are those of own cards and a board
 abbrev pub AreRanksWith : List ℕ → List ℕ → ByRank → Type 0
 AreRanksWith own board ranks = AreCounted ranks (count_of_rank (union own board))
 

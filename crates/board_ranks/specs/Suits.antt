@@ -9,7 +9,7 @@ use Rattle.board_ranks.specs.Values.{one_of}
 abbrev pub AreMost : State → List ℕ → Type 0
 AreMost state most = (h s : ℕ) → h < length state.hands → s < 4 → flush_part state.game (count_of_suit (slice_index_or state.hands h []) s) + count_of_suit state.board s ≤ slice_index most s
 
--- so many cards of each suit and one of each of two suits more are no five of a suit
+-- `counts` cards of each suit and one card of each of two suits aren't five of a suit
 abbrev pub IsShort : List ℕ → ℕ → ℕ → Type 0
 IsShort counts a b = (s : ℕ) → s < 4 → slice_index counts s + one_of a s + one_of b s ≤ 4
 

@@ -24,14 +24,14 @@ fn add<T: Copy>(list: &mut Vec<T>, value: T)
 /// that only those that a count uses take memory's pages.
 #[derive(Drop)]
 pub(crate) struct SideThrees {
-    /// Those of each hand, in their order. Whose they are is looked at before they are used.
+    /// The numbers of each hand, in the order of the hands. Whose they are is looked at before they are used.
     list: Vec<ThreeRanks>,
-    /// There is room for so many.
+    /// There is room for ten hands.
     ghost room: { 10 ≤ vec_capacity list },
 }
 
 impl SideThrees {
-    /// Those of no hands, and room for all.
+    /// Makes room for the numbers of all hands, and keeps none.
     pub(crate) fn none(alloc: Global) -> Result<SideThrees, Memory> {
         let list = Vec::with_capacity(alloc, HANDS)?;
         Ok(SideThrees { list })

@@ -24,7 +24,7 @@ pub struct Sieve {
     pub flush: [Pair; PAIRS_MAX],
     /// For each place of the pairs, how many of the former stand before it.
     pub before: [u16; PAIRS_MAX + 1],
-    /// Where the table names none, so many cards of each suit and the two are no five of one.
+    /// If the table names no suit, `counts` cards of each suit and the two cards aren't five of a suit.
     pub ghost fives: { AreFives counts suits },
     /// There is a place for each two suits.
     pub ghost places: { length suits ≡ 16 },
@@ -87,7 +87,7 @@ impl Sieve {
         }
     }
 
-    /// Makes it part pairs, for so many cards of each suit.
+    /// Parts all pairs by the suits that may make a flush after `counts` cards of each suit.
     pub(crate) fn fill(&mut self, pairs: &[Pair], counts: [u32; 4])
         requires few { length pairs.now ≤ 1326 }
         requires counts { (s : ℕ) → slice_index counts s ≤ 156 }
@@ -107,7 +107,7 @@ impl Sieve {
         );
     }
 
-    /// Whether it is one for so many cards of each suit.
+    /// Returns whether this sieve is the one for these counts of suits.
     #[inline]
     pub(crate) fn is_for(&self, counts: &[u32; 4]) -> bool
         ensures { IsTrue result → self.now.counts ≡ counts.now }

@@ -20,11 +20,11 @@ pub struct Sieves {
     at: [u8; 64],
     /// The sieves.
     pub list: Vec<Sieve>,
-    /// There is room for so many.
+    /// There is room for 20 sieves.
     pub ghost room: { 20 ≤ vec_capacity list },
 }
 
-/// Where the place of a sieve for so many cards of each suit is kept. First cards of one deal have one each.
+/// Returns where the place of the sieve for some counts of suits is kept. Different counts of one deal's first cards have different places.
 #[inline]
 fn group_of(counts: &[u32; 4]) -> usize
     requires { (s : ℕ) → slice_index counts.now s ≤ 156 }
@@ -65,7 +65,7 @@ impl Sieves {
         self.clear();
     }
 
-    /// Makes a sieve of pairs for so many cards of each suit, and gives its place.
+    /// Makes a sieve of pairs for some counts of cards of each suit, and returns its place.
     #[inline(never)]
     fn add(&mut self, pairs: &[Pair], counts: &[u32; 4]) -> usize
         requires few { length pairs.now ≤ 1326 }
@@ -84,7 +84,7 @@ impl Sieves {
         place
     }
 
-    /// Makes a sieve of pairs for so many cards of each suit stand in its place, where it isn't kept, and gives it.
+    /// Returns the place of the sieve of pairs for some counts of cards of each suit. If the sieve isn't kept, it is made.
     #[inline]
     pub fn ready(&mut self, pairs: &[Pair], counts: &[u32; 4]) -> usize
         requires few { length pairs.now ≤ 1326 }

@@ -70,7 +70,7 @@ fn flush_part(game: Game, own: CardSet, suit: u8) -> u32
     }
 }
 
-/// How many cards for a flush of each suit own cards are, with so many of the board.
+/// Returns how many cards for a flush of each suit own cards have with the board, of which `board` has the counts of suits.
 #[inline]
 fn flush_counts(game: Game, own: CardSet, board: [u32; 4]) -> [u32; 4]
     requires { (s : ℕ) → slice_index board s ≤ 52 }
@@ -110,7 +110,7 @@ pub fn one_of(suit: u8, other: u8) -> u32
     if suit == other { 1 } else { 0 }
 }
 
-/// Whether so many cards of a suit and two more cards are five of it.
+/// Returns whether `count` cards of a suit and two more cards are five of that suit.
 #[inline]
 fn is_five(count: u32, suit: u8, a: u8, b: u8) -> bool
     requires { count ≤ 156 }
@@ -119,7 +119,7 @@ fn is_five(count: u32, suit: u8, a: u8, b: u8) -> bool
     count + one_of(a, suit) + one_of(b, suit) > 4
 }
 
-/// The first suit of which so many cards of each and one of each of two suits more are five, or else 4.
+/// Returns the first suit of which there are five cards with `counts` cards of each suit and one card of each of two suits, or 4.
 #[inline]
 fn first_five(counts: [u32; 4], a: u8, b: u8) -> u8
     requires { (s : ℕ) → slice_index counts s ≤ 156 }
@@ -138,7 +138,7 @@ fn first_five(counts: [u32; 4], a: u8, b: u8) -> u8
     }
 }
 
-/// For each pair of suits the one of which so many cards of each may be five with two more of these suits, or else 4.
+/// Returns, for each pair of suits, the suit of which `counts` cards and two more of the pair may be five, or 4.
 #[inline]
 pub(crate) fn five_suits(counts: [u32; 4]) -> [u8; 16]
     requires { (s : ℕ) → slice_index counts s ≤ 156 }

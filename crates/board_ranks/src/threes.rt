@@ -44,7 +44,7 @@ pub struct Threes {
 }
 
 impl Threes {
-    /// Those of no hands, and room for all.
+    /// Makes room for the numbers of all hands, and keeps none.
     pub fn none(alloc: Global) -> Result<Threes, Memory> {
         let highs = SideThrees::none(alloc)?;
         let lows = SideThrees::none(alloc)?;

@@ -69,7 +69,7 @@ fn worth_on_board(threes: &Threes, held: &HandWithBoard, low: u8, high: u8) -> W
 /// no flushes, and as a low. If there are no such cards, the result means nothing. If any five cards make a hand, `worth_with` goes by how
 /// many cards there are of each rank, and makes no board.
 pub fn worth_with(threes: &Threes, held: &HandWithBoard, ranks: &ByRank, low: u8, high: u8) -> Worth
-    // There are so many cards of each rank in the hand and on the board, with one card of the lower rank more.
+    // `ranks` counts the cards of each rank in the hand and on the board, with one more card of the lower rank.
     requires ranks { AreRanksAnd held.now.own held.now.board low ranks.now }
 
     // Any two ranks, or one twice.

@@ -87,7 +87,7 @@ count_both p [] lows = 0
 count_both p (value ∷ values) [] = 0
 count_both p (value ∷ values) (low ∷ lows) = (if p value low then 1 else 0) + count_both p values lows
 
--- so many runouts where a set wins, and none elsewhere
+-- a number of runouts where a set wins, and none elsewhere
 abbrev pub times_at : ℕ → ℕ → ℕ → ℕ
 times_at winners times set = if winners == set then times else 0
 

@@ -18,11 +18,11 @@ or_zero (Some n) = n
 abbrev pub full_worth : Side → Game → List ℕ → ℕ
 full_worth side game full = or_zero (option_map (side_number side game) (best side game full []))
 
--- the same of a hand with the cards that it draws
+-- what a hand is worth with the cards that it draws
 abbrev pub worth : Side → Game → List ℕ → List ℕ → ℕ
 worth side game own draw = full_worth side game (union own draw)
 
--- the same of a hand after a runout
+-- what a hand is worth after a runout
 abbrev pub worth_after : Side → State → List (List ℕ) → ℕ → ℕ
 worth_after side state runout h = full_worth side state.game (own_after state runout h)
 
@@ -49,7 +49,7 @@ number_of rows planes (card ∷ []) = slice_index (slice_index_or rows 0 []) car
 number_of rows planes (low ∷ high ∷ []) = number_at rows 0 (low ∷ high ∷ [])
 number_of rows planes (low ∷ mid ∷ high ∷ more) = number_at planes (plane_base low) (mid ∷ high ∷ more)
 
--- the tables have what a hand is worth on a side with each draw of so many cards
+-- the tables have what a hand is worth on a side with each draw of `count` cards
 abbrev pub AreNumbers : ℕ → Side → Game → List ℕ → List (List ℕ) → List (List ℕ) → Type 0
 AreNumbers count side game own rows planes = (draw : List ℕ) → 0 < count → length draw ≡ count → IsDraw game own draw → number_of rows planes draw ≡ worth side game own draw
 

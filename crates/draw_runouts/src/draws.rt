@@ -124,7 +124,7 @@ pub struct Draws {
     ghost no_board: { board_size table.known.game ≡ 0 },
     /// The hand is that of the last slot.
     ghost last_is: { last ≡ last_hand (slots (state_of table.known)) },
-    /// It draws so many cards.
+    /// The numbers are for the draws of the last slot.
     ghost deep: { numbers.count ≡ last_count (slots (state_of table.known)) },
     /// These are few.
     ghost few: { numbers.count ≤ 3 },

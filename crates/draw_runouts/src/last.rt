@@ -40,7 +40,7 @@ fn put_one(row: &[u32], cards: &[Card], at: usize, values: &mut [u32], used: usi
     values[used + at] = row[usize::from(cards[at].number())];
 }
 
-/// The same for four of them.
+/// Puts the numbers that a row has for four of some cards after those of the cards before them.
 #[inline(always)]
 fn put_four(row: &[u32], cards: &[Card], at: usize, values: &mut [u32], used: usize)
     requires places { length row.now ≡ 52 }
@@ -118,7 +118,7 @@ fn put_pairs(
     }
 }
 
-/// The same of draws of one card, at the front.
+/// Puts the numbers of the draws of one card between two places at the front.
 fn put_singles(rows: &[[u32; DECK]], cards: &[Card], range: Range, values: &mut [u32])
     // The table has a row a card; draws of one card have the first one.
     requires places { length rows.now ≡ 52 }
@@ -137,7 +137,7 @@ fn put_singles(rows: &[[u32; DECK]], cards: &[Card], range: Range, values: &mut 
     put_row(&rows[0], &cards[range.lo..range.hi], values, 0);
 }
 
-/// The same of draws of two cards.
+/// Puts the numbers of the draws of two cards between two places at the front.
 fn put_twos(rows: &[[u32; DECK]], cards: &[Card], range: Range, values: &mut [u32])
     // The table has a row for each lower card of a draw.
     requires places { length rows.now ≡ 52 }
@@ -169,7 +169,7 @@ fn count_pairs(cards: &[Card]) -> usize
     count_choices(cards.len() as u32, 2) as usize
 }
 
-/// The same of draws of three cards.
+/// Puts the numbers of the draws of three cards between two places at the front.
 fn put_triples(planes: &[[u32; DECK]], cards: &[Card], range: Range, values: &mut [u32])
     // There is room for the tables of all lowest cards, and a deck has no more cards.
     requires places { length planes.now ≡ 1327 }

@@ -13,7 +13,7 @@ use std::alloc::Global;
 /// How many rows the tables of three cards have: those of two cards above each lowest card, one after the other.
 pub(crate) const PLANES: usize = 1327;
 
-/// What a hand is worth on a side with each draw of so many cards, as numbers that are greater for better.
+/// What a hand is worth on a side with each draw of `count` cards. A greater number is better.
 #[derive(Drop)]
 pub(crate) struct Numbers {
     /// The side.
@@ -26,7 +26,7 @@ pub(crate) struct Numbers {
     pub(crate) count: u8,
     /// The numbers of two cards, by the lower card and then the higher one. Those of one card alone stand in the first row.
     pub(crate) rows: Vec<[u32; DECK]>,
-    /// Those of three cards: for each lowest card a table as of two, of which the rows of the cards above it stand here.
+    /// The numbers of three cards: for each lowest card, the rows of the cards above it in a table as for two cards.
     pub(crate) planes: Vec<[u32; DECK]>,
     /// There is a row a card,
     pub(crate) ghost row_places: { length rows.items ≡ 52 },
@@ -118,7 +118,7 @@ fn fill_pairs(
     }
 }
 
-/// The same for all two cards.
+/// Fills in what a hand is worth with each draw of two cards.
 fn fill_twos(rows: &mut [[u32; DECK]], side: Side, game: Game, own: CardSet)
     requires places { length rows.old ≡ 52 }
     requires no_board { board_size game ≡ 0 }
@@ -141,7 +141,7 @@ pub(crate) fn plane_base(low: Card) -> usize
     base
 }
 
-/// The same for all three cards.
+/// Fills in what a hand is worth with each draw of three cards.
 fn fill_planes(planes: &mut [[u32; DECK]], side: Side, game: Game, own: CardSet)
     requires places { length planes.old ≡ 1327 }
     requires no_board { board_size game ≡ 0 }
@@ -155,7 +155,7 @@ fn fill_planes(planes: &mut [[u32; DECK]], side: Side, game: Game, own: CardSet)
     }
 }
 
-/// Fills in what a hand is worth with each draw of so many cards.
+/// Fills in what a hand is worth with each draw of `count` cards.
 fn fill(
     rows: &mut [[u32; DECK]],
     planes: &mut [[u32; DECK]],
@@ -181,7 +181,7 @@ fn fill(
 }
 
 impl Numbers {
-    /// No numbers, with so many rows for the tables of three cards: none where no more than two are drawn.
+    /// Makes room for numbers, and keeps none. `tables` is how many rows there are for draws of three cards, 0 if at most two are drawn.
     pub(crate) fn none(alloc: Global, tables: usize) -> Result<Numbers, Memory>
         ensures nothing { IfOk result (λ numbers. numbers.count ≡ 0) }
         ensures planes { IfOk result (λ numbers. length numbers.planes.items ≡ tables) }
@@ -225,7 +225,7 @@ impl Numbers {
         self.count = count;
     }
 
-    /// The same where they are wanted, of up to two cards.
+    /// Makes them the numbers of a hand that draws up to two cards, if `wanted` is true.
     pub(crate) fn serve_where(
         &mut self,
         wanted: bool,

@@ -76,8 +76,8 @@ fn compare<L: Ledger>(rivals: &[Winners], pots: u8, values: &[u32], steps: &mut 
     PotSums { at_most, at_least }
 }
 
-/// The same. One, two and three pots have a loop each, and more have one of ten, so that the compiler knows how many there are, keeps their
-/// sums at hand and takes several numbers at once.
+/// Counts how some numbers stand in each pot. One, two, and three pots have a loop each, and more pots have a loop for ten. So the compiler
+/// knows the number of pots, keeps their sums at hand, and takes several numbers at once.
 pub(crate) fn compare_pots<L: Ledger>(
     rivals: &[Winners],
     pots: u8,

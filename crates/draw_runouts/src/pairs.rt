@@ -146,8 +146,8 @@ fn compare_both<L: Ledger>(
     sums
 }
 
-/// The same. One, two and three pots have a loop each, so that the compiler knows how many there are, keeps their sums at hand and takes
-/// several draws at once. More pots have too many sums for that, and one loop over as many as there are.
+/// Counts how some highs and their lows stand in each pot. One, two, and three pots have a loop each. So the compiler knows the number of
+/// pots, keeps their sums at hand, and takes several draws at once. More pots have too many sums for that, and share one loop.
 pub(crate) fn compare_pairs<L: Ledger>(
     highs: &[Winners],
     lows: &[Winners],

@@ -53,7 +53,7 @@ fn sets_of(best: Best, last: u8, plays: bool) -> Winners
     }
 }
 
-/// The same where a hand has to qualify, and 0 is the number of one that doesn't: nobody where all have it.
+/// Returns who wins by the last hand's number if a hand must qualify. A hand that doesn't qualify has the number 0 and never wins.
 #[inline]
 fn low_sets_of(best: Best, last: u8, plays: bool) -> Winners
     // The last hand is one of ten, and so are the best of the others, with it if it plays.
@@ -104,7 +104,7 @@ fn rivals_of(table: &Table, pot: u8, last: u8, values: &[u32; 10], qualify: bool
     sets_of(best, last, plays)
 }
 
-/// The same of each pot.
+/// Returns who wins each pot, by the number of the last hand.
 fn pot_rivals(table: &Table, last: u8, values: &[u32; 10], qualify: bool) -> [Winners; 10]
     // The hand is of the table.
     requires { last < table.now.known.count }

@@ -11,6 +11,6 @@ best_value value (h ∷ hands) = max (value h) (best_value value hands)
 abbrev pub best_set : (ℕ → ℕ) → List ℕ → ℕ
 best_set value hands = set_of_players (filter (λ h. value h == best_value value hands) hands)
 
--- the same where 0 is the number of a hand that has no value: nobody where all have it
+-- the best of some hands, if 0 is the number of a hand that has no value: nobody if all have it
 abbrev pub some_set : (ℕ → ℕ) → List ℕ → ℕ
 some_set value hands = if best_value value hands == 0 then 0 else best_set value hands

@@ -8,8 +8,8 @@ use Rattle.showdown_tally.specs.Showdown.{Showdown}
 use Rattle.showdown_tally.specs.Tallies.{runouts_after}
 use Rattle.runout_walk.specs.Listing.{going_on, left_after, last_count, IsBranch}
 
--- the slots before one have the sets dealt before, which leave these cards, and the one has some cards and gets so many more of the rest;
--- each way to go on is a runout, and the last slot takes so many cards at once at the least
+-- the slots before one have the sets dealt before, which leave these cards, and the one has some cards and gets `left` more of the rest;
+-- each way to go on is a runout, and the last slot takes at least `depth` cards at once
 pub record IsAt (deal : Showdown) (depth : ℕ) (front : List (List ℕ)) (cards taken rest : List ℕ) (left : ℕ) (later : List Slot) (each : ℕ) : Type 0 where
   pub place : suc (length front + length later) ≡ length (slots deal.state)
   pub kept : left_after (unseen deal.state) front ≡ cards

@@ -22,12 +22,12 @@ last_count (slot ∷ next ∷ slots) = last_count (next ∷ slots)
 abbrev pub IsEndOf : List ℕ → List ℕ → Type 0
 IsEndOf rest cards = (front : List ℕ) × (cards ≡ front ++ rest)
 
--- a slot has some cards, and gets so many more of the rest in each way; then the later slots are filled in each way
+-- a slot has some cards, and gets `left` more of the rest in each way; then the later slots are filled in each way
 abbrev pub going_on : List ℕ → List ℕ → List ℕ → ℕ → List ℕ → List (List (List ℕ))
 going_on unseen taken rest left later = flat_map (λ more. map (λ sets. (taken ++ more) ∷ sets) (runouts (left_by unseen (taken ++ more)) later)) (choose left rest)
 
--- a slot of the cards that may come has some, and gets so many more of the rest, which lie above them; the later slots can be filled
--- in so many ways then
+-- a slot of the cards that may come has some, and gets `left` more of the rest, which lie above them; the later slots can be filled
+-- in `each` ways then
 pub record IsBranch (unseen taken rest : List ℕ) (left : ℕ) (later : List ℕ) (each : ℕ) : Type 0 where
   pub above : IsCardSet rest → IsRising (taken ++ rest)
   pub end : IsEndOf rest unseen

@@ -83,7 +83,7 @@ pub fn are_hands(table: &Table, pot: u8)
     ten_places(table);
 }
 
-/// The same of each pot.
+/// A law: the eligible hands of each pot are among the hands of the table.
 #[inline]
 pub fn all_are_hands(table: &Table)
     ensures { (pot : ℕ) → pot < table.now.pots

@@ -79,7 +79,7 @@ fn add_at(row: &mut [u32], place: u16)
     row[usize::from(place)] += 1;
 }
 
-/// So many runouts more at a place of a row.
+/// Adds `times` runouts at a place of a row.
 #[inline]
 pub fn add_times(cells: &mut [u32], place: u16, times: u32)
     requires inside { place < length cells.old }

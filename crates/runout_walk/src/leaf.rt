@@ -15,7 +15,7 @@ use card_sets::CardSet;
 use std::sync::ledger::Ledger;
 use step_count::Steps;
 
-/// A slot that has some cards, and gets so many more of the rest.
+/// A slot that has some cards, and gets `left` more of the rest.
 #[derive(Clone, Copy)]
 pub struct OpenSlot {
     /// The cards that it has.
@@ -51,8 +51,8 @@ pub trait Leaf {
     fn depth(&self) -> u32
         ensures { result ≡ depth (deal self.now) };
 
-    /// Counts the runouts in which the slots before the last have these sets, and the last one has some cards and gets so many of the
-    /// rest, from one place of the listing of these to another: for each pot, on each side. It takes a step a runout.
+    /// Counts the runouts in which the slots before the last have these sets, and the last one has some cards and gets more of the rest,
+    /// from one place of the listing of these to another: for each pot, on each side. It takes a step a runout.
     fn count<L: Ledger>(&mut self, counts: &mut [[u32; 2048]], span: &Span, steps: &mut Steps<L>)
         // The front has all slots but the last one, which gets as many cards more as the leaf deals at once.
         requires last { suc (length span.now.front.now) ≡ length (slots (deal self.old).state) }

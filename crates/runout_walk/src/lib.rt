@@ -9,7 +9,7 @@
 //!
 //! What leaves have in common stands here too. It says nothing of a game.
 //!
-//! - *Counts*: [`add_one`] adds a runout of a pot by the sets that win its sides, and [`add_times`] so many at a place of a row.
+//! - *Counts*: [`add_one`] adds a runout of a pot by the sets that win its sides, and [`add_times`] a number of them at a place of a row.
 //!   [`side_row`] is the place of a side among the rows of a pot, and [`low_mark`] what is added to a high's place where somebody has
 //!   a low.
 //! - *Who wins*: [`best_of`] some hands by numbers, [`pot_best`] of those of a pot, and [`winners_on`] a side by values.

@@ -15,7 +15,7 @@ use runout_ranges::{Slot, count_choices, count_ways};
 use std::sync::ledger::Ledger;
 use step_count::Steps;
 
-/// How many choices of so many cards have the first of them, where so many others are left. With a number for k no division is left.
+/// Returns how many choices of `left` cards have the first card, if there are `others` besides it. With a number for k no division is left.
 #[inline]
 fn count_with(others: u32, left: u32) -> u64
     requires deck { others ≤ 52 }
@@ -33,7 +33,7 @@ fn count_with(others: u32, left: u32) -> u64
     }
 }
 
-/// How many runouts have the first card of the rest, where so many others are left and the later slots can be filled in so many ways.
+/// Returns how many runouts have the first card of the rest, with `others` cards besides it and `each` ways to fill the later slots.
 #[inline]
 fn count_first(others: u32, left: u32, each: u64) -> u64
     requires deck { others ≤ 52 }
