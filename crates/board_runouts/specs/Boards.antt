@@ -24,7 +24,7 @@ are_boards table shape = has_board table.known.game && nat_le 2 (board_lacks (sl
 abbrev pub IsBoardAlone : State → Type 0
 IsBoardAlone state = slots state ≡ record { receiver = Board; count = board_lacks (slots state) } ∷ []
 
--- cards that the board gets before its last two: unseen cards, so many that just two are lacking then
+-- cards that the board gets before its last two: unseen cards, with which the board lacks exactly two
 pub record AreFirst (state : State) (taken : List ℕ) : Type 0 where
   pub unseen : Within taken (unseen state)
   pub size : length state.board + length taken ≡ 3

@@ -28,7 +28,7 @@ fields_at (end ∷ ends) sum number = (if end == number then sum % 512 else 0) +
 abbrev pub end_of : ℕ → Side → List ℕ → ℕ
 end_of pot side outcome = slice_index outcome (2 * pot + side_place side)
 
--- the same of each outcome
+-- where each outcome of all pots is counted on a side of a pot
 unfoldable pub ends_of : ℕ → Side → List (List ℕ) → List ℕ
 ends_of pot side [] = []
 ends_of pot side (outcome ∷ outcomes) = end_of pot side outcome ∷ ends_of pot side outcomes

@@ -39,7 +39,7 @@ IsFlushWith front pair part = IsFlushPart (state_of front.spot.now.table.known) 
 abbrev pub IsFlushFor : Front → Suited → Flush → Type 0
 IsFlushFor front part flush = AreBestFlushes (front_deal front) part.cards part.suit flush.tops flush.sets
 
--- each pot has its two rows of counts, which have room for so many runouts more
+-- each pot has its two rows of counts, which have room for `more` runouts
 pub record HasRoom (front : Front) (counts : List (List ℕ)) (more : ℕ) : Type 0 where
   pub rows : 2 * front.spot.now.table.pots ≤ length counts
   pub fits : CountsFit (front_deal front) counts more

@@ -8,7 +8,7 @@ use Rattle.board_ranks.specs.BoardWith.{AreRanksAnd, AreRanksWith, IsBoardWith, 
 use Rattle.board_ranks.specs.HighParts.{plain_number}
 use Rattle.board_runouts.specs.declared.sides.Worths.{Worths}
 
--- there are so many of each rank, by hand
+-- the list has, by hand, how many cards there are of each rank
 abbrev pub AreHandRanks : State → List ℕ → List ByRank → Type 0
 AreHandRanks state board list = (h : ℕ) (ranks : ByRank) → h < length state.hands → slice_get list h ≡ Some ranks → AreRanksWith (slice_index_or state.hands h []) board ranks
 

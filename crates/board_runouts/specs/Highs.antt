@@ -27,7 +27,7 @@ pub record IsBestFlush (deal : Showdown) (pot : ℕ) (cards : List ℕ) (suit to
   pub greatest : top ≡ best_value (flush_of deal.state cards suit) (eligible_in deal pot)
   pub winners : 0 < top → set ≡ best_set (flush_of deal.state cards suit) (eligible_in deal pot)
 
--- the same of each pot
+-- the best flush of each pot
 abbrev pub AreBestFlushes : Showdown → List ℕ → ℕ → List ℕ → List ℕ → Type 0
 AreBestFlushes deal cards suit tops sets = (pot : ℕ) → pot < length deal.pots → IsBestFlush deal pot cards suit (slice_index tops pot) (slice_index sets pot)
 

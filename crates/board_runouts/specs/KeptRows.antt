@@ -78,7 +78,7 @@ pub record IsFlushPart (state : State) (runout : List (List ℕ)) (board cards :
 abbrev pub IsPart : State → List (List ℕ) → Option Suited → Type 0
 IsPart state runout part = MatchOption part (HasNoFlush state runout) (λ s. IsFlushPart state runout s.board s.cards s.suit)
 
--- what so many runouts add at a place of the counts of a side of a pot, by the places where they end for one pot
+-- what `times` runouts add at a place of the counts of a side of a pot, by the places where they end for one pot
 abbrev pub so_many : ℕ → ℕ → ℕ → ℕ → ℕ → Side → ℕ → ℕ
 so_many times pot main low p High place = if (p == pot) && (main == place) then times else 0
 so_many times pot main low p Low place = if (p == pot) && (low == place) then times else 0
@@ -96,7 +96,7 @@ pair_place deal taken pot side pair = count_place deal pot side ((taken ++ cards
 abbrev pub CellsGrow : Showdown → List ℕ → ℕ → Side → List Pair → List ℕ → List ℕ → Type 0
 CellsGrow deal taken pot side pairs old new = (place : ℕ) → place < 2048 → slice_index new place ≡ slice_index old place + count_by (λ pair. pair_place deal taken pot side pair == place) pairs
 
--- the same of all counts
+-- the new counts of each side of each pot are the old ones and those of first cards with each of some pairs
 abbrev pub PairsGrow : Showdown → List ℕ → List Pair → List (List ℕ) → List (List ℕ) → Type 0
 PairsGrow deal taken pairs old new = (pot place : ℕ) (side : Side) → pot < length deal.pots → has_side side deal.state.game ≡ true → place < 2048
     → count_at new pot side place ≡ count_at old pot side place + count_by (λ pair. pair_place deal taken pot side pair == place) pairs

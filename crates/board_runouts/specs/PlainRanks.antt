@@ -23,11 +23,11 @@ abbrev pub CodesGrow : Showdown → Codes → List ℕ → List (List ℕ) → L
 CodesGrow deal codes all old new = (pot place : ℕ) (side : Side) → pot < length deal.pots → has_side side deal.state.game ≡ true → place < 2048
     → count_at new pot side place ≡ count_at old pot side place + count_by (λ ranks. code_end codes pot side ranks == place) all
 
--- the same where the row of each pot says who wins
+-- the new counts of all pots are the old ones and those of each of some ranks, where the row of each pot counts them
 abbrev pub RowsGrow : Showdown → List Row → List ℕ → List (List ℕ) → List (List ℕ) → Type 0
 RowsGrow deal rows all old new = (pot place : ℕ) (side : Side) (row : Row) → pot < length deal.pots → has_side side deal.state.game ≡ true → slice_get rows pot ≡ Some row → place < 2048
     → count_at new pot side place ≡ count_at old pot side place + count_by (λ ranks. row_place row side ranks == place) all
 
--- the same of the counts of one side of one pot
+-- the new counts of the high of one pot are the old ones and those of each of some ranks, where its row counts them
 abbrev pub MainsGrow : Row → List ℕ → List ℕ → List ℕ → Type 0
 MainsGrow row all old new = (place : ℕ) → place < 2048 → slice_index new place ≡ slice_index old place + count_by (λ ranks. slice_index row.mains ranks == place) all

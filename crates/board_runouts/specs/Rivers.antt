@@ -28,7 +28,7 @@ pub record IsWonBy (deal : Showdown) (pot : ℕ) (runout : List (List ℕ)) (hig
   pub high_set : high ≡ best_set (plain_of deal.state runout) (eligible_in deal pot)
   pub low_set : low ≡ side_outcome Low deal pot runout
 
--- the same of each pot after each last card of a rank
+-- who wins both sides of each pot after each last card of a rank
 abbrev pub AreWonWith : Showdown → ℕ → List ℕ → List ℕ → Type 0
 AreWonWith deal rank highs lows = (pot card : ℕ) → pot < length deal.pots → rank_of card ≡ rank → HasMember (runouts_after deal.state) ((card ∷ []) ∷ [])
     → IsWonBy deal pot ((card ∷ []) ∷ []) (slice_index highs pot) (slice_index lows pot)

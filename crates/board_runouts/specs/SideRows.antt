@@ -11,7 +11,7 @@ use Rattle.runout_walk.specs.Bests.{best_set, best_value}
 use Rattle.board_runouts.specs.Highs.{plain_of}
 use Rattle.board_ranks.specs.Values.{one_of}
 
--- so many of each rank as the cards have
+-- the ranks are those of the cards, each as often
 abbrev pub AreRanksOf : List ℕ → List ℕ → Type 0
 AreRanksOf ranks cards = (r : ℕ) → r < 13 → count_by (λ k. k == r) ranks ≡ count_of_rank cards r
 
@@ -28,7 +28,7 @@ pub record IsBestOf (deal : Showdown) (pot : ℕ) (runout : List (List ℕ)) (ma
   pub main_set : main ≡ best_set (plain_of deal.state runout) (eligible_in deal pot) + low_mark (side_outcome Low deal pot runout)
   pub best : top ≡ best_value (plain_of deal.state runout) (eligible_in deal pot)
 
--- the same with first cards of these ranks, at 13 times the lower rank of the last two cards and the higher one, for lower ranks from
+-- a row says who wins a pot with first cards of these ranks, at 13 times the lower rank of the last two cards and the higher one, for lower ranks from
 -- the least on, whichever cards they are
 abbrev pub IsSideRow : Showdown → ℕ → List ℕ → ℕ → List ℕ → List ℕ → List ℕ → Type 0
 IsSideRow deal pot ranks least mains lows tops = (place : ℕ) (runout : List (List ℕ)) → place < 169 → least ≤ place / 13 → place / 13 ≤ place % 13

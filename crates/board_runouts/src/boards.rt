@@ -46,18 +46,23 @@ pub fn are_boards(table: &Table, shape: &Shape) -> bool
     table.known.game.has_board() && 2 <= board_lacks(shape)
 }
 
-/// The room that boards are counted in. It asks for up to 1 MB of the heap, of which rows, codes, sieves and threes of ranks are written where
-/// a count wants them first.
-/// It is made once, and keeps what the next count of the same deal can use; what it held before makes no other difference.
+/// The room that boards are counted in. It asks for up to 1 MB of the heap. Rows, codes, sieves, and threes of ranks are written when a count
+/// first needs them. What it keeps of one count, the next count of the same deal uses, and nothing else changes.
 #[derive(Drop)]
 pub struct Boards {
     /// The table that it serves.
     pub table: Table,
+    /// The table, with what is looked up at each pair.
     spot: BoardSpot,
+    /// The unseen cards.
     cards: CardSet,
+    /// All pairs of the unseen cards that a count listed last, with their sieves.
     pairs: Pairs,
+    /// By the pot and the ranks of first cards, who wins for each pair of ranks.
     rows: Rows,
+    /// The outcomes of the rows as codes.
     codes: CodedRows,
+    /// The best flushes that were asked for last.
     flushes: Flushes,
     /// The table once more, with what is looked up at each pair.
     ghost same: { spot.table ≡ table },

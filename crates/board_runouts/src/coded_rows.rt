@@ -23,7 +23,7 @@ const ROOM: usize = 192;
 pub(crate) struct CodedRows {
     /// The codes.
     pub(crate) list: Vec<Codes>,
-    /// There is room for so many.
+    /// There is room for the codes of 192 places.
     pub(crate) ghost room: { 192 ≤ vec_capacity list },
 }
 
@@ -76,7 +76,7 @@ impl CodedRows {
         codes.fill(rows, start.ranks, start.least);
     }
 
-    /// Returns the place of the codes of the rows of all pots. If the codes aren't kept, they are made. `base` is the place of the first row.
+    /// Returns the place of the codes of the rows of all pots, the first of which is in place `base`. Codes that aren't kept are made.
     #[inline]
     pub(crate) fn ready(&mut self, base: usize, rows: &[Row], start: &Start) -> usize
         // There is a row for each pot, for first cards of these ranks, and the codes are right.

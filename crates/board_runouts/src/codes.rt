@@ -89,7 +89,7 @@ impl Codes {
         }
     }
 
-    /// There are so many of them.
+    /// A law: there are seven codes.
     #[inline]
     pub(crate) fn seven(&self)
         ensures { length self.now.ends ≡ 7 }

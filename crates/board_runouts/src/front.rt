@@ -1,7 +1,7 @@
 //! The first cards of a board, with everything that is looked up at a pair after them.
 //!
-//! The type keeps the facts that connect its fields, so the functions that take a `Front` don't repeat them. `Start` is what is known before
-//! there are rows. `Front::of` adds the rows and codes, and `with_suits` or `with_own_suits` adds the suits that may make a flush.
+//! The type keeps the facts that connect its fields, so the functions that take a `Front` don't repeat them. `Start` is what is known
+//! before there are rows. `Front::of` adds the rows and codes, and `with_suits` or `with_own_suits` adds the suits that may make a flush.
 
 ghost use Rattle.std.specs.Option.{ForSome};
 ghost use Rattle.std.specs.Prelude.{◌≡◌, length, IsTrue};

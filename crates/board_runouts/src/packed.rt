@@ -15,7 +15,7 @@ use card_sets::Side;
 /// How many pairs a field of a sum has room for.
 pub(crate) const PIECE: usize = 511;
 
-/// Counts so many runouts of an outcome for each pot.
+/// Counts `times` runouts of an outcome for each pot.
 #[inline]
 fn put_outcome(spot: &BoardSpot, outcome: &[u16; ENDS], times: u32, counts: &mut [[u32; 2048]])
     requires pots { spot.now.table.pots ≤ 10 }

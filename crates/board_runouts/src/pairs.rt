@@ -27,9 +27,9 @@ pub(crate) struct Pairs {
     pub(crate) pairs: Vec<Pair>,
     /// Their sieves.
     pub(crate) sieves: Sieves,
-    /// There are so many places,
+    /// There is a place for each pair of a deck.
     pub(crate) ghost sized: { length pairs.items ≡ 1326 },
-    /// which are enough for all.
+    /// The places are enough for all pairs.
     pub(crate) ghost few: { used ≤ 1326 },
     /// They are all choices of two of the cards.
     pub(crate) ghost listed: { map cards_of_pair (take used pairs.items) ≡ choose 2 cards },
@@ -78,16 +78,16 @@ fn put_all_pairs(pairs: &mut [Pair], cards: &[Card]) -> usize
     used
 }
 
-/// Where the last pairs of a listing stand, those of so many cards, by their places among these.
+/// Returns the places of the pairs of the last `count` cards in a listing of `size` pairs, from place `lo` to `hi` among these pairs.
 #[inline]
 fn last_pairs(size: usize, count: u32, lo: u64, hi: u64) -> Stretch
-    // So many cards have a pair, and the listing has as many pairs as they have, or more, up to those of a deck.
+    // `count` cards have a pair, and the listing has all their pairs, and at most those of a deck.
     requires deck { count ≤ 52 }
     requires two { 2 ≤ count }
     requires enough { binomial count 2 ≤ size }
     requires few { size ≤ 1326 }
 
-    // The places are among the pairs of so many cards.
+    // The places are among the pairs of these cards.
     requires order { lo < hi }
     requires inside { hi ≤ binomial count 2 }
 
@@ -156,7 +156,7 @@ impl Pairs {
         &self.pairs[..self.used]
     }
 
-    /// Makes a sieve for so many cards of each suit stand in its place, where it isn't kept, and gives it.
+    /// Returns the place of the sieve for some counts of cards of each suit. If the sieve isn't kept, it is made.
     #[inline]
     pub(crate) fn ready(&mut self, counts: &[u32; 4]) -> usize
         requires counts { (s : ℕ) → slice_index counts.now s ≤ 156 }

@@ -20,7 +20,7 @@ pub(crate) struct Place {
     pub(crate) low: u16,
 }
 
-/// So many runouts more at their places for a pot.
+/// Adds `times` runouts at their places for a pot.
 #[inline]
 pub(crate) fn add_place(
     counts: &mut [[u32; 2048]],

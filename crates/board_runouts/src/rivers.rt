@@ -79,9 +79,9 @@ fn worths_at(known: &Known, board: CardSet) -> Worths
 /// Who wins both sides of each pot with a last card of some rank, the high by ranks alone.
 #[derive(Clone, Copy)]
 struct Won {
-    /// The sets of the hands that win the high, as the numbers with their bits.
+    /// By the pot, the set of the hands that win the high by ranks alone, as the number with their bits.
     highs: [u16; 10],
-    /// Those of the hands that win the low.
+    /// By the pot, the set of the hands that win the low.
     lows: [u16; 10],
     /// So large may a set be.
     ghost few_highs: { (pot : ℕ) → slice_index highs pot < 1024 },
@@ -200,9 +200,11 @@ fn count_river(spot: &BoardSpot, won: &Won, card: Card, counts: &mut [[u32; 2048
 pub struct Rivers {
     /// What is shown down for.
     pub table: Table,
+    /// The table, with what is looked up at each last card.
     spot: BoardSpot,
-    /// The rank that it is known for who wins, or 13.
+    /// The rank of the last cards for which `won` is right, 13 if there is none.
     rank: u8,
+    /// Who wins each pot by ranks with a last card of that rank.
     won: Won,
     /// The table once more, with what is looked up at each card.
     ghost same: { spot.table ≡ table },

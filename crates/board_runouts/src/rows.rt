@@ -26,13 +26,13 @@ const NOWHERE: u8 = 255;
 /// are made where it is asked for first, so that only those that a count uses take memory's pages.
 #[derive(Drop)]
 pub(crate) struct Rows {
-    /// Where the rows of each group stand, if they do. What stands there is looked at before it is used.
+    /// The first place of each group's rows, or `NOWHERE`. A row there is compared with what is asked for before it is used.
     bases: [u8; GROUPS],
     /// The rows.
     pub(crate) rows: Vec<Row>,
-    /// What the hands are worth with each three ranks of the board, where rows are filled by them.
+    /// The value of each hand with each three ranks of the board. Rows of Omaha games are filled from them.
     threes: Threes,
-    /// There is room for so many.
+    /// There is room for 192 rows.
     pub(crate) ghost room: { 192 ≤ vec_capacity rows },
 }
 
@@ -77,7 +77,7 @@ impl Rows {
         self.rows.clear();
     }
 
-    /// Whether the row in a place is one of a pot for first cards of these ranks.
+    /// Returns whether the row in a place is one of a pot for first cards of these ranks.
     #[inline]
     fn has_one(&self, place: usize, pot: u8, ranks: &[u8; 3], least: u8) -> bool
         requires { place < length self.now.rows.items }
@@ -91,7 +91,7 @@ impl Rows {
         self.rows[place].is_for(pot, ranks, least)
     }
 
-    /// Whether there is a row for first cards of these ranks for each pot, from a place on.
+    /// Returns whether, from a place on, each pot has a row for first cards of these ranks.
     #[inline]
     fn has_all(&self, base: usize, pots: u8, ranks: &[u8; 3], least: u8) -> bool
         requires { base < 256 }
@@ -114,7 +114,7 @@ impl Rows {
         true
     }
 
-    /// Makes a row of each pot for first cards of the board stand in its place, where it isn't kept, and gives the place of the first.
+    /// Returns the place of the first of the rows of all pots for some first cards. Rows that aren't kept are filled.
     #[inline]
     pub(crate) fn ready(&mut self, start: &Start) -> usize
         requires right { AreRows (deal_of start.now.spot.now.table) self.old.rows.items }
@@ -137,7 +137,7 @@ impl Rows {
         self.put(group, start)
     }
 
-    /// Makes room for some rows more: where there is none, all rows are dropped.
+    /// Makes room for `pots` more rows. If there is none, all rows are dropped.
     fn make_room(&mut self, pots: u8)
         requires { pots ≤ 10 }
         ensures room { length self.new.rows.items + pots ≤ 192 }
@@ -150,7 +150,7 @@ impl Rows {
         self.clear();
     }
 
-    /// Adds so many rows with nothing in them.
+    /// Adds `pots` rows with nothing in them.
     fn add_rows(&mut self, pots: u8)
         requires { length self.old.rows.items + pots ≤ 192 }
         ensures count { length self.new.rows.items ≡ length self.old.rows.items + pots }
@@ -179,7 +179,7 @@ impl Rows {
         base
     }
 
-    /// Where a group's rows are to stand: where they stood, or else in places of their own.
+    /// Returns the first place for the rows of a group: where they were before, or new places after all rows.
     fn place_for(&mut self, group: usize, pots: u8) -> usize
         requires group { group < 96 }
         requires few { pots ≤ 10 }
@@ -195,7 +195,7 @@ impl Rows {
         self.add_group(group, pots)
     }
 
-    /// Fills the rows of a group for first cards of the board, whose ranks are given, and gives the place of the first.
+    /// Fills the rows of a group for some first cards, and returns the place of the first row.
     #[inline(never)]
     fn put(&mut self, group: usize, start: &Start) -> usize
         requires group { group < 96 }
@@ -217,7 +217,7 @@ impl Rows {
         base
     }
 
-    /// So many rows from a place on.
+    /// Returns the rows of all pots, the first of which is in a place.
     #[inline]
     pub(crate) fn stretch(&self, base: usize, pots: u8) -> &[Row]
         requires { base + pots ≤ length self.now.rows.items }

@@ -25,20 +25,20 @@ pub(crate) struct BoardSpot {
     pub(crate) table: Table,
     /// For each suit the most cards for a flush that a hand has with the known board.
     pub(crate) most: [u32; 4],
-    /// There is a board.
+    /// The game has a board.
     pub(crate) ghost dealt: { has_board table.known.game ≡ true },
     /// The board alone lacks cards.
     pub(crate) ghost alone: { IsBoardAlone (state_of table.known) },
-    /// No hand has more.
+    /// No hand has more cards of a suit than `most` says.
     pub(crate) ghost greatest: { AreMost (state_of table.known) most },
-    /// They are no more than two sets have.
+    /// A count is at most that of two sets of cards.
     pub(crate) ghost few: { (s : ℕ) → slice_index most s ≤ 104 },
     /// The board is a set.
     pub(crate) ghost board: { IsCardSet table.known.board },
     /// The hands are sets.
     pub(crate) ghost hands: { (h : ℕ) → h < length (state_of table.known).hands
         → IsCardSet (slice_index_or (state_of table.known).hands h []) },
-    /// There are so many pots.
+    /// The deal has a pot for each pot of the table.
     pub(crate) ghost pots: { length (deal_of table).pots ≡ table.pots },
 }
 
