@@ -24,7 +24,7 @@ use Rattle.showdown_tally.specs.Tallies.{runouts_after}
 use Rattle.card_sets.proofs.CallerLemmas.{length-union, apart-Apart, Apart-apart, Apart-sym, Apart-union}
 use Rattle.showdown_tally.proofs.CallerLemmas.{Deals, IsChoice, filtered, runout_deals, hand_of, known_sound, Sound, full_board}
 use Rattle.runout_walk.specs.Bests.{best_set, best_value}
-use Rattle.board_runouts.specs.Highs.{plain_of, high_of, flush_of}
+use Rattle.board_runouts.specs.Highs.{IsBoardFor, plain_of, high_of, flush_of}
 use Rattle.board_runouts.specs.Boards.{IsBoardAlone, AreFirst, board_lacks}
 use Rattle.board_ranks.specs.BoardWith.{IsBoardWith, low_number}
 use Rattle.board_ranks.specs.HighParts.{flush_part, high_number, plain_number, suited_number}
@@ -253,8 +253,14 @@ each_main deal pot set main low top won mark keeps s below best w m =
 pub high_with : (st : State) (set board : List ℕ) (h : ℕ) → IsScene st set → board ≡ board_after st (set ∷ []) → h < length st.hands → high_number st.game (hand_of st h) board ≡ high_of st (set ∷ []) h
 high_with st set board h s b l = ap (λ own. high_number st.game own board) (sym (own_alone st set h s.alone (s.hands h l))) ∙ ap (high_number st.game (own_after st (set ∷ []) h)) b
 
-pub away_with : (st : State) (set board : List ℕ) (h : ℕ) → IsScene st set → board ≡ board_after st (set ∷ []) → h < length st.hands → apart (hand_of st h) board ≡ true
-away_with st set board h s b l = ap (λ own. apart own board) (sym (own_alone st set h s.alone (s.hands h l))) ∙ ap (apart (own_after st (set ∷ []) h)) b ∙ (full_of st set h s l).apart
+-- so it is a full board for each hand
+pub board_for : (st : State) (set board : List ℕ) → IsScene st set → board ≡ board_after st (set ∷ []) → IsBoardFor st board
+board_for st set board s b = record {
+  dealt = s.game;
+  own = λ h l. own_of st set h s l;
+  five = ap length b ∙ board_five st set s;
+  away = λ h l. ap (λ own. apart own board) (sym (own_alone st set h s.alone (s.hands h l))) ∙ ap (apart (own_after st (set ∷ []) h)) b ∙ (full_of st set h s l).apart;
+}
 
 -- what a table and a runout of it give
 pub scene_of : (spot : BoardSpot) (set : List ℕ) → HasMember (runouts_after (state_of spot.table.known)) (set ∷ []) → IsScene (state_of spot.table.known) set

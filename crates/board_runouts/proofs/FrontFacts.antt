@@ -2,17 +2,20 @@
 use Rattle.std.proofs.Common.{◌≡◌, ℕ, suc, ◌+◌, ◌-◌, ◌<◌, List, [], ◌∷◌, ◌++◌, length, take, sym, ap, ◌∙◌, arith, Some, get_or, subst}
 use Rattle.std.specs.Prelude.{slice_get, slice_index}
 use Rattle.std.proofs.lemmas.Option.{slice_get-get_or}
-use Rattle.card_sets.specs.State.{state_of}
+use Rattle.card_sets.specs.Cards.{union, with_card}
+use Rattle.card_sets.specs.State.{State, state_of}
 use Rattle.runout_ranges.proofs.CallerLemmas.{member_at}
 use Rattle.board_ranks.specs.declared.pair.Pair.{Pair}
 use Rattle.board_runouts.specs.Fronts.{AddPairs, AreRunoutsWith, HasRoom, IsFlushFor, IsFlushWith, IsRunoutWith, front_deal}
 use Rattle.board_runouts.specs.Highs.{AreSuitedFor, IsBestFlush}
+use Rattle.board_runouts.specs.KeptRows.{IsBestAt}
 use Rattle.board_runouts.specs.Pairs.{cards_of_pair}
 use Rattle.board_runouts.specs.declared.flush.Flush.{Flush}
 use Rattle.board_runouts.specs.declared.flush.Suited.{Suited}
 use Rattle.board_runouts.specs.declared.front.Front.{Front}
 use Rattle.board_runouts.specs.declared.row.Row.{Row}
-use Rattle.board_runouts.proofs.BoardDealt.{IsScene, own_of, pair_inside, scene_of}
+use Rattle.board_runouts.proofs.BoardDealt.{IsScene, own_of, pair_inside, row_there, scene_of}
+use Rattle.board_runouts.proofs.BoardRunouts.{set_with_pair}
 use Rattle.board_runouts.proofs.PairCounts.{fits_next, pairs_next}
 
 -- what stands at a place of a list
@@ -33,6 +36,17 @@ scene_with front pair member = scene_of front.spot.now (front.taken ++ cards_of_
 
 pub place_inside : (front : Front) (pair : Pair) (place : ℕ) → IsRunoutWith front pair → place ≡ pair.ranks → place < 169
 place_inside front pair place member is = pair_inside (state_of front.spot.now.table.known) front.taken pair.low pair.high place (scene_with front pair member) (is ∙ pair.by_rank)
+
+-- the full board that the two cards make
+pub board_with : (front : Front) (pair : Pair) (one both board : List ℕ) → IsRunoutWith front pair → one ≡ with_card front.taken pair.low → both ≡ with_card one pair.high → board ≡ union (state_of front.spot.now.table.known).board both
+    → board ≡ union (state_of front.spot.now.table.known).board (front.taken ++ cards_of_pair pair)
+board_with front pair one both board member low high full =
+    let st : State = state_of front.spot.now.table.known in
+    full ∙ ap (union st.board) (set_with_pair st front.taken one both pair.low pair.high front.spot.now.alone member low high)
+
+-- who is best with it, by the row of a pot
+pub best_with : (front : Front) (pair : Pair) (pot at place : ℕ) (row : Row) → IsRunoutWith front pair → at ≡ pot → pot < front.spot.now.table.pots → row ≡ get_or front.rows.now at row → place ≡ pair.ranks → IsBestAt (front_deal front) pot ((front.taken ++ cards_of_pair pair) ∷ []) row place
+best_with front pair pot at place row member same inside is ranks = row_there (front_deal front) pot front.taken pair.low pair.high place row (scene_with front pair member) (front.rows_are pot row (row_of front pot at row same inside is)) (ranks ∙ pair.by_rank)
 
 -- what is asked of flushes with the cards of a suit after it
 pub suited_for : (front : Front) (pair : Pair) (part : Suited) → IsRunoutWith front pair → IsFlushWith front pair part → AreSuitedFor (state_of front.spot.now.table.known) part.cards part.suit

@@ -1,5 +1,5 @@
 -- Pairs of last cards that make nobody a flush, counted by their ranks.
-use Rattle.std.proofs.Common.{◌≡◌, ℕ, suc, ◌+◌, ◌<◌, ◌≤◌, ◌==◌, List, [], ◌∷◌, ◌++◌, length, map, refl, sym, ap, ◌∙◌, arith, Bool, true, cond, Some, subst, take}
+use Rattle.std.proofs.Common.{◌≡◌, ℕ, suc, ◌+◌, ◌^◌, ◌<◌, ◌≤◌, ◌==◌, List, [], ◌∷◌, ◌++◌, length, map, refl, sym, ap, ◌∙◌, arith, Bool, true, cond, Some, subst, take}
 use Rattle.std.specs.Prelude.{filter, slice_get, slice_index}
 use Rattle.std.specs.List.{count_by, slice_range, sum_by}
 use Rattle.std.proofs.lemmas.List.{length-map}
@@ -16,7 +16,7 @@ use Rattle.showdown_tally.specs.Deals.{deal_of}
 use Rattle.showdown_tally.specs.Showdown.{Showdown, eligible_in}
 use Rattle.showdown_tally.specs.SideCounts.{CountsFit, count_at}
 use Rattle.showdown_tally.specs.Tallies.{runouts_after}
-use Rattle.board_runouts.specs.Codes.{AreCodesFor, IsCodeOf}
+use Rattle.board_runouts.specs.Codes.{AreCodesFor, FieldsGrow, IsCodeOf}
 use Rattle.board_runouts.specs.Fields.{code_of, ends_of, field, fields_at}
 use Rattle.board_runouts.specs.KeptRows.{AreRowsOf, CellsGrow, HasNoFlush, IsRowFor, PairsGrow, pair_place, row_place}
 use Rattle.board_runouts.specs.Pairs.{cards_of_pair}
@@ -127,6 +127,16 @@ pub ranks_fields : (codes : Codes) (pot place : ℕ) (side : Side) (all : List �
     → fields_at (ends_of pot side codes.ends) sum place ≡ count_by (λ ranks. code_end codes pot side ranks == place) all
 ranks_fields codes pot place side all sum each few seven is =
     fields_counted (ends_of pot side codes.ends) (λ ranks. slice_index codes.adds ranks) (code_end codes pot side) all sum place (ranks_coded codes pot side all each) few (ends_count pot side codes.ends ∙ seven) is
+
+-- a piece whose sum is added, and the room for it
+pub piece_fields : (deal : Showdown) (codes : Codes) (all : List ℕ) (sum : ℕ) (old new : List (List ℕ)) → ((ranks : ℕ) → HasMember all ranks → HasCode codes ranks) → length all < 512 → length codes.ends ≡ 7 → sum ≡ sum_by (λ ranks. slice_index codes.adds ranks) all
+    → FieldsGrow deal codes sum old new → CodesGrow deal codes all old new
+piece_fields deal codes all sum old new each few seven is grown pot place side p has l = omega (arith, grown pot place side p has l, ranks_fields codes pot place side all sum each few seven is)
+
+pub piece_room : (deal : Showdown) (codes : Codes) (all : List ℕ) (sum : ℕ) (old : List (List ℕ)) → ((ranks : ℕ) → HasMember all ranks → HasCode codes ranks) → length all < 512 → length codes.ends ≡ 7 → sum ≡ sum_by (λ ranks. slice_index codes.adds ranks) all → CountsFit deal old (length all)
+    → (pot place : ℕ) (side : Side) → pot < length deal.pots → has_side side deal.state.game ≡ true → place < 2048 → count_at old pot side place + fields_at (ends_of pot side codes.ends) sum place < 2 ^ 32
+piece_room deal codes all sum old each few seven is fits pot place side p has l =
+    omega (arith, fits pot place side p has l, ranks_fields codes pot place side all sum each few seven is, count_by-le-length (λ ranks. code_end codes pot side ranks == place) all)
 
 -- one piece after another
 pub codes_on : (deal : Showdown) (codes : Codes) (all : List ℕ) (at end : ℕ) (old mid new : List (List ℕ)) → at ≤ end → CodesGrow deal codes (take at all) old mid → CodesGrow deal codes (slice_range all at end) mid new → CodesGrow deal codes (take end all) old new

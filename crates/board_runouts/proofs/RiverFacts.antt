@@ -36,7 +36,7 @@ use Rattle.board_runouts.specs.declared.sides.Worths.{Worths}
 use Rattle.board_runouts.specs.declared.spot.BoardSpot.{BoardSpot}
 use Rattle.board_runouts.proofs.HighWinners.{Keeps}
 use Rattle.runout_walk.proofs.CallerLemmas.{set-same, map_take, grow_more, member-map, taken_none, map-map, range-map, choose-one}
-use Rattle.board_runouts.proofs.BoardDealt.{IsScene, away_with, full_of, outcome_of, scene_of}
+use Rattle.board_runouts.proofs.BoardDealt.{IsScene, board_for, full_of, outcome_of, scene_of}
 use Rattle.board_runouts.proofs.BoardLeaf.{front_none}
 use Rattle.board_runouts.proofs.BoardRunouts.{board_alone, board_apart, count-union, own_alone, set_of_member}
 use Rattle.board_runouts.proofs.HighNumbers.{low_is}
@@ -59,7 +59,7 @@ placed_at : (st : State) (card h : ℕ) → IsScene st (card ∷ []) → h < len
 placed_at st card h s l = record {
   own_cards = s.hands h l;
   board_cards = (full_of st (card ∷ []) h s l).board_cards;
-  apart = away_with st (card ∷ []) (board_after st ((card ∷ []) ∷ [])) h s refl l;
+  apart = (board_for st (card ∷ []) (board_after st ((card ∷ []) ∷ [])) s refl).away h l;
 }
 
 -- cards of one rank make boards of the same ranks

@@ -3,14 +3,16 @@ use Rattle.std.proofs.Common.{◌≡◌, ◌+◌, ◌<◌, ◌≤◌, ℕ, zero,
 use Rattle.std.specs.Prelude.{slice_get, slice_index, replicate}
 use Rattle.std.specs.List.{slice_range}
 use Rattle.std.proofs.lemmas.Bool.{cases_eq, cases_lt}
-use Rattle.card_sets.specs.Cards.{IsRising, rank_of}
+use Rattle.card_sets.specs.Cards.{rank_of}
+use Rattle.showdown_tally.specs.Deals.{deal_of}
 use Rattle.showdown_tally.specs.Showdown.{Showdown}
 use Rattle.runout_walk.proofs.CallerLemmas.{get-other}
 use Rattle.board_ranks.proofs.CallerLemmas.{get-same}
 use Rattle.board_runouts.specs.Highs.{AreBestFlushes, IsBestFlush}
-use Rattle.board_runouts.specs.KeptRows.{IsAway, IsBestAt, IsButAt, IsRowFor}
+use Rattle.board_runouts.specs.KeptRows.{IsAway, IsBestAt, IsButAt, IsNamed, IsRowFor}
 use Rattle.board_runouts.specs.SideRows.{AreRanksOf, IsSideRow}
 use Rattle.board_runouts.specs.declared.row.Row.{Row}
+use Rattle.board_runouts.specs.declared.start.Start.{Start}
 
 -- what holds of all holds with one more of which it holds
 pub all_set : {X : Type 0} (P : X → Type 0) (xs : List X) (place : ℕ) (v : X) → ((i : ℕ) (x : X) → slice_get xs i ≡ Some x → P x) → P v → (i : ℕ) (x : X) → slice_get (set xs place v) i ≡ Some x → P x
@@ -95,22 +97,21 @@ abbrev pub IsRow : Showdown → ℕ → List ℕ → ℕ → Row → Type 0
 IsRow deal pot ranks least row = IsSideRow deal pot ranks least row.mains row.lows row.tops
 
 -- it is right by what it names
-pub row_right : (deal : Showdown) (pot : ℕ) (ranks : List ℕ) (least : ℕ) (row : Row) → row.pot ≡ pot → row.ranks ≡ ranks → row.least ≡ least → IsRow deal pot ranks least row → IsRow deal row.pot row.ranks row.least row
-row_right deal pot ranks least row p r l is =
+pub row_right : (deal : Showdown) (pot : ℕ) (ranks : List ℕ) (least : ℕ) (row : Row) → IsNamed row pot ranks least → IsRow deal pot ranks least row → IsRow deal row.pot row.ranks row.least row
+row_right deal pot ranks least row named is =
     let P : ℕ → Type 0 = λ x. IsRow deal x row.ranks row.least row in
     let Q : List ℕ → Type 0 = λ x. IsRow deal pot x row.least row in
     let L : ℕ → Type 0 = λ x. IsRow deal pot ranks x row in
-    subst P (sym p) (subst Q (sym r) (subst L (sym l) is))
+    subst P (sym named.pot_is) (subst Q (sym named.ranks_are) (subst L (sym named.least_is) is))
 
 -- a row that names these ranks is one for all first cards that have them
-pub row_for : (deal : Showdown) (pot : ℕ) (taken ranks : List ℕ) (least : ℕ) (row : Row) → IsRow deal row.pot row.ranks row.least row → row.pot ≡ pot → row.ranks ≡ ranks → row.least ≡ least
-    → AreRanksOf ranks taken → ((card : ℕ) (more : List ℕ) → IsRising (taken ++ card ∷ more) → least ≤ rank_of card) → IsRowFor deal pot taken row
-row_for deal pot taken ranks least row is same_pot same_ranks same_least are low =
-    let P : ℕ → Type 0 = λ p. IsRow deal p row.ranks row.least row in
+pub row_for : (start : Start) (pot : ℕ) (row : Row) → IsRow (deal_of start.spot.now.table) row.pot row.ranks row.least row → IsNamed row pot start.ranks start.least → IsRowFor (deal_of start.spot.now.table) pot start.taken row
+row_for start pot row is named =
+    let P : ℕ → Type 0 = λ p. IsRow (deal_of start.spot.now.table) p row.ranks row.least row in
     record {
-      right = subst P same_pot is;
-      of_ranks = subst (λ r. AreRanksOf r taken) (sym same_ranks) are;
-      from_least = λ card more rises. subst (λ l. l ≤ rank_of card) (sym same_least) (low card more rises);
+      right = subst P named.pot_is is;
+      of_ranks = subst (λ r. AreRanksOf r start.taken) (sym named.ranks_are) start.ranks_are;
+      from_least = λ card more rises. subst (λ l. l ≤ rank_of card) (sym named.least_is) (start.from_least card more rises);
     }
 
 -- the best flush of one pot more stands in its place

@@ -1,5 +1,5 @@
 -- First cards of a board, with all that is looked up at a pair after them.
-use Rattle.std.specs.Prelude.{◌≡◌, ℕ, ◌*◌, ◌≤◌, ◌++◌, List, [], ◌∷◌, length, Option}
+use Rattle.std.specs.Prelude.{◌≡◌, ℕ, ◌+◌, ◌*◌, ◌<◌, ◌≤◌, ◌++◌, List, [], ◌∷◌, length, slice_get, Option, Some}
 use Rattle.card_sets.specs.State.{state_of}
 use Rattle.runout_ranges.specs.Runouts.{HasMember}
 use Rattle.showdown_tally.specs.Deals.{deal_of}
@@ -9,12 +9,20 @@ use Rattle.showdown_tally.specs.Tallies.{runouts_after}
 use Rattle.board_ranks.specs.declared.pair.Pair.{Pair}
 use Rattle.board_runouts.specs.Highs.{AreBestFlushes}
 use Rattle.board_runouts.specs.KeptFlushes.{AreFlushes}
-use Rattle.board_runouts.specs.KeptRows.{IsFlushPart, IsPart, PairsGrow}
+use Rattle.board_runouts.specs.KeptRows.{AreRows, AreRowsFor, IsFlushPart, IsNamed, IsPart, PairsGrow}
 use Rattle.board_runouts.specs.Pairs.{cards_of_pair}
 use Rattle.board_runouts.specs.declared.flush.Flush.{Flush}
 use Rattle.board_runouts.specs.declared.flush.Suited.{Suited}
 use Rattle.board_runouts.specs.declared.flushes.Flushes.{Flushes}
 use Rattle.board_runouts.specs.declared.front.Front.{Front}
+use Rattle.board_runouts.specs.declared.row.Row.{Row}
+use Rattle.board_runouts.specs.declared.start.Start.{Start}
+
+-- from a place on there is a row for each pot, right for some first cards and named for them, and all rows of the list are right
+pub record AreReady (start : Start) (list : List Row) (base : ℕ) : Type 0 where
+  pub rows : AreRowsFor (deal_of start.spot.now.table) start.spot.now.table.pots start.taken list base
+  pub names : (pot : ℕ) (row : Row) → pot < start.spot.now.table.pots → slice_get list (base + pot) ≡ Some row → IsNamed row pot start.ranks start.least
+  pub right : AreRows (deal_of start.spot.now.table) list
 
 -- the deal whose boards are counted
 abbrev pub front_deal : Front → Showdown

@@ -31,6 +31,13 @@ pub record IsBestFlush (deal : Showdown) (pot : ℕ) (cards : List ℕ) (suit to
 abbrev pub AreBestFlushes : Showdown → List ℕ → ℕ → List ℕ → List ℕ → Type 0
 AreBestFlushes deal cards suit tops sets = (pot : ℕ) → pot < length deal.pots → IsBestFlush deal pot cards suit (slice_index tops pot) (slice_index sets pot)
 
+-- a board is full and shares no card with a hand, in a game with a board, and each hand has all its own cards
+pub record IsBoardFor (state : State) (board : List ℕ) : Type 0 where
+  pub dealt : has_board state.game ≡ true
+  pub own : (h : ℕ) → h < length state.hands → length (slice_index_or state.hands h []) ≡ own_size state.game
+  pub five : length board ≡ 5
+  pub away : (h : ℕ) → h < length state.hands → apart (slice_index_or state.hands h []) board ≡ true
+
 -- each hand of a game with a board has all its own cards, and none of some cards of the board, which are of one suit
 pub record AreSuitedFor (state : State) (cards : List ℕ) (suit : ℕ) : Type 0 where
   pub dealt : has_board state.game ≡ true

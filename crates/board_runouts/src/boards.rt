@@ -109,7 +109,7 @@ impl Boards {
         self.codes.clear();
         self.flushes.clear();
         self.cards = shape.unseen;
-        self.spot = BoardSpot::of(table, shape);
+        self.spot = BoardSpot::of(table);
         self.table = *table;
     }
 }
@@ -141,7 +141,7 @@ impl Leaf for Boards {
             return;
         }
         let place = self.codes.ready(base, rows, &start);
-        let codes = self.codes.codes_at(place).if_enough();
+        let codes = self.codes.enough_at(place);
         let first = Front::of(&start, rows, codes);
         let most = most_with(first.spot.most, first.taken);
         let sieve = self.pairs.ready(&most);

@@ -1,6 +1,7 @@
 //! Codes that are kept from one count to the next.
 
-ghost use Rattle.std.specs.Prelude.{◌≡◌, ℕ, ◌<◌, ◌≤◌, [], length, slice_get, vec_capacity, Some, IfOk};
+ghost use Rattle.std.specs.Option.{ForSome};
+ghost use Rattle.std.specs.Prelude.{◌≡◌, ℕ, ◌<◌, ◌≤◌, [], length, slice_get, vec_capacity, Some, IfOk, IsTrue};
 ghost use Rattle.showdown_tally.specs.Deals.{deal_of};
 ghost use Rattle.showdown_tally.specs.Showdown.{Showdown};
 ghost use Rattle.board_runouts.specs.Codes.{AreAllCodes};
@@ -56,26 +57,6 @@ impl CodedRows {
         }
     }
 
-    /// Makes the codes of the rows of all pots for first cards of these ranks, in a place.
-    #[inline(never)]
-    fn put(&mut self, place: usize, rows: &[Row], start: &Start)
-        requires place { place < length self.old.list.items }
-        requires few { length rows.now ≤ 10 }
-        requires pots { length rows.now ≡ length (deal_of start.now.spot.now.table).pots }
-        requires right { AreAllCodes (deal_of start.now.spot.now.table) self.old.list.items }
-        requires rows { (pot : ℕ) (row : Row) → slice_get rows.now pot ≡ Some row
-            → IsSideRow (deal_of start.now.spot.now.table) pot start.now.ranks start.now.least row.mains row.lows row.tops }
-        ensures size { length self.new.list.items ≡ length self.old.list.items }
-        ensures ranks { (codes : Codes) → slice_get self.new.list.items place ≡ Some codes
-            → codes.ranks ≡ start.now.ranks }
-        ensures least { (codes : Codes) → slice_get self.new.list.items place ≡ Some codes
-            → codes.least ≡ start.now.least }
-        ensures right { AreAllCodes (deal_of start.now.spot.now.table) self.new.list.items }
-    {
-        let codes = &mut self.list[place];
-        codes.fill(rows, start.ranks, start.least);
-    }
-
     /// Returns the place of the codes of the rows of all pots, the first of which is in place `base`. Codes that aren't kept are made.
     #[inline]
     pub(crate) fn ready(&mut self, base: usize, rows: &[Row], start: &Start) -> usize
@@ -99,16 +80,22 @@ impl CodedRows {
         if self.list[place].are_for(&start.ranks, start.least) {
             return place;
         }
-        self.put(place, rows, start);
+        let codes = &mut self.list[place];
+        codes.fill(rows, start.ranks, start.least);
         place
     }
 
-    /// Returns the codes in a place.
+    /// Returns the codes in a place, or `None` if there isn't a code for each outcome.
     #[inline]
-    pub(crate) fn codes_at(&self, place: usize) -> &Codes
+    pub(crate) fn enough_at(&self, place: usize) -> Option<&Codes>
         requires { place < length self.now.list.items }
-        ensures { slice_get self.now.list.items place ≡ Some result.now }
+        ensures codes { ForSome result (λ c. slice_get self.now.list.items place ≡ Some c.now) }
+        ensures enough { ForSome result (λ c. IsTrue c.now.enough) }
     {
-        &self.list[place]
+        let codes = &self.list[place];
+        if !codes.enough {
+            return None;
+        }
+        Some(codes)
     }
 }

@@ -1,6 +1,5 @@
 //! Who wins all pots for each pair of ranks of the last two cards, as a code.
 
-ghost use Rattle.std.specs.Option.{ForSome};
 ghost use Rattle.std.specs.Prelude.{◌≡◌, ℕ, ◌+◌, ◌*◌, ◌<◌, ◌≤◌, [], length, slice_index, slice_index_or, false, true, IsTrue, MatchOption, ⊤};
 ghost use Rattle.board_runouts.specs.Fields.{AreCodesAt, IsOutcome, field};
 
@@ -43,14 +42,6 @@ fn outcome_at(rows: &[Row], place: usize) -> [u16; ENDS]
         outcome[2 * pot + 1] = row.lows[place];
     }
     outcome
-}
-
-/// Whether two outcomes are the same.
-#[inline]
-fn same_outcome(a: &[u16; ENDS], b: &[u16; ENDS]) -> bool
-    ensures { IsTrue result → a.now ≡ b.now }
-{
-    a == b
 }
 
 /// Who wins all pots with first cards of some ranks, for each pair of ranks of the last two cards: a code for each outcome.
@@ -105,18 +96,6 @@ impl Codes {
         let _adds: &[u64] = &self.adds;
     }
 
-    /// They, where there is a code for each outcome.
-    #[inline]
-    pub(crate) fn if_enough(&self) -> Option<&Codes>
-        ensures codes { ForSome result (λ c. c.now ≡ self.now) }
-        ensures enough { ForSome result (λ c. IsTrue c.now.enough) }
-    {
-        if !self.enough {
-            return None;
-        }
-        Some(self)
-    }
-
     /// Whether they are those of first cards of these ranks, the last of which is the least of the cards after them.
     #[inline]
     pub(crate) fn are_for(&self, ranks: &[u8; 3], least: u8) -> bool
@@ -134,7 +113,7 @@ impl Codes {
             → slice_index_or self.now.ends result [] ≡ outcome.now }
     {
         for code in 0..self.used {
-            if same_outcome(&self.ends[usize::from(code)], outcome) {
+            if self.ends[usize::from(code)] == *outcome {
                 return code;
             }
         }

@@ -66,15 +66,6 @@ fn suit_bits(cards: CardSet) -> [u32; 4] {
     ]
 }
 
-/// Returns the ranks of the cards of each suit as bits, or 0 for each suit if they aren't wanted.
-#[inline]
-fn wanted_bits(cards: CardSet, wanted: bool) -> [u32; 4] {
-    if wanted {
-        return suit_bits(cards);
-    }
-    [0; 4]
-}
-
 impl<'a> Front<'a> {
     /// Makes the front of some first cards with rows and codes for their ranks. Any two cards after them may make somebody a flush.
     #[inline]
@@ -107,13 +98,17 @@ impl<'a> Front<'a> {
         ensures suits { result.suits ≡ suits.now }
     {
         let spot = self.spot;
+        let mut tags = [0; 4];
+        if flushes {
+            tags = suit_bits(spot.table.known.board.union(self.taken));
+        }
         Front {
             spot,
             taken: self.taken,
             rows: self.rows,
             codes: self.codes,
             suits: *suits,
-            tags: wanted_bits(spot.table.known.board.union(self.taken), flushes),
+            tags,
         }
     }
 

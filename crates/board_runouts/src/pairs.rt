@@ -4,7 +4,7 @@ ghost use Rattle.std.specs.Prelude.{◌≡◌, ℕ, ◌+◌, ◌-◌, ◌<◌, �
 ghost use Rattle.std.specs.List.{slice_range};
 ghost use Rattle.card_sets.specs.Choose.{choose};
 ghost use Rattle.runout_ranges.specs.Ways.{binomial};
-ghost use Rattle.board_ranks.specs.KeptSieves.{AreSieves, IsSieve};
+ghost use Rattle.board_ranks.specs.KeptSieves.{AreSieves};
 ghost use Rattle.runout_walk.specs.Listing.{IsEndOf};
 ghost use Rattle.board_runouts.specs.Pairs.{cards_of_pair};
 ghost use Rattle.board_ranks.specs.declared.sieve.Sieve.{Sieve};
@@ -180,16 +180,6 @@ impl Pairs {
         &all[stretch.start..stretch.end]
     }
 
-    /// The sieve in a place.
-    #[inline]
-    fn sieve_at(&self, place: usize) -> &Sieve
-        requires { place < length self.now.sieves.list.items }
-        ensures there { slice_get self.now.sieves.list.items place ≡ Some result.now }
-        ensures parted { IsSieve (take self.now.used self.now.pairs.items) result.now }
-    {
-        self.sieves.sieve_at(place)
-    }
-
     /// The pairs of a stretch, parted by the sieve in a place.
     #[inline]
     pub(crate) fn parts(&self, place: usize, stretch: Stretch) -> Parts<'_>
@@ -199,7 +189,7 @@ impl Pairs {
         ensures pairs { result.pairs.now
             ≡ slice_range (take self.now.used self.now.pairs.items) stretch.start stretch.end }
     {
-        let sieve = self.sieve_at(place);
+        let sieve = self.sieves.sieve_at(place);
         let all = self.listed();
         let pairs = &all[stretch.start..stretch.end];
         let plain = sieve.plain(all, stretch.start, stretch.end);

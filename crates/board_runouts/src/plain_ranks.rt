@@ -44,35 +44,7 @@ fn sum_ranks<L: Ledger>(codes: &Codes, all: &[u8], steps: &mut Steps<L>) -> u64
     sum
 }
 
-/// Counts up to 511 ranks by their codes, for each pot. It takes a step for each.
-#[inline]
-fn count_piece<L: Ledger>(
-    front: &Front,
-    codes: &Codes,
-    all: &[u8],
-    counts: &mut [[u32; 2048]],
-    steps: &mut Steps<L>,
-)
-    // The ranks are places, and have codes.
-    requires inside { (ranks : ℕ) → HasMember all.now ranks → ranks < 169 }
-    requires coded { (ranks : ℕ) → HasMember all.now ranks → HasCode codes.now ranks }
-
-    // Each count has room for all of them, and so has a field.
-    requires room { HasRoom front.now counts.old (length all.now) }
-    requires few { length all.now < 512 }
-
-    // Each is counted for each pot.
-    ensures counts { CodesGrow (front_deal front.now) codes.now all.now counts.old counts.new }
-    ensures same { length counts.new ≡ length counts.old }
-    ensures steps { steps.new ≡ steps.old + length all.now }
-{
-    codes.seven();
-    let sum = sum_ranks(codes, all, steps);
-    let spot = front.spot;
-    put_sum(spot, codes, sum, counts);
-}
-
-/// Counts some ranks by their codes, for each pot. It takes a step for each.
+/// Counts some ranks by their codes, for each pot, up to 511 at a time. It takes a step for each.
 fn count_codes<L: Ledger>(
     front: &Front,
     codes: &Codes,
@@ -92,10 +64,13 @@ fn count_codes<L: Ledger>(
     ensures same { length counts.new ≡ length counts.old }
     ensures steps { steps.new ≡ steps.old + length all.now }
 {
+    codes.seven();
+    let spot = front.spot;
     let mut at = 0;
     while at < all.len() {
         let end = all.len().min(at + PIECE);
-        count_piece(front, codes, &all[at..end], counts, steps);
+        let sum = sum_ranks(codes, &all[at..end], steps);
+        put_sum(spot, codes, sum, counts);
         at = end;
     }
 }

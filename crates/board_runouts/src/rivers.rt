@@ -2,8 +2,6 @@
 
 ghost use Rattle.std.specs.Prelude.{◌≡◌, ℕ, ◌+◌, ◌*◌, ◌<◌, ◌≤◌, ◌==◌, [], ◌∷◌, List, length, map, slice_index, slice_index_or, IsTrue};
 ghost use Rattle.card_sets.specs.Cards.{rank_of, union};
-ghost use Rattle.card_sets.specs.Disjoint.{apart};
-ghost use Rattle.card_sets.specs.Games.{has_board, own_size};
 ghost use Rattle.card_sets.specs.State.{state_of};
 ghost use Rattle.card_sets.specs.declared.games.Side.{Side};
 ghost use Rattle.runout_ranges.specs.Runouts.{HasMember};
@@ -17,6 +15,7 @@ ghost use Rattle.showdown_tally.specs.Tallies.{runouts_after};
 ghost use Rattle.board_runouts.specs.Boards.{board_lacks};
 ghost use Rattle.board_ranks.specs.BoardWith.{low_number};
 ghost use Rattle.board_ranks.specs.HighParts.{plain_number};
+ghost use Rattle.board_runouts.specs.Highs.{IsBoardFor};
 ghost use Rattle.board_runouts.specs.KeptRows.{AreWorthsAfter};
 ghost use Rattle.board_runouts.specs.Rivers.{AreWonWith, IsShortFor, IsWonBy, are_rivers};
 ghost use Rattle.board_ranks.specs.Values.{one_of};
@@ -48,15 +47,7 @@ pub fn are_rivers(table: &Table, shape: &Shape) -> bool
 
 /// What each hand is worth with a full board, as a high if there were no flushes.
 fn worths_at(known: &Known, board: CardSet) -> Worths
-    // The game has a board, and each hand has all its own cards.
-    requires dealt { IsTrue (has_board known.now.game) }
-    requires own { (h : ℕ) → h < length (state_of known.now).hands
-        → length (slice_index_or (state_of known.now).hands h []) ≡ own_size known.now.game }
-
-    // The board is full, and no hand has a card of it.
-    requires five { length board ≡ 5 }
-    requires away { (h : ℕ) → h < length (state_of known.now).hands
-        → IsTrue (apart (slice_index_or (state_of known.now).hands h []) board) }
+    requires { IsBoardFor (state_of known.now) board }
 
     // Flushes are left aside; only the high has them.
     ensures highs { (h : ℕ) → h < length (state_of known.now).hands
@@ -130,22 +121,13 @@ fn is_short(most: &[u32; 4], suit: u8) -> bool
         && most[3] + one_of(suit, 3) <= 4
 }
 
-/// The set of one card.
-#[inline]
-fn only(card: Card) -> CardSet
-    requires { card < 52 }
-    ensures { result ≡ card ∷ [] }
-{
-    CardSet::empty().with(card)
-}
-
 /// The board with a last card.
 #[inline]
 fn full_board(spot: &BoardSpot, card: Card) -> CardSet
     requires { card < 52 }
     ensures { result ≡ union spot.now.table.known.board (card ∷ []) }
 {
-    spot.table.known.board.union(only(card))
+    spot.table.known.board.union(CardSet::empty().with(card))
 }
 
 /// Who wins the high of a pot with a last card, as the number with their bits.
@@ -223,7 +205,7 @@ impl Rivers {
     {
         Rivers {
             table: *table,
-            spot: BoardSpot::of_river(table, shape),
+            spot: BoardSpot::of(table),
             rank: NO_RANK,
             won: Won::none(),
         }
@@ -244,9 +226,7 @@ impl Rivers {
         self.won = Won::by(&self.spot.table, &worths);
         self.rank = card.rank();
     }
-}
 
-impl Rivers {
     /// Counts the runout of each of some last cards for each pot. It takes a step a card.
     fn count_cards<L: Ledger>(
         &mut self,

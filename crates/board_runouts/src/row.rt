@@ -31,14 +31,6 @@ pub(crate) struct Row {
     pub(crate) ghost few_lows: { (place : ℕ) → slice_index lows place < 1024 },
 }
 
-/// Whether first cards have the same ranks.
-#[inline]
-fn same_ranks(a: &[u8; 3], b: &[u8; 3]) -> bool
-    ensures { IsTrue result → a.now ≡ b.now }
-{
-    a == b
-}
-
 impl Row {
     /// A row with nothing in it.
     pub(crate) fn none() -> Row {
@@ -102,7 +94,7 @@ impl Row {
         ensures ranks { IsTrue result → self.now.ranks ≡ ranks.now }
         ensures least { IsTrue result → self.now.least ≡ least }
     {
-        self.pot == pot && same_ranks(&self.ranks, ranks) && self.least == least
+        self.pot == pot && self.ranks == *ranks && self.least == least
     }
 }
 

@@ -3,7 +3,8 @@
 ghost use Rattle.std.specs.Prelude.{◌≡◌, ℕ, ◌+◌, ◌<◌, ◌≤◌, [], length, slice_get, vec_capacity, Some, IfOk, IsTrue};
 ghost use Rattle.showdown_tally.specs.Deals.{deal_of};
 ghost use Rattle.showdown_tally.specs.Showdown.{Showdown};
-ghost use Rattle.board_runouts.specs.KeptRows.{AreRows, AreRowsFor, IsAway, IsNamed};
+ghost use Rattle.board_runouts.specs.Fronts.{AreReady};
+ghost use Rattle.board_runouts.specs.KeptRows.{AreRows, IsAway, IsNamed};
 
 use crate::fill::fill_rows;
 use crate::row::Row;
@@ -81,12 +82,8 @@ impl Rows {
     #[inline]
     fn has_one(&self, place: usize, pot: u8, ranks: &[u8; 3], least: u8) -> bool
         requires { place < length self.now.rows.items }
-        ensures pot { (row : Row) → IsTrue result → slice_get self.now.rows.items place ≡ Some row
-            → row.pot ≡ pot }
-        ensures ranks { (row : Row) → IsTrue result → slice_get self.now.rows.items place ≡ Some row
-            → row.ranks ≡ ranks.now }
-        ensures least { (row : Row) → IsTrue result → slice_get self.now.rows.items place ≡ Some row
-            → row.least ≡ least }
+        ensures { (row : Row) → IsTrue result → slice_get self.now.rows.items place ≡ Some row
+            → IsNamed row pot ranks.now least }
     {
         self.rows[place].is_for(pot, ranks, least)
     }
@@ -96,12 +93,8 @@ impl Rows {
     fn has_all(&self, base: usize, pots: u8, ranks: &[u8; 3], least: u8) -> bool
         requires { base < 256 }
         ensures place { IsTrue result → base + pots ≤ length self.now.rows.items }
-        ensures pot { (pot : ℕ) (row : Row) → IsTrue result → pot < pots
-            → slice_get self.now.rows.items (base + pot) ≡ Some row → row.pot ≡ pot }
-        ensures ranks { (pot : ℕ) (row : Row) → IsTrue result → pot < pots
-            → slice_get self.now.rows.items (base + pot) ≡ Some row → row.ranks ≡ ranks.now }
-        ensures least { (pot : ℕ) (row : Row) → IsTrue result → pot < pots
-            → slice_get self.now.rows.items (base + pot) ≡ Some row → row.least ≡ least }
+        ensures names { (pot : ℕ) (row : Row) → IsTrue result → pot < pots
+            → slice_get self.now.rows.items (base + pot) ≡ Some row → IsNamed row pot ranks.now least }
     {
         if self.rows.len() < base + usize::from(pots) {
             return false;
@@ -118,14 +111,8 @@ impl Rows {
     #[inline]
     pub(crate) fn ready(&mut self, start: &Start) -> usize
         requires right { AreRows (deal_of start.now.spot.now.table) self.old.rows.items }
-
-        // From that place on there is a row for each pot, with these first cards and named for them, and the rows are right.
         ensures place { result + start.now.spot.now.table.pots ≤ length self.new.rows.items }
-        ensures rows { AreRowsFor (deal_of start.now.spot.now.table) start.now.spot.now.table.pots start.now.taken self.new.rows.items result }
-        ensures names { (pot : ℕ) (row : Row) → pot < start.now.spot.now.table.pots
-            → slice_get self.new.rows.items (result + pot) ≡ Some row
-            → IsNamed row pot start.now.ranks start.now.least }
-        ensures right { AreRows (deal_of start.now.spot.now.table) self.new.rows.items }
+        ensures ready { AreReady start.now self.new.rows.items result }
     {
         let spot = start.spot;
         let ranks = start.ranks;
@@ -163,22 +150,6 @@ impl Rows {
         }
     }
 
-    /// Adds rows for a group that has none, and gives the place of the first.
-    fn add_group(&mut self, group: usize, pots: u8) -> usize
-        requires group { group < 96 }
-        requires few { pots ≤ 10 }
-        ensures place { result + pots ≤ length self.new.rows.items }
-        ensures others { (i : ℕ) (row : Row) → IsAway result pots i
-            → slice_get self.new.rows.items i ≡ Some row
-            → slice_get self.old.rows.items i ≡ Some row }
-    {
-        self.make_room(pots);
-        let base = self.rows.len();
-        self.add_rows(pots);
-        self.bases[group] = base as u8;
-        base
-    }
-
     /// Returns the first place for the rows of a group: where they were before, or new places after all rows.
     fn place_for(&mut self, group: usize, pots: u8) -> usize
         requires group { group < 96 }
@@ -188,26 +159,24 @@ impl Rows {
             → slice_get self.new.rows.items i ≡ Some row
             → slice_get self.old.rows.items i ≡ Some row }
     {
-        let base = usize::from(self.bases[group]);
-        if base + usize::from(pots) <= self.rows.len() {
-            return base;
+        let kept = usize::from(self.bases[group]);
+        if kept + usize::from(pots) <= self.rows.len() {
+            return kept;
         }
-        self.add_group(group, pots)
+        self.make_room(pots);
+        let base = self.rows.len();
+        self.add_rows(pots);
+        self.bases[group] = base as u8;
+        base
     }
 
     /// Fills the rows of a group for some first cards, and returns the place of the first row.
     #[inline(never)]
     fn put(&mut self, group: usize, start: &Start) -> usize
         requires group { group < 96 }
-
         requires right { AreRows (deal_of start.now.spot.now.table) self.old.rows.items }
-
-        // From the place on each pot's row is one for the first cards and named for them, and the rows are right.
         ensures place { result + start.now.spot.now.table.pots ≤ length self.new.rows.items }
-        ensures rows { AreRowsFor (deal_of start.now.spot.now.table) start.now.spot.now.table.pots start.now.taken self.new.rows.items result }
-        ensures names { (pot : ℕ) (row : Row) → pot < start.now.spot.now.table.pots
-            → slice_get self.new.rows.items (result + pot) ≡ Some row → IsNamed row pot start.now.ranks start.now.least }
-        ensures right { AreRows (deal_of start.now.spot.now.table) self.new.rows.items }
+        ensures ready { AreReady start.now self.new.rows.items result }
     {
         let spot = start.spot;
         let base = self.place_for(group, spot.table.pots);

@@ -4,17 +4,14 @@ ghost use Rattle.std.specs.Prelude.{◌≡◌, ℕ, ◌<◌, ◌≤◌, [], leng
 ghost use Rattle.card_sets.specs.Cards.{IsCardSet};
 ghost use Rattle.card_sets.specs.Games.{has_board};
 ghost use Rattle.card_sets.specs.State.{state_of};
-ghost use Rattle.runout_ranges.specs.Shapes.{IsShapeOf};
 ghost use Rattle.runout_ranges.specs.Slots.{unseen};
 ghost use Rattle.showdown_tally.specs.Deals.{deal_of};
-ghost use Rattle.board_runouts.specs.Boards.{IsBoardAlone, are_boards};
-ghost use Rattle.board_runouts.specs.Rivers.{are_rivers};
+ghost use Rattle.board_runouts.specs.Boards.{IsBoardAlone};
 ghost use Rattle.board_ranks.specs.Suits.{AreMost};
 
 use crate::deal::no_table;
 use board_ranks::most_of;
 use card_sets::Known;
-use runout_ranges::Shape;
 use runout_walk::ten_places;
 use showdown_tally::Table;
 
@@ -54,8 +51,8 @@ fn hands_are_sets(known: &Known)
 }
 
 impl BoardSpot {
-    /// A table whose board alone lacks cards.
-    fn of_alone(table: &Table) -> BoardSpot
+    /// Makes the spot of a table whose board alone lacks cards.
+    pub(crate) fn of(table: &Table) -> BoardSpot
         requires dealt { IsTrue (has_board table.now.known.game) }
         requires alone { IsBoardAlone (state_of table.now.known) }
         ensures { result.table ≡ table.now }
@@ -70,28 +67,10 @@ impl BoardSpot {
         }
     }
 
-    /// A table whose runouts are boards.
-    pub(crate) fn of(table: &Table, shape: &Shape) -> BoardSpot
-        requires shape { IsShapeOf (state_of table.now.known) shape.now }
-        requires boards { IsTrue (are_boards table.now shape.now) }
-        ensures { result.table ≡ table.now }
-    {
-        BoardSpot::of_alone(table)
-    }
-
-    /// A table whose board lacks one card.
-    pub(crate) fn of_river(table: &Table, shape: &Shape) -> BoardSpot
-        requires shape { IsShapeOf (state_of table.now.known) shape.now }
-        requires rivers { IsTrue (are_rivers table.now shape.now) }
-        ensures { result.table ≡ table.now }
-    {
-        BoardSpot::of_alone(table)
-    }
-
-    /// The table of no hands.
+    /// Makes the spot of the table of no hands.
     pub(crate) fn none() -> BoardSpot
         ensures { unseen (state_of result.table.known) ≡ [] }
     {
-        BoardSpot::of_alone(&no_table())
+        BoardSpot::of(&no_table())
     }
 }

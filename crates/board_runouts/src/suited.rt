@@ -1,8 +1,6 @@
 //! Runouts with which somebody may have a flush.
 
-ghost use Rattle.std.specs.Prelude.{◌≡◌, ℕ, ◌<◌, ◌≤◌, [], length, slice_index, slice_index_or, IsTrue};
-ghost use Rattle.card_sets.specs.Games.{has_board, own_size};
-ghost use Rattle.card_sets.specs.Disjoint.{apart};
+ghost use Rattle.std.specs.Prelude.{◌≡◌, ℕ, ◌<◌, ◌≤◌, [], length, slice_index, slice_index_or};
 ghost use Rattle.card_sets.specs.State.{state_of};
 ghost use Rattle.showdown_tally.specs.Deals.{deal_of};
 ghost use Rattle.showdown_tally.specs.Flushes.{IsOnlySuit};
@@ -10,6 +8,7 @@ ghost use Rattle.showdown_tally.specs.Showdown.{eligible_in};
 ghost use Rattle.runout_walk.specs.Bests.{best_set};
 ghost use Rattle.board_ranks.specs.HighParts.{high_number};
 ghost use Rattle.board_runouts.specs.Fronts.{IsFlushFor, IsFlushWith, IsPartWith, IsRunoutWith, front_deal};
+ghost use Rattle.board_runouts.specs.Highs.{IsBoardFor};
 ghost use Rattle.board_runouts.specs.KeptRows.{pair_place};
 
 use crate::flush::{Flush, Suited};
@@ -22,12 +21,7 @@ use showdown_tally::{Table, flush_suit, law_values_keep_order};
 
 /// What each hand is worth as a high with a full board.
 fn highs_with(known: &Known, board: CardSet) -> [u32; 10]
-    requires dealt { IsTrue (has_board known.now.game) }
-    requires own { (h : ℕ) → h < length (state_of known.now).hands
-        → length (slice_index_or (state_of known.now).hands h []) ≡ own_size known.now.game }
-    requires five { length board ≡ 5 }
-    requires away { (h : ℕ) → h < length (state_of known.now).hands
-        → IsTrue (apart (slice_index_or (state_of known.now).hands h []) board) }
+    requires { IsBoardFor (state_of known.now) board }
     ensures { (h : ℕ) → h < length (state_of known.now).hands
         → slice_index result h
         ≡ high_number known.now.game (slice_index_or (state_of known.now).hands h []) board }
@@ -43,18 +37,7 @@ fn highs_with(known: &Known, board: CardSet) -> [u32; 10]
 /// Who has the best high of a pot with a full board, hand by hand.
 #[inline(never)]
 pub(crate) fn high_set(table: &Table, pot: u8, board: CardSet) -> u16
-    // The game has a board, and each hand has all its own cards.
-    requires dealt { IsTrue (has_board table.now.known.game) }
-    requires own { (h : ℕ) → h < length (state_of table.now.known).hands
-        → length (slice_index_or (state_of table.now.known).hands h [])
-        ≡ own_size table.now.known.game }
-
-    // The board is full, and no hand has a card of it.
-    requires five { length board ≡ 5 }
-    requires away { (h : ℕ) → h < length (state_of table.now.known).hands
-        → IsTrue (apart (slice_index_or (state_of table.now.known).hands h []) board) }
-
-    // The pot is one of the table.
+    requires full { IsBoardFor (state_of table.now.known) board }
     requires pot { pot < table.now.pots }
 
     // Whatever says what each hand is worth as a high, these are the best of the pot's hands by it.

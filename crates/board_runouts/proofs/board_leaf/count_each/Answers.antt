@@ -22,6 +22,3 @@ returns-then-not-has_side-clause-counts g c =
       counted = only_pot (front_deal c.args.front.now) c.args.front.now.taken c.args.pairs.now c.args.counts.now _ (omega arith) no_low (λ place l. rw get_or-set_same (c.count_one_pot.ensures.cells place l));
       rows = length-set c.args.counts.now 0 _;
     }
-
-pub returns-then-not-has_side-clause-flushes : goal.returns-then-not-has_side-clause-flushes
-returns-then-not-has_side-clause-flushes g c = c.count_one_pot.ensures.flushes

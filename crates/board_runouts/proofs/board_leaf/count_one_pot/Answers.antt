@@ -3,9 +3,3 @@ use Rattle.board_runouts.proofs.board_leaf.count_one_pot.Goals as goal
 
 pub one_place-place-requires-clause-member : goal.one_place-place-requires-clause-member
 one_place-place-requires-clause-member g c = runout_at c.args.front.now c.args.pairs.now c.loop-pair.pair-index c.pair-item.result c.requires.pairs (item_at c.args.pairs.now c.loop-pair.pair-index c.pair-item.result c.loop-pair-test.true c.pair-item.is)
-
-pub one_place-place-requires-clause-flushes : goal.one_place-place-requires-clause-flushes
-one_place-place-requires-clause-flushes g c = c.loop-pair.invariant.flushes
-
-pub returns-clause-flushes : goal.returns-clause-flushes
-returns-clause-flushes g c = c.loop-pair.invariant.flushes

@@ -17,9 +17,3 @@ loop-pair-preserved g c =
       flushes = new.ensures.flushes;
       steps = (let s = was.steps in omega (arith, c.tick.ensures));
     }
-
-pub count_pair-requires-clause-flushes : goal.count_pair-requires-clause-flushes
-count_pair-requires-clause-flushes g c = c.loop-pair.invariant.flushes
-
-pub returns-clause-flushes : goal.returns-clause-flushes
-returns-clause-flushes g c = c.loop-pair.invariant.flushes

@@ -81,9 +81,3 @@ loop-low-preserved c =
 
 pub returns-clause-rows : goal.returns-clause-rows
 returns-clause-rows c = λ pot row lt at place runout l least order dealt. c.loop-low.invariant.rows pot place row runout lt at (omega arith) least order dealt
-
-pub returns-clause-names : goal.returns-clause-names
-returns-clause-names c = c.loop-low.invariant.names
-
-pub returns-clause-away : goal.returns-clause-away
-returns-clause-away c = c.loop-low.invariant.away

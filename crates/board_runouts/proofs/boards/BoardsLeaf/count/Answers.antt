@@ -7,7 +7,7 @@ use Rattle.runout_ranges.specs.Slots.{unseen}
 use Rattle.showdown_tally.specs.Deals.{deal_of}
 use Rattle.board_ranks.specs.declared.pair.Pair.{Pair}
 use Rattle.board_ranks.specs.declared.sieve.Sieve.{Sieve}
-use Rattle.board_runouts.specs.Codes.{AreAllCodes, AreCodesFor}
+use Rattle.board_runouts.specs.Codes.{AreAllCodes}
 use Rattle.board_runouts.specs.KeptRows.{AreRows}
 use Rattle.board_runouts.specs.Pairs.{cards_of_pair}
 use Rattle.board_runouts.specs.declared.spot.BoardSpot.{BoardSpot}
@@ -30,25 +30,24 @@ ready-base-requires g c = let R : BoardSpot → Type 0 = λ it. AreRows (deal_of
 pub ready-place-requires-clause-rows : goal.ready-place-requires-clause-rows
 ready-place-requires-clause-rows g c = λ pot row at.
     let r = c.stretch-rows.ensures.rows pot row at in
-    let named = c.ready-base.ensures.names pot row r.0 r.1 in
-    right_as (deal_of c.of-start.result.spot.now.table) pot c.of-start.result.ranks c.of-start.result.least row named (c.ready-base.ensures.rows pot row r.0 r.1).right
+    let named = c.ready-base.ensures.ready.names pot row r.0 r.1 in
+    right_as (deal_of c.of-start.result.spot.now.table) pot c.of-start.result.ranks c.of-start.result.least row named (c.ready-base.ensures.ready.rows pot row r.0 r.1).right
 
 pub ready-place-requires-clause-right : goal.ready-place-requires-clause-right
 ready-place-requires-clause-right g c = let R : BoardSpot → Type 0 = λ it. AreAllCodes (deal_of it.table) c.args.self.now.codes.list.items in subst R (sym c.of-start.ensures.spot) c.args.self.now.coded
 
 pub of-first-requires-clause-rows : goal.of-first-requires-clause-rows
-of-first-requires-clause-rows g c = λ pot row at. let r = c.stretch-rows.ensures.rows pot row at in c.ready-base.ensures.rows pot row r.0 r.1
+of-first-requires-clause-rows g c = λ pot row at. let r = c.stretch-rows.ensures.rows pot row at in c.ready-base.ensures.ready.rows pot row r.0 r.1
 
 pub of-first-requires-2-clause-rows : goal.of-first-requires-2-clause-rows
-of-first-requires-2-clause-rows g c = λ pot row at. let r = c.stretch-rows.ensures.rows pot row at in c.ready-base.ensures.rows pot row r.0 r.1
+of-first-requires-2-clause-rows g c = λ pot row at. let r = c.stretch-rows.ensures.rows pot row at in c.ready-base.ensures.ready.rows pot row r.0 r.1
 
 pub of-first-requires-2-clause-codes : goal.of-first-requires-2-clause-codes
 of-first-requires-2-clause-codes g c = λ codes is.
-    let at = c.codes_at.ensures in
+    let at = c.enough_at-codes.ensures.codes codes is in
     let place = c.ready-place.ensures in
     let start = c.of-start.result in
-    subst (AreCodesFor (deal_of c.of-start.result.spot.now.table) c.of-start.result.taken) (sym (c.if_enough-codes.ensures.codes codes is))
-    (codes_for (deal_of c.of-start.result.spot.now.table) c.of-start.result.taken c.of-start.result.ranks c.of-start.result.least c.codes_at.result.now (place.right c.ready-place.result c.codes_at.result.now at) (place.ranks c.codes_at.result.now at) (place.least c.codes_at.result.now at) start.ranks_are start.from_least)
+    codes_for (deal_of start.spot.now.table) start.taken start.ranks start.least codes.now (place.right c.ready-place.result codes.now at) (place.ranks codes.now at) (place.least codes.now at) start.ranks_are start.from_least
 
 pub stretch-stretch-requires-clause-end : goal.stretch-stretch-requires-clause-end
 stretch-stretch-requires-clause-end g c =
@@ -88,9 +87,6 @@ returns-then-eq-clause-counts g c =
     let is : map cards_of_pair some ≡ slice_range (choose 2 c.args.span.now.tail.rest) c.args.span.now.lo c.args.span.now.hi = ap (map cards_of_pair) c.between-some.ensures ∙ c.stretch-stretch.ensures.pairs in
     leaf_grow c.args.self.now.spot c.args.self.now.table c.args.span.now.front.now c.args.span.now.tail.taken c.args.span.now.tail.rest c.args.span.now.tail.left c.args.span.now.lo c.args.span.now.hi c.args.counts.now c.count_each.new.counts c.args.self.now.same leaf.none c.requires.deep
     (front_grow c.with_own_suits-front.result c.args.self.now.spot c.args.span.now.tail.taken c.args.span.now.tail.rest some c.args.span.now.lo c.args.span.now.hi c.args.counts.now c.count_each.new.counts (c.with_own_suits-front.ensures.spot ∙ c.of-first.ensures.spot ∙ c.of-start.ensures.spot) (c.with_own_suits-front.ensures.taken ∙ c.of-first.ensures.taken ∙ c.of-start.ensures.taken) is c.count_each.ensures.counts)
-
-pub returns-then-eq-clause-places : goal.returns-then-eq-clause-places
-returns-then-eq-clause-places g c = c.count_each.ensures.counts.rows
 
 pub returns-then-eq-clause-steps : goal.returns-then-eq-clause-steps
 returns-then-eq-clause-steps g c =
@@ -139,9 +135,6 @@ returns-clause-counts g c =
     leaf_grow c.args.self.now.spot c.args.self.now.table c.args.span.now.front.now c.args.span.now.tail.taken c.args.span.now.tail.rest c.args.span.now.tail.left c.args.span.now.lo c.args.span.now.hi c.args.counts.now c.count_parts.new.counts c.args.self.now.same leaf.none c.requires.deep
     (front_grow c.with_suits-front.result c.args.self.now.spot c.args.span.now.tail.taken c.args.span.now.tail.rest some c.args.span.now.lo c.args.span.now.hi c.args.counts.now c.count_parts.new.counts (c.with_suits-front.ensures.spot ∙ c.of-first-2.ensures.spot ∙ c.of-start.ensures.spot) (c.with_suits-front.ensures.taken ∙ c.of-first-2.ensures.taken ∙ c.of-start.ensures.taken) is c.count_parts.ensures.counts)
 
-pub returns-clause-places : goal.returns-clause-places
-returns-clause-places g c = c.count_parts.ensures.counts.rows
-
 pub returns-clause-steps : goal.returns-clause-steps
 returns-clause-steps g c =
     let inside : c.args.span.now.hi ≤ length (choose 2 c.args.span.now.tail.rest) = (let more : length (choose c.args.span.now.tail.left c.args.span.now.tail.rest) ≡ length (choose 2 c.args.span.now.tail.rest) = ap (λ n. length (choose n c.args.span.now.tail.rest)) c.requires.deep in let i = c.requires.inside in omega arith) in
@@ -156,16 +149,13 @@ with_suits-front-requires-clause-fives g c = λ a b suit la lb at big s ls.
     let same : sieve.counts ≡ c.most_with-most.result = c.ready-sieve.ensures.counts sieve c.parts-parts.ensures.sieve in
     omega (arith, sieve.fives a b suit la lb at big s ls, ap (λ l. slice_index l s) same, c.most_with-most.ensures.value s ls)
 
-pub with_suits-front-requires-clause-places : goal.with_suits-front-requires-clause-places
-with_suits-front-requires-clause-places g c = c.parts-parts.result.sieve.now.places
-
 pub invariant_of-self : goal.invariant_of-self
 invariant_of-self g c =
     let R : BoardSpot → Type 0 = λ it. AreRows (deal_of it.table) c.ready-base.new.self.rows.items in
     record {
       same = c.args.self.now.same;
       all = c.args.self.now.all;
-      right = subst R c.of-start.ensures.spot c.ready-base.ensures.right;
+      right = subst R c.of-start.ensures.spot c.ready-base.ensures.ready.right;
       coded = c.args.self.now.coded;
       best = flushes_back c.with_own_suits-front.result c.args.self.now.spot _ (c.with_own_suits-front.ensures.spot ∙ c.of-first.ensures.spot ∙ c.of-start.ensures.spot) c.count_each.ensures.flushes;
     }
@@ -177,7 +167,7 @@ invariant_of-self-2 g c =
     record {
       same = c.args.self.now.same;
       all = c.args.self.now.all;
-      right = subst R c.of-start.ensures.spot c.ready-base.ensures.right;
+      right = subst R c.of-start.ensures.spot c.ready-base.ensures.ready.right;
       coded = subst C c.of-start.ensures.spot c.ready-place.ensures.right;
       best = flushes_back c.with_suits-front.result c.args.self.now.spot _ (c.with_suits-front.ensures.spot ∙ c.of-first-2.ensures.spot ∙ c.of-start.ensures.spot) c.count_parts.ensures.flushes;
     }

@@ -1,30 +1,15 @@
-use Rattle.std.proofs.Common.{◌≡◌, ◌∷◌, [], length, ap, sym, ◌∙◌, arith}
+use Rattle.std.proofs.Common.{◌∷◌, [], sym, ◌∙◌, arith}
 use Rattle.card_sets.specs.State.{State, state_of}
-use Rattle.showdown_tally.specs.Showdown.{board_after}
-use Rattle.board_runouts.proofs.BoardDealt.{IsScene, away_with, board_five, own_of, scene_of}
+use Rattle.board_runouts.proofs.BoardDealt.{IsScene, board_for, scene_of}
 use Rattle.board_runouts.proofs.BoardRunouts.{board_alone}
 use Rattle.board_runouts.proofs.RiverFacts.{worths_of_rank}
 use Rattle.board_runouts.proofs.rivers.Rivers.keep.Goals as goal
 
-pub worths_at-worths-requires-clause-own : goal.worths_at-worths-requires-clause-own
-worths_at-worths-requires-clause-own c = λ h l.
+pub worths_at-worths-requires : goal.worths_at-worths-requires
+worths_at-worths-requires c =
     let st : State = state_of c.args.self.now.spot.table.known in
     let scene : IsScene st (c.args.card ∷ []) = scene_of c.args.self.now.spot (c.args.card ∷ []) c.requires.member in
-    own_of st (c.args.card ∷ []) h scene l
-
-pub worths_at-worths-requires-clause-five : goal.worths_at-worths-requires-clause-five
-worths_at-worths-requires-clause-five c =
-    let st : State = state_of c.args.self.now.spot.table.known in
-    let scene : IsScene st (c.args.card ∷ []) = scene_of c.args.self.now.spot (c.args.card ∷ []) c.requires.member in
-    let there : c.full_board-board.result ≡ board_after st ((c.args.card ∷ []) ∷ []) = c.full_board-board.ensures ∙ sym (board_alone st (c.args.card ∷ []) scene.alone) in
-    ap length there ∙ board_five st (c.args.card ∷ []) scene
-
-pub worths_at-worths-requires-clause-away : goal.worths_at-worths-requires-clause-away
-worths_at-worths-requires-clause-away c = λ h l.
-    let st : State = state_of c.args.self.now.spot.table.known in
-    let scene : IsScene st (c.args.card ∷ []) = scene_of c.args.self.now.spot (c.args.card ∷ []) c.requires.member in
-    let there : c.full_board-board.result ≡ board_after st ((c.args.card ∷ []) ∷ []) = c.full_board-board.ensures ∙ sym (board_alone st (c.args.card ∷ []) scene.alone) in
-    away_with st (c.args.card ∷ []) c.full_board-board.result h scene there l
+    board_for st (c.args.card ∷ []) c.full_board-board.result scene (c.full_board-board.ensures ∙ sym (board_alone st (c.args.card ∷ []) scene.alone))
 
 pub invariant_of-self : goal.invariant_of-self
 invariant_of-self c =

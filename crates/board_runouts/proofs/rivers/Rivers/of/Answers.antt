@@ -10,7 +10,7 @@ pub invariant_of-result : goal.invariant_of-result
 invariant_of-result c =
     let P : Table → Type 0 = λ t. board_lacks (slots (state_of t.known)) ≡ 1 in
     record {
-      same = c.of_river.ensures;
-      one = subst P (sym c.of_river.ensures) (lacks_one c.args.table.now c.args.shape.now (state_of c.args.table.now.known) c.requires.rivers c.requires.shape.lacking);
-      kept = λ pot card l none member. absurd (no_rank c.of_river.result card none member);
+      same = c.of.ensures;
+      one = subst P (sym c.of.ensures) (lacks_one c.args.table.now c.args.shape.now (state_of c.args.table.now.known) c.requires.rivers c.requires.shape.lacking);
+      kept = λ pot card l none member. absurd (no_rank c.of.result card none member);
     }

@@ -1,7 +1,7 @@
 use Rattle.std.proofs.Common.{◌≡◌, ◌+◌, ◌-◌, ◌<◌, ℕ, length, arith, inl, inr}
 use Rattle.std.proofs.lemmas.Bool.{cases_lt}
 use Rattle.std.proofs.lemmas.Option.{slice_get_within}
-use Rattle.board_runouts.proofs.rows.Rows.add_group.Goals as goal
+use Rattle.board_runouts.proofs.rows.Rows.place_for.Goals as goal
 
 pub returns-clause-others : goal.returns-clause-others
 returns-clause-others c = λ i row away at.
