@@ -18,7 +18,7 @@ use showdown_tally::Tally;
 use std::alloc::Global;
 use std::sync::Wait;
 use std::thread::Threads;
-use steal_pool::Gate;
+use steal_pool::{Gate, KeptScratches};
 
 /// Runs the command that the words name: reads the source, unless hands are made, and writes the report to
 /// the sink. Answers the status: 0 where all was read and written, 1 where beside that a spot or a hand was
@@ -57,13 +57,15 @@ pub fn run<R: Threads + Wait + Sync, S: Source, K: Sink, G: Gate + Sync>(
     ensures order { IsInOrder S.reads K.writes INPUT_MAX (command (map string_bytes words.now)) result
         source.old sink.old source.new sink.new }
 {
-    let by_workers = |job: &Job, workers: u32| -> Result<Tally, Memory>
+    let by_workers = |job: &Job, workers: u32, kept: &mut KeptScratches| -> Result<Tally, Memory>
         ensures { IfOk result (λ tally. Counts (deal_of job.entry.now.table)
             (runouts_after (state_of job.entry.now.table.known)) tally) }
-    { count_shared(rt, alloc, job, workers, gate) };
+    { count_shared(rt, alloc, job, workers, gate, kept) };
+    let mut kept = KeptScratches::new();
     let mut alone = Alone::new(alloc);
     let mut equities = EquityCounter::new(Shared {
         by_workers,
+        kept: &mut kept,
         alone: &mut alone,
     });
     run_with(alloc, words, &mut equities, source, sink)

@@ -14,7 +14,7 @@ use showdown_tally::Tally;
 use std::alloc::Global;
 use std::sync::Wait;
 use std::thread::Threads;
-use steal_pool::{Gate, count_with_workers};
+use steal_pool::{Gate, KeptScratches, count_with_kept};
 
 /// The most workers that a count has.
 const WORKERS_MAX: u32 = 16;
@@ -28,15 +28,18 @@ const BLOCKS_MIN: u32 = 8;
 /// be shared is known in the function alone whose bound says so.
 #[derive(Drop)]
 pub(crate) struct Shared<'a, F> {
-    /// Counts a job with a number of workers.
+    /// Counts a job with a number of workers, in scratches that are kept.
     pub(crate) by_workers: F,
+    /// The scratches of the run's workers, which are kept from job to job.
+    pub(crate) kept: &'a mut KeptScratches,
     /// Counts what is counted on this thread.
     pub(crate) alone: &'a mut Alone,
 }
 
-impl<'a, F: Fn(&Job, u32) -> Result<Tally, Memory>> Counter for Shared<'a, F> {
-    ghost ready = { ((f : F) (job : _) (w : ℕ) → w < 2 ^ 32 → F.pre f job w)
-        × ((f : F) (job : _) (w : ℕ) (r : _) → w < 2 ^ 32 → F.post f job w r
+impl<'a, F: Fn(&Job, u32, &mut KeptScratches) -> Result<Tally, Memory>> Counter for Shared<'a, F> {
+    ghost ready = { ((f : F) (job : _) (w : ℕ) (kept : _) → w < 2 ^ 32 → F.pre f job w kept)
+        × ((f : F) (job : _) (w : ℕ) (kept : _) (r : _) (after : _) → w < 2 ^ 32
+        → F.post f job w kept r after
         → IfOk r (λ tally. Counts (deal_of job.now.table)
         (runouts_after (state_of job.now.table.known)) tally)) };
 
@@ -44,7 +47,7 @@ impl<'a, F: Fn(&Job, u32) -> Result<Tally, Memory>> Counter for Shared<'a, F> {
         if workers < 2 || job.blocks() < BLOCKS_MIN {
             return self.alone.count_here(job, tally);
         }
-        match (self.by_workers)(job, workers) {
+        match (self.by_workers)(job, workers, self.kept) {
             Ok(total) => {
                 *tally = total;
                 Ok(())
@@ -58,7 +61,8 @@ impl<'a, F: Fn(&Job, u32) -> Result<Tally, Memory>> Counter for Shared<'a, F> {
     }
 }
 
-/// Returns the tally of a job by 1 to 16 workers. It has a frame of its own, because tallies go through the stack.
+/// Returns the tally of a job by 1 to 16 workers, whose scratches are kept. It has a frame of its own, because
+/// tallies go through the stack.
 #[inline(never)]
 pub(crate) fn count_shared<R: Threads + Wait + Sync, G: Gate + Sync>(
     rt: &R,
@@ -66,11 +70,12 @@ pub(crate) fn count_shared<R: Threads + Wait + Sync, G: Gate + Sync>(
     job: &Job,
     workers: u32,
     gate: &G,
+    kept: &mut KeptScratches,
 ) -> Result<Tally, Memory>
     ensures { IfOk result (λ tally.
         Counts (deal_of job.now.table) (runouts_after (state_of job.now.table.known)) tally) }
 {
     let workers = workers.clamp(1, WORKERS_MAX);
-    let closed = count_with_workers(rt, alloc, job, workers, gate)?;
+    let closed = count_with_kept(rt, alloc, job, workers, gate, kept)?;
     Ok(closed.total)
 }

@@ -13,7 +13,7 @@ use worker_seats::{BlockCounter, Gate};
 /// A scratch of a worker's own, with the parts that the count of a job uses.
 #[derive(Drop)]
 pub struct OwnScratch {
-    /// The tables that the worker counts with.
+    /// The tables, which serve later jobs too.
     scratch: Scratch,
 }
 
@@ -24,6 +24,10 @@ impl BlockCounter for OwnScratch {
         let mut scratch = Scratch::new();
         scratch.ready(alloc, job)?;
         Ok(OwnScratch { scratch })
+    }
+
+    fn make_ready(&mut self, alloc: Global, job: &Job) -> Result<(), Memory> {
+        self.scratch.ready(alloc, job)
     }
 
     fn count<G: Gate>(&mut self, job: &Job, block: u32, worker: u32, gate: &G, tally: &mut Tally) {

@@ -14,6 +14,10 @@ use std::alloc::Global;
 use std::sync::Wait;
 use std::thread::Threads;
 use tally_book::Closed;
+use worker_seats::KeptCounters;
+
+/// The scratches that a run keeps for its workers from job to job, at most 16.
+pub type KeptScratches = KeptCounters<OwnScratch>;
 
 /// Counts a job by 1 to 16 workers. The total is that of all runouts, and `by_workers` is how many
 /// blocks the workers posted: the caller posts what they leave. It takes all memory whose refusal
@@ -34,4 +38,24 @@ pub fn count_with_workers<R: Threads + Wait + Sync, G: Gate + Sync>(
         (λ c. c.by_workers ≤ blocks_of (length (runouts_after (state_of job.now.table.known)))) }
 {
     worker_seats::count_with_workers::<OwnScratch, R, G>(rt, job, workers, gate, alloc)
+}
+
+/// Counts a job like `count_with_workers`, in scratches that are kept from job to job. Afterward `kept` has the scratches of all
+/// workers. After `Memory`, scratches that were kept before may be lost.
+pub fn count_with_kept<R: Threads + Wait + Sync, G: Gate + Sync>(
+    rt: &R,
+    alloc: Global,
+    job: &Job,
+    workers: u32,
+    gate: &G,
+    kept: &mut KeptScratches,
+) -> Result<Closed, Memory>
+    requires workers { (1 ≤ workers) × (workers ≤ 16) }
+    ensures total { IfOk result
+        (λ c. Counts (deal_of job.now.table)
+        (runouts_after (state_of job.now.table.known)) c.total) }
+    ensures by_workers { IfOk result
+        (λ c. c.by_workers ≤ blocks_of (length (runouts_after (state_of job.now.table.known)))) }
+{
+    worker_seats::count_with_kept::<OwnScratch, R, G>(rt, job, workers, gate, alloc, kept)
 }

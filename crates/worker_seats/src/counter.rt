@@ -1,6 +1,6 @@
 //! Who counts a block.
 
-ghost use Rattle.std.specs.Prelude.{◌<◌, length, IfOk};
+ghost use Rattle.std.specs.Prelude.{◌<◌, length, IfOk, OnOk};
 ghost use Rattle.card_sets.specs.State.{state_of};
 ghost use Rattle.showdown_tally.specs.Deals.{deal_of};
 ghost use Rattle.showdown_tally.specs.Tallies.{Counts, runouts_after};
@@ -13,14 +13,18 @@ use job_blocks::Job;
 use showdown_tally::Tally;
 use std::alloc::Global;
 
-/// Counts one block of a job after another, in a room of its own. Each worker has one.
+/// Counts one block of a job after another, with tables of its own. Each worker has one.
 pub trait BlockCounter: Drop {
-    /// The counter has the room that its count of a job uses.
+    /// The counter has the tables that its count of a job uses.
     ghost ready: { JobOf → Self → Type 0 };
 
-    /// One for a job, with the room that its count uses. No other call asks for memory.
+    /// Returns a new counter that is ready for a job. Only this call and `make_ready` ask for memory.
     fn make(alloc: Global, job: &Job) -> Result<Self, Memory>
         ensures { IfOk result (λ counter. ready job.now counter) };
+
+    /// Makes a counter ready for a job, whatever it counted before. After `Memory` it can still count.
+    fn make_ready(&mut self, alloc: Global, job: &Job) -> Result<(), Memory>
+        ensures { OnOk result (ready job.now self.new) };
 
     /// Enters the gate with the worker's number and the block's, and then makes a tally that of the block, whatever it
     /// held. Nothing else calls a gate.

@@ -9,17 +9,18 @@ ghost use Rattle.tally_book.specs.Pages.{is_marked};
 
 use crate::desk::Desk;
 use crate::seat::Seat;
-use crate::{BlockCounter, OpenGate};
+use crate::{BlockCounter, KeptCounters, OpenGate};
 use job_blocks::Job;
 use tally_book::{Book, Closed, Naming, Part};
 
 /// Posts the rest into the spare part, counted at the desk of the first seat, merges all parts and closes
-/// the book.
+/// the book. The counters are kept.
 pub(crate) fn finish_book<N: Naming, C: BlockCounter>(
     job: &Job,
     mut book: Book<N>,
     mut seats: Vec<Seat<N, C>>,
     mut spare: Part<N>,
+    kept: &mut KeptCounters<C>,
 ) -> Closed
     // `N` names the deal of the job, of whose blocks the book has the marks.
     requires named { deal_of job.now.table ≡ N.deal }
@@ -42,8 +43,9 @@ pub(crate) fn finish_book<N: Naming, C: BlockCounter>(
     let own = post_rest(job, &mut book, &mut spare, &mut seats[0].desk);
     while let Some(seat) = seats.pop() {
         let Seat { desk, .. } = seat;
-        let Desk { part, .. } = desk;
+        let Desk { part, counter, .. } = desk;
         spare.merge(part);
+        kept.give(counter);
     }
     let Closed { total, by_workers } = book.close(spare);
     Closed {

@@ -12,8 +12,9 @@
 //! taken from the deques, by one worker, is a clause of `Seats`, which carries a rule over each
 //! deque: `claims` has it.
 //!
-//! `count_with_workers` is `Seats::start`, `Seats::work` and `Seats::finish`, in this order. All memory whose
-//! refusal is answered is taken before the first worker starts. Where a thread can't be started, the caller
+//! `count_with_workers` is `Seats::start`, `Seats::work` and `Seats::finish`, in this order. `count_with_kept` is
+//! `Seats::start_with`, `Seats::work` and `Seats::finish_with`: workers use the counters that an earlier job left in a
+//! `KeptCounters`, and leave theirs there. All memory whose refusal is answered is taken before the first worker starts. Where a thread can't be started, the caller
 //! does that worker's work itself.
 #![tactic(auto)]
 
@@ -23,6 +24,7 @@ mod desk;
 mod finishing;
 mod gate;
 mod joins;
+mod kept;
 mod lanes;
 pub mod laws;
 mod making;
@@ -36,5 +38,6 @@ mod workers;
 
 pub use counter::BlockCounter;
 pub use gate::{Gate, OpenGate};
+pub use kept::KeptCounters;
 pub use seats::Seats;
-pub use workers::count_with_workers;
+pub use workers::{count_with_kept, count_with_workers};

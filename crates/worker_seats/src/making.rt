@@ -6,25 +6,26 @@ ghost use Rattle.worker_seats.specs.Claims.{claim};
 ghost use Rattle.worker_seats.specs.Reaches.{claim_of, IsOpen, IsOther};
 ghost use Rattle.worker_seats.specs.Starting.{IsSeating, HasOneMore, HasSeatMore};
 
-use crate::BlockCounter;
 use crate::claims::OneOff;
 use crate::desk::Desk;
 use crate::lanes::Lane;
 use crate::pushes::{push_all, share_of};
 use crate::reaches::{Owner, Reach};
 use crate::seat::Seat;
+use crate::{BlockCounter, KeptCounters};
 use card_sets::Memory;
 use job_blocks::Job;
 use showdown_tally::Tally;
 use std::alloc::Global;
 use tally_book::{Naming, Part};
 
-/// A seat for each worker of a job, with no way yet.
+/// A seat for each worker of a job, with no way yet. Kept counters are used first.
 pub(crate) fn seats_without_ways<N: Naming, C: BlockCounter>(
     alloc: Global,
     job: &Job,
     workers: u32,
     spare: &mut Part<N>,
+    kept: &mut KeptCounters<C>,
 ) -> Result<Vec<Seat<N, C>>, Memory>
     requires { spare.old.parts ≡ workers + 1 }
     ensures seats { IfOk result (λ seats. IsSeating workers 0 0 seats.items) }
@@ -33,18 +34,19 @@ pub(crate) fn seats_without_ways<N: Naming, C: BlockCounter>(
 {
     let mut seats = Vec::with_capacity(alloc, workers as usize)?;
     for _ in 0..workers {
-        push_seat(alloc, job, workers, spare, &mut seats)?;
+        let counter = kept.counter_for(alloc, job)?;
+        push_seat(alloc, workers, counter, spare, &mut seats)?;
     }
     Ok(seats)
 }
 
-/// Adds a seat with no way yet, with a part of its own and who counts its blocks. It has a frame of its own, because a seat goes
-/// through the stack.
+/// Adds a seat with no way yet, with a part of its own and the counter of its blocks. It has a frame of its own, because a seat
+/// goes through the stack.
 #[inline(never)]
-fn push_seat<N: Naming, C: BlockCounter>(
+fn push_seat<N: Naming, C: Drop>(
     alloc: Global,
-    job: &Job,
     workers: u32,
+    counter: C,
     spare: &mut Part<N>,
     seats: &mut Vec<Seat<N, C>>,
 ) -> Result<(), Memory>
@@ -56,7 +58,6 @@ fn push_seat<N: Naming, C: BlockCounter>(
         (λ _. (spare.new.parts + 1 ≡ spare.old.parts) × (spare.new.amount ≡ spare.old.amount)) }
 {
     let lanes = Vec::with_capacity(alloc, workers as usize)?;
-    let counter = C::make(alloc, job)?;
     seats.push_reserved(Seat {
         lanes,
         desk: Desk {

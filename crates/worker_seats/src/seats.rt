@@ -12,7 +12,7 @@ use crate::making::{add_deque, seats_without_ways};
 use crate::running::work_seats;
 use crate::seat::Seat;
 use crate::shared_book::SharedBook;
-use crate::{BlockCounter, Gate};
+use crate::{BlockCounter, Gate, KeptCounters};
 use card_sets::Memory;
 use job_blocks::Job;
 use std::alloc::Global;
@@ -57,9 +57,7 @@ impl<N: Naming, C> Model for Seats<N, C> {
 impl<N: Naming, C: BlockCounter> Seats<N, C> {
     /// Seats for 1 to 16 workers, of a blank with a part for each and one more. Each block is pushed
     /// to the deque of its number modulo the workers, in rising order, and then one end mark for each
-    /// worker to each deque. It takes all memory whose refusal is answered. It has a frame of its own, because seats and tallies
-    /// go through the stack.
-    #[inline(never)]
+    /// worker to each deque. It takes all memory whose refusal is answered.
     pub fn start(
         alloc: Global,
         job: &Job,
@@ -74,8 +72,29 @@ impl<N: Naming, C: BlockCounter> Seats<N, C> {
         ensures { IfOk result
             (λ s. IsFreshSitting workers (blocks_of (length (runouts_after N.deal.state))) s) }
     {
+        Seats::start_with(alloc, job, blank, workers, &mut KeptCounters::new())
+    }
+
+    /// Like `start`, with kept counters, as far as there are any. It has a frame of its own, because seats and tallies go
+    /// through the stack.
+    #[inline(never)]
+    pub fn start_with(
+        alloc: Global,
+        job: &Job,
+        blank: Blank,
+        workers: u32,
+        kept: &mut KeptCounters<C>,
+    ) -> Result<Seats<N, C>, Memory>
+        requires named { deal_of job.now.table ≡ N.deal }
+        requires name { blank.name ≡ N.name }
+        requires parts { blank.parts ≡ N.parts }
+        requires workers { (1 ≤ workers) × (workers ≤ 16) × (N.parts ≡ workers + 1)
+            × (N.all ≡ N.parts) }
+        ensures { IfOk result
+            (λ s. IsFreshSitting workers (blocks_of (length (runouts_after N.deal.state))) s) }
+    {
         let (book, mut spare) = Book::start(alloc, job, blank)?;
-        let mut seats = seats_without_ways(alloc, job, workers, &mut spare)?;
+        let mut seats = seats_without_ways(alloc, job, workers, &mut spare, kept)?;
         for deque in 0..workers {
             add_deque(alloc, seats.as_mut_slice(), deque, workers, job.blocks())?;
         }
@@ -126,9 +145,20 @@ impl<N: Naming, C: BlockCounter> Seats<N, C> {
     }
 
     /// Posts each block that isn't marked, and closes the book. `by_workers` is how many blocks the
-    /// workers posted. It takes no memory. It has a frame of its own, because tallies go through the stack.
-    #[inline(never)]
+    /// workers posted. It takes no memory.
     pub fn finish(self, job: &Job) -> Closed
+        requires named { deal_of job.now.table ≡ N.deal }
+        requires worked { self.worked ≡ true }
+        ensures total { Counts N.deal (runouts_after N.deal.state) result.total }
+        ensures by_workers { result.by_workers ≡ sum_by (λ hand. hand.amount) self.hands }
+        ensures most { result.by_workers ≤ blocks_of (length (runouts_after N.deal.state)) }
+    {
+        self.finish_with(job, &mut KeptCounters::new())
+    }
+
+    /// Like `finish`, and keeps the counters. It has a frame of its own, because tallies go through the stack.
+    #[inline(never)]
+    pub fn finish_with(self, job: &Job, kept: &mut KeptCounters<C>) -> Closed
         requires named { deal_of job.now.table ≡ N.deal }
         requires worked { self.worked ≡ true }
         ensures total { Counts N.deal (runouts_after N.deal.state) result.total }
@@ -141,6 +171,6 @@ impl<N: Naming, C: BlockCounter> Seats<N, C> {
             spare,
             ..
         } = self;
-        finish_book(job, book.into_book(), seats, spare)
+        finish_book(job, book.into_book(), seats, spare, kept)
     }
 }

@@ -6,7 +6,7 @@ ghost use Rattle.showdown_tally.specs.Deals.{deal_of};
 ghost use Rattle.showdown_tally.specs.Tallies.{Counts, runouts_after};
 ghost use Rattle.job_blocks.specs.Blocks.{blocks_of};
 
-use crate::{BlockCounter, Gate, Seats};
+use crate::{BlockCounter, Gate, KeptCounters, Seats};
 use card_sets::Memory;
 use job_blocks::Job;
 use std::alloc::Global;
@@ -34,16 +34,46 @@ pub fn count_with_workers<C: BlockCounter + Send, R: Threads + Wait + Sync, G: G
         (λ c. c.by_workers ≤ blocks_of (length (runouts_after (state_of job.now.table.known)))) }
 {
     let blank = Blank::new(workers as u64 + 1);
-    count_among::<Brand, C, R, G>(rt, alloc, job, blank, workers, gate)
+    count_among::<Brand, C, R, G>(rt, alloc, job, blank, workers, gate, &mut KeptCounters::new())
 }
 
-/// The same with the ledger that `N` names.
+/// Counts a job like `count_with_workers`, with counters that are kept from job to job. The workers take kept counters, as far as
+/// there are any, and new ones otherwise. Afterward all are kept. After `Memory`, counters that were kept before may be lost.
+pub fn count_with_kept<C: BlockCounter + Send, R: Threads + Wait + Sync, G: Gate + Sync>(
+    rt: &R,
+    job: &Job,
+    workers: u32,
+    gate: &G,
+    alloc: Global,
+    kept: &mut KeptCounters<C>,
+) -> Result<Closed, Memory>
+    requires workers { (1 ≤ workers) × (workers ≤ 16) }
+    ensures total { IfOk result
+        (λ c. Counts (deal_of job.now.table)
+        (runouts_after (state_of job.now.table.known)) c.total) }
+    ensures by_workers { IfOk result
+        (λ c. c.by_workers ≤ blocks_of (length (runouts_after (state_of job.now.table.known)))) }
+{
+    kept.make_room(alloc)?;
+    let blank = Blank::new(workers as u64 + 1);
+    count_among::<Brand, C, R, G>(rt, alloc, job, blank, workers, gate, kept)
+}
+
+/// Counts a job with the ledger that `N` names.
 fn count_among<
     N: Naming + Send + Sync,
     C: BlockCounter + Send,
     R: Threads + Wait + Sync,
     G: Gate + Sync,
->(rt: &R, alloc: Global, job: &Job, blank: Blank, workers: u32, gate: &G) -> Result<Closed, Memory>
+>(
+    rt: &R,
+    alloc: Global,
+    job: &Job,
+    blank: Blank,
+    workers: u32,
+    gate: &G,
+    kept: &mut KeptCounters<C>,
+) -> Result<Closed, Memory>
     // `N` names the deal of the job, and a ledger of which no part was split off.
     requires named { deal_of job.now.table ≡ N.deal }
     requires name { blank.name ≡ N.name }
@@ -58,7 +88,7 @@ fn count_among<
     ensures by_workers { IfOk result
         (λ c. c.by_workers ≤ blocks_of (length (runouts_after N.deal.state))) }
 {
-    let mut seats = Seats::<N, C>::start(alloc, job, blank, workers)?;
+    let mut seats = Seats::<N, C>::start_with(alloc, job, blank, workers, kept)?;
     seats.work(rt, job, gate);
-    Ok(seats.finish(job))
+    Ok(seats.finish_with(job, kept))
 }

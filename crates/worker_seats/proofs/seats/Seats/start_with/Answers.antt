@@ -8,7 +8,7 @@ use Rattle.worker_seats.specs.Sittings.{IsSitting}
 use Rattle.worker_seats.proofs.LentSlices.{back}
 use Rattle.worker_seats.proofs.MadeSeats.{seating_any, seating_done, seating_parts}
 use Rattle.worker_seats.proofs.SeenSeats.{sitting_starts, sitting_fresh}
-use Rattle.worker_seats.proofs.seats.Seats.start.Goals as goal
+use Rattle.worker_seats.proofs.seats.Seats.start_with.Goals as goal
 
 pub loop-deque-init : goal.loop-deque-init
 loop-deque-init g c = seating_any c.args.workers (blocks_of (length (runouts_after g.N.Naming.deal.state))) c.in_ok-seats.seats.items c.in_ok-seats.ensures.seats
