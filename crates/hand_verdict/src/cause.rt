@@ -9,10 +9,22 @@ pub enum Cause {
     Text(TextFault),
     /// Its event may not follow those before it.
     Bet(BetFault),
-    /// The stated pot, and what was counted: all that was put in, or what was collected and the rake.
-    Chips { stated: u64, counted: u128 },
-    /// A payment beyond its tolerance: what a seat was due and what it got.
-    Split { seat: u8, due: u64, got: u64 },
+    /// The stated pot isn't what was counted.
+    Chips {
+        /// The stated pot, in units.
+        stated: u64,
+        /// All that was put in, or what was collected and the rake, in units.
+        counted: u128,
+    },
+    /// A payment beyond its tolerance.
+    Split {
+        /// The seat that was paid.
+        seat: u8,
+        /// What the seat was due, in units.
+        due: u64,
+        /// What the seat got, in units.
+        got: u64,
+    },
     /// The hand has no line with its total.
     Unfinished,
 }
