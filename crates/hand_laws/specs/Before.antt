@@ -11,7 +11,7 @@ abbrev pub StandsBy : Header → ℕ → List Event → Result Event TextFault �
 StandsBy g players h (Err fault) rest = ⊥
 StandsBy g players h (Ok e) rest = (event_cause g players h e ≡ None) × rest e
 
--- the first so many lines can be read, and the event of each may stand after those of the lines before
+-- the first n lines can be read, and the event of each may stand after those of the lines before
 abbrev pub Stand : Header → ℕ → SoFar → List (List ℕ) → ℕ → Type 0
 Stand g players so_far lines zero = Unit {0}
 Stand g players so_far [] (suc n) = ⊥

@@ -9,7 +9,7 @@ use Rattle.betting_replay.specs.Table.{ReplayState}
 abbrev pub UncalledComesBack : Type 0
 UncalledComesBack = (t : ReplayState) (seat units : ℕ) → uncalled (hand_sums t) ≡ Some (seat, units) → return_fits t seat units ≡ true
 
--- after so many units came back to a seat nobody alone has most: no other seat has more than what is left of it, and another one
+-- after some units came back to a seat nobody alone has most: no other seat has more than what is left of it, and another one
 -- has as much, or nothing is left of it
 pub record IsMatched (ps : List Paid) (seat units : ℕ) : Type 0 where
   pub player : Paid
