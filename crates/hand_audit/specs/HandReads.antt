@@ -22,7 +22,7 @@ pub record EndsBehind (line : List ℕ) (rest : List (List ℕ)) (count : ℕ) (
   pub header : header_of line ≡ Ok hand.header
   pub players : hand.players ≡ players_of hand.header rest
   pub departs : (number : ℕ) → departs_from hand.header hand.players number nothing rest ≡ at_line (number + count) (split_cause hand.settled.beyond)
-  pub keeps : Keeps hand.state hand.header hand.players (read_all hand.header nothing rest)
+  pub keeps : Keeps hand.state.value hand.header hand.players (read_all hand.header nothing rest)
   pub ended : IsEnded hand.header hand.players (read_all hand.header nothing rest).events hand.settled
   pub names : hand.names ≡ (read_all hand.header nothing rest).names
 

@@ -124,5 +124,5 @@ Follows header players lines (Departs count cause) =
     (count ≤ length lines) × ((number : ℕ) → departs_from header players number nothing lines ≡ Some (number + count, cause)) × (is_split cause ≡ false)
 Follows header players lines (Ends count hand names settled) =
     (count ≤ length lines) × ((number : ℕ) → departs_from header players number nothing lines ≡ at_line (number + count) (split_cause settled.beyond))
-    × Keeps hand header players (read_all header nothing lines) × IsEnded header players (read_all header nothing lines).events settled
+    × Keeps hand.value header players (read_all header nothing lines) × IsEnded header players (read_all header nothing lines).events settled
     × (names ≡ (read_all header nothing lines).names)

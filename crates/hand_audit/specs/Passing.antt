@@ -37,7 +37,7 @@ Took new header so_far seats line true = (is_again seats (seat_at (part_of so_fa
 Took new header so_far seats line false =
     (is_again seats (seat_at (part_of so_far.events) line) ≡ false) × Passes new (with_line header so_far line) (with_seat seats (seat_at (part_of so_far.events) line))
 
--- from so many on no more reads are kept
+-- from this number of lines on no more reads are kept
 abbrev pub READS_MAX : ℕ
 READS_MAX = 256
 

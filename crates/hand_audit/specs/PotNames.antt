@@ -10,7 +10,7 @@ use Rattle.hand_audit.specs.declared.pot_names.Source.{Source}
 use Rattle.hand_audit.specs.declared.pot_names.Source.TheVariants.{Any, Numbered}
 use Rattle.hand_audit.specs.Collections.{taken_from, any_from}
 
--- the number of the pot that a name is for, of so many: one is `pot`, two are `main pot` and `side pot`, more are
+-- the number of the pot that a name is for, by the number of pots: one is `pot`, two are `main pot` and `side pot`, more are
 -- `main pot`, `side pot-1` and so on
 unfoldable pub pot_named : ℕ → PotName → Option ℕ
 pot_named count Only = if count == 1 then Some 0 else None

@@ -33,12 +33,12 @@ pub record Showing : Type 0 where
   pub board : List ℕ
   pub second : Option (List ℕ)
 
--- what is split of a pot: so many units, to those who win by the cards of a board
+-- what is split of a pot: some units, among the players who win by the cards of a board
 pub record Part : Type 0 where
   pub units : ℕ
   pub board : List ℕ
 
--- the parts of so many units: one of them all, by the board; of a hand that was run twice two halves, the first rounded up by the
+-- the parts of some units: one of them all, by the board; of a hand that was run twice two halves, the first rounded up by the
 -- board and the second down by the second board
 abbrev pub parts_by : Option (List ℕ) → List ℕ → ℕ → List Part
 parts_by None board units = record { units = units; board = board } ∷ []
@@ -72,7 +72,7 @@ worth_on side s board p = value_on side s.game board (hand_of s p)
 abbrev pub set_of : List ℕ → ℕ
 set_of seats = players_where (λ p. list_any (λ q. q == p) seats) 11
 
--- the sides that a pot is played for, the first and the second; none where the game hasn't so many
+-- the sides that a pot is played for, the first and the second; none if the game has no such side
 abbrev pub first_side : Game → Option Side
 first_side game = slice_index_or (sides_of game) 0 None
 
@@ -190,7 +190,7 @@ pot_line s source pot = record {
 abbrev pub beyond_of : Showing → Source → Pot → Option Payment
 beyond_of s source pot = beyond_from (pay_of s source pot) (λ p. sides_of_seat p (shares_of_pot s source pot)) 1 10
 
--- the pots numbered from k on, of so many
+-- the pots numbered from k on, by the number of all pots
 abbrev pub pot_lines : Showing → ℕ → ℕ → List Pot → List PotLine
 pot_lines s count k [] = []
 pot_lines s count k (pot ∷ more) = pot_line s (Numbered count k) pot ∷ pot_lines s count (k + 1) more

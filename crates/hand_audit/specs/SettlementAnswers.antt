@@ -13,7 +13,7 @@ pub record IsOfPot (s : Showing) (source : Source) (pot : Pot) (one : PotSettled
   pub line : one.line ≡ pot_line s source pot
   pub beyond : one.beyond ≡ beyond_of s source pot
 
--- the lines have grown by those of the pots from a number on, of so many, and this is the first payment beyond its tolerance
+-- the lines have grown by the lines of the pots from a number on, and this is the first payment beyond its tolerance
 pub record AreOfPots (s : Showing) (count number : ℕ) (all : List Pot) (old new : List PotLine) (first : Option Payment) : Type 0 where
   pub lines : new ≡ old ++ pot_lines s count number all
   pub beyond : first ≡ beyond_in s count number all

@@ -20,7 +20,7 @@ use line_text::next_line;
 use std::alloc::{AllocError, Global};
 use std::collections::BTreeSet;
 
-/// Of a hand that has so many lines what they say isn't kept, so that it wants no more memory.
+/// A hand with this number of lines or more is read again, and what its lines say isn't kept, so that it needs no more memory.
 const READS_MAX: usize = 256;
 
 /// How many reads there is room for at first: those of most hands.
@@ -54,8 +54,8 @@ pub(crate) struct LinesRead {
 /// or more these are no lines, and it is read anew.
 #[derive(Drop)]
 pub(crate) struct PlayersFound {
-    /// Bit s for seat s.
-    pub(crate) players: u16,
+    /// The players.
+    pub(crate) players: PlayerSet,
     /// What was read of the first lines.
     pub(crate) read: LinesRead,
     /// The seats and names of their seat lines.
@@ -211,7 +211,7 @@ impl<'a> PlayerScan<'a> {
             → HasReads self.entry header bytes start at
             → IsFound header bytes start result.read.said.items result.names result.read.next }
     {
-        let players = self.players.bits();
+        let players = self.players;
         if self.reads.len() < READS_MAX {
             return PlayersFound {
                 players,

@@ -23,7 +23,7 @@ use crate::standings::Standings;
 use betting_replay::{
     Replay, law_a_table_shows_each_seat, law_cards_belong, law_places_are_apart, law_whole_boards,
 };
-use card_sets::{Game, Memory};
+use card_sets::{Game, Memory, PlayerSet};
 use hand_verdict::Cause;
 use history_text::{Event, Header, Names, Part, Street, TextFault, read_line};
 use pot_layers::law_a_folded_player_is_eligible_nowhere;
@@ -99,7 +99,7 @@ pub(crate) fn seat_name(names: &mut Names, e: &Event, line: &[u8]) -> Result<(),
     }
 }
 
-/// The same of what a line was found to say, if it could be read.
+/// Seats the name of a line that was read, if it is a seat line.
 pub(crate) fn seat_name_said(names: &mut Names, said: &LineSaid, line: &[u8]) -> Result<(), Memory>
     requires { IfOk said.now (λ e. HasName e line.now) }
     ensures { OnOk result (names.new ≡ names_by said.now line.now names.old) }
@@ -157,12 +157,12 @@ fn with_rake(taken: u128, rake: u64) -> u128
 
 impl AuditState {
     /// Of no line, in a hand with this header and these players.
-    pub(crate) fn new(alloc: Global, header: &Header, players: u16) -> AuditState
+    pub(crate) fn new(alloc: Global, header: &Header, players: PlayerSet) -> AuditState
         ensures keeps { Keeps result header.now players nothing }
         ensures sound { IsSound result }
     {
         AuditState {
-            replay: Replay::new(header, players),
+            replay: Replay::new(header, players.bits()),
             part: Part::Preamble,
             collections: Vec::new(alloc),
             streets: Vec::new(alloc),
@@ -261,7 +261,7 @@ impl AuditState {
             settled) }
     {
         let all = pots_of(alloc, &self.replay)?;
-        let standings = Standings::of(&self.replay, game);
+        let standings = Standings::of_replay(&self.replay, game);
         settle(alloc, &standings, all.items(), &self.collections)
     }
 

@@ -9,7 +9,7 @@ ghost use Rattle.hand_audit.specs.PotSeats.{eligible_of};
 ghost use Rattle.hand_audit.specs.AllIns.{cards_or_none, bare_of};
 
 use crate::at_point::AtPoint;
-use card_sets::{CardSet, Game, Known, PlayerSet, are_disjoint};
+use card_sets::{CardSet, Known, PlayerSet, are_disjoint};
 use hand_verdict::{PotLine, PotLines};
 use showdown_tally::Table;
 
@@ -90,7 +90,7 @@ fn all_empty(sets: &[CardSet]) -> bool
     }
 }
 
-/// Whether no set is larger than so many cards.
+/// Returns whether no set has more than `most` cards.
 fn all_small(sets: &[CardSet], most: u32) -> bool
     ensures { result ≡ list_all (λ hand. nat_le (length hand) most) sets.now }
 {
@@ -111,33 +111,31 @@ fn all_within(count: u8, sets: &[u16]) -> bool
     }
 }
 
-/// Whether these can be a table's: whether what holds of every table holds of them.
+/// Returns whether what holds of every table holds of these cards and pots at a point.
 fn holds(
-    game: Game,
+    point: &AtPoint,
     count: u8,
     hands: &[CardSet; 10],
-    board: CardSet,
-    dead: CardSet,
     pots: usize,
     eligible: &[u16; 10],
 ) -> bool
     requires { count ≤ 10 }
     ensures { result
         ≡ holds (record {
-          game = game;
+          game = point.now.game;
           count = count;
           hands = hands.now;
-          board = board;
-          dead = dead;
+          board = point.now.board;
+          dead = point.now.dead;
           pots = pots;
           eligible = eligible.now;
         }) }
 {
     let hands = &hands[..];
-    are_disjoint(board, dead, hands)
+    are_disjoint(point.board, point.dead, hands)
         && all_empty(&hands[usize::from(count)..])
-        && board.count() <= game.board_size()
-        && all_small(hands, game.own_size())
+        && point.board.count() <= point.game.board_size()
+        && all_small(hands, point.game.own_size())
         && pots <= 10
         && all_within(count, eligible)
 }
@@ -150,15 +148,7 @@ pub(crate) fn known_table(point: &AtPoint, pots: &PotLines) -> Option<Table>
     let count = point.contenders.seats().count();
     let hands = hands_of(&point.cards, point.contenders);
     let eligible = eligible_of(pots, point.contenders);
-    if !holds(
-        point.game,
-        count,
-        &hands,
-        point.board,
-        point.dead,
-        pots.len(),
-        &eligible,
-    ) {
+    if !holds(point, count, &hands, pots.len(), &eligible) {
         return None;
     }
     Some(Table {

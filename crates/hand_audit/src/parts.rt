@@ -20,15 +20,15 @@ use hand_verdict::{PartShare, PartShares, PotLine};
 use pot_layers::{OddOrder, Share, SideWinners, halves, split};
 use std::alloc::{AllocError, Global};
 
-/// One more.
-fn add<T: Copy>(items: &mut Vec<T>, item: T) -> Result<(), AllocError>
+/// Appends an item, whatever its type. The prover refuses the push of some structs.
+fn push_item<T: Copy>(items: &mut Vec<T>, item: T) -> Result<(), AllocError>
     ensures { OnOk result (items.new.items ≡ items.old.items ++ item ∷ []) }
 {
     items.push(item)?;
     Ok(())
 }
 
-/// A share of a side, whose winners get so much each and some of them an odd unit more.
+/// Returns the share of a winner of a side whose winners get `each` units, and some of them an odd unit more.
 fn part_share(board: u8, side: Side, each: u64, share: Share) -> PartShare
     ensures { result ≡ part_share board side each share }
 {
@@ -41,7 +41,7 @@ fn part_share(board: u8, side: Side, each: u64, share: Share) -> PartShare
     }
 }
 
-/// The shares of a side more.
+/// Appends the shares of a side.
 fn add_shares(
     all: &mut Vec<PartShare>,
     board: u8,
@@ -55,15 +55,14 @@ fn add_shares(
     match shares {
         [] => Ok(()),
         [share, others @ ..] => {
-            add(all, part_share(board, side, each, *share))?;
+            push_item(all, part_share(board, side, each, *share))?;
             add_shares(all, board, side, each, others)
         }
     }
 }
 
-/// Those of the winners of a side more, who share what it gets.
+/// Appends the shares of the winners of a side, who share its units.
 fn add_side(
-    alloc: Global,
     all: &mut Vec<PartShare>,
     board: u8,
     side: Option<Side>,
@@ -86,12 +85,13 @@ fn add_side(
         low: 0,
     };
     let each = units / order.as_slice().len() as u64;
+    let alloc = *all.allocator();
     let shares = split(alloc, units, only, order, &OddOrder::none())?;
     add_shares(all, board, side, each, shares.items())?;
     Ok(())
 }
 
-/// What the two sides of a part get; the first has all where nobody wins the second.
+/// Returns what the two sides of a part get. The first gets all units if nobody wins the second.
 fn side_units(units: u64, second: PlayerSet) -> [u64; 2]
     ensures { result ≡ high_half units second ∷ low_half units second ∷ [] }
 {
@@ -101,9 +101,8 @@ fn side_units(units: u64, second: PlayerSet) -> [u64; 2]
     halves(units)
 }
 
-/// Those of a part more that goes by a board.
+/// Appends the shares of a part that goes by a board.
 fn add_part(
-    alloc: Global,
     all: &mut Vec<PartShare>,
     standings: &Standings,
     on: &OnBoard,
@@ -124,30 +123,13 @@ fn add_part(
     let second_order = standings.order(&on.second, second);
     let [high, low] = side_units(units, second);
     let game = standings.game;
-    add_side(
-        alloc,
-        all,
-        board,
-        first_side(game),
-        first,
-        &first_order,
-        high,
-    )?;
-    add_side(
-        alloc,
-        all,
-        board,
-        second_side(game),
-        second,
-        &second_order,
-        low,
-    )?;
+    add_side(all, board, first_side(game), first, &first_order, high)?;
+    add_side(all, board, second_side(game), second, &second_order, low)?;
     Ok(())
 }
 
-/// Those of all parts of so many units.
+/// Appends the shares of all parts of a pot's units.
 fn add_parts(
-    alloc: Global,
     all: &mut Vec<PartShare>,
     standings: &Standings,
     eligible: PlayerSet,
@@ -159,32 +141,24 @@ fn add_parts(
         → all.new.items ≡ all.old.items ++ shares_on_boards s eligible 1 (parts_of s units)) }
 {
     match &standings.second {
-        None => add_part(alloc, all, standings, &standings.board, 1, eligible, units),
+        None => add_part(all, standings, &standings.board, 1, eligible, units),
         Some(second) => {
             let [rounded_up, rounded_down] = halves(units);
-            add_part(
-                alloc,
-                all,
-                standings,
-                &standings.board,
-                1,
-                eligible,
-                rounded_up,
-            )?;
-            add_part(alloc, all, standings, second, 2, eligible, rounded_down)?;
+            add_part(all, standings, &standings.board, 1, eligible, rounded_up)?;
+            add_part(all, standings, second, 2, eligible, rounded_down)?;
             Ok(())
         }
     }
 }
 
-/// Whether two players or more may win a pot.
+/// Returns whether two players or more may win a pot.
 fn is_contested(eligible: PlayerSet) -> bool
     ensures { result ≡ is_contested eligible }
 {
     1 < eligible.seats().count()
 }
 
-/// The shares of the parts of a pot.
+/// Returns the shares of the parts of a pot. It has none if its winners aren't known, or if only one player may win it.
 #[tactic(auto, unfolding(crate::specs::Parts::part_shares))]
 fn part_shares(alloc: Global, standings: &Standings, pot: &PotLine) -> Result<PartShares, Memory>
     requires { IsReady standings.now }
@@ -197,11 +171,11 @@ fn part_shares(alloc: Global, standings: &Standings, pot: &PotLine) -> Result<Pa
         return Ok(PartShares::of(parts));
     }
     let units = pot.gross.saturating_sub(pot.rake);
-    add_parts(alloc, &mut parts, standings, eligible, units)?;
+    add_parts(&mut parts, standings, eligible, units)?;
     Ok(PartShares::of(parts))
 }
 
-/// A pot's more.
+/// Appends the shares of the parts of a pot.
 fn add_pot(all: &mut Vec<PartShares>, parts: PartShares) -> Result<(), AllocError>
     ensures { OnOk result (all.new.items ≡ all.old.items ++ parts ∷ []) }
 {
@@ -209,9 +183,8 @@ fn add_pot(all: &mut Vec<PartShares>, parts: PartShares) -> Result<(), AllocErro
     Ok(())
 }
 
-/// Those of some pots more.
+/// Appends the shares of the parts of each of some pots.
 fn add_pots(
-    alloc: Global,
     all: &mut Vec<PartShares>,
     standings: &Standings,
     pots: &[PotLine],
@@ -224,14 +197,15 @@ fn add_pots(
     match pots {
         [] => Ok(()),
         [pot, others @ ..] => {
+            let alloc = *all.allocator();
             add_pot(all, part_shares(alloc, standings, pot)?)?;
-            add_pots(alloc, all, standings, others)?;
+            add_pots(all, standings, others)?;
             Ok(())
         }
     }
 }
 
-/// The shares of the parts of the pots of a hand whose chips are settled, pot by pot.
+/// Returns the shares of the parts of the pots of a hand whose chips are settled, pot by pot.
 pub(crate) fn hand_parts(
     alloc: Global,
     game: Game,
@@ -243,8 +217,8 @@ pub(crate) fn hand_parts(
         → header.game ≡ game
         → parts.items ≡ hand_parts (showing_of header players so_far.events)) }
 {
-    let standings = Standings::of(&state.replay, game);
+    let standings = Standings::of_replay(&state.replay, game);
     let mut parts = Vec::new(alloc);
-    add_pots(alloc, &mut parts, &standings, settled.pots.items())?;
+    add_pots(&mut parts, &standings, settled.pots.items())?;
     Ok(parts)
 }

@@ -99,7 +99,7 @@ fn distance(a: u64, b: u64) -> u64
     a.max(b) - a.min(b)
 }
 
-/// Whether a payment is further from what is due than so many units.
+/// Returns whether a payment is further from what is due than its tolerance.
 fn is_beyond(pay: Payment, tolerance: u128) -> bool
     ensures { result ≡ nat_lt tolerance (distance pay.got pay.due) }
 {

@@ -9,7 +9,7 @@ use crate::collections::Collection;
 use history_text::PotName;
 use pot_layers::Pot;
 
-/// The number of the pot that a name is for, of so many.
+/// Returns the number of the pot that a name is for, if a hand has `count` pots.
 #[tactic(auto, unfolding(crate::specs::PotNames::pot_named))]
 fn pot_named(count: usize, pot: PotName) -> Option<usize>
     ensures { result ≡ pot_named count pot }
@@ -41,10 +41,15 @@ fn names_pot(count: usize, k: usize, pot: PotName) -> bool
 /// Which collections count.
 #[derive(Clone, Copy)]
 pub enum Source {
-    /// All.
+    /// All of the hand.
     Any,
-    /// Those from one of so many pots, numbered from 0.
-    Numbered { count: usize, number: usize },
+    /// The collections from one pot.
+    Numbered {
+        /// Number of the hand's pots.
+        count: usize,
+        /// The pot, from 0.
+        number: usize,
+    },
 }
 
 /// Whether a collection from the pot of a name counts.

@@ -18,14 +18,14 @@ ghost use Rattle.hand_audit.specs.Verdict.{accepted_by, audit_of, settlement_of}
 
 use crate::all_in::all_in_by;
 use crate::ended::EndedHand;
-use crate::first_pass::{PlayersFound, players_of};
+use crate::first_pass::players_of;
 use crate::follow::{Followed, follow};
 use crate::hand::AuditState;
 use crate::parts::hand_parts;
 use crate::seat_chips::{all_chips_on, no_chips};
 use crate::settling::HandSettled;
 use crate::streets::states_of;
-use card_sets::Memory;
+use card_sets::{Memory, PlayerSet};
 use hand_verdict::{
     Cause, HandAudit, PartShares, Payment, SeatChips, Settlement, SplitHand, StreetState, Verdict,
 };
@@ -76,7 +76,7 @@ fn settlement_of(header: &Header, state: &AuditState, settled: HandSettled) -> S
 /// Returns the settlement of a hand that is rejected for its payments alone, with its names and players.
 fn split_hand(
     header: &Header,
-    players: u16,
+    players: PlayerSet,
     state: &AuditState,
     names: Names,
     settled: HandSettled,
@@ -89,14 +89,14 @@ fn split_hand(
     SplitHand {
         settlement: settlement_of(header, state, settled),
         names,
-        players,
+        players: players.bits(),
     }
 }
 
 /// Returns the verdict on a hand in which no line departs.
 fn accepted(
     header: &Header,
-    players: u16,
+    players: PlayerSet,
     state: &AuditState,
     names: Names,
     settled: HandSettled,
@@ -111,7 +111,7 @@ fn accepted(
         settlement: settlement_of(header, state, settled),
         all_in,
         names,
-        players,
+        players: players.bits(),
     }
 }
 
@@ -140,6 +140,7 @@ fn ended_verdict(hand: EndedHand, last: u32) -> Verdict
         state,
         settled,
     } = hand;
+    let state = state.as_ref();
     if let Some(pay) = settled.beyond {
         return Verdict {
             audit: HandAudit::Rejected {
@@ -147,11 +148,11 @@ fn ended_verdict(hand: EndedHand, last: u32) -> Verdict
                 cause: split_cause(pay),
                 hundredths: header.hundredths,
             },
-            split: Some(split_hand(&header, players, &state, names, settled)),
+            split: Some(split_hand(&header, players, state, names, settled)),
         };
     }
     Verdict {
-        audit: accepted(&header, players, &state, names, settled),
+        audit: accepted(&header, players, state, names, settled),
         split: None,
     }
 }
@@ -162,10 +163,11 @@ fn ended_streets(alloc: Global, hand: &EndedHand) -> Result<Vec<StreetState>, Me
         → EndsIn all count hand.now → audit_of first all ≡ Some audit
         → states.items ≡ streets_of audit all) }
 {
+    let state = hand.state.as_ref();
     match hand.settled.beyond {
         Some(_) => Ok(Vec::new(alloc)),
         None => {
-            let states = states_of(alloc, &hand.header, &hand.state, &hand.settled)?;
+            let states = states_of(alloc, &hand.header, state, &hand.settled)?;
             Ok(states)
         }
     }
@@ -177,9 +179,10 @@ fn ended_chips(hand: &EndedHand) -> [SeatChips; 11]
         → EndsIn all count hand.now → audit_of first all ≡ Some audit
         → result ≡ chips_of audit all }
 {
+    let state = hand.state.as_ref();
     match hand.settled.beyond {
         Some(_) => no_chips(),
-        None => all_chips_on(&hand.state.replay),
+        None => all_chips_on(&state.replay),
     }
 }
 
@@ -205,8 +208,7 @@ pub fn read_hand(alloc: Global, bytes: &[u8]) -> Result<HandRead, Memory>
     };
     let found = players_of(alloc, &header, bytes, head.next)?;
     let players = found.players;
-    let PlayersFound { read, names, .. } = found;
-    match follow(alloc, &header, players, &read, names, bytes, head.next)? {
+    match follow(alloc, &header, found, bytes, head.next)? {
         Followed::Departs(count, cause) => Ok(HandRead {
             lines: count,
             end: HandEnd::Departs {
@@ -286,7 +288,8 @@ impl HandRead {
     {
         match &self.end {
             HandEnd::Ends(hand) => {
-                hand_parts(alloc, hand.header.game, &hand.state, &hand.settled)
+                let state = hand.state.as_ref();
+                hand_parts(alloc, hand.header.game, state, &hand.settled)
             }
             HandEnd::Departs { .. } => Ok(Vec::new(alloc)),
         }

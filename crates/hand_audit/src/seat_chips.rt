@@ -30,7 +30,7 @@ fn chips_on(replay: &Replay, seat: u8) -> SeatChips
     }
 }
 
-/// The same of each seat, by its number.
+/// Returns what each seat had and has put in, by its number.
 pub(crate) fn all_chips_on(replay: &Replay) -> [SeatChips; 11]
     requires within { AreWithin replay.now }
     ensures { result ≡ all_chips_on replay.now }

@@ -80,10 +80,9 @@ fn add_line(lines: &mut Vec<PotLine>, line: PotLine) -> Result<(), AllocError>
     Ok(())
 }
 
-/// The pots whose names fit, of so many, from a number on: each gets its line, and the answer is the first payment
-/// that is beyond its tolerance.
+/// Settles the pots from a number on, of the count of a hand whose names fit. Appends the line of each pot, and returns the first
+/// payment that is beyond its tolerance.
 fn settle_pots(
-    alloc: Global,
     standings: &Standings,
     all: &[Collection],
     count: usize,
@@ -103,10 +102,11 @@ fn settle_pots(
     match layers {
         [] => Ok(None),
         [pot, others @ ..] => {
+            let alloc = *lines.allocator();
             let source = Source::Numbered { count, number };
             let PotSettled { line, beyond } = settle_pot(alloc, standings, all, source, *pot)?;
             add_line(lines, line)?;
-            let later = settle_pots(alloc, standings, all, count, number + 1, others, lines)?;
+            let later = settle_pots(standings, all, count, number + 1, others, lines)?;
             Ok(beyond.or(later))
         }
     }
@@ -153,7 +153,7 @@ pub(crate) fn settle(
         });
     }
     let mut lines = Vec::new(alloc);
-    let beyond = settle_pots(alloc, standings, all, layers.len(), 0, layers, &mut lines)?;
+    let beyond = settle_pots(standings, all, layers.len(), 0, layers, &mut lines)?;
     Ok(HandSettled {
         fits: true,
         pots: PotLines::of(lines),

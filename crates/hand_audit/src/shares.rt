@@ -62,7 +62,7 @@ fn shares_by(
     split(alloc, units, winners, &first_order, &second_order)
 }
 
-/// The rules' shares of so many units of a pot that go by a board.
+/// Returns the rules' shares of the units of a pot that go by a board.
 fn shares_of_part(
     alloc: Global,
     standings: &Standings,
@@ -124,7 +124,7 @@ fn shares_of_halves(
     Ok(all)
 }
 
-/// The rules' shares of so many units of a pot; none where it isn't known who wins.
+/// Returns the rules' shares of a pot's units. There are none if its winners aren't known.
 pub(crate) fn shares_if(
     alloc: Global,
     checked: bool,

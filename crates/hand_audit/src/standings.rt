@@ -54,7 +54,7 @@ fn on_board(replay: &Replay, game: Game, board: CardSet) -> OnBoard
     ensures marks { HasBothMarks result }
 {
     let hands = full_hands(replay, game, board);
-    OnBoard::of(game, board, &hands)
+    OnBoard::of_hands(game, board, &hands)
 }
 
 /// What they are worth on a second board, where there is one.
@@ -70,8 +70,8 @@ impl Standings {
     ghost use Rattle.hand_audit.specs.Winning.{Tells, TellsSide, HasMarks, IsReady};
     ghost use Rattle.hand_audit.specs.Showings.{showing_at};
 
-    /// Of a hand so far.
-    pub(crate) fn of(replay: &Replay, game: Game) -> Standings
+    /// Returns what tells who wins after the events of a replay.
+    pub(crate) fn of_replay(replay: &Replay, game: Game) -> Standings
         ensures tells { (all : List Collection) → Tells result (showing_at game replay.now all) }
         ensures ready { IsReady result }
     {

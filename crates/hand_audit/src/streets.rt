@@ -38,8 +38,8 @@ fn state_on(game: Game, replay: &Replay, lines: &PotLines, street: Street) -> St
     }
 }
 
-/// One more.
-fn add<T: Copy>(items: &mut Vec<T>, item: T) -> Result<(), AllocError>
+/// Appends an item, whatever its type. The prover refuses the push of some structs.
+fn push_item<T: Copy>(items: &mut Vec<T>, item: T) -> Result<(), AllocError>
     ensures { OnOk result (items.new.items ≡ items.old.items ++ item ∷ []) }
 {
     items.push(item)?;
@@ -60,7 +60,7 @@ fn add_states(
     match streets {
         [] => Ok(()),
         [street, others @ ..] => {
-            add(states, state_on(game, replay, lines, *street))?;
+            push_item(states, state_on(game, replay, lines, *street))?;
             add_states(states, game, replay, lines, others)
         }
     }

@@ -120,8 +120,13 @@ impl OnSide {
     ghost use Rattle.hand_audit.specs.Orders.{OfSeats};
     ghost use Rattle.hand_audit.specs.Winning.{TellsSide, HasMarks, winners_by};
 
-    /// Of hands that can be shown down on a board.
-    fn of(side: Option<Side>, game: Game, board: CardSet, hands: &[Option<CardSet>; 11]) -> OnSide
+    /// Returns the worth of hands that can be shown down on a board.
+    fn of_hands(
+        side: Option<Side>,
+        game: Game,
+        board: CardSet,
+        hands: &[Option<CardSet>; 11],
+    ) -> OnSide
         requires full { (p : ℕ) → p < 11
             → IfSome (slice_index_or hands.now p None) (λ own. is_full game board own ≡ true) }
         ensures tells { TellsSide result side game board hands.now }
@@ -145,16 +150,16 @@ impl OnSide {
 impl OnBoard {
     ghost use Rattle.hand_audit.specs.Winning.{TellsBoard, HasBothMarks};
 
-    /// Of hands that can be shown down on a board.
-    pub(crate) fn of(game: Game, board: CardSet, hands: &[Option<CardSet>; 11]) -> OnBoard
+    /// Returns the worth of hands that can be shown down on a board.
+    pub(crate) fn of_hands(game: Game, board: CardSet, hands: &[Option<CardSet>; 11]) -> OnBoard
         requires full { (p : ℕ) → p < 11
             → IfSome (slice_index_or hands.now p None) (λ own. is_full game board own ≡ true) }
         ensures tells { TellsBoard result game board hands.now }
         ensures marks { HasBothMarks result }
     {
         OnBoard {
-            first: OnSide::of(first_side(game), game, board, hands),
-            second: OnSide::of(second_side(game), game, board, hands),
+            first: OnSide::of_hands(first_side(game), game, board, hands),
+            second: OnSide::of_hands(second_side(game), game, board, hands),
         }
     }
 }

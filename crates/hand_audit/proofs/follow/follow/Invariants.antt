@@ -7,7 +7,7 @@ use Rattle.hand_audit.proofs.follow.follow.Given as goal
 abbrev pub invariant-reads : goal.invariant-reads
 invariant-reads l = record {
   sound : IsSound l.state;
-  among : AmongReads l.state l.header l.players (lines (drop l.fn.start l.bytes)) l.bytes l.left l.fn.names l.first.next l.count;
+  among : AmongReads l.state l.header l.fn.found.players (lines (drop l.fn.start l.bytes)) l.bytes l.left l.fn.found.names l.fn.found.read.next l.count;
 }
 
 abbrev pub decreases-reads : goal.decreases-reads
@@ -19,7 +19,7 @@ invariant-lines l = record {
   few : l.count ≤ l.at;
   counted : l.count + length (lines (drop l.at l.bytes)) ≡ length (lines (drop l.fn.start l.bytes));
   sound : IsSound l.state;
-  among : AmongOthers l.state l.header l.players (lines (drop l.fn.start l.bytes)) (lines (drop l.at l.bytes)) l.names l.count;
+  among : AmongOthers l.state l.header l.fn.found.players (lines (drop l.fn.start l.bytes)) (lines (drop l.at l.bytes)) l.names l.count;
 }
 
 abbrev pub decreases-lines : goal.decreases-lines

@@ -17,6 +17,7 @@ use Rattle.hand_verdict.specs.declared.verdicts.HandAudit.TheVariants.{Rejected,
 use Rattle.hand_audit.specs.declared.ended.EndedHand.{EndedHand}
 use Rattle.hand_audit.specs.declared.follow.Followed.TheVariants as followed
 use Rattle.hand_audit.specs.declared.read.HandEnd.TheVariants as end
+use Rattle.hand_audit.specs.declared.hand.AuditState.{AuditState}
 use Rattle.hand_audit.specs.declared.read.HandRead.{HandRead}
 use Rattle.hand_audit.specs.Departs.{at_line, split_cause}
 use Rattle.hand_audit.specs.HandReads.{DepartsIn, EndsBehind, EndsIn, IsReadOf}
@@ -73,17 +74,21 @@ read_ends all line rest count hand is read play follows =
       end = subst (λ (xs : List (List ℕ)). EndsIn xs count hand) (sym is) behind;
     }
 
+-- what is kept of it, by the state that its pointer gives
+kept_by : (line : List ℕ) (rest : List (List ℕ)) (count : ℕ) (hand : EndedHand) (state : AuditState) → EndsBehind line rest count hand → state ≡ hand.state.value → Keeps state hand.header hand.players (read_all hand.header nothing rest)
+kept_by line rest count hand state e same = subst (λ (x : AuditState). Keeps x hand.header hand.players (read_all hand.header nothing rest)) (sym same) e.keeps
+
 -- the verdict on one whose chips are settled, with no payment beyond its tolerance
 accepts : (all : List (List ℕ)) (line : List ℕ) (rest : List (List ℕ)) (first count : ℕ) (hand : EndedHand) (audit : HandAudit) → all ≡ line ∷ rest → EndsBehind line rest count hand → hand.settled.beyond ≡ None
     → audit ≡ accepted_by hand.header hand.players (read_all hand.header nothing rest) → audit_of first all ≡ Some audit
 accepts all line rest first count hand audit is e none same =
     audit_ends first all line rest hand.header hand.players audit is e.header e.players (e.departs first ∙ ap (λ o. at_line (first + count) (split_cause o)) none) same
 
-pub ended_accepted : (all : List (List ℕ)) (first count : ℕ) (hand : EndedHand) (audit : HandAudit) → EndsIn all count hand → hand.settled.beyond ≡ None
-    → ((so_far : SoFar) → Keeps hand.state hand.header hand.players so_far → hand.names ≡ so_far.names → IsOfHand (showing_of hand.header hand.players so_far.events) hand.settled → audit ≡ accepted_by hand.header hand.players so_far)
+pub ended_accepted : (all : List (List ℕ)) (first count : ℕ) (hand : EndedHand) (state : AuditState) (audit : HandAudit) → EndsIn all count hand → state ≡ hand.state.value → hand.settled.beyond ≡ None
+    → ((so_far : SoFar) → Keeps state hand.header hand.players so_far → hand.names ≡ so_far.names → IsOfHand (showing_of hand.header hand.players so_far.events) hand.settled → audit ≡ accepted_by hand.header hand.players so_far)
     → audit_of first all ≡ Some audit
-ended_accepted [] first count hand audit e none made = absurd e
-ended_accepted (line ∷ rest) first count hand audit e none made = accepts (line ∷ rest) line rest first count hand audit refl e none (made (read_all hand.header nothing rest) e.keeps e.names e.ended.is)
+ended_accepted [] first count hand state audit e same none made = absurd e
+ended_accepted (line ∷ rest) first count hand state audit e same none made = accepts (line ∷ rest) line rest first count hand audit refl e none (made (read_all hand.header nothing rest) (kept_by line rest count hand state e same) e.names e.ended.is)
 
 -- and with one
 pub ended_splits : (all : List (List ℕ)) (first count last : ℕ) (hand : EndedHand) (pay : Payment) (c : Cause) → EndsIn all count hand → hand.settled.beyond ≡ Some pay → c ≡ Split pay.seat pay.due pay.got
@@ -93,20 +98,20 @@ ended_splits (line ∷ rest) first count last hand pay c e some cause at =
     audit_splits first (line ∷ rest) line rest hand.header hand.players (first + count) hand.settled.beyond pay c refl e.header e.players (e.departs first) some cause
     ∙ ap (λ n. Some (Rejected n c hand.header.hundredths)) (sym at)
 
-pub ended_split : (all : List (List ℕ)) (count : ℕ) (hand : EndedHand) (pay : Payment) (c : Cause) (split : SplitHand) → EndsIn all count hand → c ≡ Split pay.seat pay.due pay.got
-    → ((so_far : SoFar) → Keeps hand.state hand.header hand.players so_far → hand.names ≡ so_far.names → IsOfHand (showing_of hand.header hand.players so_far.events) hand.settled → split ≡ split_by hand.header hand.players so_far)
+pub ended_split : (all : List (List ℕ)) (count : ℕ) (hand : EndedHand) (state : AuditState) (pay : Payment) (c : Cause) (split : SplitHand) → EndsIn all count hand → state ≡ hand.state.value → c ≡ Split pay.seat pay.due pay.got
+    → ((so_far : SoFar) → Keeps state hand.header hand.players so_far → hand.names ≡ so_far.names → IsOfHand (showing_of hand.header hand.players so_far.events) hand.settled → split ≡ split_by hand.header hand.players so_far)
     → Some split ≡ split_for c all
-ended_split [] count hand pay c split e cause made = absurd e
-ended_split (line ∷ rest) count hand pay c split e cause made =
-    ap (λ x. Some x) (made (read_all hand.header nothing rest) e.keeps e.names e.ended.is)
+ended_split [] count hand state pay c split e same cause made = absurd e
+ended_split (line ∷ rest) count hand state pay c split e same cause made =
+    ap (λ x. Some x) (made (read_all hand.header nothing rest) (kept_by line rest count hand state e same) e.names e.ended.is)
     ∙ split_is_in (line ∷ rest) line rest hand.header hand.players refl e.header e.players
     ∙ split_is_for (line ∷ rest) c pay.seat pay.due pay.got cause
 
-pub ended_none : (all : List (List ℕ)) (count : ℕ) (hand : EndedHand) (audit : HandAudit) → EndsIn all count hand
-    → ((so_far : SoFar) → Keeps hand.state hand.header hand.players so_far → hand.names ≡ so_far.names → IsOfHand (showing_of hand.header hand.players so_far.events) hand.settled → audit ≡ accepted_by hand.header hand.players so_far)
+pub ended_none : (all : List (List ℕ)) (count : ℕ) (hand : EndedHand) (state : AuditState) (audit : HandAudit) → EndsIn all count hand → state ≡ hand.state.value
+    → ((so_far : SoFar) → Keeps state hand.header hand.players so_far → hand.names ≡ so_far.names → IsOfHand (showing_of hand.header hand.players so_far.events) hand.settled → audit ≡ accepted_by hand.header hand.players so_far)
     → None ≡ split_of audit all
-ended_none [] count hand audit e made = absurd e
-ended_none (line ∷ rest) count hand audit e made = sym (ap (λ a. split_of a (line ∷ rest)) (made (read_all hand.header nothing rest) e.keeps e.names e.ended.is))
+ended_none [] count hand state audit e same made = absurd e
+ended_none (line ∷ rest) count hand state audit e same made = sym (ap (λ a. split_of a (line ∷ rest)) (made (read_all hand.header nothing rest) (kept_by line rest count hand state e same) e.names e.ended.is))
 
 -- the later streets of a hand whose verdict is known
 streets_told : List (List ℕ) → Option HandAudit → List StreetState
@@ -116,13 +121,13 @@ pub no_streets : (all : List (List ℕ)) (first count : ℕ) (hand : EndedHand) 
 unfolding streets_told
 no_streets all first count hand pay audit e some known = ap (streets_told all) (sym (ended_splits all first count (first + count) hand pay (Split pay.seat pay.due pay.got) e some refl refl) ∙ known)
 
-pub ended_streets : (all : List (List ℕ)) (first count : ℕ) (hand : EndedHand) (audit : HandAudit) (states : List StreetState) → EndsIn all count hand → hand.settled.beyond ≡ None → audit_of first all ≡ Some audit
-    → ((players : ℕ) (so_far : SoFar) → Keeps hand.state hand.header players so_far → IsOfHand (showing_of hand.header players so_far.events) hand.settled → states ≡ states_of hand.header players so_far.events)
+pub ended_streets : (all : List (List ℕ)) (first count : ℕ) (hand : EndedHand) (state : AuditState) (audit : HandAudit) (states : List StreetState) → EndsIn all count hand → state ≡ hand.state.value → hand.settled.beyond ≡ None → audit_of first all ≡ Some audit
+    → ((players : ℕ) (so_far : SoFar) → Keeps state hand.header players so_far → IsOfHand (showing_of hand.header players so_far.events) hand.settled → states ≡ states_of hand.header players so_far.events)
     → states ≡ streets_of audit all
 unfolding streets_told
-ended_streets [] first count hand audit states e none known made = absurd e
-ended_streets (line ∷ rest) first count hand audit states e none known made =
-    made hand.players (read_all hand.header nothing rest) e.keeps e.ended.is
+ended_streets [] first count hand state audit states e same none known made = absurd e
+ended_streets (line ∷ rest) first count hand state audit states e same none known made =
+    made hand.players (read_all hand.header nothing rest) (kept_by line rest count hand state e same) e.ended.is
     ∙ states_are (line ∷ rest) line rest hand.header hand.players refl e.header e.players
     ∙ ap (streets_told (line ∷ rest)) (sym (accepts (line ∷ rest) line rest first count hand _ refl e none refl) ∙ known)
 
@@ -134,11 +139,11 @@ pub no_chips : (all : List (List ℕ)) (first count : ℕ) (hand : EndedHand) (p
 unfolding chips_told
 no_chips all first count hand pay audit e some known = ap (chips_told all) (sym (ended_splits all first count (first + count) hand pay (Split pay.seat pay.due pay.got) e some refl refl) ∙ known)
 
-pub ended_chips : (all : List (List ℕ)) (first count : ℕ) (hand : EndedHand) (audit : HandAudit) → EndsIn all count hand → hand.settled.beyond ≡ None → audit_of first all ≡ Some audit → all_chips_on hand.state.replay ≡ chips_of audit all
+pub ended_chips : (all : List (List ℕ)) (first count : ℕ) (hand : EndedHand) (state : AuditState) (audit : HandAudit) → EndsIn all count hand → state ≡ hand.state.value → hand.settled.beyond ≡ None → audit_of first all ≡ Some audit → all_chips_on state.replay ≡ chips_of audit all
 unfolding chips_told
-ended_chips [] first count hand audit e none known = absurd e
-ended_chips (line ∷ rest) first count hand audit e none known =
-    chips_kept hand.state hand.header hand.players (read_all hand.header nothing rest) e.keeps
+ended_chips [] first count hand state audit e same none known = absurd e
+ended_chips (line ∷ rest) first count hand state audit e same none known =
+    chips_kept state hand.header hand.players (read_all hand.header nothing rest) (kept_by line rest count hand state e same)
     ∙ chips_are_in (line ∷ rest) line rest hand.header refl e.header
     ∙ ap (chips_told (line ∷ rest)) (sym (accepts (line ∷ rest) line rest first count hand _ refl e none refl) ∙ known)
 
@@ -156,12 +161,12 @@ ended_parts_by line rest first count hand (Some pay) audit e some known =
     parts_are_in (line ∷ rest) line rest hand.header hand.players refl e.header e.players
     ∙ ap (parts_told (line ∷ rest)) (sym (ended_splits (line ∷ rest) first count (first + count) hand pay (Split pay.seat pay.due pay.got) e some refl refl) ∙ known)
 
-pub ended_parts : (all : List (List ℕ)) (first count : ℕ) (hand : EndedHand) (audit : HandAudit) (parts : List (List PartShare)) → EndsIn all count hand → audit_of first all ≡ Some audit
-    → ((header : Header) (players : ℕ) (so_far : SoFar) → Keeps hand.state header players so_far → IsEnded header players so_far.events hand.settled → header.game ≡ hand.header.game → parts ≡ hand_parts (showing_of header players so_far.events))
+pub ended_parts : (all : List (List ℕ)) (first count : ℕ) (hand : EndedHand) (state : AuditState) (audit : HandAudit) (parts : List (List PartShare)) → EndsIn all count hand → state ≡ hand.state.value → audit_of first all ≡ Some audit
+    → ((header : Header) (players : ℕ) (so_far : SoFar) → Keeps state header players so_far → IsEnded header players so_far.events hand.settled → header.game ≡ hand.header.game → parts ≡ hand_parts (showing_of header players so_far.events))
     → parts ≡ parts_given audit all
-ended_parts [] first count hand audit parts e known made = absurd e
-ended_parts (line ∷ rest) first count hand audit parts e known made =
-    made hand.header hand.players (read_all hand.header nothing rest) e.keeps e.ended refl
+ended_parts [] first count hand state audit parts e same known made = absurd e
+ended_parts (line ∷ rest) first count hand state audit parts e same known made =
+    made hand.header hand.players (read_all hand.header nothing rest) (kept_by line rest count hand state e same) e.ended refl
     ∙ ended_parts_by line rest first count hand hand.settled.beyond audit e refl known
 
 -- none of one in which a line departs

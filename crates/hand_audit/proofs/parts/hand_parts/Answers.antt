@@ -13,7 +13,7 @@ pub returns : goal.returns
 returns c header players so_far k e same =
     let s = showing_of header players so_far.events in
     let shown = showing_kept c.args.state.now header players so_far c.args.game k same in
-    let tells = subst (λ (x : Showing). Tells c.of-standings.result x) shown (c.of-standings.ensures.tells c.args.state.now.collections.items) in
+    let tells = subst (λ (x : Showing). Tells c.of_replay-standings.result x) shown (c.of_replay-standings.ensures.tells c.args.state.now.collections.items) in
     let lines : c.items.result.now ≡ (settled s).pots = c.items.ensures.items ∙ ap (λ (x : Settled). x.pots) e.is.settled in
     c.in_ok-add_pots.ensures s tells (subst (λ (xs : List PotLine). All (λ (pot : PotLine). IsDecided s pot.eligible) xs) (sym lines) (decided_lines s e.decided))
     ∙ ap (λ xs. xs ++ map (part_shares s) c.items.result.now) c.new-parts.ensures.items ∙ ap (map (part_shares s)) lines

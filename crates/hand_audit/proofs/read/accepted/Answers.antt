@@ -12,8 +12,8 @@ use Rattle.hand_audit.specs.Showings.{paid_in, showing_of}
 use Rattle.hand_audit.proofs.lemmas.tables.SettlementPots.{settled_same, paid_shown}
 use Rattle.hand_audit.proofs.read.accepted.Goals as goal
 
-same_accepted : (a b : Settlement) (x y : AllIn) (m n : List (ℕ × List ℕ)) (players : ℕ) → a ≡ b → x ≡ y → m ≡ n → Accepted a x m players ≡ Accepted b y n players
-same_accepted a b x y m n players e f g = rw (e, f, g) refl
+same_accepted : (a b : Settlement) (x y : AllIn) (m n : List (ℕ × List ℕ)) (p q : ℕ) → a ≡ b → x ≡ y → m ≡ n → p ≡ q → Accepted a x m p ≡ Accepted b y n q
+same_accepted a b x y m n p q e f g h = rw (e, f, g, h) refl
 
 pub returns : goal.returns
 returns c so_far k named made =
@@ -23,5 +23,5 @@ returns c so_far k named made =
     let pots_same : eligible_of c.args.settled.pots ≡ eligible_in (pots (paid_in c.args.state.now.replay))
     = ap (λ (x : Settled). eligible_of x.pots) made.settled ∙ settled_same s ∙ ap (λ (ps : List Paid). eligible_in (pots ps)) (paid_shown g c.args.players h)
     ∙ ap (λ (t : ReplayState). eligible_in (pots (paid_in t))) (sym k.stands.is) in
-    same_accepted _ _ _ _ _ _ c.args.players (c.settlement_of.ensures c.args.players so_far k made)
-    (c.all_in_by-all_in.ensures pots_same ∙ ap (all_in_by g.game) k.stands.is) named
+    same_accepted _ _ _ _ _ _ _ _ (c.settlement_of.ensures c.args.players so_far k made)
+    (c.all_in_by-all_in.ensures pots_same ∙ ap (all_in_by g.game) k.stands.is) named c.bits.ensures

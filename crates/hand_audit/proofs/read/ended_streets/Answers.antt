@@ -6,4 +6,4 @@ pub returns-in-Some : goal.returns-in-Some
 returns-in-Some c first count all audit ends known = c.new.ensures.items ∙ no_streets all first count c.args.hand.now _ audit ends c.in-Some.is known
 
 pub returns-in_ok-states-in-None : goal.returns-in_ok-states-in-None
-returns-in_ok-states-in-None c first count all audit ends known = ended_streets all first count c.args.hand.now audit _ ends c.in-None.is known c.in_ok-states-in-None.ensures
+returns-in_ok-states-in-None c first count all audit ends known = ended_streets all first count c.args.hand.now _ audit _ ends c.as_ref-state.ensures c.in-None.is known c.in_ok-states-in-None.ensures

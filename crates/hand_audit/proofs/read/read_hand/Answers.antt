@@ -28,10 +28,10 @@ invariant_of-result c =
     let g = c.in-Ok.header in
     let players = c.in_ok-found.found.players in
     let ends = subst (Follows g players rest) c.in-Ends.is c.in_ok-count.ensures in
-    record { within = within_kept c.in-Ends.state g players (read_all g nothing rest) ends.2 }
+    record { within = within_kept c.in-Ends.state.value g players (read_all g nothing rest) ends.2 }
 
-pub returns : goal.returns
-returns c =
+pub returns-in-Ends : goal.returns-in-Ends
+returns-in-Ends c =
     let text = slice_range c.args.bytes.now c.in-Some.head.first c.in-Some.head.end in
     let rest = lines (drop c.in-Some.head.next c.args.bytes.now) in
     let g = c.in-Ok.header in

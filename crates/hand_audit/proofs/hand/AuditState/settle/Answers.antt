@@ -13,7 +13,7 @@ returns c =
     let s = showing_at c.args.game c.args.self.now.replay items in
     let coll = collections_shown c.args.game c.args.self.now.replay items ∙ sym c.deref.ensures.value in
     let all = pots_shown c.args.game c.args.self.now.replay items ∙ sym c.in_ok-all.ensures ∙ sym c.items.ensures in
-    IfOk-weaker c.settle.result _ _ (λ settled made d. made s (c.of-standings.ensures.tells items) (subst (λ (xs : List Pot). AreDecided s xs) (sym c.in_ok-all.ensures ∙ sym c.items.ensures) d) coll all) c.settle.ensures
+    IfOk-weaker c.settle.result _ _ (λ settled made d. made s (c.of_replay-standings.ensures.tells items) (subst (λ (xs : List Pot). AreDecided s xs) (sym c.in_ok-all.ensures ∙ sym c.items.ensures) d) coll all) c.settle.ensures
 
 pub settle-requires-clause-few : goal.settle-requires-clause-few
 settle-requires-clause-few c = subst (λ (ps : List Pot). length ps ≤ 10) (sym (c.items.ensures ∙ c.in_ok-all.ensures)) (few_pots c.args.self.now.replay)

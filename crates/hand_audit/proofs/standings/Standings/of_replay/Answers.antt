@@ -4,7 +4,7 @@ use Rattle.betting_replay.specs.Seats.{by_seat}
 use Rattle.betting_replay.specs.TableAfter.{final_at}
 use Rattle.hand_audit.specs.Winning.{TellsHands, TellsSecond}
 use Rattle.hand_audit.proofs.lemmas.splits.Winners.{tells}
-use Rattle.hand_audit.proofs.standings.Standings.of.Goals as goal
+use Rattle.hand_audit.proofs.standings.Standings.of_replay.Goals as goal
 
 pub returns-clause-tells : goal.returns-clause-tells
 returns-clause-tells c all =
