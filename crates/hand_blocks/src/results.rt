@@ -129,7 +129,7 @@ fn accepted_results(
     sheet: &mut Sheet,
     number: &[u8],
     played: &Played,
-    players: u16,
+    players: PlayerSet,
 ) -> Result<(), AllocError>
     requires between { IsBetweenLines sheet.old }
     ensures { OnOk result (sheet.new ≡ with_lines sheet.old
@@ -137,7 +137,7 @@ fn accepted_results(
         played.now.all_in.all_in.now played.now.names.now players played.now.chips.now)) }
 {
     accepted_line(sheet, number, played.settlement)?;
-    player_results(sheet, played, PlayerSet::of(players))
+    player_results(sheet, played, players)
 }
 
 /// The results of a hand.
@@ -172,7 +172,7 @@ fn results_block<'a>(
                 names,
                 chips,
             };
-            accepted_results(sheet, number, &played, *players)
+            accepted_results(sheet, number, &played, PlayerSet::of(*players))
         }
     }
 }

@@ -122,7 +122,7 @@ fn share_line(
     sheet.end_with(name_text(names, pay.seat))
 }
 
-/// The same, or only what he got of a pot of which it isn't known who wins it.
+/// Appends what a player is due of a pot and got, or only what they got if the winners of the pot aren't known.
 #[tactic(auto, unfolding(crate::specs::Settles::given_line))]
 fn given_line(
     sheet: &mut Sheet,
@@ -241,7 +241,7 @@ fn settle_line(
     sheet.end_with(name_text(names, seat))
 }
 
-/// The same of the player of a seat, where what he is due of all pots isn't what he got.
+/// Appends what the player of a seat is still to get, or to give back, unless they got what they are due of all pots.
 #[tactic(auto, using(report_sheet::proofs::CallerLemmas::no_lines), unfolding(crate::specs::Settles::settle_lines_of))]
 fn settle_line_of(
     sheet: &mut Sheet,
@@ -261,7 +261,7 @@ fn settle_line_of(
     settle_line(sheet, settlement.hundredths, names, due, got, seat)
 }
 
-/// Those of all players, by rising seat.
+/// Appends what each player is still to get, or to give back, by rising seat.
 fn settle_each(
     sheet: &mut Sheet,
     settlement: &Settlement,
@@ -282,13 +282,13 @@ fn settle_each(
     Ok(())
 }
 
-/// The same, where it is known who wins each pot.
+/// Appends what each player is still to get, or to give back, if the winners of each pot are known; otherwise nothing.
 #[tactic(auto, using(report_sheet::proofs::CallerLemmas::no_lines), unfolding(crate::specs::Settles::settle_lines))]
 fn settle_lines(
     sheet: &mut Sheet,
     settlement: &Settlement,
     names: &Names,
-    players: u16,
+    players: PlayerSet,
 ) -> Result<(), AllocError>
     requires { IsBetweenLines sheet.old }
     ensures { OnOk result (sheet.new ≡ with_lines sheet.old
@@ -297,7 +297,7 @@ fn settle_lines(
     if !are_checked(settlement.pots.items()) {
         return Ok(());
     }
-    settle_each(sheet, settlement, names, PlayerSet::of(players))
+    settle_each(sheet, settlement, names, players)
 }
 
 /// The lines of a hand that can be settled, after its first.
@@ -306,7 +306,7 @@ fn settled_lines(
     sheet: &mut Sheet,
     settlement: &Settlement,
     names: &Names,
-    players: u16,
+    players: PlayerSet,
     parts: &[PartShares],
 ) -> Result<(), AllocError>
     requires { IsBetweenLines sheet.old }
@@ -324,7 +324,7 @@ fn accepted_settlement(
     number: &[u8],
     settlement: &Settlement,
     names: &Names,
-    players: u16,
+    players: PlayerSet,
     parts: &[PartShares],
 ) -> Result<(), AllocError>
     requires { IsBetweenLines sheet.old }
@@ -358,7 +358,7 @@ fn split_lines(
                 names,
                 players,
             } = hand;
-            settled_lines(sheet, settlement, names, *players, parts)
+            settled_lines(sheet, settlement, names, PlayerSet::of(*players), parts)
         }
     }
 }
@@ -389,7 +389,10 @@ fn settle_block(
             names,
             players,
             ..
-        } => accepted_settlement(sheet, number, settlement, names, *players, parts),
+        } => {
+            let players = PlayerSet::of(*players);
+            accepted_settlement(sheet, number, settlement, names, players, parts)
+        }
     }
 }
 
