@@ -21,10 +21,10 @@ ON = [
     scripts.scripts,
     printed.printed,
     printed.archive,
+    style.words,
 ]
 # what it tries by name only, because it doesn't hold yet
 LATER = [
-    style.words,
     style.asserts,
 ]
 # what --verbose adds to a check

@@ -34,7 +34,15 @@ pub fn count_with_workers<C: BlockCounter + Send, R: Threads + Wait + Sync, G: G
         (λ c. c.by_workers ≤ blocks_of (length (runouts_after (state_of job.now.table.known)))) }
 {
     let blank = Blank::new(workers as u64 + 1);
-    count_among::<Brand, C, R, G>(rt, alloc, job, blank, workers, gate, &mut KeptCounters::new())
+    count_among::<Brand, C, R, G>(
+        rt,
+        alloc,
+        job,
+        blank,
+        workers,
+        gate,
+        &mut KeptCounters::new(),
+    )
 }
 
 /// Counts a job like `count_with_workers`, with counters that are kept from job to job. The workers take kept counters, as far as
