@@ -72,7 +72,8 @@ export const showFigures = (place, choice) => {
     const isMoney = isMoneyOf(choice), form = { isMoney, sign: signOf(unit) }, luck = sum.net - sum.even;
     const say = (/** @type {bigint} */ it, plus = false) => sumText(it, { ...form, plus });
     const hundred = (/** @type {number | undefined} */ it) => it === undefined ? '' : `${ratioText(it)} ${word}`;
-    const count = new Set(sessions(played.map(({ hand }) => hands.columns.clock[hand])).filter(Boolean)).size;
+    const count = sessions(played.map(({ hand }) => hands.columns.clock[hand]))
+        .reduce((most, it) => Math.max(most, it), 0);
     const buyIns = buyInsOf(hands, played);
     const first = (/** @type {bigint} */ it, /** @type {string} */ more) =>
         ({ tone: toneOf(it), isFirst: true, more });

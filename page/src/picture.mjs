@@ -36,8 +36,11 @@ export const amountText = (value, { sign, digits }) => {
  */
 export const datesAt = (clocks, from, to) => {
     const first = clocks[from], last = clocks[to - 1], isLong = last - first > 62 * DAY, dates = [];
-    let before = '';
+    let before = '', number = NaN;
     for (let at = from; at < to; at++) {
+        // thousands of hands share a day, and to write one takes long
+        if (Math.floor(clocks[at] / DAY) === number) continue;
+        number = Math.floor(clocks[at] / DAY);
         const day = dayOf(clocks[at]), here = isLong ? day.slice(0, 7) : day;
         const text = isLong ? monthText(here) : dayText(clocks[at]).slice(0, -5);
         if (here && here !== before) dates.push({ at, text });

@@ -32,15 +32,17 @@ export const seriesOf = (hands, played, by) => {
     const numbers = by === 'session' ? sessions(played.map(({ hand }) => clock[hand])) : [];
     const x = new Float64Array(size), lines = LINES.map(() => new Float64Array(size)), places = new Uint32Array(size),
           sizes = new Uint32Array(size);
-    let won = 0n, adjusted = 0n, shown = 0n, without = 0, count = 0;
+    // a graph shows no more digits than these numbers have, and BigInt takes twice as long
+    let won = 0, adjusted = 0, shown = 0, without = 0, count = 0;
     played.forEach(({ hand, row }, at) => {
         if (by !== 'hand' && Number.isNaN(clock[hand])) {
             without++;
             return;
         }
-        won += net[row];
-        adjusted += even[row];
-        if (marks[row] & SHOWN) shown += net[row];
+        const gain = Number(net[row]);
+        won += gain;
+        adjusted += Number(even[row]);
+        if (marks[row] & SHOWN) shown += gain;
         const here = by === 'hand' ? at + 1 : by === 'day' ? Math.floor(clock[hand] / DAY) : numbers[at];
         // a later hand of a day or a session takes the place of the one before
         if (count && x[count - 1] === here) count--;
@@ -48,8 +50,10 @@ export const seriesOf = (hands, played, by) => {
         x[count] = here;
         places[count] = at;
         sizes[count]++;
-        const sums = [Number(won), Number(adjusted), Number(shown), Number(won - shown)];
-        for (let line = 0; line < sums.length; line++) lines[line][count] = sums[line] / of;
+        lines[0][count] = won / of;
+        lines[1][count] = adjusted / of;
+        lines[2][count] = shown / of;
+        lines[3][count] = (won - shown) / of;
         count++;
     });
     return { count, x: x.subarray(0, count), lines: lines.map((it) => it.subarray(0, count)),
