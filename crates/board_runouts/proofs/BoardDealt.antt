@@ -184,38 +184,21 @@ worths_after st taken ranks low high runout worths game board is first are dealt
   };
 }
 
--- a row has who is best with a pair
-pub row_there : (deal : Showdown) (pot : ℕ) (taken : List ℕ) (low high place : ℕ) (row : Row) → IsScene deal.state (taken ++ low ∷ high ∷ []) → IsRowFor deal pot taken row → place ≡ 13 * rank_of low + rank_of high
-    → IsBestOf deal pot ((taken ++ low ∷ high ∷ []) ∷ []) (slice_index row.mains place) (slice_index row.lows place) (slice_index row.tops place)
-row_there deal pot taken low high place row s of_row at =
-    let rises = pair_rises deal.state taken low high s.alone s.member in
-    let up : low < high = rises.0 in
-    let top : high < 52 = rises.1 in
-    let q : place / 13 ≡ rank_of low = omega arith in
-    let r : place % 13 ≡ rank_of high = omega arith in
-    let choice = set_of_member deal.state (taken ++ low ∷ high ∷ []) s.alone s.member in
-    let under : row.least ≤ rank_of low = of_row.from_least low (high ∷ []) choice.1 in
-    of_row.right place ((taken ++ low ∷ high ∷ []) ∷ []) (omega arith) (omega arith) (omega arith) (rw (q, r) (dealt_with deal.state taken row.ranks low high s of_row.of_ranks))
-
 -- the ranks of a pair rise, and aren't below the least
 pub ranks_there : (st : State) (taken : List ℕ) (low high place least : ℕ) → IsScene st (taken ++ low ∷ high ∷ []) → ((card : ℕ) (more : List ℕ) → IsRising (taken ++ card ∷ more) → least ≤ rank_of card) → place ≡ 13 * rank_of low + rank_of high → (least ≤ place / 13) × (place / 13 ≤ place % 13)
 ranks_there st taken low high place least s from at =
     let rises = pair_rises st taken low high s.alone s.member in
-    let up : low < high = rises.0 in
-    let top : high < 52 = rises.1 in
-    let q : place / 13 ≡ rank_of low = omega arith in
-    let r : place % 13 ≡ rank_of high = omega arith in
+    let q : place / 13 ≡ rank_of low = omega (arith, rises.0, rises.1) in
+    let r : place % 13 ≡ rank_of high = omega (arith, rises.0, rises.1) in
     let choice = set_of_member st (taken ++ low ∷ high ∷ []) s.alone s.member in
     let under : least ≤ rank_of low = from low (high ∷ []) choice.1 in
-    (omega arith, omega arith)
+    (omega arith, omega (arith, rises.0))
 
 pub dealt_there : (st : State) (taken ranks : List ℕ) (low high place : ℕ) → IsScene st (taken ++ low ∷ high ∷ []) → AreRanksOf ranks taken → place ≡ 13 * rank_of low + rank_of high → IsDealtWith st ranks (place / 13) (place % 13) ((taken ++ low ∷ high ∷ []) ∷ [])
 dealt_there st taken ranks low high place s of_ranks at =
     let rises = pair_rises st taken low high s.alone s.member in
-    let up : low < high = rises.0 in
-    let top : high < 52 = rises.1 in
-    let q : place / 13 ≡ rank_of low = omega arith in
-    let r : place % 13 ≡ rank_of high = omega arith in
+    let q : place / 13 ≡ rank_of low = omega (arith, rises.0, rises.1) in
+    let r : place % 13 ≡ rank_of high = omega (arith, rises.0, rises.1) in
     rw (q, r) (dealt_with st taken ranks low high s of_ranks)
 
 pub outcome_of : (deal : Showdown) (pot : ℕ) (set : List ℕ) → Keeps → IsScene deal.state set → AreBelow (length deal.state.hands) (eligible_in deal pot) → side_outcome High deal pot (set ∷ []) ≡ best_set (high_of deal.state (set ∷ [])) (eligible_in deal pot)
@@ -277,6 +260,11 @@ scene_of spot set member = record {
 pub pair_inside : (st : State) (taken : List ℕ) (low high place : ℕ) → IsScene st (taken ++ low ∷ high ∷ []) → place ≡ 13 * rank_of low + rank_of high → place < 169
 pair_inside st taken low high place s at =
     let rises = pair_rises st taken low high s.alone s.member in
-    let up : low < high = rises.0 in
-    let top : high < 52 = rises.1 in
-    omega arith
+    omega (arith, rises.0, rises.1)
+
+-- a row has who is best with a pair
+pub row_there : (deal : Showdown) (pot : ℕ) (taken : List ℕ) (low high place : ℕ) (row : Row) → IsScene deal.state (taken ++ low ∷ high ∷ []) → IsRowFor deal pot taken row → place ≡ 13 * rank_of low + rank_of high
+    → IsBestOf deal pot ((taken ++ low ∷ high ∷ []) ∷ []) (slice_index row.mains place) (slice_index row.lows place) (slice_index row.tops place)
+row_there deal pot taken low high place row s of_row at =
+    let ranks = ranks_there deal.state taken low high place row.least s of_row.from_least at in
+    of_row.right place ((taken ++ low ∷ high ∷ []) ∷ []) (pair_inside deal.state taken low high place s at) ranks.0 ranks.1 (dealt_there deal.state taken row.ranks low high place s of_row.of_ranks at)

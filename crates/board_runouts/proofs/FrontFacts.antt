@@ -8,7 +8,7 @@ use Rattle.runout_ranges.proofs.CallerLemmas.{member_at}
 use Rattle.board_ranks.specs.declared.pair.Pair.{Pair}
 use Rattle.board_runouts.specs.Fronts.{AddPairs, AreRunoutsWith, HasRoom, IsFlushFor, IsFlushWith, IsRunoutWith, front_deal}
 use Rattle.board_runouts.specs.Highs.{AreSuitedFor, IsBestFlush}
-use Rattle.board_runouts.specs.KeptRows.{IsBestAt}
+use Rattle.board_runouts.specs.KeptRows.{IsBestAt, IsRowFor}
 use Rattle.board_runouts.specs.Pairs.{cards_of_pair}
 use Rattle.board_runouts.specs.declared.flush.Flush.{Flush}
 use Rattle.board_runouts.specs.declared.flush.Suited.{Suited}
@@ -25,6 +25,9 @@ item_at xs i x inside is = slice_get-get_or xs i x inside ∙ ap Some (sym is)
 -- the row of a pot
 pub row_of : (front : Front) (pot at : ℕ) (row : Row) → at ≡ pot → pot < front.spot.now.table.pots → row ≡ get_or front.rows.now at row → slice_get front.rows.now pot ≡ Some row
 row_of front pot at row same inside is = let n = front.pots in ap (slice_get front.rows.now) (sym same) ∙ item_at front.rows.now at row (omega arith) is
+
+pub row_at : (front : Front) (pot at : ℕ) (row : Row) → at ≡ pot → pot < front.spot.now.table.pots → row ≡ get_or front.rows.now at row → IsRowFor (front_deal front) pot front.taken row
+row_at front pot at row same inside is = front.rows_are pot row (row_of front pot at row same inside is)
 
 -- a runout with one of some pairs
 pub runout_at : (front : Front) (pairs : List Pair) (i : ℕ) (pair : Pair) → AreRunoutsWith front pairs → slice_get pairs i ≡ Some pair → IsRunoutWith front pair
@@ -45,8 +48,8 @@ board_with front pair one both board member low high full =
     full ∙ ap (union st.board) (set_with_pair st front.taken one both pair.low pair.high front.spot.now.alone member low high)
 
 -- who is best with it, by the row of a pot
-pub best_with : (front : Front) (pair : Pair) (pot at place : ℕ) (row : Row) → IsRunoutWith front pair → at ≡ pot → pot < front.spot.now.table.pots → row ≡ get_or front.rows.now at row → place ≡ pair.ranks → IsBestAt (front_deal front) pot ((front.taken ++ cards_of_pair pair) ∷ []) row place
-best_with front pair pot at place row member same inside is ranks = row_there (front_deal front) pot front.taken pair.low pair.high place row (scene_with front pair member) (front.rows_are pot row (row_of front pot at row same inside is)) (ranks ∙ pair.by_rank)
+pub best_with : (front : Front) (pair : Pair) (pot place : ℕ) (row : Row) → IsRunoutWith front pair → IsRowFor (front_deal front) pot front.taken row → place ≡ pair.ranks → IsBestAt (front_deal front) pot ((front.taken ++ cards_of_pair pair) ∷ []) row place
+best_with front pair pot place row member of_row ranks = row_there (front_deal front) pot front.taken pair.low pair.high place row (scene_with front pair member) of_row (ranks ∙ pair.by_rank)
 
 -- what is asked of flushes with the cards of a suit after it
 pub suited_for : (front : Front) (pair : Pair) (part : Suited) → IsRunoutWith front pair → IsFlushWith front pair part → AreSuitedFor (state_of front.spot.now.table.known) part.cards part.suit

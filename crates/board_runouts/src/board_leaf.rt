@@ -42,8 +42,12 @@ fn count_suited(
     let two_sides = spot.table.known.game.has_side(Side::Low);
     let at = flushes.ready(&spot.table, part);
     let flush = flushes.flush_at(at);
+    // values outside the loop, since what is behind a reference would be read again after each count
+    let rows = front.rows;
+    let last = *pair;
     for pot in 0..spot.table.pots {
-        let place = suited_place(front, flush, pot, pair, part);
+        let row = &rows[usize::from(pot)];
+        let place = suited_place(front, row, flush, pot, &last, part);
         add_place(counts, two_sides, pot, place, 1);
     }
 }
@@ -108,14 +112,14 @@ fn one_place(front: &Front, flushes: &mut Flushes, pair: &Pair) -> u16
 {
     law_values_keep_order();
     let spot = front.spot;
+    let row = &front.rows[0];
     are_hands(&spot.table, 0);
     let Some(part) = suited_part(front, pair) else {
-        let row = &front.rows[0];
         return row.mains[usize::from(pair.ranks)];
     };
     let at = flushes.ready(&spot.table, &part);
     let flush = flushes.flush_at(at);
-    suited_place(front, flush, 0, pair, &part).main
+    suited_place(front, row, flush, 0, pair, &part).main
 }
 
 /// Counts the runout with each of some pairs for the only pot of a game with one side. It takes a step a pair.

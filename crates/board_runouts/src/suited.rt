@@ -9,11 +9,12 @@ ghost use Rattle.runout_walk.specs.Bests.{best_set};
 ghost use Rattle.board_ranks.specs.HighParts.{high_number};
 ghost use Rattle.board_runouts.specs.Fronts.{IsFlushFor, IsFlushWith, IsPartWith, IsRunoutWith, front_deal};
 ghost use Rattle.board_runouts.specs.Highs.{IsBoardFor};
-ghost use Rattle.board_runouts.specs.KeptRows.{pair_place};
+ghost use Rattle.board_runouts.specs.KeptRows.{IsRowFor, pair_place};
 
 use crate::flush::{Flush, Suited};
 use crate::front::Front;
 use crate::places::Place;
+use crate::row::Row;
 use board_ranks::{Pair, high_value};
 use card_sets::{Card, CardSet, Known, Side};
 use runout_walk::{are_hands, low_mark, pot_best, ten_places};
@@ -115,16 +116,18 @@ pub(crate) fn suited_part(front: &Front, pair: &Pair) -> Option<Suited>
     board_part(front, pair, first)
 }
 
-/// Where a runout with a pair as the last two cards, with which somebody may have a flush, is counted for a pot.
+/// Where a runout with a pair as the last two cards, with which somebody may have a flush, is counted for a pot. The row is the pot's.
 #[inline]
 pub(crate) fn suited_place(
     front: &Front,
+    row: &Row,
     flush: &Flush,
     pot: u8,
     pair: &Pair,
     part: &Suited,
 ) -> Place
     requires pot { pot < front.now.spot.now.table.pots }
+    requires row { IsRowFor (front_deal front.now) pot front.now.taken row.now }
 
     // After the runout a hand is worth its ranks or its flush with the part's cards, the best of which is given for each pot.
     requires member { IsRunoutWith front.now pair.now }
@@ -141,11 +144,9 @@ pub(crate) fn suited_place(
 {
     law_values_keep_order();
     let spot = front.spot;
-    let rows = front.rows;
     are_hands(&spot.table, pot);
     ten_places(&spot.table);
     let at = usize::from(pot);
-    let row = &rows[at];
     let place = usize::from(pair.ranks);
     let main = row.mains[place];
     let low = row.lows[place];

@@ -1,7 +1,7 @@
 use Rattle.std.proofs.Common.{sym, ◌∙◌, arith}
 use Rattle.card_sets.specs.declared.games.Side.TheVariants.{High, Low}
 use Rattle.board_runouts.specs.Fronts.{front_deal}
-use Rattle.board_runouts.proofs.FrontFacts.{suited_for}
+use Rattle.board_runouts.proofs.FrontFacts.{row_at, suited_for}
 use Rattle.board_runouts.proofs.PairCounts.{adds_pot, board_high, count_pot, room_for}
 use Rattle.board_runouts.proofs.board_leaf.count_suited.Goals as goal
 
@@ -46,3 +46,6 @@ ready-at-requires-clause-suited c = suited_for c.args.front.now c.args.pair.now 
 
 pub suited_place-place-requires-clause-flush : goal.suited_place-place-requires-clause-flush
 suited_place-place-requires-clause-flush c = c.ready-at.ensures.there c.flush_at-flush.result.now c.flush_at-flush.ensures
+
+pub suited_place-place-requires-clause-row : goal.suited_place-place-requires-clause-row
+suited_place-place-requires-clause-row c = let t = c.loop-pot-test.true in row_at c.args.front.now c.loop-pot.pot c.from.result c.index-rows-from.result c.from.ensures (omega arith) c.index-rows-from.is
