@@ -141,7 +141,7 @@ export const groupText = (group, key) => {
  */
 export const showSums = (place, choice, state, { sort, pick }) => {
     const { unit } = choice, isMoney = isMoneyOf(choice), groups = groupsOf(choice, state), word = bigWord(choice);
-    const phone = ['', '.hide-s', '', '', '.hide-s', '.hide-s'];
+    const phone = ['', '', '.hide-s', '', '.hide-s', '.hide-s'];
     const cells = (/** @type {Sum} */ sum) => valuesOf(sum).map((value, at) => {
         const tone = at === 1 || at === 3 ? toneOf(value) : '';
         const text = at === 0 ? counted(Number(value)) : at === 4 || at === 5 ? isNaN(Number(value)) ? '' :
