@@ -1,4 +1,4 @@
-"""The crates: what each one stands on, in which layer, and what its proofs cite."""
+"""The crates: what each one depends on, in which layer, and what its proofs cite."""
 import re
 from pathlib import Path
 
@@ -6,25 +6,25 @@ from .shared import NotTried, crates as crates_below, lines, quoted, tables
 
 
 def crates():
-    """docs/ARCHITECTURE.md says of each crate of crates.txt what it stands on."""
+    """docs/ARCHITECTURE.md says of each crate of crates.txt what it depends on."""
     rows = {}
     for _, head, cells in tables("docs/ARCHITECTURE.md"):
-        if head[0] == "Crate" and "Stands on" in head:
-            rows[quoted(cells[0])[0]] = set(quoted(cells[head.index("Stands on")]))
+        if head[0] == "Crate" and "Depends on" in head:
+            rows[quoted(cells[0])[0]] = set(quoted(cells[head.index("Depends on")]))
     for crate, below in crates_below().items():
         if crate not in rows:
             yield f"docs/ARCHITECTURE.md has no row of the crate {crate}"
             continue
         for name in sorted(set(below) - rows[crate]):
-            yield f"docs/ARCHITECTURE.md doesn't say that {crate} stands on {name}"
+            yield f"docs/ARCHITECTURE.md doesn't say that {crate} depends on {name}"
         for name in sorted(rows[crate] - set(below)):
-            yield f"docs/ARCHITECTURE.md says that {crate} stands on {name}, and crates.txt doesn't"
+            yield f"docs/ARCHITECTURE.md says that {crate} depends on {name}, and crates.txt doesn't"
     for crate in sorted(set(rows) - set(crates_below())):
         yield f"docs/ARCHITECTURE.md has a row of {crate}, which crates.txt doesn't name"
 
 
 def layers():
-    """In crates.txt each crate is below a heading `## LAYER`, and stands only on crates of its layer or of layers before it."""
+    """In crates.txt each crate is below a heading `## LAYER`, and depends only on crates of its layer or of layers before it."""
     layer_of = {}
     layer = 0
     for line in lines("crates.txt"):
@@ -39,7 +39,7 @@ def layers():
             yield f"crates.txt has {crate} before the first layer"
         for name in below:
             if layer_of.get(name, 0) > layer_of[crate]:
-                yield f"crates.txt has {crate} in a layer before that of {name}, on which it stands"
+                yield f"crates.txt has {crate} in a layer before that of {name}, on which it depends"
 
 
 def imports():

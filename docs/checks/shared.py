@@ -93,7 +93,7 @@ def tables(path):
 
 
 def crates():
-    """Returns the crates of crates.txt in its order, each with the list of those that it stands on."""
+    """Returns the crates of crates.txt in its order, each with the list of those that it depends on."""
     rows = {}
     for line in lines("crates.txt"):
         name, colon, below = line.partition("#")[0].partition(":")
