@@ -22,10 +22,9 @@ ON = [
     printed.printed,
     printed.archive,
     style.words,
-]
-# what it tries by name only, because it doesn't hold yet
-LATER = [
     style.asserts,
 ]
+# what it tries by name only, because it doesn't hold yet
+LATER = []
 # what --verbose adds to a check
 VERBOSE = {"sizes": documents.all_sizes}

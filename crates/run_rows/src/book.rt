@@ -121,7 +121,14 @@ fn is_total(total: &Tally) -> bool {
 fn a_block_that_is_posted_twice_counts_once(rt: HostRuntime) -> Result<(), Fail> {
     let job = job_of(TURN).ok_or("no job")?;
     let posted = posted(rt.alloc(), &job).ok_or("not posted")?;
-    assert!(rt; is_posted_once(&posted));
-    assert!(rt; posted.closed.by_workers == 1 && is_total(&posted.closed.total));
+    assert!(rt;
+        is_posted_once(&posted),
+        "the first post counts, and the second doesn't"
+    );
+    assert_eq!(rt; posted.closed.by_workers, 1, "the blocks by workers");
+    assert!(rt;
+        is_total(&posted.closed.total),
+        "each of the 44 rivers counts once"
+    );
     Ok(())
 }

@@ -121,14 +121,14 @@ fn is_done(state: &mut State, event: CoreEvent) -> bool {
     step(state, event) == Ok(Stepped::Done)
 }
 
-/// Returns whether each of some events is refused.
-fn are_refused(state: &mut State, events: &[CoreEvent]) -> bool {
-    for event in events {
+/// Returns the place of the first of some events that isn't refused.
+fn not_refused(state: &mut State, events: &[CoreEvent]) -> Option<usize> {
+    for (place, event) in events.iter().enumerate() {
         if step(state, *event) != Ok(Stepped::Refused) {
-            return false;
+            return Some(place);
         }
     }
-    true
+    None
 }
 
 /// One hand draws none and the other draws four of 43 cards, in 123,410 ways.
@@ -177,7 +177,12 @@ fn is_pushed(state: &State) -> bool {
 fn a_stolen_block_is_booked_by_the_thief(rt: HostRuntime) -> Result<(), Fail> {
     let start = queues_of_two(rt.alloc()).ok_or("memory")?;
     let (last, refused) = behind(rt.alloc(), &start, &STOLEN).ok_or("memory")?;
-    assert!(rt; refused == 1 && is_stolen(&last) && is_start(&start));
+    assert_eq!(rt; refused, 1, "the refused events");
+    assert!(rt; is_stolen(&last), "the thief has booked both blocks");
+    assert!(rt;
+        is_start(&start),
+        "the state before the events is unchanged"
+    );
     Ok(())
 }
 
@@ -186,23 +191,35 @@ fn both_blocks_of_a_job_are_booked(rt: HostRuntime) -> Result<(), Fail> {
     let job = job_of(TWO_BLOCKS).ok_or("no job")?;
     let last = booked_of_two(rt.alloc(), &job).ok().ok_or("memory")?;
     let last = last.ok_or("not two blocks")?;
-    assert!(rt; is_stolen(&last));
+    assert!(rt; is_stolen(&last), "the thief has booked both blocks");
     Ok(())
 }
 
 #[test]
 fn a_refused_event_changes_nothing(rt: HostRuntime) -> Result<(), Fail> {
     let mut state = queues_of_two(rt.alloc()).ok_or("memory")?;
-    assert!(rt; are_refused(&mut state, &WRONG) && is_start(&state));
-    assert!(rt; is_done(&mut state, POP_OF_0));
-    assert!(rt; are_refused(&mut state, &FULL) && is_popped(&state));
+    assert_eq!(rt; not_refused(&mut state, &WRONG), None);
+    assert!(rt; is_start(&state), "the refused events change nothing");
+    assert!(rt; is_done(&mut state, POP_OF_0), "worker 0 takes its block");
+    assert_eq!(rt; not_refused(&mut state, &FULL), None);
+    assert!(rt;
+        is_popped(&state),
+        "the refused events of a worker with a block change nothing"
+    );
     Ok(())
 }
 
 #[test]
 fn a_pushed_block_comes_last(rt: HostRuntime) -> Result<(), Fail> {
     let mut state = queues_of_two(rt.alloc()).ok_or("memory")?;
-    assert!(rt; is_done(&mut state, PUSH_TO_1));
-    assert!(rt; is_done(&mut state, POP_OF_1) && is_pushed(&state));
+    assert!(rt;
+        is_done(&mut state, PUSH_TO_1),
+        "worker 1 gets another block"
+    );
+    assert!(rt; is_done(&mut state, POP_OF_1), "worker 1 takes a block");
+    assert!(rt;
+        is_pushed(&state),
+        "worker 1 has its own block, and the other is left"
+    );
     Ok(())
 }

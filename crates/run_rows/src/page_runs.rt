@@ -2,6 +2,7 @@
 //! aren't words.
 
 use crate::ends::faults::SPOT;
+use crate::runs::row_text;
 use run_engine::run_page;
 use std::alloc::Global;
 use std::test::Fail;
@@ -41,7 +42,9 @@ fn in_room(alloc: Global, mode: &[u8], size: usize) -> Result<(u8, usize), Fail>
 fn a_run_for_a_page_fills_its_room(rt: HostRuntime) -> Result<(), Fail> {
     for (mode, size, status, length) in ROOMS {
         let (ended, written) = in_room(rt.alloc(), mode, *size)?;
-        assert!(rt; ended == *status && written == *length);
+        let mode = row_text(mode);
+        assert_eq!(rt; ended, *status, "the status of {mode} with {size} bytes");
+        assert_eq!(rt; written, *length, "the length of {mode} with {size} bytes");
     }
     Ok(())
 }

@@ -150,6 +150,14 @@ pub(crate) fn run_by_workers<R: Threads + Wait + Sync>(
     Ok(between_by_workers(rt, alloc, &owned, source, sink)?)
 }
 
+/// Returns the text of a row, which a failed assert prints.
+pub(crate) fn row_text(row: &[u8]) -> &str {
+    match std::str::from_utf8(row) {
+        Ok(text) => text,
+        Err(_) => "a row that isn't UTF-8",
+    }
+}
+
 /// The condition must hold. Otherwise the test program ends and prints this name.
 pub(crate) fn holds(rt: &impl Abort, is_so: bool, name: &str) {
     assert!(rt; is_so, "{name}");

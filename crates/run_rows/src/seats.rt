@@ -105,7 +105,10 @@ fn by_two<R: Threads + Wait + Sync>(rt: &R, alloc: Global, job: &Job) -> Result<
 fn one_worker_counts_all_blocks(rt: HostRuntime) -> Result<(), Fail> {
     let job = job_of(ACES_AND_KINGS).ok_or("a job")?;
     let closed = by_one(rt.alloc(), &job).ok().ok_or("memory")?;
-    assert!(rt; has_all_blocks(&closed));
+    assert!(rt;
+        has_all_blocks(&closed),
+        "one worker counts each runout and each block"
+    );
     Ok(())
 }
 
@@ -113,7 +116,11 @@ fn one_worker_counts_all_blocks(rt: HostRuntime) -> Result<(), Fail> {
 fn two_workers_take_all_blocks(rt: HostRuntime) -> Result<(), Fail> {
     let job = job_of(ACES_AND_KINGS).ok_or("a job")?;
     let work = by_two(&rt, rt.alloc(), &job).ok().ok_or("memory")?;
-    assert!(rt; work.ended && work.taken == 27);
-    assert!(rt; has_all_blocks(&work.closed));
+    assert!(rt; work.ended, "each worker has an end mark of both deques");
+    assert_eq!(rt; work.taken, 27, "the blocks that two workers took");
+    assert!(rt;
+        has_all_blocks(&work.closed),
+        "two workers count each runout and each block"
+    );
     Ok(())
 }

@@ -3,11 +3,13 @@
 ghost use Rattle.std.specs.Prelude.{◌<◌};
 ghost use Rattle.std.specs.List.Sorted.{IsStrictlyIncreasing};
 
+use crate::runs::{holds, row_text};
 use crate::spots::FIFTH_STREET;
 use crate::workers::gates::{HoldsTheFirst, HoldsUntilFour, Notes};
 use byte_ends::{MemorySink, MemorySource};
 use run_engine::{run, run_alone};
 use std::alloc::Global;
+use std::process::Abort;
 use std::sync::Wait;
 use std::test::Fail;
 use std::thread::Threads;
@@ -124,44 +126,41 @@ fn is_run(one: &Ran, status: u8) -> bool {
     one.status == status && !one.written.is_empty()
 }
 
-/// Returns whether runs of these words over this input with 1, 2, and 16 workers write the same as a run
-/// on one thread, and all end with this status.
-fn same_by_workers<R: Threads + Wait + Sync>(
+/// A run of these words over this input on one thread must end with this status. Runs with 1, 2, and 16
+/// workers must write the same and end with the same status.
+fn same_by_workers<R: Threads + Wait + Sync + Abort>(
     rt: &R,
     alloc: Global,
     words: &[&str],
     input: &[u8],
     status: u8,
-) -> Result<bool, Fail> {
+) -> Result<(), Fail> {
     let one = alone(alloc, owned(alloc, words)?.as_slice(), input)?;
-    if !is_run(&one, status) {
-        return Ok(false);
-    }
+    holds(rt, is_run(&one, status), "one thread");
     for workers in ["--workers=1", "--workers=2", "--workers=16"] {
-        if !is_same(rt, alloc, words, workers, input, &one)? {
-            return Ok(false);
-        }
+        holds(
+            rt,
+            is_same(rt, alloc, words, workers, input, &one)?,
+            workers,
+        );
     }
-    Ok(true)
+    Ok(())
 }
 
 #[test]
 fn spots_are_the_same_by_any_number_of_workers(rt: HostRuntime) -> Result<(), Fail> {
-    assert!(rt; same_by_workers(&rt, rt.alloc(), &["spots"], SPOTS, 1)?);
-    Ok(())
+    same_by_workers(&rt, rt.alloc(), &["spots"], SPOTS, 1)
 }
 
 #[test]
 fn an_all_in_is_the_same_by_any_number_of_workers(rt: HostRuntime) -> Result<(), Fail> {
-    assert!(rt; same_by_workers(&rt, rt.alloc(), &["audit"], ALL_IN.as_bytes(), 0)?);
-    assert!(rt; same_by_workers(&rt, rt.alloc(), &["streets"], ALL_IN.as_bytes(), 0)?);
-    Ok(())
+    same_by_workers(&rt, rt.alloc(), &["audit"], ALL_IN.as_bytes(), 0)?;
+    same_by_workers(&rt, rt.alloc(), &["streets"], ALL_IN.as_bytes(), 0)
 }
 
 #[test]
 fn made_hands_are_the_same_by_any_number_of_workers(rt: HostRuntime) -> Result<(), Fail> {
-    assert!(rt; same_by_workers(&rt, rt.alloc(), &["made", "--hands=100"], b"", 0)?);
-    Ok(())
+    same_by_workers(&rt, rt.alloc(), &["made", "--hands=100"], b"", 0)
 }
 
 #[test]
@@ -169,7 +168,8 @@ fn a_run_goes_on_while_one_of_two_workers_is_held(rt: HostRuntime) -> Result<(),
     let gate = HoldsTheFirst::new();
     let words = owned(rt.alloc(), &["spots", "--workers", "2"])?;
     let ran = shared(&rt, rt.alloc(), words.as_slice(), PREFLOP, &gate)?;
-    assert!(rt; ran.status == 0 && gate.was_released());
+    assert_eq!(rt; ran.status, 0, "the status of the run");
+    assert!(rt; gate.was_released(), "the held worker was released");
     Ok(())
 }
 
@@ -178,7 +178,8 @@ fn a_run_has_four_workers_inside_at_once(rt: HostRuntime) -> Result<(), Fail> {
     let gate = HoldsUntilFour::new();
     let words = owned(rt.alloc(), &["spots", "--workers", "4"])?;
     let ran = shared(&rt, rt.alloc(), words.as_slice(), FIFTH_STREET, &gate)?;
-    assert!(rt; ran.status == 0 && gate.were_four());
+    assert_eq!(rt; ran.status, 0, "the status of the run");
+    assert!(rt; gate.were_four(), "four workers were inside at once");
     Ok(())
 }
 
@@ -202,7 +203,11 @@ fn workers_count_from_a_bound_on(rt: HostRuntime) -> Result<(), Fail> {
     for (line, are_shared) in AROUND_THE_BOUND {
         let gate = Notes::new();
         let ran = shared(&rt, rt.alloc(), words.as_slice(), line, &gate)?;
-        assert!(rt; ran.status == 0 && gate.has_some() == *are_shared);
+        holds(
+            &rt,
+            ran.status == 0 && gate.has_some() == *are_shared,
+            row_text(line),
+        );
     }
     Ok(())
 }

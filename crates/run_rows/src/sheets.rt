@@ -65,6 +65,9 @@ fn records_of(alloc: Global) -> Result<Vec<u8>, Fail> {
 #[test]
 fn a_sheet_of_many_records_has_thirteen_fields_in_each(rt: HostRuntime) -> Result<(), Fail> {
     let written = sheet_of(rt.alloc())?;
-    assert!(rt; written.as_slice() == records_of(rt.alloc())?.as_slice());
+    assert!(rt;
+        written.as_slice() == records_of(rt.alloc())?.as_slice(),
+        "the sheet has the records of the table, 400 times"
+    );
     Ok(())
 }

@@ -57,7 +57,8 @@ fn a_free_worker_takes_the_blocks_of_a_held_one(rt: HostRuntime) -> Result<(), F
     let closed = count_with_workers(&rt, rt.alloc(), &job, 2, &gate)
         .ok()
         .ok_or("memory")?;
-    assert!(rt; gate.was_released() && closed.by_workers == 27);
+    assert!(rt; gate.was_released(), "the held worker was released");
+    assert_eq!(rt; closed.by_workers, 27, "the blocks by workers");
     Ok(())
 }
 
@@ -68,8 +69,13 @@ fn four_workers_are_inside_at_once(rt: HostRuntime) -> Result<(), Fail> {
     let closed = count_with_workers(&rt, rt.alloc(), &job, 4, &gate)
         .ok()
         .ok_or("memory")?;
-    assert!(rt; gate.were_four());
-    assert!(rt; closed.total.runouts() == 9_085_230 && closed.by_workers == 139);
+    assert!(rt; gate.were_four(), "four workers were inside at once");
+    assert_eq!(rt;
+        closed.total.runouts(),
+        9_085_230,
+        "the runouts of the total"
+    );
+    assert_eq!(rt; closed.by_workers, 139, "the blocks by workers");
     Ok(())
 }
 
@@ -78,7 +84,10 @@ fn workers_count_what_one_call_counts(rt: HostRuntime) -> Result<(), Fail> {
     let job = preflop().ok_or("a job")?;
     let tally = at_once(&job);
     for workers in [1, 2, 16] {
-        assert!(rt; count_the_same(&rt, rt.alloc(), &job, workers, &tally));
+        assert!(rt;
+            count_the_same(&rt, rt.alloc(), &job, workers, &tally),
+            "{workers} workers"
+        );
     }
     Ok(())
 }

@@ -1,6 +1,7 @@
 //! Cards, sets of cards and sets of players.
 
 use crate::rows::deals::cards;
+use crate::rows::row_text;
 use card_sets::{Card, CardSet, PlayerSet};
 use std::test::Fail;
 
@@ -41,30 +42,30 @@ fn is_named(text: [u8; 2], number: u8, rank: u8, suit: u8) -> bool {
     }
 }
 
-/// Returns whether each of these texts names its card.
-fn all_named(table: &[([u8; 2], u8, u8, u8)]) -> bool {
+/// Returns the first of these texts that doesn't name its card.
+fn wrong_name(table: &'static [([u8; 2], u8, u8, u8)]) -> Option<&'static str> {
     for (text, number, rank, suit) in table {
         if !is_named(*text, *number, *rank, *suit) {
-            return false;
+            return Some(row_text(text));
         }
     }
-    true
+    None
 }
 
-/// Returns whether none of these texts names a card.
-fn all_nameless(texts: &[[u8; 2]]) -> bool {
+/// Returns the first of these texts that names a card.
+fn first_named(texts: &'static [[u8; 2]]) -> Option<&'static str> {
     for text in texts {
         if Card::read(*text).is_some() {
-            return false;
+            return Some(row_text(text));
         }
     }
-    true
+    None
 }
 
 #[test]
 fn letters_name_cards(rt: HostRuntime) {
-    assert!(rt; all_named(NAMED));
-    assert!(rt; all_nameless(NAMELESS));
+    assert_eq!(rt; wrong_name(NAMED), None);
+    assert_eq!(rt; first_named(NAMELESS), None);
 }
 
 /// Returns whether the cards of a set are these, each after the one before it.
@@ -111,22 +112,29 @@ fn gives_up(set: CardSet, card: Card, count: u32) -> bool {
         && without.union(CardSet::empty().with(card)).count() == count
 }
 
-/// Returns whether `gives_up` is true for each card of a set.
-fn gives_up_each(set: CardSet, count: u32) -> bool {
+/// Returns the number of the first card of a set for which `gives_up` is false.
+fn kept(set: CardSet, count: u32) -> Option<u8> {
     for card in set.iter() {
         if !gives_up(set, card, count) {
-            return false;
+            return Some(card.number());
         }
     }
-    true
+    None
 }
 
 #[test]
 fn a_set_gives_its_cards_rising(rt: HostRuntime) -> Result<(), Fail> {
     let set = cards(MIXED).ok_or("no cards")?;
-    assert!(rt; rises(set, RISING) && gives(set, RISING));
-    assert!(rt; has_least(set, 2, LEAST));
-    assert!(rt; gives_up_each(set, 3));
+    assert!(rt;
+        rises(set, RISING),
+        "each card comes after the one before it"
+    );
+    assert!(rt; gives(set, RISING), "the set gives its three cards, rising");
+    assert!(rt;
+        has_least(set, 2, LEAST),
+        "the two least cards are 2d and Tc"
+    );
+    assert_eq!(rt; kept(set, 3), None);
     Ok(())
 }
 
@@ -164,15 +172,40 @@ fn is_odd(number: u8) -> bool {
 #[test]
 fn a_set_gives_its_players_rising(rt: HostRuntime) {
     let set = players_of(PLAYERS);
-    assert!(rt; set.bits() == 0b100_0010_0000_0101 && set.count() == 4);
-    assert!(rt; gives_players(set, &[0, 2, 9, 14]));
-    assert!(rt; set.has(9) && !set.without(9).has(9) && !set.has(3));
+    assert_eq!(rt;
+        set.bits(),
+        0b100_0010_0000_0101,
+        "a bit for each of the players 0, 2, 9, and 14"
+    );
+    assert_eq!(rt; set.count(), 4, "a player who is added twice counts once");
+    assert!(rt;
+        gives_players(set, &[0, 2, 9, 14]),
+        "the set gives its players, rising"
+    );
+    assert!(rt; set.has(9), "player 9 is in the set");
+    assert!(rt;
+        !set.without(9).has(9),
+        "player 9 isn't in the set without player 9"
+    );
+    assert!(rt; !set.has(3), "player 3 isn't in the set");
 }
 
 #[test]
 fn players_are_chosen_by_seat_by_number_and_by_a_test(rt: HostRuntime) {
     let set = players_of(PLAYERS);
-    assert!(rt; set.seats().bits() == 0b10_0000_0100);
-    assert!(rt; set.below(9).bits() == 0b101);
-    assert!(rt; PlayerSet::passing(5, is_odd).bits() == 0b1010);
+    assert_eq!(rt;
+        set.seats().bits(),
+        0b10_0000_0100,
+        "of the players, 2 and 9 are seats"
+    );
+    assert_eq!(rt;
+        set.below(9).bits(),
+        0b101,
+        "the players 0 and 2 are below 9"
+    );
+    assert_eq!(rt;
+        PlayerSet::passing(5, is_odd).bits(),
+        0b1010,
+        "below 5, 1 and 3 are odd"
+    );
 }

@@ -1,5 +1,6 @@
 //! Fractions, rounded once and written out.
 
+use crate::rows::row_text;
 use share_fractions::{Fixed, LONGEST_TEXT, rounded};
 
 /// The greatest denominator: ten to the power 32.
@@ -27,14 +28,14 @@ fn is_rounded(numerator: u128, denominator: u128, places: u32, text: &[u8]) -> b
     is_written(rounded(numerator, denominator, places), text, b"")
 }
 
-/// Returns whether each of these fractions is written as its text.
-fn all_rounded(cases: &[(u128, u128, u32, &[u8])]) -> bool {
+/// Returns the text of the first of these fractions that isn't written as its text.
+fn wrong_fraction(cases: &[(u128, u128, u32, &'static [u8])]) -> Option<&'static str> {
     for (numerator, denominator, places, text) in cases {
         if !is_rounded(*numerator, *denominator, *places, text) {
-            return false;
+            return Some(row_text(*text));
         }
     }
-    true
+    None
 }
 
 const CASES: &[(u128, u128, u32, &[u8])] = &[
@@ -57,7 +58,7 @@ const CASES: &[(u128, u128, u32, &[u8])] = &[
 
 #[test]
 fn fractions_are_rounded_half_up_and_written_with_their_places(rt: HostRuntime) {
-    assert!(rt; all_rounded(CASES));
+    assert_eq!(rt; wrong_fraction(CASES), None);
 }
 
 /// Returns the greatest number with `places` decimal places.
@@ -75,9 +76,13 @@ fn the_greatest_number_is_written_whole(rt: HostRuntime) {
             greatest(4),
             b"34028236692093846346337460743176821.1455",
             b""
-        )
+        ),
+        "the greatest number with four decimal places"
     );
-    assert!(rt; is_written(greatest(0), b"340282366920938463463374607431768211455", b""));
+    assert!(rt;
+        is_written(greatest(0), b"340282366920938463463374607431768211455", b""),
+        "the greatest number without decimal places"
+    );
 }
 
 #[test]
@@ -86,5 +91,8 @@ fn what_stands_behind_the_text_stays(rt: HostRuntime) {
         whole: 9545,
         places: 2,
     };
-    assert!(rt; is_written(number, b"95.45", b"___"));
+    assert!(rt;
+        is_written(number, b"95.45", b"___"),
+        "the bytes after the text are unchanged"
+    );
 }

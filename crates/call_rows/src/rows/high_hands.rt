@@ -175,5 +175,5 @@ fn each_hand_beats_the_one_before(rt: HostRuntime) {
 
 #[test]
 fn suits_and_cards_beyond_five_break_no_tie(rt: HostRuntime) {
-    assert!(rt; untied(TIES).is_none());
+    assert_eq!(rt; untied(TIES), None);
 }

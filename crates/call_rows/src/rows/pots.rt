@@ -113,14 +113,26 @@ fn has_pots(alloc: Global, paid: &[Paid], pots: &[Pot]) -> bool
 
 #[test]
 fn three_all_in_make_two_pots(rt: HostRuntime) {
-    assert!(rt; has_pots(rt.alloc(), &THREE, THREE_POTS));
-    assert!(rt; uncalled(&THREE).is_none());
+    assert!(rt;
+        has_pots(rt.alloc(), &THREE, THREE_POTS),
+        "1500 for all three, and 2000 for two"
+    );
+    assert!(rt;
+        uncalled(&THREE).is_none(),
+        "two players paid the most, so nothing is uncalled"
+    );
 }
 
 #[test]
 fn dead_and_folded_chips_are_in_the_pots(rt: HostRuntime) {
-    assert!(rt; has_pots(rt.alloc(), &FOLDED, FOLDED_POTS));
-    assert!(rt; uncalled(&FOLDED) == Some((2, 100)));
+    assert!(rt;
+        has_pots(rt.alloc(), &FOLDED, FOLDED_POTS),
+        "350 for both players, and 300 for one"
+    );
+    assert!(rt;
+        uncalled(&FOLDED) == Some((2, 100)),
+        "100 of the folded seat 2 are uncalled"
+    );
 }
 
 /// The chips of a lone player, and of one with dead chips alone, without and with another player.
@@ -155,9 +167,18 @@ const TWO_WITHOUT_LIVE: [Paid; 2] = [
 
 #[test]
 fn all_of_a_lone_player_is_uncalled(rt: HostRuntime) {
-    assert!(rt; uncalled(&LONE) == Some((4, 100)));
-    assert!(rt; uncalled(&LONE_WITHOUT_LIVE) == Some((4, 0)));
-    assert!(rt; uncalled(&TWO_WITHOUT_LIVE).is_none());
+    assert!(rt;
+        uncalled(&LONE) == Some((4, 100)),
+        "all live chips of a lone player are uncalled"
+    );
+    assert!(rt;
+        uncalled(&LONE_WITHOUT_LIVE) == Some((4, 0)),
+        "a lone player may have no live chips"
+    );
+    assert!(rt;
+        uncalled(&TWO_WITHOUT_LIVE).is_none(),
+        "dead chips alone are never uncalled"
+    );
 }
 
 /// Returns whether these units are split into these parts.
@@ -183,7 +204,10 @@ fn has_shares(
 fn units_left_over_go_by_the_order(rt: HostRuntime) {
     let both = SideWinners { high: 6, low: 0 };
     let second_first = OddOrder::of([2, 1, 0, 0, 0, 0, 0, 0, 0, 0], 2);
-    assert!(rt; has_shares(rt.alloc(), 5, both, &second_first, &OddOrder::none(), FIVE));
+    assert!(rt;
+        has_shares(rt.alloc(), 5, both, &second_first, &OddOrder::none(), FIVE),
+        "seat 2 is first in the order, and receives 3 of 5 units"
+    );
 }
 
 #[test]
@@ -191,12 +215,18 @@ fn the_high_half_is_rounded_up(rt: HostRuntime) {
     let one_each = SideWinners { high: 2, low: 4 };
     let first = OddOrder::of([1, 0, 0, 0, 0, 0, 0, 0, 0, 0], 1);
     let second = OddOrder::of([2, 0, 0, 0, 0, 0, 0, 0, 0, 0], 1);
-    assert!(rt; has_shares(rt.alloc(), 7, one_each, &first, &second, SEVEN));
+    assert!(rt;
+        has_shares(rt.alloc(), 7, one_each, &first, &second, SEVEN),
+        "the winner of the high receives 4 of 7 units"
+    );
 }
 
 #[test]
 fn the_first_of_two_halves_is_rounded_up(rt: HostRuntime) {
-    assert!(rt; halves(101) == [51, 50]);
-    assert!(rt; halves(1) == [1, 0]);
-    assert!(rt; halves(u64::MAX) == [1 << 63, (1 << 63) - 1]);
+    assert!(rt; halves(101) == [51, 50], "the halves of 101 are 51 and 50");
+    assert!(rt; halves(1) == [1, 0], "the halves of 1 are 1 and 0");
+    assert!(rt;
+        halves(u64::MAX) == [1 << 63, (1 << 63) - 1],
+        "the greatest number has two halves"
+    );
 }

@@ -148,14 +148,20 @@ fn unseen(spot: &Spot) -> Option<u32> {
 /// 2d comes first, and Ad last.
 #[test]
 fn the_river_is_each_of_44_cards_once(rt: HostRuntime) {
-    assert_eq!(rt; unseen(&TURN), Some(44));
-    assert!(rt; is_listed(&TURN, RIVER, 0, (1, 1), (49, 49), 44));
+    assert_eq!(rt; unseen(&TURN), Some(44), "the cards that may come");
+    assert!(rt;
+        is_listed(&TURN, RIVER, 0, (1, 1), (49, 49), 44),
+        "44 rivers, from 2d to Ad"
+    );
 }
 
 /// 2d 2h come first, and Ac Ad last.
 #[test]
 fn turn_and_river_are_chosen_once_in_either_order(rt: HostRuntime) {
-    assert!(rt; is_listed(&FLOP, TURN_AND_RIVER, 0, (1, 2), (48, 49), 990));
+    assert!(rt;
+        is_listed(&FLOP, TURN_AND_RIVER, 0, (1, 2), (48, 49), 990),
+        "990 pairs of cards, from 2d 2h to Ac Ad"
+    );
 }
 
 /// 2s 3c come first, and Ac Ad last.
@@ -169,15 +175,22 @@ fn dead_cards_do_not_come(rt: HostRuntime) {
             (3, 4),
             (48, 49),
             903
-        )
+        ),
+        "903 pairs of cards, from 2s 3c to Ac Ad"
     );
 }
 
 /// The first gets 4c first and As last, and the second 4d and Ah.
 #[test]
 fn the_second_hand_draws_from_what_the_first_leaves(rt: HostRuntime) {
-    assert!(rt; is_listed(&DRAW, ONE_EACH, 0, (8, 8), (51, 51), 44 * 43));
-    assert!(rt; is_listed(&DRAW, ONE_EACH, 1, (9, 9), (50, 50), 44 * 43));
+    assert!(rt;
+        is_listed(&DRAW, ONE_EACH, 0, (8, 8), (51, 51), 44 * 43),
+        "the first hand draws 4c first, and As last"
+    );
+    assert!(rt;
+        is_listed(&DRAW, ONE_EACH, 1, (9, 9), (50, 50), 44 * 43),
+        "the second hand draws 4d first, and Ah last"
+    );
 }
 
 /// Returns whether a spot has this number of slots and of runouts; the number is `None` if it is
@@ -191,13 +204,32 @@ fn is_counted(spot: &Spot, used: u8, limit: u64, count: Option<u64>) -> bool {
 
 #[test]
 fn runouts_are_counted_up_to_a_limit(rt: HostRuntime) {
-    assert!(rt; is_counted(&TURN, 1, 44, Some(44)));
-    assert!(rt; is_counted(&TURN, 1, 43, None));
-    assert!(rt; is_counted(&STUD, 2, u64::MAX, Some(141_181_040)));
-    assert!(rt; is_counted(&DARK_DRAW, 10, u64::MAX, None));
+    assert!(rt;
+        is_counted(&TURN, 1, 44, Some(44)),
+        "44 rivers aren't above a limit of 44"
+    );
+    assert!(rt;
+        is_counted(&TURN, 1, 43, None),
+        "44 rivers are above a limit of 43"
+    );
+    assert!(rt;
+        is_counted(&STUD, 2, u64::MAX, Some(141_181_040)),
+        "two hands of stud are counted"
+    );
+    assert!(rt;
+        is_counted(&DARK_DRAW, 10, u64::MAX, None),
+        "ten unknown hands are above each limit"
+    );
 }
 
 #[test]
 fn ten_stud_hands_need_more_than_a_deck(rt: HostRuntime) {
-    assert!(rt; known(&DARK_STUD).is_some() && shape_of(&DARK_STUD).is_none());
+    assert!(rt;
+        known(&DARK_STUD).is_some(),
+        "ten unknown hands of stud are possible"
+    );
+    assert!(rt;
+        shape_of(&DARK_STUD).is_none(),
+        "ten hands of stud need more than a deck"
+    );
 }

@@ -8,11 +8,13 @@ ghost use Rattle.showdown_tally.specs.Deals.{deal_of};
 ghost use Rattle.showdown_tally.specs.Tallies.{Counts};
 
 use crate::rows::deals::{Spot, cards, known};
+use crate::rows::row_text;
 use card_sets::{CardSet, Game, Known, Side};
 use runout_ranges::{Runout, Shape, advance, first_runout, shape};
 use showdown_tally::{Cell, Table, Tally, settle_runout, side_value};
 use std::marker::Brand;
 use std::sync::ledger::{Blank, Ledger};
+use std::test::Fail;
 use step_count::Steps;
 
 /// The number of runouts that a hand wins, ties, and loses on a side of a pot: the pot, the hand, the
@@ -98,22 +100,22 @@ fn worth(own: &[u8]) -> Option<u32> {
     value(Side::High, own, b"2c7h9hThJs")?
 }
 
-/// Returns whether each of some hands is worth more than the one before it.
-fn are_rising(hands: &[&[u8]]) -> bool {
+/// Returns the first of some hands that isn't worth more than the one before it.
+fn beaten(hands: &[&'static [u8]]) -> Option<&'static str> {
     let mut below = None;
     for own in hands {
         let value = worth(*own);
         if value <= below {
-            return false;
+            return Some(row_text(*own));
         }
         below = value;
     }
-    true
+    None
 }
 
 #[test]
 fn better_hands_have_greater_numbers(rt: HostRuntime) {
-    assert!(rt; are_rising(RISING));
+    assert_eq!(rt; beaten(RISING), None);
 }
 
 /// Returns whether two hands are worth the same.
@@ -126,7 +128,10 @@ fn is_tie(own: &[u8], other: &[u8]) -> bool {
 
 #[test]
 fn cards_that_do_not_play_do_not_count(rt: HostRuntime) {
-    assert!(rt; is_tie(b"3dAs", b"4dAc"));
+    assert!(rt;
+        is_tie(b"3dAs", b"4dAc"),
+        "a card that doesn't play breaks no tie"
+    );
 }
 
 /// Returns whether two cards are possible with these on the board, and have no low.
@@ -136,7 +141,10 @@ fn has_no_low(own: &[u8], board: &[u8]) -> bool {
 
 #[test]
 fn there_is_no_low_in_holdem(rt: HostRuntime) {
-    assert!(rt; has_no_low(b"7cAh", b"2c3c4c5c6c"));
+    assert!(rt;
+        has_no_low(b"7cAh", b"2c3c4c5c6c"),
+        "hold'em has no low, whatever the cards are"
+    );
 }
 
 /// Returns three hands with two pots; the first hand has no part in the second pot.
@@ -246,55 +254,49 @@ fn has_end(tally: &Tally, end: &Ends) -> bool {
     pot < 10 && hand < 10 && tally.cell(pot, hand, side) == Cell { win, tie, lose }
 }
 
-/// Returns whether `has_end` is true for each of these.
-fn has_ends(tally: &Tally, ends: &[Ends]) -> bool {
-    for end in ends {
+/// Returns the place of the first of these for which `has_end` is false.
+pub(crate) fn wrong_end(tally: &Tally, ends: &[Ends]) -> Option<usize> {
+    for (place, end) in ends.iter().enumerate() {
         if !has_end(tally, end) {
-            return false;
+            return Some(place);
         }
     }
-    true
+    None
 }
 
-/// Returns whether each of these hands receives its units of its pot.
-fn has_units(tally: &Tally, units: &[Units]) -> bool {
+/// Returns the first of these hands that doesn't receive its units of its pot.
+pub(crate) fn wrong_units(tally: &Tally, units: &[Units]) -> Option<Units> {
     for (pot, hand, wanted) in units {
         if *pot >= 10 || *hand >= 10 || tally.units(*pot, *hand) != *wanted {
-            return false;
+            return Some((*pot, *hand, *wanted));
         }
     }
-    true
-}
-
-/// Returns whether there is a tally, with this number of runouts, these ends, and these units.
-pub(crate) fn is_tally(
-    tally: &Option<Tally>,
-    runouts: u64,
-    ends: &[Ends],
-    units: &[Units],
-) -> bool {
-    match tally {
-        Some(tally) => {
-            tally.runouts() == runouts && has_ends(tally, ends) && has_units(tally, units)
-        }
-        None => false,
-    }
+    None
 }
 
 #[test]
-fn one_river_is_settled_in_each_pot(rt: HostRuntime) {
-    let tally = first_count(&two_pots());
-    assert!(rt; is_tally(&tally, 1, FIRST_ENDS, FIRST_UNITS));
+fn one_river_is_settled_in_each_pot(rt: HostRuntime) -> Result<(), Fail> {
+    let tally = first_count(&two_pots()).ok_or("no tally")?;
+    assert_eq!(rt; tally.runouts(), 1, "the runouts of the tally");
+    assert_eq!(rt; wrong_end(&tally, FIRST_ENDS), None);
+    assert_eq!(rt; wrong_units(&tally, FIRST_UNITS), None);
+    Ok(())
 }
 
 #[test]
-fn four_tens_of_42_rivers_beat_the_aces(rt: HostRuntime) {
-    let tally = whole_count(&two_pots());
-    assert!(rt; is_tally(&tally, 42, ALL_ENDS, ALL_UNITS));
+fn four_tens_of_42_rivers_beat_the_aces(rt: HostRuntime) -> Result<(), Fail> {
+    let tally = whole_count(&two_pots()).ok_or("no tally")?;
+    assert_eq!(rt; tally.runouts(), 42, "the runouts of the tally");
+    assert_eq!(rt; wrong_end(&tally, ALL_ENDS), None);
+    assert_eq!(rt; wrong_units(&tally, ALL_UNITS), None);
+    Ok(())
 }
 
 #[test]
-fn two_tallies_add_up(rt: HostRuntime) {
-    let tally = first_twice(&two_pots());
-    assert!(rt; is_tally(&tally, 2, TWICE_ENDS, TWICE_UNITS));
+fn two_tallies_add_up(rt: HostRuntime) -> Result<(), Fail> {
+    let tally = first_twice(&two_pots()).ok_or("no tally")?;
+    assert_eq!(rt; tally.runouts(), 2, "the runouts of the tally");
+    assert_eq!(rt; wrong_end(&tally, TWICE_ENDS), None);
+    assert_eq!(rt; wrong_units(&tally, TWICE_UNITS), None);
+    Ok(())
 }

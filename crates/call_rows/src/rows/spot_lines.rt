@@ -1,5 +1,6 @@
 //! Lines of spots, and their faults.
 
+use crate::rows::row_text;
 use card_sets::{Card, CardSet, Game};
 use spot_text::{SpotFault, has_word, read_spot};
 use std::alloc::Global;
@@ -60,14 +61,14 @@ fn is_read(line: &[u8], wanted: &Read) -> bool {
     }
 }
 
-/// Returns whether each of these lines has this meaning.
-fn all_read(lines: &[&[u8]], wanted: &Read) -> bool {
+/// Returns the first of these lines that doesn't have this meaning.
+fn wrong_line(lines: &[&'static [u8]], wanted: &Read) -> Option<&'static str> {
     for line in lines {
         if !is_read(line, wanted) {
-            return false;
+            return Some(row_text(*line));
         }
     }
-    true
+    None
 }
 
 const GOOD_LINES: &[&[u8]] = &[
@@ -87,7 +88,7 @@ const TWO_HANDS: Read = (
 
 #[test]
 fn a_good_line_gives_the_hands_the_board_and_the_dead_cards(rt: HostRuntime) {
-    assert!(rt; all_read(GOOD_LINES, &TWO_HANDS));
+    assert_eq!(rt; wrong_line(GOOD_LINES, &TWO_HANDS), None);
 }
 
 const LONG_LINE: &[&[u8]] = &[
@@ -108,17 +109,17 @@ const TEN_HANDS: Read = (
 
 #[test]
 fn ten_hands_are_read_in_order(rt: HostRuntime) {
-    assert!(rt; all_read(LONG_LINE, &TEN_HANDS));
+    assert_eq!(rt; wrong_line(LONG_LINE, &TEN_HANDS), None);
 }
 
-/// Returns whether each of these lines is refused for this fault.
-fn all_refused(lines: &[&[u8]], fault: &SpotFault) -> bool {
+/// Returns the first of these lines that isn't refused for this fault.
+fn wrong_refusal(lines: &[&'static [u8]], fault: &SpotFault) -> Option<&'static str> {
     for line in lines {
         if fault_of(line) != Some(*fault) {
-            return false;
+            return Some(row_text(*line));
         }
     }
-    true
+    None
 }
 
 const OTHER_GAMES: &[&[u8]] = &[
@@ -136,7 +137,7 @@ const OTHER_GAMES: &[&[u8]] = &[
 
 #[test]
 fn another_game_is_an_unknown_word(rt: HostRuntime) {
-    assert!(rt; all_refused(OTHER_GAMES, &SpotFault::UnknownWord));
+    assert_eq!(rt; wrong_refusal(OTHER_GAMES, &SpotFault::UnknownWord), None);
 }
 
 const OTHER_WORDS: &[&[u8]] = &[
@@ -163,7 +164,7 @@ const OTHER_WORDS: &[&[u8]] = &[
 
 #[test]
 fn a_word_that_may_not_stand_there_is_a_bad_card(rt: HostRuntime) {
-    assert!(rt; all_refused(OTHER_WORDS, &SpotFault::BadCard));
+    assert_eq!(rt; wrong_refusal(OTHER_WORDS, &SpotFault::BadCard), None);
 }
 
 /// Returns whether a line is refused for this card, which is on it twice.
@@ -174,14 +175,14 @@ fn repeats(line: &[u8], text: [u8; 2]) -> bool {
     }
 }
 
-/// Returns whether each of these lines is refused for its card.
-fn all_repeat(table: &[(&[u8], [u8; 2])]) -> bool {
+/// Returns the first of these lines that isn't refused for its card.
+fn wrong_repeat(table: &[(&'static [u8], [u8; 2])]) -> Option<&'static str> {
     for (line, text) in table {
         if !repeats(line, *text) {
-            return false;
+            return Some(row_text(*line));
         }
     }
-    true
+    None
 }
 
 const REPEATED: &[(&[u8], [u8; 2])] = &[
@@ -201,7 +202,7 @@ const REPEATED: &[(&[u8], [u8; 2])] = &[
 
 #[test]
 fn the_first_card_that_stands_twice_is_named(rt: HostRuntime) {
-    assert!(rt; all_repeat(REPEATED));
+    assert_eq!(rt; wrong_repeat(REPEATED), None);
 }
 
 const HANDS_OF_OTHER_SIZES: &[&[u8]] = &[
@@ -268,28 +269,37 @@ const SHORT_DECKS: &[&[u8]] = &[
 
 #[test]
 fn sizes_are_tested_in_order(rt: HostRuntime) {
-    assert!(rt; all_refused(HANDS_OF_OTHER_SIZES, &SpotFault::HandSize));
-    assert!(rt; all_refused(BOARDS_OF_OTHER_SIZES, &SpotFault::BoardSize));
-    assert!(rt; all_refused(OTHER_COUNTS_OF_HANDS, &SpotFault::PlayerCount));
-    assert!(rt; all_refused(SHORT_DECKS, &SpotFault::DeckShort));
+    assert_eq!(rt;
+        wrong_refusal(HANDS_OF_OTHER_SIZES, &SpotFault::HandSize),
+        None
+    );
+    assert_eq!(rt;
+        wrong_refusal(BOARDS_OF_OTHER_SIZES, &SpotFault::BoardSize),
+        None
+    );
+    assert_eq!(rt;
+        wrong_refusal(OTHER_COUNTS_OF_HANDS, &SpotFault::PlayerCount),
+        None
+    );
+    assert_eq!(rt; wrong_refusal(SHORT_DECKS, &SpotFault::DeckShort), None);
 }
 
-/// Returns whether each of these lines has its game and these numbers of cards: in the first two hands, on
-/// the board, and dead.
-fn all_sized(table: &[(&[u8], Game, [u32; 2], u32, u32)]) -> bool {
+/// Returns the first of these lines that doesn't have its game or these numbers of cards: in the first two
+/// hands, on the board, and dead.
+fn wrong_sizes(table: &[(&'static [u8], Game, [u32; 2], u32, u32)]) -> Option<&'static str> {
     for (line, game, own, board, dead) in table {
         match read_spot(line) {
             Ok(known) => {
                 let hands = [known.hands[0].count(), known.hands[1].count()];
                 let counts = (hands, known.board.count(), known.dead.count());
                 if known.game != *game || known.count != 2 || counts != (*own, *board, *dead) {
-                    return false;
+                    return Some(row_text(*line));
                 }
             }
-            Err(_) => return false,
+            Err(_) => return Some(row_text(*line)),
         }
     }
-    true
+    None
 }
 
 const SIZES: &[(&[u8], Game, [u32; 2], u32, u32)] = &[
@@ -404,7 +414,7 @@ const SIZES: &[(&[u8], Game, [u32; 2], u32, u32)] = &[
 
 #[test]
 fn each_game_has_its_sizes(rt: HostRuntime) {
-    assert!(rt; all_sized(SIZES));
+    assert_eq!(rt; wrong_sizes(SIZES), None);
 }
 
 /// Returns a line followed by a word several times.
@@ -437,15 +447,18 @@ fn is_short(line: &[u8]) -> Option<bool> {
     }
 }
 
-/// Returns whether the line, followed by each of these, leaves too few cards, as given.
-fn all_short(line: &mut Vec<u8>, table: &[(&[u8], bool)]) -> Result<bool, Fail> {
+/// Returns the first of these words after which the line leaves too few cards, or enough, other than given.
+fn wrong_words(
+    line: &mut Vec<u8>,
+    table: &[(&'static [u8], bool)],
+) -> Result<Option<&'static str>, Fail> {
     for (words, short) in table {
         line.extend_from_slice(words)?;
         if is_short(line) != Some(*short) {
-            return Ok(false);
+            return Ok(Some(row_text(*words)));
         }
     }
-    Ok(true)
+    Ok(None)
 }
 
 /// Four cards in two hands and 43 dead ones leave five, which the board needs.
@@ -458,18 +471,18 @@ const MORE_DEAD_CARDS: &[(&[u8], bool)] = &[
 #[test]
 fn dead_cards_may_leave_too_few_for_the_board(rt: HostRuntime) -> Result<(), Fail> {
     let mut line = crowded(rt.alloc())?;
-    assert!(rt; all_short(&mut line, MORE_DEAD_CARDS)?);
+    assert_eq!(rt; wrong_words(&mut line, MORE_DEAD_CARDS)?, None);
     Ok(())
 }
 
-/// Returns whether each of these lines has a word, or none.
-fn all_worded(table: &[(&[u8], bool)]) -> bool {
+/// Returns the first of these lines that has a word, or none, other than given.
+fn wrong_worded(table: &[(&'static [u8], bool)]) -> Option<&'static str> {
     for (line, has) in table {
         if has_word(line) != *has {
-            return false;
+            return Some(row_text(*line));
         }
     }
-    true
+    None
 }
 
 const WORDED: &[(&[u8], bool)] = &[
@@ -483,25 +496,37 @@ const WORDED: &[(&[u8], bool)] = &[
 
 #[test]
 fn a_line_of_spaces_and_tabs_has_no_word(rt: HostRuntime) {
-    assert!(rt; all_worded(WORDED));
+    assert_eq!(rt; wrong_worded(WORDED), None);
 }
 
 #[test]
 fn a_million_spaces_are_read(rt: HostRuntime) -> Result<(), Fail> {
     let spaces = repeated(rt.alloc(), b"", b" ", 1_000_000)?;
-    assert!(rt; !has_word(&spaces));
+    assert!(rt; !has_word(&spaces), "a line of spaces has no word");
     let mut line = repeated(rt.alloc(), b"holdem As Ah - Kd Qd", b" ", 1_000_000)?;
-    assert!(rt; fault_of(&line).is_none());
+    assert!(rt;
+        fault_of(&line).is_none(),
+        "spaces at the end change nothing"
+    );
     line.push(b'x')?;
-    assert!(rt; all_refused(&[&line], &SpotFault::BadCard));
+    assert!(rt;
+        fault_of(&line) == Some(SpotFault::BadCard),
+        "the word after the spaces is refused"
+    );
     Ok(())
 }
 
 #[test]
 fn long_lines_are_answered(rt: HostRuntime) -> Result<(), Fail> {
     let cards = repeated(rt.alloc(), b"holdem", b" 2c", 60_000)?;
-    assert!(rt; repeats(&cards, *b"2c"));
+    assert!(rt;
+        repeats(&cards, *b"2c"),
+        "a line of 60,000 times 2c is refused for 2c"
+    );
     let hands = repeated(rt.alloc(), b"holdem As Ah", b" -", 60_000)?;
-    assert!(rt; all_refused(&[&hands], &SpotFault::HandSize));
+    assert!(rt;
+        fault_of(&hands) == Some(SpotFault::HandSize),
+        "a line of 60,000 empty hands is refused for their size"
+    );
     Ok(())
 }

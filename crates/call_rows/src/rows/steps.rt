@@ -42,13 +42,18 @@ fn greatest_counted<L: Ledger>(left: &[u8], right: &[u8], blank: Blank) -> u8
 fn a_loop_is_counted_where_nobody_asks(rt: HostRuntime) -> Result<(), Fail> {
     assert_eq!(rt;
         greatest_counted::<Brand>(&[3, 9, 4], &[8, 1], Blank::new(1)),
-        9
+        9,
+        "the greatest byte of both lists"
     );
     Ok(())
 }
 
 #[test]
 fn the_counter_takes_no_bytes(rt: HostRuntime) -> Result<(), Fail> {
-    assert_eq!(rt; std::mem::size_of::<Steps<Brand>>(), 0);
+    assert_eq!(rt;
+        std::mem::size_of::<Steps<Brand>>(),
+        0,
+        "the bytes of a counter"
+    );
     Ok(())
 }

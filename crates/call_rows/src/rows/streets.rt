@@ -9,7 +9,7 @@ use crate::rows::deals::{Spot, known};
 use crate::rows::runouts::{
     DARK_DRAW, DARK_STUD, DRAW, FLOP, ONE_EACH, RIVER, STUD, TURN, TURN_AND_RIVER, has_slots,
 };
-use crate::rows::settling::{Ends, Units, is_tally, own_count};
+use crate::rows::settling::{Ends, Units, own_count, wrong_end, wrong_units};
 use card_sets::{Game, Known, Side};
 use equity_job::Scratch;
 use runout_ranges::{Receiver, Runout, Shape, Slot, first_runout, shape};
@@ -260,10 +260,19 @@ fn is_twice_the_count(table: &Table, runouts: u64) -> bool {
 /// The turn comes first and then the river, so each two cards come in two ways.
 #[test]
 fn a_runout_from_the_flop_divides_in_two_ways(rt: HostRuntime) -> Result<(), Fail> {
-    assert!(rt; is_next(&FLOP, &(RIVER, 45, 2, [4, 2, 2])));
-    assert!(rt; is_tally(&sum_at(&FLOP), 45 * 44, FLOP_ENDS, FLOP_UNITS));
+    assert!(rt;
+        is_next(&FLOP, &(RIVER, 45, 2, [4, 2, 2])),
+        "one of 45 cards comes, in two ways"
+    );
+    let sum = sum_at(&FLOP).ok_or("no sum")?;
+    assert_eq!(rt; sum.runouts(), 45 * 44, "the runouts of the sum");
+    assert_eq!(rt; wrong_end(&sum, FLOP_ENDS), None);
+    assert_eq!(rt; wrong_units(&sum, FLOP_UNITS), None);
     let table = table_at(&FLOP).ok_or("no table")?;
-    assert!(rt; is_twice_the_count(&table, 990));
+    assert!(rt;
+        is_twice_the_count(&table, 990),
+        "the sum has each of the 990 runouts twice"
+    );
     Ok(())
 }
 
@@ -278,21 +287,36 @@ fn sizes_at(spot: &Spot) -> [u32; 5] {
 /// Of four cards to come two are the flop's in six ways.
 #[test]
 fn a_board_of_one_card_goes_to_three(rt: HostRuntime) {
-    assert!(rt; is_next(&ONE_ON_BOARD, &(TURN_AND_RIVER, 47, 6, [3, 2, 2])));
-    assert!(rt; sizes_at(&ONE_ON_BOARD) == [1, 3, 4, 5, 0]);
+    assert!(rt;
+        is_next(&ONE_ON_BOARD, &(TURN_AND_RIVER, 47, 6, [3, 2, 2])),
+        "two of 47 cards come, in six ways"
+    );
+    assert!(rt;
+        sizes_at(&ONE_ON_BOARD) == [1, 3, 4, 5, 0],
+        "the board has one card, then three, four, and five"
+    );
 }
 
 /// Each of two hands with three cards to come gets one, in three ways. A hand that lacks none gets none.
 #[test]
 fn hands_of_stud_get_one_card(rt: HostRuntime) {
-    assert!(rt; is_next(&STUD, &(ONE_EACH, 44, 9, [0, 5, 5])));
+    assert!(rt;
+        is_next(&STUD, &(ONE_EACH, 44, 9, [0, 5, 5])),
+        "each hand gets a card, in nine ways"
+    );
 }
 
 /// All cards come at once.
 #[test]
-fn hands_of_draw_get_all_cards(rt: HostRuntime) {
-    assert!(rt; is_next(&DRAW, &(ONE_EACH, 44, 1, [0, 5, 5])));
-    assert!(rt; is_tally(&sum_at(&DRAW), 44 * 43, DRAW_ENDS, &[]));
+fn hands_of_draw_get_all_cards(rt: HostRuntime) -> Result<(), Fail> {
+    assert!(rt;
+        is_next(&DRAW, &(ONE_EACH, 44, 1, [0, 5, 5])),
+        "each hand gets a card, in one way"
+    );
+    let sum = sum_at(&DRAW).ok_or("no sum")?;
+    assert_eq!(rt; sum.runouts(), 44 * 43, "the runouts of the sum");
+    assert_eq!(rt; wrong_end(&sum, DRAW_ENDS), None);
+    Ok(())
 }
 
 /// Own cards that aren't known all come with the next street, and those of the board one by one.
@@ -302,14 +326,18 @@ fn own_cards_of_omaha_come_with_the_board(rt: HostRuntime) {
         is_next(
             &TWO_OWN_CARDS_KNOWN,
             &(TURN_AND_OWN_CARDS, 43, 2, [4, 4, 4])
-        )
+        ),
+        "a card for the board and two for the first hand come, in two ways"
     );
 }
 
 #[test]
-fn a_hand_that_lacks_a_card_of_omaha_is_summed(rt: HostRuntime) {
-    let sum = sum_at(&THREE_OWN_CARDS_KNOWN);
-    assert!(rt; is_tally(&sum, 41 * 40, FLUSH_ENDS, FLUSH_UNITS));
+fn a_hand_that_lacks_a_card_of_omaha_is_summed(rt: HostRuntime) -> Result<(), Fail> {
+    let sum = sum_at(&THREE_OWN_CARDS_KNOWN).ok_or("no sum")?;
+    assert_eq!(rt; sum.runouts(), 41 * 40, "the runouts of the sum");
+    assert_eq!(rt; wrong_end(&sum, FLUSH_ENDS), None);
+    assert_eq!(rt; wrong_units(&sum, FLUSH_UNITS), None);
+    Ok(())
 }
 
 /// Returns whether a state is that of the last street.
@@ -321,18 +349,33 @@ fn is_last(known: &Known) -> bool {
 /// street have 141,181,040, which divide in nine ways.
 #[test]
 fn sums_are_refused_by_name(rt: HostRuntime) {
-    assert!(rt; fault_at(&DARK_STUD) == Some(StreetFault::DeckShort));
-    assert!(rt; fault_at(&DARK_DRAW) == Some(StreetFault::AboveLimit));
-    assert!(rt; fault_at(&STUD) == Some(StreetFault::AboveLimit));
+    assert!(rt;
+        fault_at(&DARK_STUD) == Some(StreetFault::DeckShort),
+        "ten hands of stud need more than a deck"
+    );
+    assert!(rt;
+        fault_at(&DARK_DRAW) == Some(StreetFault::AboveLimit),
+        "ten hands of draw are above the limit"
+    );
+    assert!(rt;
+        fault_at(&STUD) == Some(StreetFault::AboveLimit),
+        "two hands of stud on fourth street are above the limit"
+    );
 }
 
 #[test]
 fn there_is_no_street_behind_the_river(rt: HostRuntime) -> Result<(), Fail> {
-    assert!(rt; sum_at(&TURN).is_some());
+    assert!(rt;
+        sum_at(&TURN).is_some(),
+        "the river is a street after the turn"
+    );
     let turn = known(&TURN).ok_or("not known")?;
     let river = behind(&turn).ok_or("no street")?;
-    assert!(rt; fault_of(&table_of(Some(river))) == Some(StreetFault::LastStreet));
-    assert!(rt; is_last(&river));
+    assert!(rt;
+        fault_of(&table_of(Some(river))) == Some(StreetFault::LastStreet),
+        "a sum after the river is refused"
+    );
+    assert!(rt; is_last(&river), "no street comes after the river");
     Ok(())
 }
 

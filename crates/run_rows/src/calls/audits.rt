@@ -10,6 +10,7 @@ use hand_audit::*;
 use history_text::{Street, is_header};
 use line_text::next_line;
 use std::alloc::Global;
+use std::test::Fail;
 
 /// A hand of four whose stacks make three pots, with one more player who sits out. Only the summary shows
 /// the winner of the last pot.
@@ -152,7 +153,10 @@ fn has_three_pots(settlement: &Option<Settlement>) -> bool {
 
 #[test]
 fn three_pots_are_collected_by_their_names(rt: HostRuntime) {
-    assert!(rt; has_three_pots(&settlement(rt.alloc(), THREE_POTS)));
+    assert!(rt;
+        has_three_pots(&settlement(rt.alloc(), THREE_POTS)),
+        "pots of 400, 600, and 600, each paid to its winner"
+    );
 }
 
 /// Returns the known cards of a hand's all-in if it is on this street with these seats, and one pot has
@@ -212,7 +216,10 @@ fn is_won_alone(audit: &Option<HandAudit>) -> bool {
 
 #[test]
 fn who_folds_behind_the_point_wins_no_pot(rt: HostRuntime) {
-    assert!(rt; is_won_alone(&audit(rt.alloc(), FOLDED_BEHIND)));
+    assert!(rt;
+        is_won_alone(&audit(rt.alloc(), FOLDED_BEHIND)),
+        "the cards are known on the flop, and only Bob may win the pot"
+    );
 }
 
 /// Returns whether the all-in of a hand is known.
@@ -268,7 +275,10 @@ fn is_turn_alone(streets: &Option<Vec<StreetState>>) -> bool {
 
 #[test]
 fn the_turn_is_known_after_an_all_in_on_the_flop(rt: HostRuntime) {
-    assert!(rt; is_turn_alone(&streets_after(rt.alloc(), FOLDED_BEHIND)));
+    assert!(rt;
+        is_turn_alone(&streets_after(rt.alloc(), FOLDED_BEHIND)),
+        "the turn is the only later street, and its cards are known"
+    );
 }
 
 /// A hand with antes, blinds, and dead chips, in which ann gets her raise back.
@@ -326,28 +336,27 @@ fn audit_chips(alloc: Global, bytes: &[u8]) -> Option<AuditedChips> {
     Some(AuditedChips { audit, chips })
 }
 
-/// Returns whether the seats from one on had and put in these chips.
-fn are_chips(chips: &[SeatChips], wanted: &[[u64; 2]]) -> bool {
-    match (chips, wanted) {
-        ([seat, seats @ ..], [[had, put], others @ ..]) => {
-            seat.had == *had && seat.put == *put && are_chips(seats, others)
+/// Returns the number of the first seat that didn't have, or didn't put in, these chips.
+fn wrong_seat(chips: &[SeatChips], wanted: &[[u64; 2]]) -> Option<usize> {
+    for (number, row) in wanted.iter().enumerate() {
+        let [had, put] = *row;
+        match chips.get(number) {
+            Some(seat) if seat.had == had && seat.put == put => {}
+            _ => return Some(number),
         }
-        (_, []) => true,
-        ([], _) => false,
     }
+    None
 }
 
-/// Returns whether a hand is accepted, and its seats had and put in these chips.
-fn has_chips(both: &Option<AuditedChips>, wanted: &[[u64; 2]]) -> bool {
-    match both {
-        Some(both) => {
-            matches!(both.audit, HandAudit::Accepted { .. }) && are_chips(&both.chips, wanted)
-        }
-        None => false,
-    }
+/// Returns whether a hand is accepted.
+fn is_accepted(audit: &HandAudit) -> bool {
+    matches!(audit, HandAudit::Accepted { .. })
 }
 
 #[test]
-fn what_comes_back_was_not_put_in(rt: HostRuntime) {
-    assert!(rt; has_chips(&audit_chips(rt.alloc(), RETURNED), &CHIPS));
+fn what_comes_back_was_not_put_in(rt: HostRuntime) -> Result<(), Fail> {
+    let both = audit_chips(rt.alloc(), RETURNED).ok_or("no chips")?;
+    assert!(rt; is_accepted(&both.audit), "the hand is accepted");
+    assert_eq!(rt; wrong_seat(&both.chips, &CHIPS), None);
+    Ok(())
 }

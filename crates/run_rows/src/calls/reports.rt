@@ -86,8 +86,14 @@ spot 4 rejected line 6 BadRange
 
 #[test]
 fn blocks_are_written_with_ample_memory(rt: HostRuntime) {
-    assert!(rt; have_text(&hand_blocks(rt.alloc()), HAND_BLOCKS));
-    assert!(rt; have_text(&other_blocks(rt.alloc()), OTHER_BLOCKS));
+    assert!(rt;
+        have_text(&hand_blocks(rt.alloc()), HAND_BLOCKS),
+        "the block of a hand without an all-in, and its totals"
+    );
+    assert!(rt;
+        have_text(&other_blocks(rt.alloc()), OTHER_BLOCKS),
+        "the block of an unknown street, and of two refused lines"
+    );
 }
 
 /// Returns the command of some words.
@@ -152,6 +158,12 @@ fn reads_two_ranges(alloc: Global, line: &[u8]) -> bool {
 #[test]
 fn words_and_ranges_are_read_with_ample_memory(rt: HostRuntime) {
     let words = ["results", "--workers", "16", "--format=csv"];
-    assert!(rt; asks_for_results(&command_of(rt.alloc(), &words)));
-    assert!(rt; reads_two_ranges(rt.alloc(), b"holdem AsAh - KsKh,QcQd:2 -- 2c 7d 9h 4s"));
+    assert!(rt;
+        asks_for_results(&command_of(rt.alloc(), &words)),
+        "the command asks for results as records by sixteen workers"
+    );
+    assert!(rt;
+        reads_two_ranges(rt.alloc(), b"holdem AsAh - KsKh,QcQd:2 -- 2c 7d 9h 4s"),
+        "a range of aces, and one of queens twice and kings once"
+    );
 }

@@ -99,7 +99,15 @@ fn an_input_above_the_limit_gives_nothing_by_workers(rt: HostRuntime) -> Result<
     let mut sink = sink_of(rt.alloc(), AMPLE)?;
     let mut source = above_the_limit();
     let status = run(&rt, rt.alloc(), &words, &mut source, &mut sink, &OpenGate);
-    assert!(rt; status == 5 && sink.bytes().is_empty());
+    assert_eq!(rt;
+        status,
+        5,
+        "the status of a run over an input above the limit"
+    );
+    assert!(rt;
+        sink.bytes().is_empty(),
+        "a run without a hand writes nothing"
+    );
     Ok(())
 }
 

@@ -4,6 +4,7 @@ ghost use Rattle.std.specs.Prelude.{◌≡◌, ◌<◌};
 
 use crate::equities::plain::count_plain;
 use crate::reports::listed::spots;
+use crate::runs::{holds, row_text};
 use card_sets::{Known, Side};
 use equity_job::{Job, Scratch, count_job};
 use report_table::table_alone;
@@ -100,18 +101,26 @@ fn is_spot_counted_alike(alloc: Global, line: &[u8], scratch: &mut Scratch) -> b
     is_counted_alike(alloc, &table_alone(known), scratch)
 }
 
-/// Returns whether all spots of a list are counted alike, in their order and in the reverse, whatever the
-/// memory contained before.
-fn are_counted_alike(rt: &impl Abort, alloc: Global, all: &[&[u8]], scratch: &mut Scratch) {
+/// All spots of a list must be counted alike, in their order and in the reverse, whatever the memory
+/// contained before.
+fn each_counts_alike(rt: &impl Abort, alloc: Global, all: &[&[u8]], scratch: &mut Scratch) {
     for line in all {
-        assert!(rt; is_spot_counted_alike(alloc, line, scratch));
+        holds(
+            rt,
+            is_spot_counted_alike(alloc, line, scratch),
+            row_text(line),
+        );
     }
     for line in all.iter().rev() {
-        assert!(rt; is_spot_counted_alike(alloc, line, scratch));
+        holds(
+            rt,
+            is_spot_counted_alike(alloc, line, scratch),
+            row_text(line),
+        );
     }
 }
 
 #[test]
 fn blocks_count_what_one_walk_counts(rt: HostRuntime) {
-    are_counted_alike(&rt, rt.alloc(), spots(), &mut Scratch::new());
+    each_counts_alike(&rt, rt.alloc(), spots(), &mut Scratch::new());
 }

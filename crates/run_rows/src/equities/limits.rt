@@ -5,6 +5,7 @@ ghost use Rattle.card_sets.specs.State.{state_of};
 ghost use Rattle.job_blocks.specs.Blocks.{blocks_of};
 ghost use Rattle.showdown_tally.specs.Tallies.{runouts_after};
 
+use crate::runs::row_text;
 use card_sets::Side;
 use equity_job::{Job, JobFault, Scratch, count_block};
 use report_table::table_alone;
@@ -43,16 +44,24 @@ fn job_of(line: &[u8]) -> Option<Job> {
     }
 }
 
-/// One dead card more or less decides whether a spot is counted.
-#[test]
-fn most_runouts_and_more(rt: HostRuntime) {
-    for (line, sizes) in SIZES {
+/// Returns the first of these spot lines that doesn't have its numbers of runouts and of blocks.
+fn wrong_size(table: &[(&'static [u8], Option<(u64, u32)>)]) -> Option<&'static str> {
+    for (line, sizes) in table {
         let found = match job_of(line) {
             Some(job) => Some((job.runouts(), job.blocks())),
             None => None,
         };
-        assert!(rt; found == *sizes);
+        if found != *sizes {
+            return Some(row_text(*line));
+        }
     }
+    None
+}
+
+/// One dead card more or less decides whether a spot is counted.
+#[test]
+fn most_runouts_and_more(rt: HostRuntime) {
+    assert_eq!(rt; wrong_size(SIZES), None);
 }
 
 /// Returns the tally of the first block of a job, with a counter of its own.
@@ -78,9 +87,17 @@ fn wins(tally: &Tally, hand: u8, win: u64, lose: u64) -> bool
 #[test]
 fn the_first_of_many_blocks(rt: HostRuntime) -> Result<(), Fail> {
     let job = job_of(FOURTH_STREET).ok_or("no job")?;
-    assert!(rt; 0 < job.blocks());
+    assert!(rt; 0 < job.blocks(), "the spot has a block");
     let tally = first_block::<Brand>(&job, Blank::new(1));
-    let are_won = wins(&tally, 0, 65_536, 0) && wins(&tally, 1, 0, 65_536);
-    assert!(rt; are_won && wins(&tally, 2, 0, 0) && tally.runouts() == 65_536);
+    assert!(rt;
+        wins(&tally, 0, 65_536, 0),
+        "the aces win each runout of the block"
+    );
+    assert!(rt;
+        wins(&tally, 1, 0, 65_536),
+        "the kings lose each runout of the block"
+    );
+    assert!(rt; wins(&tally, 2, 0, 0), "there is no third hand");
+    assert_eq!(rt; tally.runouts(), 65_536, "the runouts of the block");
     Ok(())
 }

@@ -8,6 +8,7 @@ use byte_ends::{
 use std::alloc::Global;
 use std::io;
 use std::io::{ErrorKind, Read, Write};
+use std::test::Fail;
 
 /// A reader and a writer whose every call fails.
 #[derive(Drop)]
@@ -129,34 +130,37 @@ fn reads<S: Source>(
     source.read(&mut piece[..size]) == wanted && piece.ends_with(end)
 }
 
-/// Returns whether each of these reads has its result.
-fn all_read<S: Source>(source: &mut S, piece: &mut [u8], turns: &[Turn]) -> bool {
-    for (size, wanted, end) in turns {
-        if !reads(source, piece, *size, *wanted, end) {
-            return false;
+/// Returns the place of the first of these reads that doesn't have its result.
+fn wrong_read<S: Source>(source: &mut S, piece: &mut [u8], turns: &[Turn]) -> Option<usize> {
+    for (place, turn) in turns.iter().enumerate() {
+        let (size, wanted, end) = *turn;
+        if !reads(source, piece, size, wanted, end) {
+            return Some(place);
         }
     }
-    true
+    None
 }
 
-/// Returns whether the given number of bytes is taken of each of these, or the write fails.
-fn all_take<K: Sink>(sink: &mut K, turns: &[Taken]) -> bool {
-    for (bytes, wanted) in turns {
-        if sink.write(bytes) != *wanted {
-            return false;
+/// Returns the place of the first of these writes that doesn't have its result.
+fn wrong_write<K: Sink>(sink: &mut K, turns: &[Taken]) -> Option<usize> {
+    for (place, turn) in turns.iter().enumerate() {
+        let (bytes, wanted) = *turn;
+        if sink.write(bytes) != wanted {
+            return Some(place);
         }
     }
-    true
+    None
 }
 
-/// Returns whether each of these is written completely, or its write fails.
-fn all_write<K: Sink>(sink: &mut K, turns: &[Whole]) -> bool {
-    for (bytes, wanted) in turns {
-        if write_all(sink, bytes) != *wanted {
-            return false;
+/// Returns the place of the first of these complete writes that doesn't have its result.
+fn wrong_whole<K: Sink>(sink: &mut K, turns: &[Whole]) -> Option<usize> {
+    for (place, turn) in turns.iter().enumerate() {
+        let (bytes, wanted) = *turn;
+        if write_all(sink, bytes) != wanted {
+            return Some(place);
         }
     }
-    true
+    None
 }
 
 /// Returns whether these are the bytes that a sink has taken.
@@ -196,24 +200,18 @@ fn failing_sink(alloc: Global, room: usize, piece: usize) -> Option<MemorySink>
     MemorySink::new(alloc, room, piece, fails).ok()
 }
 
-/// Returns whether there is a source, and its reads have these results.
-fn gives(source: Option<MemorySource>, piece: &mut [u8], turns: &[Turn]) -> bool {
-    match source {
-        Some(mut source) => all_read(&mut source, piece, turns),
-        None => false,
-    }
+#[test]
+fn a_memory_source_gives_its_bytes_in_pieces_and_then_the_end(rt: HostRuntime) -> Result<(), Fail> {
+    let mut source = source_of(rt.alloc(), b"abcdefgh", 3).ok_or("no memory")?;
+    assert_eq!(rt; wrong_read(&mut source, &mut [b'-'; 4], PIECES), None);
+    Ok(())
 }
 
 #[test]
-fn a_memory_source_gives_its_bytes_in_pieces_and_then_the_end(rt: HostRuntime) {
-    let source = source_of(rt.alloc(), b"abcdefgh", 3);
-    assert!(rt; gives(source, &mut [b'-'; 4], PIECES));
-}
-
-#[test]
-fn the_listed_reads_fail_and_lose_no_byte(rt: HostRuntime) {
-    let source = failing_source(rt.alloc(), b"abcd", 2);
-    assert!(rt; gives(source, &mut [b'-'; 2], FAILING));
+fn the_listed_reads_fail_and_lose_no_byte(rt: HostRuntime) -> Result<(), Fail> {
+    let mut source = failing_source(rt.alloc(), b"abcd", 2).ok_or("no memory")?;
+    assert_eq!(rt; wrong_read(&mut source, &mut [b'-'; 2], FAILING), None);
+    Ok(())
 }
 
 /// Returns a source that repeats a line of x, up to `left` bytes.
@@ -228,71 +226,74 @@ fn repeated(left: u64, piece: usize) -> RepeatSource
 #[test]
 fn a_repeat_source_gives_its_line_again_and_again_and_then_the_end(rt: HostRuntime) {
     let mut source = repeated(130, 66);
-    assert!(rt; all_read(&mut source, &mut [b'-'; 70], REPEATED));
-}
-
-/// Returns whether there is a sink, it takes these parts of the pieces, and it has taken these bytes in
-/// all.
-fn takes(sink: Option<MemorySink>, turns: &[Taken], bytes: &[u8]) -> bool {
-    match sink {
-        Some(mut sink) => all_take(&mut sink, turns) && has_taken(&sink, bytes),
-        None => false,
-    }
+    assert_eq!(rt; wrong_read(&mut source, &mut [b'-'; 70], REPEATED), None);
 }
 
 #[test]
-fn a_memory_sink_takes_pieces_until_its_room_is_full(rt: HostRuntime) {
-    assert!(rt; takes(sink_of(rt.alloc(), 5, 3), FILLING, b"abcde"));
-}
-
-/// Returns whether there is a sink that has taken the first bytes after the first writes, and the second
-/// after the others.
-fn writes(
-    sink: Option<MemorySink>,
-    first: &[Whole],
-    taken: &[u8],
-    others: &[Whole],
-    all: &[u8],
-) -> bool {
-    match sink {
-        Some(mut sink) => {
-            all_write(&mut sink, first)
-                && has_taken(&sink, taken)
-                && all_write(&mut sink, others)
-                && has_taken(&sink, all)
-        }
-        None => false,
-    }
+fn a_memory_sink_takes_pieces_until_its_room_is_full(rt: HostRuntime) -> Result<(), Fail> {
+    let mut sink = sink_of(rt.alloc(), 5, 3).ok_or("no memory")?;
+    assert_eq!(rt; wrong_write(&mut sink, FILLING), None);
+    assert!(rt;
+        has_taken(&sink, b"abcde"),
+        "the sink contains the five bytes that fit"
+    );
+    Ok(())
 }
 
 #[test]
-fn all_is_written_where_no_write_fails(rt: HostRuntime) {
-    let sink = sink_of(rt.alloc(), 7, 2);
-    assert!(rt; writes(sink, FITTING, b"abcdefg", TOO_MANY, b"abcdefg"));
+fn all_is_written_where_no_write_fails(rt: HostRuntime) -> Result<(), Fail> {
+    let mut sink = sink_of(rt.alloc(), 7, 2).ok_or("no memory")?;
+    assert_eq!(rt; wrong_whole(&mut sink, FITTING), None);
+    assert!(rt; has_taken(&sink, b"abcdefg"), "the sink contains all bytes");
+    assert_eq!(rt; wrong_whole(&mut sink, TOO_MANY), None);
+    assert!(rt;
+        has_taken(&sink, b"abcdefg"),
+        "a full sink contains the same bytes after a refused write"
+    );
+    Ok(())
 }
 
 #[test]
-fn a_front_is_written_where_a_write_fails(rt: HostRuntime) {
-    let sink = failing_sink(rt.alloc(), 7, 2);
-    assert!(rt; writes(sink, CUT, b"abcd", BEHIND, b"abcdxyz"));
+fn a_front_is_written_where_a_write_fails(rt: HostRuntime) -> Result<(), Fail> {
+    let mut sink = failing_sink(rt.alloc(), 7, 2).ok_or("no memory")?;
+    assert_eq!(rt; wrong_whole(&mut sink, CUT), None);
+    assert!(rt;
+        has_taken(&sink, b"abcd"),
+        "the sink contains the bytes before the failed write"
+    );
+    assert_eq!(rt; wrong_whole(&mut sink, BEHIND), None);
+    assert!(rt;
+        has_taken(&sink, b"abcdxyz"),
+        "the bytes of the next write follow"
+    );
+    Ok(())
 }
 
 #[test]
 fn a_standard_source_reads_its_reader_and_fails_where_that_fails(rt: HostRuntime) {
     let mut piece = [b'-'; 2];
-    assert!(rt; all_read(&mut StdSource::new(b"abc".as_slice()), &mut piece, STANDARD));
-    assert!(rt; all_read(&mut StdSource::new(Broken), &mut piece, BROKEN));
+    assert_eq!(rt;
+        wrong_read(&mut StdSource::new(b"abc".as_slice()), &mut piece, STANDARD),
+        None
+    );
+    assert_eq!(rt;
+        wrong_read(&mut StdSource::new(Broken), &mut piece, BROKEN),
+        None
+    );
 }
 
 #[test]
 fn a_standard_sink_writes_its_writer(rt: HostRuntime) {
     let mut taken = Vec::new(rt.alloc());
-    assert!(rt; all_write(&mut StdSink::new(&mut taken), FIVE));
-    assert!(rt; taken.as_slice() == b"abcde".as_slice());
+    assert_eq!(rt; wrong_whole(&mut StdSink::new(&mut taken), FIVE), None);
+    assert!(rt;
+        taken.as_slice() == b"abcde".as_slice(),
+        "the writer has all five bytes"
+    );
 }
 
 #[test]
 fn a_standard_sink_fails_where_its_writer_fails_or_takes_nothing(rt: HostRuntime) {
-    assert!(rt; all_take(&mut StdSink::new(Broken), REFUSED));
-    assert!(rt; all_take(&mut StdSink::new(Closed), NOT_TAKEN));
+    assert_eq!(rt; wrong_write(&mut StdSink::new(Broken), REFUSED), None);
+    assert_eq!(rt; wrong_write(&mut StdSink::new(Closed), NOT_TAKEN), None);
 }

@@ -1,5 +1,6 @@
 //! Lines and amounts.
 
+use crate::rows::row_text;
 use line_text::{AmountFault, GREATEST, next_line, read_amount};
 
 /// Where the text of the line at a place begins and ends, and where the next line begins.
@@ -36,14 +37,14 @@ fn has_texts(bytes: &[u8], texts: &[&[u8]]) -> bool {
     at == bytes.len() && cut_at(bytes, at).is_none()
 }
 
-/// Returns whether each of these texts has the lines next to it.
-fn all_cut(table: &[(&[u8], &[&[u8]])]) -> bool {
+/// Returns the first of these texts that doesn't have the lines next to it.
+fn wrong_cut(table: &[(&'static [u8], &[&[u8]])]) -> Option<&'static str> {
     for (bytes, texts) in table {
         if !has_texts(bytes, texts) {
-            return false;
+            return Some(row_text(*bytes));
         }
     }
-    true
+    None
 }
 
 const TEXTS: &[(&[u8], &[&[u8]])] = &[
@@ -64,17 +65,17 @@ const TEXTS: &[(&[u8], &[&[u8]])] = &[
 
 #[test]
 fn each_text_is_cut_into_its_lines(rt: HostRuntime) {
-    assert!(rt; all_cut(TEXTS));
+    assert_eq!(rt; wrong_cut(TEXTS), None);
 }
 
-/// Returns whether the line at each of these places of a text has the places next to it.
-fn all_placed(bytes: &[u8], table: &[(usize, Option<(usize, usize, usize)>)]) -> bool {
+/// Returns the first of these places of a text whose line doesn't have the places next to it.
+fn wrong_place(bytes: &[u8], table: &[(usize, Option<(usize, usize, usize)>)]) -> Option<usize> {
     for (at, wanted) in table {
         if cut_at(bytes, *at) != *wanted {
-            return false;
+            return Some(*at);
         }
     }
-    true
+    None
 }
 
 const TWO_LINES: &[u8] = b"\xef\xbb\xbfab \r\ncd";
@@ -87,7 +88,7 @@ const PLACES: &[(usize, Option<(usize, usize, usize)>)] = &[
 
 #[test]
 fn a_line_tells_where_its_text_and_the_next_line_begin(rt: HostRuntime) {
-    assert!(rt; all_placed(TWO_LINES, PLACES));
+    assert_eq!(rt; wrong_place(TWO_LINES, PLACES), None);
 }
 
 /// Returns whether the amount at a place of a text has these units and ends at that place, or has this
@@ -105,15 +106,17 @@ fn is_read(
     }
 }
 
-/// Returns whether each of these texts begins with an amount of these units and length, or has its
-/// fault.
-fn all_read(table: &[(&[u8], bool, Result<(u64, usize), AmountFault>)]) -> bool {
+/// Returns the first of these texts that doesn't begin with an amount of its units and length, or doesn't
+/// have its fault.
+fn wrong_amount(
+    table: &[(&'static [u8], bool, Result<(u64, usize), AmountFault>)],
+) -> Option<&'static str> {
     for (text, hundredths, wanted) in table {
         if !is_read(text, 0, *hundredths, *wanted) {
-            return false;
+            return Some(row_text(*text));
         }
     }
-    true
+    None
 }
 
 const AMOUNTS: &[(&[u8], bool, Result<(u64, usize), AmountFault>)] = &[
@@ -140,6 +143,9 @@ const AMOUNTS: &[(&[u8], bool, Result<(u64, usize), AmountFault>)] = &[
 
 #[test]
 fn amounts_are_read(rt: HostRuntime) {
-    assert!(rt; all_read(AMOUNTS));
-    assert!(rt; is_read(b"1", 2, false, Err(AmountFault::NotAmount)));
+    assert_eq!(rt; wrong_amount(AMOUNTS), None);
+    assert!(rt;
+        is_read(b"1", 2, false, Err(AmountFault::NotAmount)),
+        "there is no amount after the end of a text"
+    );
 }

@@ -3,6 +3,7 @@
 use crate::rows::histories::names::{SEATED, names_of};
 use card_sets::Game;
 use history_text::*;
+use std::test::Fail;
 
 /// Returns the event of a line of play in a game.
 fn played(names: &Names, game: Game, line: &[u8]) -> Result<Event, TextFault> {
@@ -40,23 +41,22 @@ fn is_dealt(
     }
 }
 
-/// Returns whether each of these lines has its seat and its number of cards, or its fault.
-fn all_dealt(
-    names: &Option<Names>,
-    table: &[(Game, &[u8], Result<(u8, usize), TextFault>)],
-) -> bool {
-    let Some(names) = names else {
-        return false;
-    };
-    for (game, line, wanted) in table {
+/// A line of a game, and its seat and number of cards, or its fault.
+type Dealt = (Game, &'static [u8], Result<(u8, usize), TextFault>);
+
+/// Returns the place of the first of these lines that doesn't have its seat and its number of cards, or
+/// its fault.
+fn wrong_deal(names: &Names, table: &[Dealt]) -> Option<usize> {
+    for (place, row) in table.iter().enumerate() {
+        let (game, line, wanted) = row;
         if !is_dealt(names, *game, line, wanted) {
-            return false;
+            return Some(place);
         }
     }
-    true
+    None
 }
 
-const DEALS: &[(Game, &[u8], Result<(u8, usize), TextFault>)] = &[
+const DEALS: &[Dealt] = &[
     (Game::Omaha, b"Dealt to carl [As Ks Qs Js]", Ok((3, 4))),
     (
         Game::Omaha,
@@ -125,9 +125,10 @@ const DEALS: &[(Game, &[u8], Result<(u8, usize), TextFault>)] = &[
 ];
 
 #[test]
-fn each_game_has_its_deals_and_draws(rt: HostRuntime) {
-    let names = names_of(rt.alloc(), SEATED);
-    assert!(rt; all_dealt(&names, DEALS));
+fn each_game_has_its_deals_and_draws(rt: HostRuntime) -> Result<(), Fail> {
+    let names = names_of(rt.alloc(), SEATED).ok_or("no memory")?;
+    assert_eq!(rt; wrong_deal(&names, DEALS), None);
+    Ok(())
 }
 
 /// Returns the street that a marker begins in a game, or `None` if the line isn't a marker of the
@@ -148,17 +149,15 @@ fn is_marked(names: &Names, game: Game, line: &[u8], wanted: Option<Street>) -> 
     }
 }
 
-/// Returns whether each of these markers begins its street.
-fn all_marked(names: &Option<Names>, table: &[(Game, &[u8], Option<Street>)]) -> bool {
-    let Some(names) = names else {
-        return false;
-    };
-    for (game, line, wanted) in table {
+/// Returns the place of the first of these markers that doesn't begin its street.
+fn wrong_marker(names: &Names, table: &[(Game, &[u8], Option<Street>)]) -> Option<usize> {
+    for (place, row) in table.iter().enumerate() {
+        let (game, line, wanted) = row;
         if !is_marked(names, *game, line, *wanted) {
-            return false;
+            return Some(place);
         }
     }
-    true
+    None
 }
 
 const MARKERS: &[(Game, &[u8], Option<Street>)] = &[
@@ -208,7 +207,8 @@ const MARKERS: &[(Game, &[u8], Option<Street>)] = &[
 ];
 
 #[test]
-fn each_game_has_its_markers(rt: HostRuntime) {
-    let names = names_of(rt.alloc(), SEATED);
-    assert!(rt; all_marked(&names, MARKERS));
+fn each_game_has_its_markers(rt: HostRuntime) -> Result<(), Fail> {
+    let names = names_of(rt.alloc(), SEATED).ok_or("no memory")?;
+    assert_eq!(rt; wrong_marker(&names, MARKERS), None);
+    Ok(())
 }

@@ -1,5 +1,6 @@
 //! Header lines as a site writes them.
 
+use crate::rows::row_text;
 use card_sets::Game;
 use history_text::*;
 
@@ -27,14 +28,14 @@ fn of(game: Game, limit: Limit, hundredths: bool, big: u64) -> Header {
     }
 }
 
-/// Returns whether each of these lines has its header.
-fn all_headers(table: &[(&[u8], Game, Limit, bool, u64)]) -> bool {
+/// Returns the first of these lines that doesn't have its header.
+fn wrong_header(table: &[(&'static [u8], Game, Limit, bool, u64)]) -> Option<&'static str> {
     for (line, game, limit, hundredths, big) in table {
         if !says_header(line, &of(*game, *limit, *hundredths, *big)) {
-            return false;
+            return Some(row_text(*line));
         }
     }
-    true
+    None
 }
 
 /// Returns whether a line is no header line.
@@ -125,8 +126,11 @@ const HEADERS: &[(&[u8], Game, Limit, bool, u64)] = &[
 
 #[test]
 fn headers_are_read(rt: HostRuntime) {
-    assert!(rt; all_headers(HEADERS));
-    assert!(rt; is_no_header(b"PokerStars Hand #x"));
+    assert_eq!(rt; wrong_header(HEADERS), None);
+    assert!(rt;
+        is_no_header(b"PokerStars Hand #x"),
+        "a header line has digits after the #"
+    );
 }
 
 /// Returns whether a line is a header line with the number of the hand at this place.
@@ -136,7 +140,10 @@ fn is_numbered(line: &[u8], place: (usize, usize)) -> bool {
 
 #[test]
 fn the_number_of_a_hand_is_found(rt: HostRuntime) {
-    assert!(rt; is_numbered(CASH_TITLE, (17, 29)));
+    assert!(rt;
+        is_numbered(CASH_TITLE, (17, 29)),
+        "the number begins at 17 and ends before 29"
+    );
 }
 
 /// Returns whether a header line has a fault.
@@ -150,14 +157,14 @@ fn has_header_fault(line: &[u8], fault: TextFault) -> bool {
     }
 }
 
-/// Returns whether each of these header lines has its fault.
-fn all_refused(table: &[(&[u8], TextFault)]) -> bool {
+/// Returns the first of these header lines that doesn't have its fault.
+fn wrong_fault(table: &[(&'static [u8], TextFault)]) -> Option<&'static str> {
     for (line, fault) in table {
         if !has_header_fault(line, *fault) {
-            return false;
+            return Some(row_text(*line));
         }
     }
-    true
+    None
 }
 
 const HEADER_FAULTS: &[(&[u8], TextFault)] = &[
@@ -202,5 +209,5 @@ const HEADER_FAULTS: &[(&[u8], TextFault)] = &[
 
 #[test]
 fn headers_have_four_faults(rt: HostRuntime) {
-    assert!(rt; all_refused(HEADER_FAULTS));
+    assert_eq!(rt; wrong_fault(HEADER_FAULTS), None);
 }

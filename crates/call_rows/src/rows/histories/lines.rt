@@ -1,8 +1,10 @@
 //! Lines of a hand as a site writes them, and their faults.
 
 use crate::rows::histories::names::{SEATED, names_of};
+use crate::rows::row_text;
 use card_sets::Game;
 use history_text::*;
+use std::test::Fail;
 
 const CASH: Header = Header {
     game: Game::Holdem,
@@ -19,17 +21,14 @@ fn has_fault(names: &Names, part: Part, line: &[u8], fault: TextFault) -> bool {
     }
 }
 
-/// Returns whether each of these lines has its fault, in a hand with these names.
-fn all_faulty(names: &Option<Names>, table: &[(Part, &[u8], TextFault)]) -> bool {
-    let Some(names) = names else {
-        return false;
-    };
+/// Returns the first of these lines that doesn't have its fault, in a hand with these names.
+fn wrong_fault(names: &Names, table: &[(Part, &'static [u8], TextFault)]) -> Option<&'static str> {
     for (part, line, fault) in table {
         if !has_fault(names, *part, line, *fault) {
-            return false;
+            return Some(row_text(*line));
         }
     }
-    true
+    None
 }
 
 const LINE_FAULTS: &[(Part, &[u8], TextFault)] = &[
@@ -101,9 +100,10 @@ const LINE_FAULTS: &[(Part, &[u8], TextFault)] = &[
 ];
 
 #[test]
-fn lines_have_their_first_fault(rt: HostRuntime) {
-    let names = names_of(rt.alloc(), SEATED);
-    assert!(rt; all_faulty(&names, LINE_FAULTS));
+fn lines_have_their_first_fault(rt: HostRuntime) -> Result<(), Fail> {
+    let names = names_of(rt.alloc(), SEATED).ok_or("no memory")?;
+    assert_eq!(rt; wrong_fault(&names, LINE_FAULTS), None);
+    Ok(())
 }
 
 /// Returns whether an event is this act of a seat.
@@ -158,24 +158,27 @@ fn is_total(names: &Names, line: &[u8], pot: u64, taken: u64) -> bool {
     }
 }
 
-/// Returns whether each of these lines is this act of a seat.
-fn all_acts(names: &Names, table: &[(&[u8], u8, Act, bool)]) -> bool {
+/// Returns the first of these lines that isn't this act of a seat.
+fn wrong_act(names: &Names, table: &[(&'static [u8], u8, Act, bool)]) -> Option<&'static str> {
     for (line, seat, act, last) in table {
         if !is_act(names, line, *seat, *act, *last) {
-            return false;
+            return Some(row_text(*line));
         }
     }
-    true
+    None
 }
 
-/// Returns whether each of these lines is this marker.
-fn all_markers(names: &Names, table: &[(&[u8], Street, BoardNumber, usize)]) -> bool {
+/// Returns the first of these lines that isn't this marker.
+fn wrong_marker(
+    names: &Names,
+    table: &[(&'static [u8], Street, BoardNumber, usize)],
+) -> Option<&'static str> {
     for (line, street, board, new) in table {
         if !is_marker(names, line, *street, *board, *new) {
-            return false;
+            return Some(row_text(*line));
         }
     }
-    true
+    None
 }
 
 const ACTS: &[(&[u8], u8, Act, bool)] = &[
@@ -207,20 +210,18 @@ const SEAT: &[u8] = b"Seat 5: emil ($100 in chips)";
 
 const TOTAL: &[u8] = b"Total pot $121 | Rake $2.50";
 
-/// Returns whether acts, markers, a seat, and a total are read.
-fn all_read(names: &Option<Names>) -> bool {
-    match names {
-        Some(names) => {
-            all_acts(names, ACTS)
-                && all_markers(names, BOARDS)
-                && is_seat(names, SEAT, 5, 10000, (8, 12))
-                && is_total(names, TOTAL, 12100, 250)
-        }
-        None => false,
-    }
-}
-
 #[test]
-fn lines_are_read(rt: HostRuntime) {
-    assert!(rt; all_read(&names_of(rt.alloc(), SEATED)));
+fn lines_are_read(rt: HostRuntime) -> Result<(), Fail> {
+    let names = names_of(rt.alloc(), SEATED).ok_or("no memory")?;
+    assert_eq!(rt; wrong_act(&names, ACTS), None);
+    assert_eq!(rt; wrong_marker(&names, BOARDS), None);
+    assert!(rt;
+        is_seat(&names, SEAT, 5, 10000, (8, 12)),
+        "a seat line has a seat, chips, and a name"
+    );
+    assert!(rt;
+        is_total(&names, TOTAL, 12100, 250),
+        "a total line has the pot and the rake"
+    );
+    Ok(())
 }

@@ -107,19 +107,19 @@ fn is_made(alloc: Global, seed: u64, hands: u32, text: &str) -> bool {
     }
 }
 
-/// Returns whether each of these seeds has its text.
-fn all_made(alloc: Global, table: &[(u64, u32, &str)]) -> bool {
+/// Returns the first of these seeds whose hands don't have their text, and the number of hands.
+fn wrong_seed(alloc: Global, table: &[(u64, u32, &str)]) -> Option<(u64, u32)> {
     for (seed, hands, text) in table {
         if !is_made(alloc, *seed, *hands, *text) {
-            return false;
+            return Some((*seed, *hands));
         }
     }
-    true
+    None
 }
 
 #[test]
 fn hands_are_those_of_another_program(rt: HostRuntime) {
-    assert!(rt; all_made(rt.alloc(), MADE));
+    assert_eq!(rt; wrong_seed(rt.alloc(), MADE), None);
 }
 
 /// Returns whether the text of 200 hands has the most bytes that it may have.
@@ -132,5 +132,8 @@ fn is_long(alloc: Global, seed: u64) -> bool {
 
 #[test]
 fn ample_memory_suffices(rt: HostRuntime) {
-    assert!(rt; is_long(rt.alloc(), u64::MAX));
+    assert!(rt;
+        is_long(rt.alloc(), u64::MAX),
+        "200 hands have 400 to 1,000 bytes each on average"
+    );
 }

@@ -5,9 +5,11 @@ ghost use Rattle.betting_replay.specs.Events.{SeatFits};
 ghost use Rattle.betting_replay.specs.Limits.{ActFits, AmountsFit};
 
 use crate::rows::histories::names::names_of;
+use crate::rows::row_text;
 use betting_replay::{BetFault, Replay};
 use card_sets::{Card, Game};
 use history_text::{Act, Event, Header, Limit, Names, Part, Street, read_line};
+use std::test::Fail;
 
 mod all_in;
 mod boards;
@@ -118,9 +120,35 @@ fn step_lines(
     Some((lines.len(), None))
 }
 
+/// Applies the lines of a part. Returns the first line that isn't accepted.
+fn refused_in(
+    replay: &mut Replay,
+    names: &Names,
+    header: &Header,
+    part: Part,
+    lines: &[&'static [u8]],
+) -> Option<&'static str> {
+    for line in lines {
+        match step_line(replay, names, header, part, *line) {
+            Some(Ok(())) => {}
+            _ => return Some(row_text(*line)),
+        }
+    }
+    None
+}
+
+/// Applies lines of a hand with stakes of a half and a dollar. Returns the first line that isn't accepted.
+fn refused_line(
+    replay: &mut Replay,
+    names: &Names,
+    lines: &[&'static [u8]],
+) -> Option<&'static str> {
+    refused_in(replay, names, &DOLLARS, Part::Preamble, lines)
+}
+
 /// Returns whether all of some lines are accepted.
-fn all_stand(replay: &mut Replay, names: &Names, lines: &[&[u8]]) -> bool {
-    step_lines(replay, names, lines) == Some((lines.len(), None))
+fn all_stand(replay: &mut Replay, names: &Names, lines: &[&'static [u8]]) -> bool {
+    refused_line(replay, names, lines).is_none()
 }
 
 /// Returns whether all of some lines are accepted except the last, which is refused for this fault.
@@ -197,24 +225,30 @@ fn has_shown(replay: &Replay) -> bool {
         && shown.has(card(50))
 }
 
-/// Returns whether the hand goes on and ends in this way.
-fn is_stepped_through(names: &Option<Names>) -> bool {
-    let Some(names) = names else {
-        return false;
-    };
-    let mut replay = Replay::new(&DOLLARS, 6);
-    all_stand(&mut replay, names, &TWO_SEATS)
-        && is_before_the_flop(&replay)
-        && all_stand(&mut replay, names, &FLOP)
-        && is_behind_the_flop(&replay)
-        && all_stand(&mut replay, names, &REST)
-        && has_shown(&replay)
-        && has_boards(&replay)
-}
-
 #[test]
-fn a_hand_of_two_is_stepped_through(rt: HostRuntime) {
-    assert!(rt; is_stepped_through(&names_of(rt.alloc(), THREE_NAMES)));
+fn a_hand_of_two_is_stepped_through(rt: HostRuntime) -> Result<(), Fail> {
+    let names = names_of(rt.alloc(), THREE_NAMES).ok_or("no memory")?;
+    let mut replay = Replay::new(&DOLLARS, 6);
+    assert_eq!(rt; refused_line(&mut replay, &names, &TWO_SEATS), None);
+    assert!(rt;
+        is_before_the_flop(&replay),
+        "before the flop nobody owes an act, and Ann has the button"
+    );
+    assert_eq!(rt; refused_line(&mut replay, &names, &FLOP), None);
+    assert!(rt;
+        is_behind_the_flop(&replay),
+        "on the turn Ann owes an act and has 47 dollars"
+    );
+    assert_eq!(rt; refused_line(&mut replay, &names, &REST), None);
+    assert!(rt;
+        has_shown(&replay),
+        "Ann and Bob have shown, and Ann has aces"
+    );
+    assert!(rt;
+        has_boards(&replay),
+        "the flop has 3 cards, the turn has 4, and Jc is the river"
+    );
+    Ok(())
 }
 
 /// Three seats, the third with little, and the cards before the flop.
@@ -227,26 +261,26 @@ const THREE_SEATS: [&[u8]; 6] = [
     b"*** HOLE CARDS ***",
 ];
 
-/// Returns whether the last line of each of these lists is refused after the lines of three seats.
-fn all_refused(names: &Option<Names>, table: &[(&[&[u8]], BetFault)]) -> bool {
-    let Some(names) = names else {
-        return false;
-    };
-    for (lines, fault) in table {
+/// Returns the place of the first of these lists whose last line isn't refused for its fault after the
+/// lines of three seats.
+fn wrong_refusal(names: &Names, table: &[(&[&[u8]], BetFault)]) -> Option<usize> {
+    for (place, row) in table.iter().enumerate() {
+        let (lines, fault) = row;
         let mut replay = Replay::new(&DOLLARS, 14);
         if !all_stand(&mut replay, names, &THREE_SEATS)
             || !is_refused(&mut replay, names, lines, fault)
         {
-            return false;
+            return Some(place);
         }
     }
-    true
+    None
 }
 
 #[test]
-fn each_refusal_comes_with_what_it_carries(rt: HostRuntime) {
-    let names = names_of(rt.alloc(), THREE_NAMES);
-    assert!(rt; all_refused(&names, &refusals()));
+fn each_refusal_comes_with_what_it_carries(rt: HostRuntime) -> Result<(), Fail> {
+    let names = names_of(rt.alloc(), THREE_NAMES).ok_or("no memory")?;
+    assert_eq!(rt; wrong_refusal(&names, &refusals()), None);
+    Ok(())
 }
 
 /// Returns each refusal once.

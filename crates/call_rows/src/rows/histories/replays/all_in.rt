@@ -1,10 +1,12 @@
 //! All-in points and the cards known there, of hands worked out by hand.
 
-use super::{DOLLARS, THREE_NAMES, all_stand, step_line};
+use super::{DOLLARS, THREE_NAMES, refused_in, refused_line};
 use crate::rows::histories::names::names_of;
+use crate::rows::row_text;
 use betting_replay::Replay;
 use card_sets::{Card, CardSet, Game};
 use history_text::{Header, Limit, Names, Part, Street};
+use std::test::Fail;
 
 /// Returns the set of some cards.
 fn cards(texts: &[[u8; 2]]) -> Option<CardSet> {
@@ -23,17 +25,6 @@ fn is_known(found: Option<CardSet>, texts: &[[u8; 2]]) -> bool {
         }
         _ => false,
     }
-}
-
-/// Applies the lines of a part. Returns whether all are accepted.
-fn go(replay: &mut Replay, names: &Names, header: &Header, part: Part, lines: &[&[u8]]) -> bool {
-    for line in lines {
-        match step_line(replay, names, header, part, *line) {
-            Some(Ok(())) => {}
-            _ => return false,
-        }
-    }
-    true
 }
 
 /// Three seats. The third is all-in, and the first folds.
@@ -73,21 +64,21 @@ fn has_first_point(replay: &Replay) -> bool {
         && replay.cards_at(2, Street::First).is_none()
 }
 
-/// Returns whether the point is known from the call on, and remains.
-fn keeps_the_first_point(names: &Option<Names>) -> bool {
-    let Some(names) = names else {
-        return false;
-    };
-    let mut replay = Replay::new(&DOLLARS, 14);
-    all_stand(&mut replay, names, &BEFORE_CALL)
-        && has_no_point(&replay)
-        && all_stand(&mut replay, names, &AFTER_CALL)
-        && has_first_point(&replay)
-}
-
 #[test]
-fn the_first_point_is_kept(rt: HostRuntime) {
-    assert!(rt; keeps_the_first_point(&names_of(rt.alloc(), THREE_NAMES)));
+fn the_first_point_is_kept(rt: HostRuntime) -> Result<(), Fail> {
+    let names = names_of(rt.alloc(), THREE_NAMES).ok_or("no memory")?;
+    let mut replay = Replay::new(&DOLLARS, 14);
+    assert_eq!(rt; refused_line(&mut replay, &names, &BEFORE_CALL), None);
+    assert!(rt;
+        has_no_point(&replay),
+        "there is no all-in point before the call"
+    );
+    assert_eq!(rt; refused_line(&mut replay, &names, &AFTER_CALL), None);
+    assert!(rt;
+        has_first_point(&replay),
+        "the all-in point is before the flop"
+    );
+    Ok(())
 }
 
 /// Stakes of 50 and 100 chips.
@@ -110,20 +101,17 @@ const SHORT_CALL: [&[u8]; 8] = [
     b"bob: calls 49 and is all-in",
 ];
 
-/// Returns whether the call is accepted, and leaves its player without a chip.
-fn may_call_short(names: &Option<Names>) -> bool {
-    let Some(names) = names else {
-        return false;
-    };
-    let mut replay = Replay::new(&FIFTY, 14);
-    go(&mut replay, names, &FIFTY, Part::Preamble, &SHORT_CALL)
-        && replay.paid(2).live == 99
-        && replay.stack(2) == 0
-}
-
 #[test]
-fn a_player_may_call_with_fewer_chips_than_are_due(rt: HostRuntime) {
-    assert!(rt; may_call_short(&names_of(rt.alloc(), THREE_NAMES)));
+fn a_player_may_call_with_fewer_chips_than_are_due(rt: HostRuntime) -> Result<(), Fail> {
+    let names = names_of(rt.alloc(), THREE_NAMES).ok_or("no memory")?;
+    let mut replay = Replay::new(&FIFTY, 14);
+    assert_eq!(rt;
+        refused_in(&mut replay, &names, &FIFTY, Part::Preamble, &SHORT_CALL),
+        None
+    );
+    assert_eq!(rt; replay.paid(2).live, 99, "Bob has all chips in the pot");
+    assert_eq!(rt; replay.stack(2), 0, "Bob has no chips left");
+    Ok(())
 }
 
 /// Stakes of 10 and 20 chips.
@@ -197,23 +185,32 @@ fn has_shown_hand(replay: &Replay) -> bool {
         && replay.final_cards(1).is_none()
 }
 
-/// Returns whether the second hand isn't known before the summary, and is known after it.
-fn is_shown_late(names: &Option<Names>) -> bool {
-    let Some(names) = names else {
-        return false;
-    };
+#[test]
+fn cards_face_down_are_those_of_a_later_bracket(rt: HostRuntime) -> Result<(), Fail> {
+    let names = names_of(rt.alloc(), TWO_NAMES).ok_or("no memory")?;
     let header = chips(Game::Razz);
     let mut replay = Replay::new(&header, 6);
-    go(&mut replay, names, &header, Part::Preamble, &RAZZ)
-        && go(&mut replay, names, &header, Part::Play, &RAZZ_END)
-        && has_one_hand(&replay)
-        && go(&mut replay, names, &header, Part::Summary, &RAZZ_SHOWN)
-        && has_shown_hand(&replay)
-}
-
-#[test]
-fn cards_face_down_are_those_of_a_later_bracket(rt: HostRuntime) {
-    assert!(rt; is_shown_late(&names_of(rt.alloc(), TWO_NAMES)));
+    assert_eq!(rt;
+        refused_in(&mut replay, &names, &header, Part::Preamble, &RAZZ),
+        None
+    );
+    assert_eq!(rt;
+        refused_in(&mut replay, &names, &header, Part::Play, &RAZZ_END),
+        None
+    );
+    assert!(rt;
+        has_one_hand(&replay),
+        "before the summary only the first hand is known"
+    );
+    assert_eq!(rt;
+        refused_in(&mut replay, &names, &header, Part::Summary, &RAZZ_SHOWN),
+        None
+    );
+    assert!(rt;
+        has_shown_hand(&replay),
+        "after the summary the second hand is known too"
+    );
+    Ok(())
 }
 
 /// Returns the number of the known cards.
@@ -229,36 +226,39 @@ type Drawn = ([&'static [u8]; 2], Option<u32>, Option<u32>, u32);
 
 /// Returns whether the lines of a hand and of a draw leave these numbers of cards known on the street of
 /// the all-in, and dead.
-fn is_kept(names: &Names, header: &Header, lines: &[&[u8]], at: Street, drawn: &Drawn) -> bool {
+fn is_kept(
+    names: &Names,
+    header: &Header,
+    lines: &[&'static [u8]],
+    at: Street,
+    drawn: &Drawn,
+) -> bool {
     let mut replay = Replay::new(header, 6);
-    go(&mut replay, names, header, Part::Preamble, lines)
+    refused_in(&mut replay, names, header, Part::Preamble, lines).is_none()
         && replay.all_in_point() == Some(at)
-        && go(&mut replay, names, header, Part::Play, &drawn.0)
-        && go(&mut replay, names, header, Part::Play, &SHOWN)
+        && refused_in(&mut replay, names, header, Part::Play, &drawn.0).is_none()
+        && refused_in(&mut replay, names, header, Part::Play, &SHOWN).is_none()
         && count(replay.cards_at(1, at)) == drawn.1
         && count(replay.cards_at(2, at)) == drawn.2
         && count(replay.final_cards(2)) == Some(5)
         && replay.dead().count() == drawn.3
 }
 
-/// Returns whether each of these draws leaves its numbers of cards, in a game.
-fn all_kept(
-    names: &Option<Names>,
+/// Returns the first act of the first of these draws that doesn't leave its numbers of cards, in a game.
+fn wrong_draw(
+    names: &Names,
     game: Game,
-    lines: &[&[u8]],
+    lines: &[&'static [u8]],
     at: Street,
     table: &[Drawn],
-) -> bool {
-    let Some(names) = names else {
-        return false;
-    };
+) -> Option<&'static str> {
     let header = chips(game);
     for drawn in table {
         if !is_kept(names, &header, lines, at, drawn) {
-            return false;
+            return Some(row_text(drawn.0[0]));
         }
     }
-    true
+    None
 }
 
 /// A draw before which both players are all-in.
@@ -302,10 +302,18 @@ const WAYS_TO_DRAW: &[Drawn] = &[
 ];
 
 #[test]
-fn what_is_kept_goes_by_the_discards(rt: HostRuntime) {
-    let names = names_of(rt.alloc(), TWO_NAMES);
-    assert!(rt; all_kept(&names, Game::Lowball27, &DRAW, Street::First, WAYS_TO_DRAW));
-    assert!(rt; all_kept(&names, Game::Draw5, &DRAW, Street::First, WAYS_TO_DRAW));
+fn what_is_kept_goes_by_the_discards(rt: HostRuntime) -> Result<(), Fail> {
+    let names = names_of(rt.alloc(), TWO_NAMES).ok_or("no memory")?;
+    let at = Street::First;
+    assert_eq!(rt;
+        wrong_draw(&names, Game::Lowball27, &DRAW, at, WAYS_TO_DRAW),
+        None
+    );
+    assert_eq!(rt;
+        wrong_draw(&names, Game::Draw5, &DRAW, at, WAYS_TO_DRAW),
+        None
+    );
+    Ok(())
 }
 
 /// Two draws, after which both players are all-in. A card that x discarded on the first draw is dealt to x
@@ -359,8 +367,12 @@ const WAYS_TO_DRAW_LAST: &[Drawn] = &[
 ];
 
 #[test]
-fn what_is_kept_on_the_last_of_three_draws(rt: HostRuntime) {
-    let names = names_of(rt.alloc(), TWO_NAMES);
+fn what_is_kept_on_the_last_of_three_draws(rt: HostRuntime) -> Result<(), Fail> {
+    let names = names_of(rt.alloc(), TWO_NAMES).ok_or("no memory")?;
     let at = Street::SecondDraw;
-    assert!(rt; all_kept(&names, Game::Triple27, &TWO_DRAWS, at, WAYS_TO_DRAW_LAST));
+    assert_eq!(rt;
+        wrong_draw(&names, Game::Triple27, &TWO_DRAWS, at, WAYS_TO_DRAW_LAST),
+        None
+    );
+    Ok(())
 }

@@ -1,10 +1,11 @@
 //! Hands that are run twice.
 
-use super::{DOLLARS, THREE_NAMES, all_stand, card, is_refused};
+use super::{DOLLARS, THREE_NAMES, all_stand, card, is_refused, refused_line};
 use crate::rows::histories::names::names_of;
 use betting_replay::{BetFault, Replay};
 use card_sets::{Card, CardSet};
 use history_text::{Names, Street};
+use std::test::Fail;
 
 /// Two seats that are all-in before the flop.
 const ALL_IN: [&[u8]; 7] = [
@@ -51,21 +52,21 @@ fn has_two_boards(replay: &Replay) -> bool {
         && is_second_board(replay, card(40), card(36))
 }
 
-/// Returns whether a hand isn't run twice before its boards, and is after them.
-fn deals_two_boards(names: &Option<Names>) -> bool {
-    let Some(names) = names else {
-        return false;
-    };
-    let mut replay = Replay::new(&DOLLARS, 6);
-    all_stand(&mut replay, names, &ALL_IN)
-        && !replay.is_twice()
-        && all_stand(&mut replay, names, &BOARDS)
-        && has_two_boards(&replay)
-}
-
 #[test]
-fn two_whole_boards_are_dealt(rt: HostRuntime) {
-    assert!(rt; deals_two_boards(&names_of(rt.alloc(), THREE_NAMES)));
+fn two_whole_boards_are_dealt(rt: HostRuntime) -> Result<(), Fail> {
+    let names = names_of(rt.alloc(), THREE_NAMES).ok_or("no memory")?;
+    let mut replay = Replay::new(&DOLLARS, 6);
+    assert_eq!(rt; refused_line(&mut replay, &names, &ALL_IN), None);
+    assert!(rt;
+        !replay.is_twice(),
+        "the hand isn't run twice before its boards"
+    );
+    assert_eq!(rt; refused_line(&mut replay, &names, &BOARDS), None);
+    assert!(rt;
+        has_two_boards(&replay),
+        "Jc is on the first river, and Qc on the second"
+    );
+    Ok(())
 }
 
 /// A river that is dealt twice, with one showdown.
@@ -87,20 +88,17 @@ fn shares_the_flop(replay: &Replay) -> bool {
     }
 }
 
-/// Returns whether the second board shares the flop after two rivers.
-fn deals_two_rivers(names: &Option<Names>) -> bool {
-    let Some(names) = names else {
-        return false;
-    };
-    let mut replay = Replay::new(&DOLLARS, 6);
-    all_stand(&mut replay, names, &ALL_IN)
-        && all_stand(&mut replay, names, &RIVERS)
-        && shares_the_flop(&replay)
-}
-
 #[test]
-fn two_boards_share_the_cards_before(rt: HostRuntime) {
-    assert!(rt; deals_two_rivers(&names_of(rt.alloc(), THREE_NAMES)));
+fn two_boards_share_the_cards_before(rt: HostRuntime) -> Result<(), Fail> {
+    let names = names_of(rt.alloc(), THREE_NAMES).ok_or("no memory")?;
+    let mut replay = Replay::new(&DOLLARS, 6);
+    assert_eq!(rt; refused_line(&mut replay, &names, &ALL_IN), None);
+    assert_eq!(rt; refused_line(&mut replay, &names, &RIVERS), None);
+    assert!(rt;
+        shares_the_flop(&replay),
+        "the second board has the flop and its own river"
+    );
+    Ok(())
 }
 
 /// Returns whether the last of some lines is refused after the all-in.
@@ -109,14 +107,14 @@ fn is_refused_behind(names: &Names, lines: &[&[u8]], fault: &BetFault) -> bool {
     all_stand(&mut replay, names, &ALL_IN) && is_refused(&mut replay, names, lines, fault)
 }
 
-/// Returns whether the last line of each of these lists is refused for its order.
-fn all_disordered(names: &Names, table: &[&[&[u8]]]) -> bool {
-    for lines in table {
+/// Returns the place of the first of these lists whose last line isn't refused for its order.
+fn wrong_order(names: &Names, table: &[&[&[u8]]]) -> Option<usize> {
+    for (place, lines) in table.iter().enumerate() {
         if !is_refused_behind(names, lines, &BetFault::StreetOrder) {
-            return false;
+            return Some(place);
         }
     }
-    true
+    None
 }
 
 /// Lines, the last of which is out of order.
@@ -173,21 +171,19 @@ const OF_THE_FIRST: [&[u8]; 4] = [
     b"*** SECOND RIVER *** [2c 7d 9h 4s] [Jc]",
 ];
 
-/// Returns whether lines out of order are refused, and a card that comes twice on the second board.
-fn come_in_order(names: &Option<Names>) -> bool {
-    match names {
-        Some(names) => {
-            all_disordered(names, DISORDERED)
-                && is_refused_behind(names, &SHARED, &BetFault::CardTwice(card(11)))
-                && is_refused_behind(names, &OF_THE_FIRST, &BetFault::CardTwice(card(36)))
-        }
-        None => false,
-    }
-}
-
 #[test]
-fn markers_of_two_boards_come_in_their_order(rt: HostRuntime) {
-    assert!(rt; come_in_order(&names_of(rt.alloc(), THREE_NAMES)));
+fn markers_of_two_boards_come_in_their_order(rt: HostRuntime) -> Result<(), Fail> {
+    let names = names_of(rt.alloc(), THREE_NAMES).ok_or("no memory")?;
+    assert_eq!(rt; wrong_order(&names, DISORDERED), None);
+    assert!(rt;
+        is_refused_behind(&names, &SHARED, &BetFault::CardTwice(card(11))),
+        "a card of both boards is refused on the second"
+    );
+    assert!(rt;
+        is_refused_behind(&names, &OF_THE_FIRST, &BetFault::CardTwice(card(36))),
+        "a card of the first board is refused on the second"
+    );
+    Ok(())
 }
 
 /// Two seats with chips left.
@@ -202,16 +198,17 @@ const CALLED: [&[u8]; 8] = [
     b"*** FIRST FLOP *** [2c 7d 9h]",
 ];
 
-/// Returns whether the marker of a first board is refused in such a hand.
-fn stays_one_board(names: &Option<Names>) -> bool {
-    let Some(names) = names else {
-        return false;
-    };
-    let mut replay = Replay::new(&DOLLARS, 6);
-    is_refused(&mut replay, names, &CALLED, &BetFault::StreetOrder) && !replay.is_twice()
-}
-
 #[test]
-fn no_hand_is_run_twice_while_two_have_chips(rt: HostRuntime) {
-    assert!(rt; stays_one_board(&names_of(rt.alloc(), THREE_NAMES)));
+fn no_hand_is_run_twice_while_two_have_chips(rt: HostRuntime) -> Result<(), Fail> {
+    let names = names_of(rt.alloc(), THREE_NAMES).ok_or("no memory")?;
+    let mut replay = Replay::new(&DOLLARS, 6);
+    assert!(rt;
+        is_refused(&mut replay, &names, &CALLED, &BetFault::StreetOrder),
+        "the marker of a first board is refused"
+    );
+    assert!(rt;
+        !replay.is_twice(),
+        "the hand has one board after the refusal"
+    );
+    Ok(())
 }

@@ -2,10 +2,11 @@
 
 ghost use Rattle.std.specs.Prelude.{◌<◌};
 
-use super::{DOLLARS, THREE_NAMES, all_stand};
+use super::{DOLLARS, THREE_NAMES, all_stand, refused_line};
 use crate::rows::histories::names::names_of;
 use betting_replay::Replay;
 use history_text::Names;
+use std::test::Fail;
 
 /// A big blind that is short, a second small blind, and a raise over the stated big blind.
 const RAISED: [&[u8]; 10] = [
@@ -53,7 +54,7 @@ const BOTH: [&[u8]; 8] = [
 ];
 
 /// Returns whether a seat has these chips in after some lines: live and dead.
-fn is_paid(names: &Names, lines: &[&[u8]], seat: u8, live: u64, dead: u64) -> bool
+fn is_paid(names: &Names, lines: &[&'static [u8]], seat: u8, live: u64, dead: u64) -> bool
     requires { seat < 11 }
 {
     let mut replay = Replay::new(&DOLLARS, 14);
@@ -64,34 +65,36 @@ fn is_paid(names: &Names, lines: &[&[u8]], seat: u8, live: u64, dead: u64) -> bo
     paid.live == live && paid.dead == dead
 }
 
-/// Returns whether a second small blind is dead next to live chips, and of both blinds the small
-/// one is dead.
-fn are_live_or_dead(names: &Option<Names>) -> bool {
-    match names {
-        Some(names) => { is_paid(names, &RAISED, 3, 200, 50) && is_paid(names, &BOTH, 3, 100, 50) }
-        None => false,
-    }
+#[test]
+fn posts_are_live_or_dead(rt: HostRuntime) -> Result<(), Fail> {
+    let names = names_of(rt.alloc(), THREE_NAMES).ok_or("no memory")?;
+    assert!(rt;
+        is_paid(&names, &RAISED, 3, 200, 50),
+        "a second small blind is dead, next to live chips"
+    );
+    assert!(rt;
+        is_paid(&names, &BOTH, 3, 100, 50),
+        "of both blinds the small one is dead"
+    );
+    Ok(())
 }
 
 #[test]
-fn posts_are_live_or_dead(rt: HostRuntime) {
-    assert!(rt; are_live_or_dead(&names_of(rt.alloc(), THREE_NAMES)));
-}
-
-/// Returns whether a bet counts before its return, and is with its player after it.
-fn comes_back(names: &Option<Names>) -> bool {
-    let Some(names) = names else {
-        return false;
-    };
+fn a_bet_comes_back_by_the_street(rt: HostRuntime) -> Result<(), Fail> {
+    let names = names_of(rt.alloc(), THREE_NAMES).ok_or("no memory")?;
     let mut replay = Replay::new(&DOLLARS, 14);
-    all_stand(&mut replay, names, &CALLED)
-        && replay.paid(1).live == 310
-        && all_stand(&mut replay, names, &RETURNED)
-        && replay.paid(1).live == 110
-        && replay.stack(1) == 4890
-}
-
-#[test]
-fn a_bet_comes_back_by_the_street(rt: HostRuntime) {
-    assert!(rt; comes_back(&names_of(rt.alloc(), THREE_NAMES)));
+    assert_eq!(rt; refused_line(&mut replay, &names, &CALLED), None);
+    assert_eq!(rt;
+        replay.paid(1).live,
+        310,
+        "the bet is in the pot before its return"
+    );
+    assert_eq!(rt; refused_line(&mut replay, &names, &RETURNED), None);
+    assert_eq!(rt;
+        replay.paid(1).live,
+        110,
+        "the bet isn't in the pot after its return"
+    );
+    assert_eq!(rt; replay.stack(1), 4890, "Ann has the bet back");
+    Ok(())
 }

@@ -1,5 +1,5 @@
 use Rattle.std.proofs.Common.{◌≡◌}
-use Rattle.call_rows.proofs.rows.histories.cuts.hands_all_out.Given as goal
+use Rattle.call_rows.proofs.rows.histories.cuts.wrong_unit.Given as goal
 
 abbrev pub invariant-loop-text : goal.invariant-loop-text
 invariant-loop-text l = l.cutter.closed ≡ l.fn.cutter.closed
