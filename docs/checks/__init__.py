@@ -24,7 +24,5 @@ ON = [
     style.words,
     style.asserts,
 ]
-# what it tries by name only, because it doesn't hold yet
-LATER = []
 # what --verbose adds to a check
 VERBOSE = {"sizes": documents.all_sizes}
