@@ -112,13 +112,14 @@ fn one_place(front: &Front, flushes: &mut Flushes, pair: &Pair) -> u16
 {
     law_values_keep_order();
     let spot = front.spot;
-    let row = &front.rows[0];
     are_hands(&spot.table, 0);
     let Some(part) = suited_part(front, pair) else {
+        let row = &front.rows[0];
         return row.mains[usize::from(pair.ranks)];
     };
     let at = flushes.ready(&spot.table, &part);
     let flush = flushes.flush_at(at);
+    let row = &front.rows[0];
     suited_place(front, row, flush, 0, pair, &part).main
 }
 

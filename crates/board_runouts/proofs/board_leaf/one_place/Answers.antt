@@ -24,4 +24,4 @@ suited_place-requires-clause-flush c = c.ready-at.ensures.there c.flush_at-flush
 
 pub suited_place-requires-clause-row : goal.suited_place-requires-clause-row
 suited_place-requires-clause-row c =
-    subst (IsRowFor (front_deal c.args.front.now) 0 c.args.front.now.taken) c.index-front-0.is (row_at c.args.front.now 0 0 c.index-front-0.result refl c.requires.pot c.index-front-0.is)
+    subst (IsRowFor (front_deal c.args.front.now) 0 c.args.front.now.taken) c.index-front-0-2.is (row_at c.args.front.now 0 0 c.index-front-0-2.result refl c.requires.pot c.index-front-0-2.is)
