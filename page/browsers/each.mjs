@@ -70,7 +70,8 @@ await runAll(engine, async () => {
         }
         if (engine !== 'webkit') await tab.shoot(`${engine}-ranges.png`);
         await run(`fetch('tab.mjs').then(() => 'read', () => 'refused')`).then((it) => expect(it === 'refused', 'nothing is fetched'));
-        await tab.shoot(`${engine}-month.png`);
+        // the driver of WebKit hangs if the picture is of a large page
+        if (engine !== 'webkit') await tab.shoot(`${engine}-month.png`);
     } finally {
         await driver.close();
     }
