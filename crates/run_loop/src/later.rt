@@ -47,7 +47,7 @@ fn are_counted_behind(all_in: &AllIn, states: &[StreetState])
 }
 
 /// A law: if the all-in of a hand is counted, so is each later street whose cards are known. Enough cards are left for the
-/// street, and it has no more runouts than the all-in.
+/// street, and it has at most RUNOUT_MAX runouts.
 pub fn law_later_streets_are_counted(audit: &HandAudit, states: &[StreetState])
     ensures { (first : ℕ) (lines : List (List ℕ)) → audit_of first lines ≡ Some audit.now
         → states.now ≡ streets_of audit.now lines → has_counted audit.now ≡ true
