@@ -108,6 +108,7 @@ def printed():
         for folder in (f"{work}/bin", f"{work}/libexec/equity"):
             os.makedirs(folder)
         shutil.copy("run.sh", script)
+        shutil.copy("tell.sh", f"{work}/libexec/equity/")
         os.chmod(script, 0o755)
         os.symlink(program(), f"{work}/libexec/equity/equity")
         for document in DOCUMENTS:

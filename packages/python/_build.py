@@ -21,6 +21,8 @@ HERE = Path(__file__).resolve().parent
 DATE = (2020, 1, 1, 0, 0, 0)
 # the script before the program, and the program, laid out as ./install does it
 SCRIPT, PROGRAM, NUMBER = "equity/run/bin/equity", "equity/run/libexec/equity/equity", "equity/run/libexec/equity/VERSION"
+# what the script reads if it has something to say
+TELL = "equity/run/libexec/equity/tell.sh"
 MODE = 0o755
 
 
@@ -40,8 +42,11 @@ def _run_files() -> dict[str, bytes]:
     program = _program()
     if program is None:
         return {}
-    script = next(path for path in (HERE.parent.parent / "run.sh", HERE / SCRIPT) if path.is_file())
-    return {SCRIPT: script.read_bytes(), PROGRAM: program.read_bytes(), NUMBER: f"{_version()}\n".encode()}
+    script, tell = (
+        next(path for path in (HERE.parent.parent / name, HERE / packed) if path.is_file())
+        for name, packed in (("run.sh", SCRIPT), ("tell.sh", TELL))
+    )
+    return {SCRIPT: script.read_bytes(), TELL: tell.read_bytes(), PROGRAM: program.read_bytes(), NUMBER: f"{_version()}\n".encode()}
 
 
 def _release() -> dict[str, str]:
