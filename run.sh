@@ -1,4 +1,4 @@
-#!/usr/bin/env bash
+#!/bin/bash
 # Runs the program `equity` with the files that the words name. ./install puts this file into PREFIX/bin as `equity`, and ./equity sources
 # it. Standard output and the exit status are the program's. This script writes to standard error only.
 #
@@ -23,7 +23,8 @@
 #
 # The program is ../libexec/equity/equity, seen from the folder of this file, and VERSION next to it names the version. So is tell.sh, which
 # has what most runs don't need: help, sentences, folders, --lines, and progress. This file is short, because bash reads it before each run.
-# The script needs bash 5.1 or later, coreutils, findutils, and grep.
+# The script needs bash 5.1 or later, coreutils, findutils, and grep. It names bash by its path, because `env` costs each run 0.5 ms, and
+# each system with the C library that the program needs has /bin/bash.
 
 # the program's own line, and its modes: docs/check compares both with the code
 usage="usage: equity MODE [--workers N] [--format text|csv] [--seed S] [--hands H]"
@@ -31,7 +32,7 @@ modes=(audit check streets results settle totals balance spots ranges made)
 
 # what the words say, the process of the program and of the script that feeds it, and how this script is called
 mode="" wanted="" lines="" quiet="" words=() files=()
-child="" feeder="" watcher="" torn="" closed="" above=""
+child="" feeder="" watcher="" torn="" closed="" above="" begun=""
 name=equity
 # the path of tell.sh until it has been read
 tell_file=""
@@ -273,6 +274,8 @@ run_program() {
     0 | -) ;;
     *) exec {from}<&- ;;
     esac
+    # (now, because the program runs meanwhile)
+    if reads_hands && all_begin; then begun=1; fi
     [ -z "$torn" ] || kill "$child"
     wait "$child" 2>/dev/null
     status=$?
@@ -292,26 +295,38 @@ run_program() {
     return "$status"
 }
 
+# begins_hand FILE: whether its first line begins a hand, as most do. (A regular expression would cost half a millisecond)
+begins_hand() {
+    local line=""
+    # (`read` leaves out zero bytes, if it doesn't end at one)
+    IFS= read -r -d '' -n 120 line 2>/dev/null <"$1"
+    case "${line#$'\357\273\277'}" in
+    'PokerStars Hand #'[0-9]* | 'PokerStars Zoom Hand #'[0-9]*) ;;
+    *) return 1 ;;
+    esac
+}
+
+# all_begin: whether each of the files, or the file that is standard input, begins with a hand
+all_begin() {
+    local file
+    for file in "${files[@]:-/dev/stdin}"; do
+        if ! [ -f "$file" ] || ! begins_hand "$file"; then return 1; fi
+    done
+}
+
 # has_hand FILE: whether a line of it begins a hand
 has_hand() {
-    local line="" header=$'^(\357\273\277)?PokerStars [A-Za-z ]*(Hand|Game) #[0-9]'
-    # mostly the first line does. (`read` leaves out zero bytes, if it doesn't end at one)
-    IFS= read -r -d '' -n 120 line 2>/dev/null <"$1"
-    # (the pattern of most first lines, because the first regular expression costs bash half a millisecond)
-    case "${line#$'\357\273\277'}" in
-    'PokerStars Hand #'[0-9]* | 'PokerStars Zoom Hand #'[0-9]*) return 0 ;;
-    esac
-    [[ "$line" =~ $header ]] || grep -qaE "$header" -- "$1" 2>/dev/null
+    begins_hand "$1" || grep -qaE $'^(\357\273\277)?PokerStars [A-Za-z ]*(Hand|Game) #[0-9]' -- "$1" 2>/dev/null
 }
 
 # lacks_hands: whether one of the files, or the file that is standard input, has no hand
 lacks_hands() {
     local file
     for file in "${files[@]}"; do
-        if [ -f "$file" ] && ! has_hand "$file"; then return 0; fi
+        if [ -z "$begun" ] && [ -f "$file" ] && ! has_hand "$file"; then return 0; fi
     done
     if [ "${#files[@]}" -eq 0 ] && [ -f /dev/stdin ]; then
-        ! has_hand /dev/stdin
+        [ -z "$begun" ] && ! has_hand /dev/stdin
     else
         [ -f /dev/stdout ] && ! [ -s /dev/stdout ]
     fi
