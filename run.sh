@@ -1,4 +1,4 @@
-#!/bin/bash
+#!/usr/bin/env bash
 # Runs the program `equity` with the files that the words name. ./install puts this file into PREFIX/bin as `equity`, and ./equity sources
 # it. Standard output and the exit status are the program's. This script writes to standard error only.
 #
@@ -23,8 +23,8 @@
 #
 # The program is ../libexec/equity/equity, seen from the folder of this file, and VERSION next to it names the version. So is tell.sh, which
 # has what most runs don't need: help, sentences, folders, --lines, and progress. This file is short, because bash reads it before each run.
-# The script needs bash 5.1 or later, coreutils, findutils, and grep. It names bash by its path, because `env` costs each run 0.5 ms, and
-# each system with the C library that the program needs has /bin/bash.
+# The script needs bash 5.1 or later, coreutils, findutils, and grep. ./install replaces the first line by the path of bash, because `env`
+# costs each run 0.5 ms.
 
 # the program's own line, and its modes: docs/check compares both with the code
 usage="usage: equity MODE [--workers N] [--format text|csv] [--seed S] [--hands H]"
