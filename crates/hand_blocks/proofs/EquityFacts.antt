@@ -12,7 +12,7 @@ use Rattle.card_sets.specs.declared.games.Game.{Game}
 use Rattle.card_sets.specs.declared.games.Game.TheVariants.{Holdem, Omaha, Omaha8, Stud, Stud8, Razz, Draw5, Lowball27, Triple27}
 use Rattle.card_sets.specs.declared.games.Side.TheVariants.{High, Low}
 use Rattle.card_sets.specs.declared.streets.Street.{Street}
-use Rattle.runout_ranges.specs.Jobs.{IsDeckShort, IsAboveLimit}
+use Rattle.runout_ranges.specs.Jobs.{IsDeckShort}
 use Rattle.runout_ranges.specs.Slots.{unseen, slots, counts_of}
 use Rattle.runout_ranges.specs.declared.limits.TheConstants.{RUNOUT_MAX}
 use Rattle.hand_verdict.specs.declared.settlement.Settlement.{Settlement}
@@ -20,7 +20,7 @@ use Rattle.even_luck.specs.Equities.{IsFull}
 use Rattle.even_luck.specs.Figures.{Figures, full_figures}
 use Rattle.even_luck.specs.Seats.{Seated}
 use Rattle.even_luck.proofs.CallerLemmas.{Agree, given_same, no_runout_left, some_runout}
-use Rattle.hand_blocks.specs.HandEquities.{above_line, counted_all_in, hand_expect, known_all_in, player_lines, player_name, pot_equities, pot_equity, pot_hand_lines, short_line}
+use Rattle.hand_blocks.specs.HandEquities.{counted_all_in, hand_expect, known_all_in, player_lines, player_name, pot_equities, pot_equity, pot_hand_lines, short_line}
 use Rattle.report_sheet.specs.Lines.{line_in}
 use Rattle.report_sheet.specs.SpotLines.{every_hand}
 use Rattle.report_sheet.specs.declared.form.Form.{Form}
@@ -125,16 +125,7 @@ all_in_empty form s names seats street deal sums full none = elim (cases_lt (len
   | inr enough ↦ absurd (let some = some_runout deal.state enough in let counted = full.counts.runouts in omega arith)
 ]
 
--- where there are too many runouts, it is refused for that
-pub all_in_above : (form : Form) (s : Settlement) (names : Seated) (seats : List ℕ) (street : Street) (deal : Showdown) → ¬ IsDeckShort deal.state → IsAboveLimit deal.state →
-    line_in form above_line ≡ known_all_in form s names seats street deal
-unfolding known_all_in
-all_in_above form s names seats street deal enough above =
-    let no_short : nat_lt (length (unseen deal.state)) (sum (counts_of (slots deal.state))) ≡ false = grind arith in
-    let yes : nat_lt RUNOUT_MAX (length (runouts_after deal.state)) ≡ true = grind arith in
-    rw (no_short, yes) refl
-
--- and else it is counted
+-- and otherwise it is counted
 pub all_in_counted : (form : Form) (s : Settlement) (names : Seated) (seats : List ℕ) (street : Street) (deal : Showdown) (sums : Sums) → IsFull deal sums → 0 < sums.runouts →
     counted_all_in form s names seats street deal (full_figures deal) ≡ known_all_in form s names seats street deal
 unfolding known_all_in

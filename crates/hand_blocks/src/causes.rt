@@ -1,7 +1,7 @@
 //! The words for why a hand is rejected.
 
 ghost use Rattle.std.specs.Prelude.{◌≡◌, OnOk};
-ghost use Rattle.hand_blocks.specs.Causes.{carried_by_cause, carried_by_fault, cause_words, chips_words, seat_words, split_words};
+ghost use Rattle.hand_blocks.specs.Causes.{carried_by_cause, carried_by_fault, cause_words, chips_words, split_words};
 ghost use Rattle.report_sheet.specs.Sheets.{with_words};
 
 use hand_events::BetFault;
@@ -9,16 +9,8 @@ use hand_verdict::Cause;
 use report_sheet::Sheet;
 use std::alloc::AllocError;
 
-/// A seat.
-#[tactic(auto, using(report_sheet::proofs::CallerLemmas::word_steps), unfolding(crate::specs::Causes::seat_words))]
-fn seat_words(sheet: &mut Sheet, seat: u8) -> Result<(), AllocError>
-    ensures { OnOk result (sheet.new ≡ with_words sheet.old (seat_words seat)) }
-{
-    sheet.name_and_number("seat", u64::from(seat))
-}
-
 /// What the fault of an event carries: a seat, an amount in units, or a card.
-#[tactic(auto, using(report_sheet::proofs::CallerLemmas::word_steps), unfolding(crate::specs::Causes::carried_by_fault))]
+#[tactic(auto, using(report_sheet::proofs::CallerLemmas::word_steps), unfolding(crate::specs::Causes::carried_by_fault, crate::specs::Causes::seat_words))]
 fn carried_by_fault(sheet: &mut Sheet, hundredths: bool, fault: &BetFault) -> Result<(), AllocError>
     ensures { OnOk result (sheet.new
         ≡ with_words sheet.old (carried_by_fault hundredths fault.now)) }
@@ -32,7 +24,7 @@ fn carried_by_fault(sheet: &mut Sheet, hundredths: bool, fault: &BetFault) -> Re
         | BetFault::PostLate
         | BetFault::SeatTwice => Ok(()),
         BetFault::OutOfTurn(seat) | BetFault::StreetEarly(seat) | BetFault::TooManyCards(seat) => {
-            seat_words(sheet, seat)
+            sheet.name_and_number("seat", u64::from(seat))
         }
         BetFault::CheckFacingBet(units)
         | BetFault::CallAmount(units)
@@ -59,7 +51,7 @@ fn chips_words(
 }
 
 /// A seat, what it was due and what it got, in units.
-#[tactic(auto, using(report_sheet::proofs::CallerLemmas::word_steps), unfolding(crate::specs::Causes::split_words))]
+#[tactic(auto, using(report_sheet::proofs::CallerLemmas::word_steps), unfolding(crate::specs::Causes::split_words, crate::specs::Causes::seat_words))]
 fn split_words(
     sheet: &mut Sheet,
     hundredths: bool,
@@ -70,7 +62,7 @@ fn split_words(
     ensures { OnOk result (sheet.new
         ≡ with_words sheet.old (split_words hundredths seat due got)) }
 {
-    seat_words(sheet, seat)?;
+    sheet.name_and_number("seat", u64::from(seat))?;
     sheet.name_and_money("due", hundredths, u128::from(due))?;
     sheet.name_and_money("got", hundredths, u128::from(got))
 }

@@ -6,9 +6,9 @@ ghost use Rattle.card_sets.specs.PlayerSets.{AreBelow, players_in};
 ghost use Rattle.std.specs.List.{flat_map};
 ghost use Rattle.runout_ranges.specs.declared.limits.TheConstants.{RUNOUT_MAX};
 ghost use Rattle.even_luck.specs.Equities.{IsEquityOf, IsFull};
-ghost use Rattle.hand_blocks.specs.HandEquities.{all_in_line, counted_all_in, expect_line, hand_expect, known_all_in, player_name, pot_equities, pot_equity, pot_ev_line, pot_hand_lines, pot_name, pot_side_line, above_line, short_line};
+ghost use Rattle.hand_blocks.specs.HandEquities.{all_in_line, counted_all_in, expect_line, hand_expect, known_all_in, player_name, pot_equities, pot_equity, pot_ev_line, pot_hand_lines, pot_side_line, above_line, short_line};
 ghost use Rattle.even_luck.specs.Figures.{tally_figures};
-ghost use Rattle.report_sheet.specs.Sheets.{IsBetweenLines, with_line, with_lines, with_words};
+ghost use Rattle.report_sheet.specs.Sheets.{IsBetweenLines, with_line, with_lines};
 ghost use Rattle.report_sheet.specs.SpotLines.{every_hand};
 ghost use Rattle.hand_blocks.specs.Words.{street_word};
 ghost use Rattle.showdown_tally.specs.Cells.{units_at};
@@ -61,22 +61,11 @@ fn pot_hands(table: &Table, k: u8) -> PlayerSet
 fn street_text(game: Game, street: Street) -> &'static str
     ensures { result.now ≡ unwrap_or (street_word game street) [] }
 {
-    match street_word(game, street) {
-        Some(word) => word,
-        None => "",
-    }
+    street_word(game, street).unwrap_or("")
 }
 
-/// The first words of a line of a pot. Pots count from 0.
-#[tactic(auto, using(report_sheet::proofs::CallerLemmas::word_steps), unfolding(crate::specs::HandEquities::pot_name))]
-fn pot_name(sheet: &mut Sheet, k: u8) -> Result<(), AllocError>
-    ensures { OnOk result (sheet.new ≡ with_words sheet.old (pot_name k)) }
-{
-    sheet.name_and_number("pot", u64::from(k))
-}
-
-/// How all runouts end for a hand on a side of a pot.
-#[tactic(auto, using(report_sheet::proofs::CallerLemmas::sheet_steps), unfolding(crate::specs::HandEquities::pot_side_line))]
+/// How all runouts end for a hand on a side of a pot. Pots count from 0.
+#[tactic(auto, using(report_sheet::proofs::CallerLemmas::sheet_steps), unfolding(crate::specs::HandEquities::pot_side_line, crate::specs::HandEquities::pot_name))]
 fn pot_side_line(
     sheet: &mut Sheet,
     all: u64,
@@ -90,13 +79,13 @@ fn pot_side_line(
     ensures { OnOk result (sheet.new
         ≡ with_line sheet.old (pot_side_line all k name.now side cell)) }
 {
-    pot_name(sheet, k)?;
+    sheet.name_and_number("pot", u64::from(k))?;
     sheet.side_columns(all, side, cell)?;
     sheet.end_with(name)
 }
 
 /// What part of a pot a hand may expect, from its units of 1/5040 of it over all runouts.
-#[tactic(auto, using(report_sheet::proofs::CallerLemmas::sheet_steps), unfolding(crate::specs::HandEquities::pot_ev_line))]
+#[tactic(auto, using(report_sheet::proofs::CallerLemmas::sheet_steps), unfolding(crate::specs::HandEquities::pot_ev_line, crate::specs::HandEquities::pot_name))]
 fn pot_ev_line(
     sheet: &mut Sheet,
     all: u64,
@@ -108,7 +97,7 @@ fn pot_ev_line(
     requires some { 0 < all }
     ensures { OnOk result (sheet.new ≡ with_line sheet.old (pot_ev_line all k name.now units)) }
 {
-    pot_name(sheet, k)?;
+    sheet.name_and_number("pot", u64::from(k))?;
     sheet.text("ev")?;
     sheet.expected(units, all)?;
     sheet.end_with(name)

@@ -1,7 +1,7 @@
 //! The lines of a hand's verdict. Each call appends whole lines, but for those that add words to one.
 
 ghost use Rattle.std.specs.Prelude.{◌≡◌, ℕ, ◌+◌, OnOk};
-ghost use Rattle.hand_blocks.specs.Hands.{accepted_hand, accepted_line, due_words, hand_title, name_text, paid_line, paid_lines, pot_line, pot_lines, pot_state, pot_title, pots_from, rejected_hand, rejected_title, seen_word, twice_words};
+ghost use Rattle.hand_blocks.specs.Hands.{accepted_hand, accepted_line, due_words, hand_title, name_text, paid_line, paid_lines, pot_line, pot_lines, pot_state, pots_from, rejected_hand, seen_word, twice_words};
 ghost use Rattle.report_sheet.specs.Sheets.{IsBetweenLines, with_line, with_lines, with_words};
 
 use crate::causes::cause_words;
@@ -36,18 +36,8 @@ fn hand_title(sheet: &mut Sheet, number: &[u8]) -> Result<(), AllocError>
     sheet.word(number)
 }
 
-/// The first words of the line of a hand with a line that departs. Lines count from 1.
-#[tactic(auto, using(report_sheet::proofs::CallerLemmas::word_steps), unfolding(crate::specs::Hands::rejected_title))]
-fn rejected_title(sheet: &mut Sheet, number: &[u8], line: u32) -> Result<(), AllocError>
-    ensures { OnOk result (sheet.new ≡ with_words sheet.old (rejected_title number.now line)) }
-{
-    hand_title(sheet, number)?;
-    sheet.text("rejected")?;
-    sheet.name_and_number("line", u64::from(line))
-}
-
 /// The line of a hand with a line that departs. Lines count from 1.
-#[tactic(auto, using(report_sheet::proofs::CallerLemmas::sheet_steps), unfolding(crate::specs::Hands::rejected_hand))]
+#[tactic(auto, using(report_sheet::proofs::CallerLemmas::sheet_steps), unfolding(crate::specs::Hands::rejected_hand, crate::specs::Hands::rejected_title))]
 pub(crate) fn rejected_hand(
     sheet: &mut Sheet,
     number: &[u8],
@@ -59,7 +49,9 @@ pub(crate) fn rejected_hand(
     ensures { OnOk result (sheet.new
         ≡ with_line sheet.old (rejected_hand number.now line hundredths cause.now)) }
 {
-    rejected_title(sheet, number, line)?;
+    hand_title(sheet, number)?;
+    sheet.text("rejected")?;
+    sheet.name_and_number("line", u64::from(line))?;
     cause_words(sheet, hundredths, cause)?;
     sheet.end()
 }
@@ -94,15 +86,6 @@ pub(crate) fn accepted_line(
     sheet.end()
 }
 
-/// The first words of the line of a pot, with what it holds in units. Pots count from 0.
-#[tactic(auto, using(report_sheet::proofs::CallerLemmas::word_steps), unfolding(crate::specs::Hands::pot_title))]
-fn pot_title(sheet: &mut Sheet, hundredths: bool, k: u64, gross: u64) -> Result<(), AllocError>
-    ensures { OnOk result (sheet.new ≡ with_words sheet.old (pot_title hundredths k gross)) }
-{
-    sheet.name_and_number("pot", k)?;
-    sheet.name_and_money("gross", hundredths, u128::from(gross))
-}
-
 /// The rake of a pot and whether it is known who wins it, or that the names don't fit the pots.
 #[tactic(auto, using(report_sheet::proofs::CallerLemmas::word_steps), unfolding(crate::specs::Hands::pot_state))]
 fn pot_state(
@@ -122,8 +105,8 @@ fn pot_state(
     sheet.text(seen_word(checked))
 }
 
-/// The line of a pot. Pots count from 0.
-#[tactic(auto, using(report_sheet::proofs::CallerLemmas::sheet_steps), unfolding(crate::specs::Hands::pot_line))]
+/// The line of a pot, with what it holds in units. Pots count from 0.
+#[tactic(auto, using(report_sheet::proofs::CallerLemmas::sheet_steps), unfolding(crate::specs::Hands::pot_line, crate::specs::Hands::pot_title))]
 pub(crate) fn pot_line(
     sheet: &mut Sheet,
     hundredths: bool,
@@ -134,7 +117,8 @@ pub(crate) fn pot_line(
     requires { IsBetweenLines sheet.old }
     ensures { OnOk result (sheet.new ≡ with_line sheet.old (pot_line hundredths fits k pot.now)) }
 {
-    pot_title(sheet, hundredths, k, pot.gross)?;
+    sheet.name_and_number("pot", k)?;
+    sheet.name_and_money("gross", hundredths, u128::from(pot.gross))?;
     pot_state(sheet, hundredths, fits, pot.rake, pot.checked)?;
     sheet.end()
 }

@@ -5,7 +5,7 @@ ghost use Rattle.std.specs.Prelude.{◌≡◌, ◌<◌, [], ◌∷◌, ◌++◌,
 ghost use Rattle.std.specs.List.{flat_map};
 ghost use Rattle.card_sets.specs.PlayerSets.{seats_in};
 ghost use Rattle.even_luck.specs.Equities.{IsOfHand, is_asked};
-ghost use Rattle.hand_blocks.specs.Results.{accepted_results, even_word, net_words, player_result, result_line, result_title, results_block};
+ghost use Rattle.hand_blocks.specs.Results.{accepted_results, even_word, player_result, result_line, results_block};
 ghost use Rattle.report_sheet.specs.Sheets.{IsBetweenLines, with_line, with_lines, with_words};
 
 use crate::hands::{accepted_line, name_text, rejected_hand};
@@ -45,28 +45,8 @@ fn even_word(
     }
 }
 
-/// What a player had and put in.
-#[tactic(auto, using(report_sheet::proofs::CallerLemmas::word_steps), unfolding(crate::specs::Results::result_title))]
-fn result_title(sheet: &mut Sheet, hundredths: bool, chips: SeatChips) -> Result<(), AllocError>
-    ensures { OnOk result (sheet.new ≡ with_words sheet.old (result_title hundredths chips)) }
-{
-    sheet.text("result")?;
-    sheet.name_and_money("had", hundredths, u128::from(chips.had))?;
-    sheet.name_and_money("put", hundredths, u128::from(chips.put))
-}
-
-/// What a player got and netted.
-#[tactic(auto, using(report_sheet::proofs::CallerLemmas::word_steps), unfolding(crate::specs::Results::net_words))]
-fn net_words(sheet: &mut Sheet, hundredths: bool, put: u64, got: u128) -> Result<(), AllocError>
-    ensures { OnOk result (sheet.new ≡ with_words sheet.old (net_words hundredths put got)) }
-{
-    sheet.name_and_money("got", hundredths, got)?;
-    sheet.text("net")?;
-    sheet.difference(hundredths, got, u128::from(put))
-}
-
-/// The line of a player.
-#[tactic(auto, using(report_sheet::proofs::CallerLemmas::sheet_steps), unfolding(crate::specs::Results::result_line))]
+/// The line of a player: what they had, put in, got, and netted.
+#[tactic(auto, using(report_sheet::proofs::CallerLemmas::sheet_steps), unfolding(crate::specs::Results::result_line, crate::specs::Results::result_title, crate::specs::Results::net_words))]
 fn result_line(
     sheet: &mut Sheet,
     hundredths: bool,
@@ -79,8 +59,12 @@ fn result_line(
     ensures { OnOk result (sheet.new
         ≡ with_line sheet.old (result_line hundredths chips got even name.now)) }
 {
-    result_title(sheet, hundredths, chips)?;
-    net_words(sheet, hundredths, chips.put, got)?;
+    sheet.text("result")?;
+    sheet.name_and_money("had", hundredths, u128::from(chips.had))?;
+    sheet.name_and_money("put", hundredths, u128::from(chips.put))?;
+    sheet.name_and_money("got", hundredths, got)?;
+    sheet.text("net")?;
+    sheet.difference(hundredths, got, u128::from(chips.put))?;
     sheet.text("even")?;
     even_word(sheet, hundredths, chips.put, even)?;
     sheet.end_with(name)

@@ -4,8 +4,8 @@
 ghost use Rattle.std.specs.Prelude.{◌≡◌, ◌<◌, [], ◌∷◌, ◌++◌, true, unwrap_or, OnOk, OnErr};
 ghost use Rattle.even_luck.specs.Equities.{IsCountOf, IsOfHand, is_asked};
 ghost use Rattle.even_luck.specs.Figures.{full_figures, tally_figures};
-ghost use Rattle.report_sheet.specs.Sheets.{IsBetweenLines, with_line, with_lines, with_words};
-ghost use Rattle.hand_blocks.specs.Streets.{IsOfStreet, IsOfTable, counted_street, has_counted, is_counted_all_in, street_block, street_line, street_name, table_street, word_line};
+ghost use Rattle.report_sheet.specs.Sheets.{IsBetweenLines, with_line, with_lines};
+ghost use Rattle.hand_blocks.specs.Streets.{IsOfStreet, IsOfTable, counted_street, has_counted, is_counted_all_in, street_block, street_line, table_street, word_line};
 ghost use Rattle.hand_blocks.specs.Words.{later_word};
 ghost use Rattle.showdown_tally.specs.Deals.{deal_of};
 
@@ -23,10 +23,7 @@ use std::alloc::AllocError;
 fn later_text(street: Street) -> &'static str
     ensures { result.now ≡ unwrap_or (later_word street) [] }
 {
-    match later_word(street) {
-        Some(word) => word,
-        None => "",
-    }
+    later_word(street).unwrap_or("")
 }
 
 /// Whether the equity of an all-in is counted.
@@ -51,32 +48,24 @@ pub fn has_counted(audit: &HandAudit, equity: &Equity) -> bool
     }
 }
 
-/// The first words of a line of a street.
-#[tactic(auto, using(report_sheet::proofs::CallerLemmas::word_steps), unfolding(crate::specs::Streets::street_name))]
-fn street_name(sheet: &mut Sheet, street: Street) -> Result<(), AllocError>
-    ensures { OnOk result (sheet.new ≡ with_words sheet.old (street_name street)) }
-{
-    sheet.name_and_word("street", later_text(street))
-}
-
 /// What is said of a street in one word.
-#[tactic(auto, using(report_sheet::proofs::CallerLemmas::sheet_steps))]
+#[tactic(auto, using(report_sheet::proofs::CallerLemmas::sheet_steps), unfolding(crate::specs::Streets::street_name))]
 fn word_line(sheet: &mut Sheet, street: Street, word: &str) -> Result<(), AllocError>
     requires { IsBetweenLines sheet.old }
     ensures { OnOk result (sheet.new ≡ with_line sheet.old (word_line street word.now)) }
 {
-    street_name(sheet, street)?;
+    sheet.name_and_word("street", later_text(street))?;
     sheet.text(word)?;
     sheet.end()
 }
 
 /// The first line of a street that is counted.
-#[tactic(auto, using(report_sheet::proofs::CallerLemmas::sheet_steps), unfolding(crate::specs::Streets::street_line))]
+#[tactic(auto, using(report_sheet::proofs::CallerLemmas::sheet_steps), unfolding(crate::specs::Streets::street_line, crate::specs::Streets::street_name))]
 fn street_line(sheet: &mut Sheet, street: Street, all: u64) -> Result<(), AllocError>
     requires { IsBetweenLines sheet.old }
     ensures { OnOk result (sheet.new ≡ with_line sheet.old (street_line street all)) }
 {
-    street_name(sheet, street)?;
+    sheet.name_and_word("street", later_text(street))?;
     sheet.name_and_number("runouts", all)?;
     sheet.end()
 }
