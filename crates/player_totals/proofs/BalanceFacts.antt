@@ -1,5 +1,5 @@
 -- What one hand more adds to the balance.
-use Rattle.std.proofs.Common.{◌≡◌, ℕ, ◌+◌, Bool, false, cond, List, [], ◌∷◌, ◌++◌, length, map, refl, sym, ap, ◌∙◌, length-append, arith}
+use Rattle.std.proofs.Common.{◌≡◌, ℕ, ◌+◌, false, cond, List, [], ◌∷◌, ◌++◌, length, map, refl, sym, ap, ◌∙◌, length-append, arith}
 use Rattle.std.specs.Prelude.{not, count_by}
 use Rattle.std.specs.List.{flat_map, list_any}
 use Rattle.std.proofs.lemmas.List.Concat.{flat_map-cons}
@@ -7,7 +7,6 @@ use Rattle.std.proofs.lemmas.List.Sums.{sum_by_push, sum_by-cons}
 use Rattle.hand_verdict.specs.declared.verdicts.AllIn.{AllIn}
 use Rattle.hand_verdict.specs.declared.verdicts.HandAudit.{HandAudit}
 use Rattle.hand_verdict.specs.declared.verdicts.HandAudit.TheVariants.{Rejected, Accepted}
-use Rattle.hand_verdict.specs.declared.cause.Cause.{Cause}
 use Rattle.hand_verdict.specs.declared.seat_chips.AuditedChips.{AuditedChips}
 use Rattle.hand_verdict.specs.declared.seat_chips.SeatChips.{SeatChips}
 use Rattle.hand_verdict.specs.declared.settlement.Settlement.{Settlement}
@@ -18,7 +17,6 @@ use Rattle.player_totals.specs.SumsSeen.{with_given, with_players}
 use Rattle.player_totals.specs.Totals.{Player, each_once, is_accepted, players_in, playing, same_player}
 use Rattle.player_totals.specs.TotalsSeen.{named_player}
 use Rattle.player_totals.specs.declared.balance_sums.BalanceSums.{BalanceSums}
-use Rattle.player_totals.proofs.LineupFacts.{given_none}
 use Rattle.player_totals.proofs.RunFacts.{AreOver, absent_share, hand_more}
 
 -- a hand, by its verdict and the chips of its seats
@@ -98,21 +96,4 @@ accepted_more hands s all_in names players chips accepted rejected entries now b
     let all_rejected : rejected ≡ count_by (λ h. not (is_accepted h.audit)) (hands ++ hand ∷ []) = omega (arith, sum_by_push (λ h. cond (not (is_accepted h.audit)) 1 0) hands hand) in
     let all_players : now ≡ (balance_of (hands ++ hand ∷ [])).players =
     written ∙ ap (λ some. with_given both (balance_in hand) (with_players no_balance some (players_of hand))) entries_before ∙ players_more hands hand in
-    λ i. record { hands = all_hands i; accepted = all_accepted i; rejected = all_rejected i; players = all_players i }
-
--- and with one rejected
-pub rejected_more : (hands : List AuditedChips) (line : ℕ) (cause : Cause) (hundredths : Bool) (chips : List SeatChips) (accepted rejected : ℕ) (entries : List (Player × BalanceSums)) →
-    record { hands = accepted + rejected; accepted = accepted; rejected = rejected; players = entries } ≡ balance_of hands →
-    record { hands = accepted + (rejected + 1); accepted = accepted; rejected = rejected + 1; players = entries } ≡ balance_of (hands ++ hand_of (Rejected line cause hundredths) chips ∷ [])
-rejected_more hands line cause hundredths chips accepted rejected entries before =
-    let hand = hand_of (Rejected line cause hundredths) chips in
-    let in_all : accepted + rejected ≡ length hands = ap (λ (b : RunBalance). b.hands) before in
-    let accepted_before : accepted ≡ count_by (λ h. is_accepted h.audit) hands = ap (λ (b : RunBalance). b.accepted) before in
-    let rejected_before : rejected ≡ count_by (λ h. not (is_accepted h.audit)) hands = ap (λ (b : RunBalance). b.rejected) before in
-    let entries_before : entries ≡ (balance_of hands).players = ap (λ (b : RunBalance). b.players) before in
-    let all_hands : accepted + (rejected + 1) ≡ length (hands ++ hand ∷ []) = omega (arith, length-append hands (hand ∷ [])) in
-    let all_accepted : accepted ≡ count_by (λ h. is_accepted h.audit) (hands ++ hand ∷ []) = omega (arith, sum_by_push (λ h. cond (is_accepted h.audit) 1 0) hands hand) in
-    let all_rejected : rejected + 1 ≡ count_by (λ h. not (is_accepted h.audit)) (hands ++ hand ∷ []) = omega (arith, sum_by_push (λ h. cond (not (is_accepted h.audit)) 1 0) hands hand) in
-    let all_players : entries ≡ (balance_of (hands ++ hand ∷ [])).players =
-    entries_before ∙ given_none balance_is_sums (balance_in hand) (balance_of hands).players (λ player. refl) ∙ players_more hands hand in
     λ i. record { hands = all_hands i; accepted = all_accepted i; rejected = all_rejected i; players = all_players i }

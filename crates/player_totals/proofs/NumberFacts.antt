@@ -3,7 +3,7 @@ use Rattle.std.proofs.Common.{◌≡◌, ℕ, zero, suc, ◌+◌, ◌<◌, ◌==
 use Rattle.std.specs.Prelude.{option_map}
 use Rattle.std.specs.Bool.{beq}
 use Rattle.std.specs.BTreeMap.{BTreeMap, Updates, btree_map_len, get, is_at}
-use Rattle.std.specs.Cmp.Lexicographic.{bytes_decides, nat_list_eq_equiv}
+use Rattle.std.specs.Cmp.Lexicographic.{bytes_decides}
 use Rattle.std.specs.List.{AllByRecursion, IsDistinct, list_any}
 use Rattle.std.specs.Map.{keys_of, lookup, set_value}
 use Rattle.std.specs.Ordering.{is_eq}
@@ -30,9 +30,6 @@ name_bytes a b = (bytes_decides (rc_slice_items a.bytes) (rc_slice_items b.bytes
 
 name_congr : (a b c : Name) → same_name a b ≡ true → same_name a c ≡ same_name b c
 name_congr a b c same = ap (λ bytes. bytes_eq bytes (rc_slice_items c.bytes)) (name_bytes a b same)
-
-name_symm : (a b : Name) → same_name a b ≡ same_name b a
-name_symm a b = nat_list_eq_equiv.symm (rc_slice_items a.bytes) (rc_slice_items b.bytes)
 
 lookup_same : {K X : Type 0} (f g : K → Bool) → ((key : K) → f key ≡ g key) → (entries : List (K × X)) → lookup f entries ≡ lookup g entries
 lookup_same f g same [] = refl
@@ -113,15 +110,6 @@ no_numbers numbers empty =
     record {
       below = λ name number at. absurd (none_some number (sym (none name) ∙ at));
       apart = λ a b number at_a at_b. absurd (none_some number (sym (none a) ∙ at_a));
-    }
-
--- the same numbers in a map with the same entries
-pub numbers_same : (was now : BTreeMap Name ℕ) → now.entries ≡ was.entries → AreNumbers was → AreNumbers now
-numbers_same was now same numbers =
-    let as_before : (name : Name) → get name_cmp now name ≡ get name_cmp was name = λ name. ap (lookup (is_at (name_cmp name))) same in
-    record {
-      below = λ name number at. subst (λ count. number < count) (sym (ap length same)) (numbers.below name number (sym (as_before name) ∙ at));
-      apart = λ a b number at_a at_b. numbers.apart a b number (sym (as_before a) ∙ at_a) (sym (as_before b) ∙ at_b);
     }
 
 pub kept_same : (was now : BTreeMap Name ℕ) → now.entries ≡ was.entries → (other : Name) (number : ℕ) → get name_cmp was other ≡ Some number → get name_cmp now other ≡ Some number

@@ -16,7 +16,6 @@ use Rattle.std.proofs.lemmas.Grind.{flat_map-append}
 use Rattle.hand_verdict.specs.declared.verdicts.AllIn.{AllIn}
 use Rattle.hand_verdict.specs.declared.verdicts.HandAudit.{HandAudit}
 use Rattle.hand_verdict.specs.declared.verdicts.HandAudit.TheVariants.{Rejected, Accepted}
-use Rattle.hand_verdict.specs.declared.cause.Cause.{Cause}
 use Rattle.hand_verdict.specs.declared.settlement.Settlement.{Settlement}
 use Rattle.hand_events.specs.Names.{seat_named}
 use Rattle.even_luck.specs.Seats.{Seated}
@@ -25,7 +24,6 @@ use Rattle.player_totals.proofs.NameFacts.{same_congr, same_symm}
 use Rattle.player_totals.specs.SumsSeen.{AreSums, seated_share, with_given, with_player, with_players}
 use Rattle.player_totals.specs.TotalsSeen.{named_player, plus, totals_are_sums}
 use Rattle.player_totals.specs.declared.player_sums.PlayerSums.{PlayerSums}
-use Rattle.player_totals.proofs.LineupFacts.{given_none}
 
 -- a player stands among some exactly where he stands among them once each
 pub any_once : (player : Player) (players : List Player) → list_any (same_player player) (each_once players) ≡ list_any (same_player player) players
@@ -213,21 +211,4 @@ accepted_more hands s all_in names players accepted rejected entries now before 
     let all_rejected : rejected ≡ count_by (λ h. not (is_accepted h)) (hands ++ hand ∷ []) = omega (arith, sum_by_push (λ h. cond (not (is_accepted h)) 1 0) hands hand) in
     let all_players : now ≡ (totals_of (hands ++ hand ∷ [])).players =
     written ∙ ap (λ some. with_given plus (sums_in hand) (with_players no_sums some (players_in hand))) entries_before ∙ players_more hands hand in
-    λ i. record { hands = all_hands i; accepted = all_accepted i; rejected = all_rejected i; players = all_players i }
-
--- and with one rejected hand more
-pub rejected_more : (hands : List HandAudit) (line : ℕ) (cause : Cause) (hundredths : Bool) (accepted rejected : ℕ) (entries : List (Player × PlayerSums)) →
-    record { hands = accepted + rejected; accepted = accepted; rejected = rejected; players = entries } ≡ totals_of hands →
-    record { hands = accepted + (rejected + 1); accepted = accepted; rejected = rejected + 1; players = entries } ≡ totals_of (hands ++ Rejected line cause hundredths ∷ [])
-rejected_more hands line cause hundredths accepted rejected entries before =
-    let hand : HandAudit = Rejected line cause hundredths in
-    let in_all : accepted + rejected ≡ length hands = ap (λ (t : RunTotals). t.hands) before in
-    let accepted_before : accepted ≡ count_by is_accepted hands = ap (λ (t : RunTotals). t.accepted) before in
-    let rejected_before : rejected ≡ count_by (λ h. not (is_accepted h)) hands = ap (λ (t : RunTotals). t.rejected) before in
-    let entries_before : entries ≡ (totals_of hands).players = ap (λ (t : RunTotals). t.players) before in
-    let all_hands : accepted + (rejected + 1) ≡ length (hands ++ hand ∷ []) = omega (arith, length-append hands (hand ∷ [])) in
-    let all_accepted : accepted ≡ count_by is_accepted (hands ++ hand ∷ []) = omega (arith, sum_by_push (λ h. cond (is_accepted h) 1 0) hands hand) in
-    let all_rejected : rejected + 1 ≡ count_by (λ h. not (is_accepted h)) (hands ++ hand ∷ []) = omega (arith, sum_by_push (λ h. cond (not (is_accepted h)) 1 0) hands hand) in
-    let all_players : entries ≡ (totals_of (hands ++ hand ∷ [])).players =
-    entries_before ∙ given_none totals_are_sums (sums_in hand) (totals_of hands).players (λ player. refl) ∙ players_more hands hand in
     λ i. record { hands = all_hands i; accepted = all_accepted i; rejected = all_rejected i; players = all_players i }

@@ -1,5 +1,5 @@
 -- How clauses see the totals that the code keeps, how a hand changes them, and what keeps their sums small.
-use Rattle.std.specs.Prelude.{ℕ, ◌≡◌, suc, ◌+◌, ◌*◌, ◌^◌, ◌<◌, ◌≤◌, ◌==◌, ◌&&◌, Bool, true, false, if◌then◌else◌, List, [], ◌∷◌, map, take, Option, None, Some, is_none, option_and_then, option_map, slice_get}
+use Rattle.std.specs.Prelude.{ℕ, ◌≡◌, ◌+◌, ◌*◌, ◌^◌, ◌<◌, ◌≤◌, ◌==◌, ◌&&◌, Bool, true, false, if◌then◌else◌, List, map, take, Option, None, Some, is_none, option_and_then, option_map, slice_get}
 use Rattle.std.proofs.Common.{arith}
 use Rattle.std.specs.BTreeMap.{BTreeMap, btree_map_len, get}
 use Rattle.std.specs.Bool.{beq}
@@ -13,7 +13,7 @@ use Rattle.std.specs.declared.cmp.Ordering.{Ordering}
 use Rattle.hand_events.specs.Names.{seat_named}
 use Rattle.even_luck.specs.Seats.{Seated}
 use Rattle.player_totals.specs.SumsSeen.{AreSums}
-use Rattle.player_totals.specs.Totals.{Player, no_sums, playing, same_player}
+use Rattle.player_totals.specs.Totals.{Player, no_sums, playing}
 use Rattle.player_totals.specs.declared.player_sums.PlayerSums.{PlayerSums}
 use Rattle.player_totals.specs.declared.player_key.Name.{Name}
 use Rattle.player_totals.specs.declared.player_key.PlayerKey.{PlayerKey}

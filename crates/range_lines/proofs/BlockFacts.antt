@@ -1,6 +1,5 @@
 -- The block of a spot that is counted, from its tally.
-use Rattle.std.proofs.Common.{◌≡◌, ℕ, ◌*◌, ◌<◌, ◌≤◌, true, false, [], ◌∷◌, ◌++◌, length, refl, sym, ap, ◌∙◌, append-nil, arith}
-use Rattle.std.specs.Prelude.{codes}
+use Rattle.std.proofs.Common.{◌≡◌, ℕ, ◌*◌, ◌<◌, ◌≤◌, false, ◌++◌, length, refl, sym, ap, ◌∙◌, append-nil, arith}
 use Rattle.std.specs.List.{flat_map}
 use Rattle.card_sets.specs.declared.games.Game.TheVariants.{Holdem}
 use Rattle.card_sets.specs.declared.games.Side.{Side}
@@ -9,11 +8,11 @@ use Rattle.runout_ranges.specs.declared.limits.TheConstants.{RUNOUT_MAX}
 use Rattle.report_sheet.proofs.CallerLemmas.{every_same, then_lines}
 use Rattle.report_sheet.specs.Lines.{line_in}
 use Rattle.report_sheet.specs.Sheets.{Written, with_line, with_lines}
-use Rattle.report_sheet.specs.SpotLines.{every_hand, ev_line, hand_lines, refused_line, side_line}
+use Rattle.report_sheet.specs.SpotLines.{every_hand, ev_line, hand_lines, side_line}
 use Rattle.report_sheet.specs.declared.form.Form.{Form}
 use Rattle.showdown_tally.specs.declared.cells.Cell.{Cell}
 use Rattle.range_lines.specs.declared.tally.RangeTally.{RangeTally}
-use Rattle.range_lines.specs.Blocks.{cell_of, counted_block, counted_line, known_block, no_cell, rejected_line, tally_block, tally_cell, tally_ends, tally_units}
+use Rattle.range_lines.specs.Blocks.{cell_of, counted_block, counted_line, known_block, no_cell, tally_block, tally_cell, tally_ends, tally_units}
 use Rattle.range_lines.specs.Choices.{choices, full_weight, runouts_of_choice, are_above, has_no_choice}
 use Rattle.range_lines.specs.Counted.{IsTallyOf, IsSmall, units_of}
 use Rattle.range_lines.specs.RangeSpot.{Ranges}
@@ -73,16 +72,6 @@ then_hand w w' w'' tally all hand win tie lose units e f g u before more =
     more ∙ ap (λ n. with_line w' (ev_line all hand n)) u ∙ ap (λ (f : Form). with_lines w' (line_in f (ev_line all hand (tally_units tally hand)))) form in
     then_lines w w' w'' (line_in w.form (side_line all hand High (tally_ends tally hand High))) (line_in w.form (ev_line all hand (tally_units tally hand))) side ev
     ∙ ap (λ lines. with_lines w lines) (two_lines w.form all (tally_ends tally) (tally_units tally) hand)
-
--- which block a spot has
-pub block_above : (form : Form) (place number : ℕ) (spot : Ranges) → are_above RUNOUT_MAX spot ≡ true → line_in form (refused_line place Holdem) ≡ known_block form place number spot
-unfolding known_block
-block_above form place number spot above = rw above refl
-
-pub block_none : (form : Form) (place number : ℕ) (spot : Ranges) → are_above RUNOUT_MAX spot ≡ false → has_no_choice spot ≡ true →
-    line_in form (rejected_line place number (codes "NoChoice" ∷ [])) ≡ known_block form place number spot
-unfolding known_block
-block_none form place number spot above none = rw (above, none) refl
 
 pub block_counted : (form : Form) (place number : ℕ) (spot : Ranges) (tally : RangeTally) (count : ℕ) → are_above RUNOUT_MAX spot ≡ false → has_no_choice spot ≡ false → IsTallyOf spot tally →
     count ≡ length spot.ranges → tally_block form place count tally ≡ known_block form place number spot

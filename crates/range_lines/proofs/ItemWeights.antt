@@ -1,5 +1,5 @@
 -- The items of a word, added one after another to all hands.
-use Rattle.std.proofs.Common.{◌≡◌, ℕ, ◌+◌, Bool, true, false, ◌&&◌, List, [], ◌∷◌, ◌++◌, map, refl, sym, ap, ◌∙◌, append_assoc, append-nil, Some, None, arith}
+use Rattle.std.proofs.Common.{◌≡◌, ℕ, ◌+◌, Bool, true, false, ◌&&◌, List, [], ◌∷◌, ◌++◌, map, refl, sym, ap, ◌∙◌, append_assoc, Some, arith}
 use Rattle.std.specs.Prelude.{is_some, nat_le}
 use Rattle.std.specs.List.{list_all, filter_map, flat_map, cons_option}
 use Rattle.std.proofs.lemmas.Bool.{and_from}
@@ -101,12 +101,6 @@ weighing_none word before pairs left all is first = record {
   items = ap (list_all (λ text. is_some (entry_of text))) (sym first);
 }
 
--- a text that is no item
-pub weighing_bad : (word : List ℕ) (pairs : List Pair) (left rest : List (List ℕ)) (text : List ℕ) → Weighing word pairs left → left ≡ text ∷ rest → entry_of text ≡ None → false ≡ is_range word
-weighing_bad word pairs left rest text w more none =
-    let no : are_items word ≡ false = w.items ∙ ap (list_all (λ t. is_some (entry_of t))) more ∙ ap (λ o. is_some o && list_all (λ t. is_some (entry_of t)) rest) none in
-    sym (ap (λ b. b && are_light (entries_of word)) no)
-
 entries_next : (word : List ℕ) (done : List Entry) (left rest : List (List ℕ)) (text : List ℕ) (e : Entry) → entries_of word ≡ done ++ filter_map entry_of left → left ≡ text ∷ rest → entry_of text ≡ Some e →
     entries_of word ≡ done ++ e ∷ filter_map entry_of rest
 entries_next word done left rest text e is more some =
@@ -131,11 +125,3 @@ weighing_more word pairs more_pairs left rest text e w more some room is = recor
   entries = entries_next word w.done left rest text e w.entries more some ∙ sym (append_assoc w.done (e ∷ []) (filter_map entry_of rest));
   items = w.items ∙ ap (list_all (λ t. is_some (entry_of t))) more ∙ ap (λ o. is_some o && list_all (λ t. is_some (entry_of t)) rest) some;
 }
-
--- no text is left
-pub weighing_all : (word : List ℕ) (pairs : List Pair) (left : List (List ℕ)) → Weighing word pairs left → left ≡ [] → (true ≡ is_range word) × (pairs ≡ map (weighed (entries_of word)) all_pairs)
-weighing_all word pairs left w none =
-    let all : entries_of word ≡ w.done = w.entries ∙ ap (λ ts. w.done ++ filter_map entry_of ts) none ∙ append-nil w.done in
-    let items : are_items word ≡ true = w.items ∙ ap (list_all (λ t. is_some (entry_of t))) none in
-    let light : are_light (entries_of word) ≡ true = ap are_light all ∙ w.light in
-    (sym (and_from (are_items word) (are_light (entries_of word)) items light), w.so_far ∙ ap (λ entries. map (weighed entries) all_pairs) (sym all))

@@ -12,39 +12,22 @@ use Rattle.spot_text.specs.Collected.{IsCollected}
 use Rattle.spot_text.specs.Parts.{hand_words, board_words, dead_words, all_cards, cards_of, set_of}
 use Rattle.spot_text.specs.Spot.{players_within, repeated_after}
 use Rattle.spot_text.specs.Words.{words}
-use Rattle.range_lines.specs.declared.faults.RangeFault.TheVariants.{UnknownWord, BadCard, BadRange, TwiceCard, BoardSize, PlayerCount, DeckShort}
+use Rattle.range_lines.specs.declared.faults.RangeFault.TheVariants.{UnknownWord, TwiceCard, BoardSize, PlayerCount, DeckShort}
 use Rattle.range_lines.specs.declared.spot.Weighted.{Weighted}
 use Rattle.range_lines.specs.Hands.{is_range, hands_of}
 use Rattle.spot_text.proofs.CallerLemmas.{table_size, within_least, within_most}
 use Rattle.range_lines.proofs.RangeWords.{table_form, table_repeats}
 use Rattle.range_lines.proofs.SoundLines.{one_each}
-use Rattle.range_lines.specs.RangeSpot.{Ranges, IsBehindRanges, is_one_word, is_form, range_words, table_cards, are_few, ranges_of_words, unless_dealt_out, ranges_of_sizes, unless_repeated, ranges_behind, ranges_of_line_words, ranges_of, is_dealt_out}
+use Rattle.range_lines.specs.RangeSpot.{Ranges, IsBehindRanges, is_one_word, is_form, range_words, table_cards, are_few, ranges_of_words, unless_dealt_out, ranges_of_sizes, ranges_behind, ranges_of_line_words, ranges_of, is_dealt_out}
 
 pub line_none : (line : List ℕ) → words line ≡ [] → ranges_of line ≡ Err UnknownWord
 line_none line none = ap ranges_of_line_words none
 
-pub line_other : (line word : List ℕ) (others : List (List ℕ)) → words line ≡ word ∷ others → bytes_eq word (game_word Holdem) ≡ false → ranges_of line ≡ Err UnknownWord
-line_other line word others first other = ap ranges_of_line_words first ∙ ap (λ b. cond b (ranges_behind others) (Err UnknownWord)) other
-
 pub line_game : (line word : List ℕ) (others : List (List ℕ)) → words line ≡ word ∷ others → bytes_eq word (game_word Holdem) ≡ true → ranges_of line ≡ ranges_behind others
 line_game line word others first game = ap ranges_of_line_words first ∙ ap (λ b. cond b (ranges_behind others) (Err UnknownWord)) game
 
--- a hand that isn't one word, or a word of the table that is no card
-pub bad_hands : (others : List (List ℕ)) → list_all is_one_word (hand_words others) ≡ false → ranges_behind others ≡ Err BadCard
-bad_hands others bad = rw bad refl
-
-pub bad_table : (others : List (List ℕ)) → (all_cards (board_words others) && all_cards (dead_words others)) ≡ false → ranges_behind others ≡ Err BadCard
-bad_table others bad = at (list_all is_one_word (hand_words others))
-  where
-    at : (b : Bool) → cond (b && (all_cards (board_words others) && all_cards (dead_words others))) (cond (list_all is_range (range_words others)) (unless_repeated (repeated_after [] (table_cards others)) others) (Err BadRange)) (Err BadCard) ≡ Err BadCard
-    at true = rw bad refl
-    at false = refl
-
 pub form_of : (others : List (List ℕ)) → list_all is_one_word (hand_words others) ≡ true → (all_cards (board_words others) && all_cards (dead_words others)) ≡ true → is_form others ≡ true
 form_of others hands table = rw (hands, table) refl
-
-pub bad_range : (others : List (List ℕ)) → is_form others ≡ true → list_all is_range (range_words others) ≡ false → ranges_behind others ≡ Err BadRange
-bad_range others form bad = rw (form, bad) refl
 
 pub card_twice : (others : List (List ℕ)) (card : ℕ) → is_form others ≡ true → list_all is_range (range_words others) ≡ true → repeated_after [] (table_cards others) ≡ Some card →
     ranges_behind others ≡ Err (TwiceCard card)

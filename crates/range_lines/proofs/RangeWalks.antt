@@ -6,7 +6,6 @@ use Rattle.std.proofs.lemmas.List.{length-map, drop_at}
 use Rattle.std.proofs.lemmas.List.Elements.{All-nil, All-cons, All-head, All-drop, All-append, All-map, All-filter, All-weaker}
 use Rattle.std.proofs.Math.Nat.{le-mul_of_pos_right, mul_assoc, mul_comm, pow-le-pow_right}
 use Rattle.std.proofs.lemmas.Bool.{or_cases, and_parts, eqb-true, leb-true, ltb-false}
-use Rattle.std.proofs.lemmas.Nat.{mul-le}
 use Rattle.std.specs.Result.{IsErrOf}
 use Rattle.card_sets.specs.State.{State}
 use Rattle.card_sets.specs.declared.games.Game.TheVariants.{Holdem}
@@ -69,9 +68,6 @@ walk_step spot range ranges taken i d walk l = record {
         let same : (m * r) * n ≡ (n * m) * r = mul_comm (m * r) n ∙ sym (mul_assoc n m r) in
         omega (arith, more, same, h)
 
-pub walk_hand : (spot : Ranges) (range : List Weighted) (ranges : List (List Weighted)) (taken : List Weighted) (i : ℕ) (d : Weighted) → IsWalk spot (range ∷ ranges) taken → i < length range → IsHand spot.board spot.dead (get_or range i d)
-walk_hand spot range ranges taken i d walk l = hand_at spot.board spot.dead range i d walk.left.0.each l
-
 -- a board that a deal has is small
 pub board_small : (n : ℕ) → board_fits Holdem n ≡ true → n ≤ 5
 board_small n h = elim (or_cases (n == 0) (nat_le 3 n && nat_le n 5) h) [
@@ -93,13 +89,6 @@ ranges_few board dead (range ∷ ranges) h = (h.0.few, ranges_few board dead ran
 pub few_first : (ranges : List (List Weighted)) (d : List Weighted) → 0 < length ranges → AreFew ranges → length (get_or ranges 0 d) ≤ 1326
 few_first [] d some few = absurd (omega arith)
 few_first (range ∷ ranges) d some few = few.0
-
--- one range more of a product that is bounded
-pub most_more : (range : List Weighted) (n most : ℕ) → length range ≤ 1326 → most ≤ 2048 ^ n → length range * most ≤ 2048 ^ suc n
-most_more range n most few h =
-    let product : length range * most ≤ 2048 * 2048 ^ n = mul-le (length range) most 2048 (2048 ^ n) (omega arith) h in
-    let power : 2048 ^ suc n ≡ 2048 * 2048 ^ n = omega arith in
-    omega (arith, product, power)
 
 -- a product of four ranges fits
 pub most_fits : (n most : ℕ) → n ≤ 4 → most ≤ 2048 ^ n → most ≤ 2 ^ 44

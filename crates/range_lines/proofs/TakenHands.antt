@@ -3,7 +3,7 @@ use Rattle.std.proofs.Common.{◌≡◌, ℕ, zero, suc, ◌+◌, ◌*◌, ◌-�
 use Rattle.std.specs.List.{list_all}
 use Rattle.std.proofs.Math.Nat.{pow-le-pow_right, mul_assoc}
 use Rattle.std.proofs.lemmas.Nat.{mul-le, pow-add}
-use Rattle.std.proofs.lemmas.List.{take-append-drop, take_more_set, map_more, drop-set-lt, drop-drop, drop-replicate}
+use Rattle.std.proofs.lemmas.List.{take-append-drop, take_more_set}
 use Rattle.card_sets.specs.Disjoint.{apart, all_apart, all_empty}
 use Rattle.card_sets.specs.Games.{all_fit}
 use Rattle.card_sets.specs.declared.games.Game.TheVariants.{Holdem}
@@ -150,15 +150,3 @@ pub light_three : (count weight : ℕ) → count < 4 → weight ≤ 256 ^ count 
 light_three count weight few h =
     let power : 256 ^ count ≤ 256 ^ 3 = pow-le-pow_right (let some : 0 < 256 = omega arith in some) (let k : count ≤ 3 = omega arith in k) in
     omega (arith, h, power)
-
--- ---- the hands with empty sets after them, written
-
-pub padded_front : (taken : List Weighted) (cards : List (List ℕ)) (i : ℕ) (w : Weighted) → i < length taken → i < length cards → w ≡ get_or taken i w → take i cards ≡ hands_in (take i taken)
-    → take (i + 1) (set cards i w.hand) ≡ hands_in (take (i + 1) taken)
-padded_front taken cards i w l m is e =
-    take_more_set cards i w.hand m ∙ ap (λ some. some ++ w.hand ∷ []) e ∙ ap (λ v. hands_in (take i taken) ++ v.hand ∷ []) is ∙ sym (map_more (λ v. v.hand) taken i w l)
-
-pub padded_back : (cards : List (List ℕ)) (i : ℕ) (hand : List ℕ) → drop i cards ≡ replicate (10 - i) [] → drop (i + 1) (set cards i hand) ≡ replicate (10 - (i + 1)) []
-padded_back cards i hand e =
-    let less : 10 - i - 1 ≡ 10 - (i + 1) = omega arith in
-    drop-set-lt (i + 1) cards i hand (omega arith) ∙ sym (drop-drop 1 i cards) ∙ ap (drop 1) e ∙ drop-replicate 1 (10 - i) [] ∙ ap (λ n. replicate n []) less

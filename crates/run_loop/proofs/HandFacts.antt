@@ -40,9 +40,3 @@ pub streets_by_lines : (form : Form) (audit : HandAudit) (lines : List (List ℕ
 unfolding street_blocks
 streets_by_lines form (Rejected line cause hundredths) lines = refl
 streets_by_lines form (Accepted settlement all_in names players) lines = refl
-
--- after what there was
-pub told_by_lines : (form : Form) (audit : HandAudit) (lines : List (List ℕ)) (states : List StreetState) (items : List ℕ) →
-    states ≡ streets_of audit lines → items ++ street_blocks form audit states ≡ items ++ street_blocks form audit (states_in lines)
-told_by_lines form audit lines states items same =
-    ap (λ each. items ++ street_blocks form audit each) same ∙ ap (λ blocks. items ++ blocks) (streets_by_lines form audit lines)

@@ -1,7 +1,7 @@
 -- Where the all-in of a hand is counted, so is each later street: `law_later_streets_are_counted`.
-use Rattle.std.proofs.Common.{◌≡◌, ℕ, ◌+◌, ◌<◌, ◌≤◌, not, Bool, true, false, List, refl, sym, ap, ◌∙◌, subst, inl, inr, length, sum, arith}
-use Rattle.std.specs.Prelude.{All, Option, Some, nat_lt, slice_index_or}
-use Rattle.std.proofs.lemmas.Bool.{and_parts, cases_lt}
+use Rattle.std.proofs.Common.{◌≡◌, ℕ, ◌+◌, ◌<◌, not, Bool, true, false, List, refl, sym, ap, ◌∙◌, subst, inl, inr, length, arith}
+use Rattle.std.specs.Prelude.{All, Option, Some, slice_index_or}
+use Rattle.std.proofs.lemmas.Bool.{cases_lt}
 use Rattle.std.proofs.lemmas.List.{get_or_default}
 use mathlib.Core.Bool.{true≢false}
 use Rattle.card_sets.specs.declared.streets.Street.{Street}
@@ -19,39 +19,12 @@ use Rattle.hand_blocks.specs.Streets.{IsCountedStreet, IsOfStreet, IsOfTable, ha
 use Rattle.even_luck.specs.Figures.{is_counted}
 use Rattle.even_luck.specs.declared.equity.Equity.{Equity}
 use Rattle.even_luck.proofs.CallerLemmas.{count_of}
-use Rattle.runout_ranges.specs.MoreKnown.{HasNoMoreRunouts, IsEnough}
-use Rattle.runout_ranges.specs.Slots.{counts_of, slots, unseen}
-use Rattle.runout_ranges.specs.declared.limits.TheConstants.{RUNOUT_MAX}
 use Rattle.showdown_tally.specs.Deals.{deal_of}
-use Rattle.showdown_tally.specs.Showdown.{Showdown}
-use Rattle.showdown_tally.specs.Tallies.{runouts_after}
 use Rattle.showdown_tally.specs.declared.table.Table.{Table}
 
 not_so : (b : Bool) → not b ≡ true → b ≡ false
 not_so true is = cc
 not_so false is = refl
-
--- a deal that is counted has enough cards, and no more runouts than may be counted
-enough_in : (deal : Showdown) → is_counted deal ≡ true → IsEnough deal.state
-enough_in deal counted =
-    let short = not_so (nat_lt (length (unseen deal.state)) (sum (counts_of (slots deal.state)))) (and_parts _ _ counted).0 in
-    grind (arith, short)
-
-few_in : (deal : Showdown) → is_counted deal ≡ true → length (runouts_after deal.state) ≤ RUNOUT_MAX
-few_in deal counted =
-    let many = not_so (nat_lt RUNOUT_MAX (length (runouts_after deal.state))) (and_parts _ _ counted).1 in
-    grind (arith, many)
-
--- and so has one with no more runouts
-pub counted_too : (before after : Showdown) → is_counted before ≡ true → (IsEnough before.state → HasNoMoreRunouts before.state after.state) → is_counted after ≡ true
-counted_too before after counted more =
-    let no_more = more (enough_in before counted) in
-    let enough = no_more.enough in
-    let few = no_more.few in
-    let most = few_in before counted in
-    let no_short : nat_lt (length (unseen after.state)) (sum (counts_of (slots after.state))) ≡ false = grind (arith, enough) in
-    let within : nat_lt RUNOUT_MAX (length (runouts_after after.state)) ≡ false = grind (arith, few, most) in
-    rw (no_short, within) refl
 
 -- one street more of which that is known
 pub one_more_counted : (table : Table) (states : List StreetState) (i : ℕ) (item : StreetState) → i < length states → item ≡ slice_index_or states i item

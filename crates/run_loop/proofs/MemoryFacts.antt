@@ -1,9 +1,8 @@
 -- A run between ends over memory of which no call is listed to fail.
-use Rattle.std.proofs.Common.{◌≡◌, ℕ, ◌+◌, ◌-◌, ◌<◌, ◌≤◌, ◌==◌, min, Bool, true, false, cond, List, [], ◌∷◌, ◌++◌, length, take, Contains, Option, Some, None, inl, inr, ◌⊎◌, refl, sym, ap, subst, ◌∙◌, arith, append_assoc, append-nil, length-append, if◌then◌else◌}
+use Rattle.std.proofs.Common.{◌≡◌, ℕ, ◌+◌, ◌-◌, ◌<◌, ◌≤◌, ◌==◌, Bool, true, false, cond, List, [], ◌∷◌, ◌++◌, length, take, Option, Some, None, inl, inr, ◌⊎◌, refl, sym, ap, subst, ◌∙◌, arith, append_assoc, append-nil, length-append}
 use mathlib.Core.Bool.{true≢false}
 use Rattle.std.specs.List.{concat}
 use Rattle.std.proofs.lemmas.List.{take_all, take-append-le}
-use Rattle.std.proofs.Math.Seq.{take-append_seam}
 use Rattle.byte_ends.specs.Ends.{one_more}
 use Rattle.byte_ends.specs.Memory.{IsListed, ReadsMemory, SinkState, SourceState, WritesMemory}
 use Rattle.command_words.specs.Command.{reads_input, usage_line}
@@ -11,12 +10,11 @@ use Rattle.command_words.specs.declared.command.Command.{Command}
 use Rattle.command_words.specs.declared.command.Mode.{Mode}
 use Rattle.command_words.specs.declared.command.Mode.TheVariants.{Spots, Ranges, Check, Audit, Streets, Results, Settle, Totals, Balance, Made}
 use Rattle.run_loop.specs.Headline.{written_status}
-use Rattle.run_loop.specs.Laws.{ClosedBlocksStay, has_blocks}
-use Rattle.run_loop.specs.Order.{Comes, Event, Follows, FollowsUsage, IsBefore, IsFront, IsInOrder, Went, begun, due, with_read}
+use Rattle.run_loop.specs.Laws.{has_blocks}
+use Rattle.run_loop.specs.Order.{Comes, Event, Follows, FollowsUsage, IsBefore, Went, begun, due, with_read}
 use Rattle.run_loop.specs.Order.Event.{Reading, Writing}
 use Rattle.run_loop.specs.Closed.{closed}
-use Rattle.run_loop.specs.Reading.{piece, reported}
-use Rattle.run_loop.specs.Report.{blocks_in, report, rejects}
+use Rattle.run_loop.specs.Report.{blocks_in, report}
 use Rattle.run_loop.specs.declared.reading.Ending.{Ending}
 use Rattle.run_loop.specs.declared.reading.Ending.TheVariants.{Whole, Failed, TooLong, Open}
 use Rattle.run_loop.proofs.RunFacts.{closed_stays}

@@ -1,5 +1,5 @@
 -- What is written before what is read.
-use Rattle.std.proofs.Common.{◌≡◌, ℕ, ◌+◌, ◌<◌, ◌≤◌, Bool, true, false, List, [], ◌∷◌, ◌++◌, length, take, drop, Option, Some, None, Result, Ok, Err, inl, inr, refl, sym, ap, subst, ◌∙◌, arith, append_assoc, append-nil, length-append}
+use Rattle.std.proofs.Common.{◌≡◌, ℕ, ◌<◌, true, false, List, [], ◌∷◌, ◌++◌, length, take, drop, Option, Some, None, Result, Ok, Err, inl, inr, refl, sym, ap, subst, ◌∙◌, arith, append_assoc, append-nil, length-append}
 use Rattle.std.specs.List.{concat}
 use Rattle.card_sets.specs.declared.Memory.{Memory}
 use Rattle.hand_cuts.specs.declared.units.CutKind.TheVariants.{Hands}
@@ -9,31 +9,27 @@ use Rattle.std.proofs.Math.Seq.{take-append_seam}
 use Rattle.byte_ends.specs.Ends.{WritesOn, WritesOut}
 use Rattle.byte_ends.specs.declared.Failed.{Failed as Fault}
 use Rattle.hand_cuts.specs.Units.{UnitLines, units_in}
-use Rattle.hand_cuts.specs.Cutters.{seen}
 use Rattle.hand_cuts.specs.declared.units.CutKind.{CutKind}
-use Rattle.hand_cuts.specs.declared.units.Unit.{Unit as UnitPlace}
-use Rattle.run_loop.specs.Cutting.{Begins, Cuts, PullsOne, ReadsAll, ReadsOn}
+use Rattle.run_loop.specs.Cutting.{Begins, Cuts, ReadsAll, ReadsOn}
 use Rattle.run_loop.specs.Headline.{written_status}
 use Rattle.run_loop.specs.Laws.{has_blocks}
-use Rattle.run_loop.specs.Order.{Comes, GoesOn, IsFront, IsInOrder, begun, due, with_read}
+use Rattle.run_loop.specs.Order.{Comes, GoesOn, IsFront, IsInOrder, due, with_read}
 use Rattle.run_loop.specs.Reporting.{WritesMade, told_status}
 use Rattle.run_loop.specs.declared.write_fault.WriteFault.{WriteFault}
 use Rattle.run_loop.specs.declared.write_fault.WriteFault.TheVariants as fault
 use Rattle.run_loop.specs.Order.Event.{Reading, Writing}
 use Rattle.run_loop.specs.Reading.{reported}
 use Rattle.run_loop.specs.Report.{blocks, report, rejects}
-use Rattle.run_loop.specs.UnitBlocks.{before, is_rejected_unit, block_kind_in, listed_kind, place_after, place_behind, rejected_units, unit_block, unit_blocks}
-use Rattle.run_loop.specs.Units.{is_whole, left_over, started}
-use Rattle.run_loop.specs.Writing.{one_if}
+use Rattle.run_loop.specs.UnitBlocks.{block_kind_in, listed_kind, place_after, unit_block, unit_blocks}
+use Rattle.run_loop.specs.Units.{is_whole}
 use Rattle.command_words.specs.Command.{reads_input}
 use Rattle.command_words.specs.declared.command.Command.{Command}
 use Rattle.run_loop.specs.declared.block_kinds.BlockKind.{BlockKind}
 use Rattle.run_loop.specs.declared.reading.Ending.{Ending}
 use Rattle.run_loop.specs.declared.reading.Ending.TheVariants.{Whole, Failed, TooLong, Open}
 use Rattle.run_loop.specs.declared.reading.Input.{Input}
-use Rattle.run_loop.proofs.CuttingFacts.{cuts_start}
-use Rattle.run_loop.proofs.UnitFacts.{blocks-append, blocks_by_units, listed_blocks, place-more, rejected-more, rejects_by_units}
-use Rattle.run_loop.proofs.WriteFacts.{concat-append, one_small}
+use Rattle.run_loop.proofs.UnitFacts.{blocks-append, blocks_by_units, listed_blocks}
+use Rattle.run_loop.proofs.WriteFacts.{concat-append}
 use Rattle.run_loop.proofs.WritingFacts.{blocks_begun, blocks_more}
 
 -- the text of the blocks of some units

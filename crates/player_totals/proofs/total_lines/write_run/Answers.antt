@@ -1,7 +1,7 @@
-use Rattle.std.proofs.Common.{◌≡◌, ◌≤◌, [], ◌++◌, OnOk, take, refl, ap, subst, sym, ◌∙◌, arith, append_assoc}
+use Rattle.std.proofs.Common.{◌≡◌, [], ◌++◌, take, ap, sym, ◌∙◌, arith, append_assoc}
 use Rattle.std.proofs.lemmas.Result.{on_ok_weaker}
 use Rattle.report_sheet.specs.Lines.{line_in}
-use Rattle.report_sheet.specs.Sheets.{Written, nothing_in, with_line, with_lines}
+use Rattle.report_sheet.specs.Sheets.{Written, nothing_in, with_lines}
 use Rattle.player_totals.specs.SumsSeen.{lines_of}
 use Rattle.player_totals.specs.TotalsSeen.{player_of}
 use Rattle.player_totals.proofs.PlayerFacts.{lines_more, lines_same}

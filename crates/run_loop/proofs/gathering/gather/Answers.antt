@@ -1,4 +1,3 @@
-use Rattle.std.proofs.Common.{refl, inl}
 use Rattle.run_loop.proofs.JoinedWrites.{gathers_written}
 use Rattle.run_loop.proofs.gathering.gather.Goals as goal
 

@@ -1,4 +1,4 @@
-use Rattle.std.proofs.Common.{is_some, sym, subst, ap, ◌∙◌}
+use Rattle.std.proofs.Common.{is_some, sym, ap, ◌∙◌}
 use Rattle.std.specs.List.{list_any}
 use Rattle.std.specs.Map.{lookup}
 use Rattle.player_totals.specs.Totals.{same_player}

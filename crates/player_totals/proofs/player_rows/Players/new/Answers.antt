@@ -1,4 +1,4 @@
-use Rattle.std.proofs.Common.{[], subst, sym}
+use Rattle.std.proofs.Common.{subst, sym}
 use Rattle.player_totals.specs.TotalsSeen.{AreRows}
 use Rattle.player_totals.proofs.NumberFacts.{no_rows}
 use Rattle.player_totals.proofs.player_rows.Players.new.Goals as goal

@@ -1,9 +1,9 @@
-use Rattle.std.proofs.Common.{◌≡◌, [], ◌∷◌, ◌++◌, ap, subst, sym, ◌∙◌}
+use Rattle.std.proofs.Common.{[], ◌∷◌, ◌++◌, ap, subst, sym, ◌∙◌}
 use Rattle.std.specs.List.{list_any}
 use Rattle.indexmap.proofs.CallerLemmas.{insert_entry-new}
-use Rattle.player_totals.specs.Totals.{Player, same_player}
+use Rattle.player_totals.specs.Totals.{same_player}
 use Rattle.player_totals.specs.TotalsSeen.{AreRows, player_of, same_row, seen_rows}
-use Rattle.player_totals.proofs.NumberFacts.{absent_row, copy_under, rows_more, rows_pushed, seen_push, still_under, under}
+use Rattle.player_totals.proofs.NumberFacts.{absent_row, copy_under, rows_more, rows_pushed, seen_push, under}
 use Rattle.player_totals.proofs.player_rows.Players.push.Goals as goal
 
 pub invariant_of-self : goal.invariant_of-self

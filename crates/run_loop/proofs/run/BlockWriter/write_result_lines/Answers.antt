@@ -1,6 +1,5 @@
 use Rattle.std.proofs.Common.{◌++◌, sym, ap, ◌∙◌}
 use Rattle.hand_cuts.specs.Units.{UnitLines}
-use Rattle.line_text.specs.Lines.{lines}
 use Rattle.hand_blocks.specs.Results.{results_block}
 use Rattle.run_loop.specs.Histories.{hand_results, is_rejected_by, is_rejected_hand, number_text, results_by, verdict_of}
 use Rattle.run_loop.specs.Units.{unit_lines}
