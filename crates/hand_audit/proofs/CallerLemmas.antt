@@ -22,8 +22,10 @@ pub use Rattle.hand_audit.proofs.lemmas.won_pots.SomebodyWins.{some_win}
 pub use Rattle.hand_audit.proofs.lemmas.splits.OddOrder.{ordered}
 pub use Rattle.hand_audit.proofs.lemmas.splits.MarkOrder.{marked_ordered}
 pub use Rattle.hand_audit.proofs.lemmas.marks.FiveNumbers.{best_below}
+-- What a seat gets by the shares of parts, and what a player who alone may win a pot gets.
+pub use Rattle.hand_audit.proofs.lemmas.splits.PartDues.{AddsUp, gets, gets_of, lone_parts, of_sides, of_units, parts_get, pick}
 -- The shares of a part that nobody or one player wins, and the pots of a settlement.
-pub use Rattle.hand_audit.proofs.lemmas.splits.PartShares.{nobody_shares, order_alone, order_nobody, some_alone}
+pub use Rattle.hand_audit.proofs.lemmas.splits.PartShares.{order_alone, order_nobody, some_alone}
 pub use Rattle.hand_audit.proofs.lemmas.splits.SettledPots.{each_of_fits}
 pub use Rattle.hand_audit.proofs.lemmas.tables.SettlementPots.{paid_shown, settled_same}
 -- A hand has at most ten pots.

@@ -10,7 +10,6 @@ use Rattle.hand_events.specs.declared.events.Part.{Part}
 use Rattle.hand_events.specs.declared.events.Part.TheVariants.{Preamble, Summary as SummaryPart}
 use Rattle.history_text.specs.Lines.{line_event}
 use Rattle.history_text.specs.Within.{IsSeated, stands_in}
-use Rattle.pot_layers.specs.Pots.{pots}
 use Rattle.betting_replay.specs.Accepted.{IsAccepted}
 use Rattle.betting_replay.specs.CardLaws.{MarkerFits, MarkersFit}
 use Rattle.betting_replay.specs.Later.{later_streets}
@@ -28,7 +27,6 @@ use Rattle.hand_audit.specs.Departs.{is_total, event_cause, end_cause, split_cau
 use Rattle.hand_audit.specs.Verdict.{read_all}
 use Rattle.hand_audit.specs.declared.settling.HandSettled.{HandSettled}
 use Rattle.hand_audit.specs.SettlementAnswers.{IsOfHand}
-use Rattle.hand_audit.specs.Winning.{AreDecided}
 
 -- the name of a seat line is within the line
 abbrev pub HasName : Event → List ℕ → Type 0
@@ -105,12 +103,10 @@ Goes new header players so_far line (Err fault) cause = cause ≡ Some (Text fau
 Goes new header players so_far line (Ok e) (Some c) = event_cause header players so_far.events e ≡ Some c
 Goes new header players so_far line (Ok e) None = (event_cause header players so_far.events e ≡ None) × Keeps new header players (with_event line e so_far)
 
--- a hand has ended with its chips settled: why its last line departs is its first payment beyond its tolerance, where there is one, and
--- each pot is decided
+-- a hand has ended with its chips settled: why its last line departs is its first payment beyond its tolerance, where there is one
 pub record IsEnded (header : Header) (players : ℕ) (h : List Event) (settled : HandSettled) : Type 0 where
   pub cause : end_cause header players h ≡ split_cause settled.beyond
   pub is : IsOfHand (showing_of header players h) settled
-  pub decided : AreDecided (showing_of header players h) (pots (showing_of header players h).paid)
 
 -- what comes of the end of a hand: what became of its chips, or why its last line departs
 abbrev pub EndsAs : Header → ℕ → List Event → Result HandSettled Cause → Type 0

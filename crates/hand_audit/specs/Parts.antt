@@ -1,5 +1,5 @@
 -- What the winners of each side of each part of a pot get.
-use Rattle.std.specs.Prelude.{ℕ, ◌+◌, ◌-◌, ◌/◌, ◌&&◌, nat_lt, Bool, true, false, List, [], ◌∷◌, ◌++◌, map, length, Option, Some, None}
+use Rattle.std.specs.Prelude.{ℕ, ◌+◌, ◌-◌, ◌/◌, ◌==◌, ◌&&◌, if◌then◌else◌, nat_lt, sum_by, Bool, true, false, List, [], ◌∷◌, ◌++◌, map, length, Option, Some, None}
 use Rattle.card_sets.specs.PlayerSets.{seats_in}
 use Rattle.card_sets.specs.declared.games.Side.{Side}
 use Rattle.pot_layers.specs.declared.paid.Share.{Share}
@@ -46,3 +46,13 @@ part_shares s pot = part_shares_if (pot.checked && is_contested pot.eligible) s 
 -- those of the pots of a hand, pot by pot
 abbrev pub hand_parts : Showing → List (List PartShare)
 hand_parts s = map (part_shares s) (settled s).pots
+
+-- what some shares give a seat, how many of them are a seat's, and what they give all
+abbrev pub units_of : ℕ → List PartShare → ℕ
+units_of p shares = sum_by (λ share. if share.seat == p then share.units else 0) shares
+
+abbrev pub sides_in : ℕ → List PartShare → ℕ
+sides_in p shares = sum_by (λ share. if share.seat == p then 1 else 0) shares
+
+abbrev pub units_in_all : List PartShare → ℕ
+units_in_all shares = sum_by (λ share. share.units) shares

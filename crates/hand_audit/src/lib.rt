@@ -11,7 +11,7 @@
 //!    where they are fewer than 256.
 //! 2. *Second pass* (`follow`, `hand`). What each line says is stepped by a `Replay`; of 256 lines or more each is read once more. A line departs where it can't be read, where the
 //!    replay refuses it, or where a stated total isn't what the replay has counted. Later streets are noted on the way.
-//! 3. *Settlement* (`settling`, `shares`, `payments`). After the last line the pots are made. Where it is known who won a pot, by cards
+//! 3. *Settlement* (`settling`, `parts`, `dues`, `payments`). After the last line the pots are made. Where it is known who won a pot, by cards
 //!    or since one player is left, it is split by the rules, and that is held against what was collected. A payment that is too far off
 //!    has the last line depart.
 //! 4. *All-in* (`all_in`, `known_tables`). The cards known at the point as a `Table`, with the pots of the whole hand; `Unknown` where those
@@ -31,6 +31,7 @@ mod all_in;
 mod at_point;
 mod audit;
 mod collections;
+mod dues;
 mod ended;
 mod first_pass;
 mod follow;
@@ -46,7 +47,6 @@ mod pots;
 mod read;
 mod seat_chips;
 mod settling;
-mod shares;
 mod standings;
 mod streets;
 mod winners;

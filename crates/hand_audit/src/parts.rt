@@ -1,22 +1,16 @@
 //! What the winners of each side of each part of a pot get.
 
-ghost use Rattle.std.specs.Prelude.{◌≡◌, ℕ, ◌≤◌, ◌++◌, ◌∷◌, [], List, Some, true, All, map, length, IfOk, OnOk};
+ghost use Rattle.std.specs.Prelude.{◌≡◌, ℕ, ◌+◌, ◌≤◌, ◌++◌, ◌∷◌, ◌&&◌, [], List, map, length, sum, IfOk, OnOk};
 ghost use Rattle.card_sets.specs.PlayerSets.{seats_in};
-ghost use Rattle.hand_events.specs.declared.events.Header.{Header};
-ghost use Rattle.pot_layers.specs.Split.{IsOrder, high_half, low_half};
-ghost use Rattle.hand_audit.specs.Keeping.{IsEnded, Keeps};
-ghost use Rattle.hand_audit.specs.Lines.{SoFar};
-ghost use Rattle.hand_audit.specs.Parts.{part_share, side_parts, shares_on, shares_on_boards, is_contested, part_shares, hand_parts};
+ghost use Rattle.pot_layers.specs.Split.{IsOrder, given_in_all, high_half, low_half};
+ghost use Rattle.hand_audit.specs.Parts.{part_share, side_parts, shares_on, shares_on_boards, is_contested, part_shares_if, units_in_all};
 ghost use Rattle.hand_audit.specs.Settle.{Showing, parts_of, first_side, second_side};
-ghost use Rattle.hand_audit.specs.Showings.{showing_of};
 ghost use Rattle.hand_audit.specs.Winning.{Tells, Decides, HasBothMarks, IsReady, IsDecided};
 
-use crate::hand::AuditState;
-use crate::settling::HandSettled;
 use crate::standings::Standings;
 use crate::worths::{OnBoard, first_side, second_side};
-use card_sets::{Game, Memory, PlayerSet, Side};
-use hand_verdict::{PartShare, PartShares, PotLine};
+use card_sets::{Memory, PlayerSet, Side};
+use hand_verdict::{PartShare, PartShares};
 use pot_layers::{OddOrder, Share, SideWinners, halves, split};
 use std::alloc::{AllocError, Global};
 
@@ -71,8 +65,9 @@ fn add_side(
     units: u64,
 ) -> Result<(), Memory>
     requires { IsOrder winners order.now }
-    ensures { OnOk result (all.new.items
+    ensures parts { OnOk result (all.new.items
         ≡ all.old.items ++ side_parts board side winners order.now units) }
+    ensures few { OnOk result (units_in_all all.new.items ≤ units_in_all all.old.items + units) }
 {
     let Some(side) = side else {
         return Ok(());
@@ -93,7 +88,8 @@ fn add_side(
 
 /// Returns what the two sides of a part get. The first gets all units if nobody wins the second.
 fn side_units(units: u64, second: PlayerSet) -> [u64; 2]
-    ensures { result ≡ high_half units second ∷ low_half units second ∷ [] }
+    ensures halves { result ≡ high_half units second ∷ low_half units second ∷ [] }
+    ensures few { sum result ≤ units }
 {
     if second.bits() == 0 {
         return [units, 0];
@@ -112,10 +108,11 @@ fn add_part(
 ) -> Result<(), Memory>
     requires ready { IsReady standings.now }
     requires marks { HasBothMarks on.now }
-    ensures { OnOk result ((s : Showing) (cards : List ℕ) → Tells standings.now s
+    ensures parts { OnOk result ((s : Showing) (cards : List ℕ) → Tells standings.now s
         → Decides on.now s cards eligible → 2 ≤ length (seats_in eligible)
         → all.new.items
         ≡ all.old.items ++ shares_on s eligible board (record { units = units; board = cards })) }
+    ensures few { OnOk result (units_in_all all.new.items ≤ units_in_all all.old.items + units) }
 {
     let first = on.first.winners(eligible);
     let second = on.second.winners(eligible);
@@ -136,9 +133,10 @@ fn add_parts(
     units: u64,
 ) -> Result<(), Memory>
     requires { IsReady standings.now }
-    ensures { OnOk result ((s : Showing) → Tells standings.now s → IsDecided s eligible
+    ensures parts { OnOk result ((s : Showing) → Tells standings.now s → IsDecided s eligible
         → 2 ≤ length (seats_in eligible)
         → all.new.items ≡ all.old.items ++ shares_on_boards s eligible 1 (parts_of s units)) }
+    ensures few { OnOk result (units_in_all all.new.items ≤ units_in_all all.old.items + units) }
 {
     match &standings.second {
         None => add_part(all, standings, &standings.board, 1, eligible, units),
@@ -158,67 +156,24 @@ fn is_contested(eligible: PlayerSet) -> bool
     1 < eligible.seats().count()
 }
 
-/// Returns the shares of the parts of a pot. It has none if its winners aren't known, or if only one player may win it.
-#[tactic(auto, unfolding(crate::specs::Parts::part_shares))]
-fn part_shares(alloc: Global, standings: &Standings, pot: &PotLine) -> Result<PartShares, Memory>
+/// Returns the shares of the parts of a pot's units. There are none if its winners aren't known, or if only one player may win it.
+pub(crate) fn part_shares(
+    alloc: Global,
+    standings: &Standings,
+    checked: bool,
+    eligible: PlayerSet,
+    units: u64,
+) -> Result<PartShares, Memory>
     requires { IsReady standings.now }
-    ensures { IfOk result (λ parts. (s : Showing) → Tells standings.now s → IsDecided s pot.now.eligible
-        → parts ≡ part_shares s pot.now) }
+    ensures parts { IfOk result (λ parts. (s : Showing) → Tells standings.now s
+        → IsDecided s eligible
+        → parts ≡ part_shares_if (checked && is_contested eligible) s eligible units) }
+    ensures few { IfOk result (λ parts. units_in_all parts ≤ units) }
 {
-    let eligible = PlayerSet::of(pot.eligible);
     let mut parts = Vec::new(alloc);
-    if !pot.checked || !is_contested(eligible) {
+    if !checked || !is_contested(eligible) {
         return Ok(PartShares::of(parts));
     }
-    let units = pot.gross.saturating_sub(pot.rake);
     add_parts(&mut parts, standings, eligible, units)?;
     Ok(PartShares::of(parts))
-}
-
-/// Appends the shares of the parts of a pot.
-fn add_pot(all: &mut Vec<PartShares>, parts: PartShares) -> Result<(), AllocError>
-    ensures { OnOk result (all.new.items ≡ all.old.items ++ parts ∷ []) }
-{
-    all.push(parts)?;
-    Ok(())
-}
-
-/// Appends the shares of the parts of each of some pots.
-fn add_pots(
-    all: &mut Vec<PartShares>,
-    standings: &Standings,
-    pots: &[PotLine],
-) -> Result<(), Memory>
-    requires { IsReady standings.now }
-    ensures { OnOk result ((s : Showing) → Tells standings.now s
-        → All (λ (pot : PotLine). IsDecided s pot.eligible) pots.now
-        → all.new.items ≡ all.old.items ++ map (part_shares s) pots.now) }
-{
-    match pots {
-        [] => Ok(()),
-        [pot, others @ ..] => {
-            let alloc = *all.allocator();
-            add_pot(all, part_shares(alloc, standings, pot)?)?;
-            add_pots(all, standings, others)?;
-            Ok(())
-        }
-    }
-}
-
-/// Returns the shares of the parts of the pots of a hand whose chips are settled, pot by pot.
-pub(crate) fn hand_parts(
-    alloc: Global,
-    game: Game,
-    state: &AuditState,
-    settled: &HandSettled,
-) -> Result<Vec<PartShares>, Memory>
-    ensures { IfOk result (λ parts. (header : Header) (players : ℕ) (so_far : SoFar)
-        → Keeps state.now header players so_far → IsEnded header players so_far.events settled.now
-        → header.game ≡ game
-        → parts.items ≡ hand_parts (showing_of header players so_far.events)) }
-{
-    let standings = Standings::of_replay(&state.replay, game);
-    let mut parts = Vec::new(alloc);
-    add_pots(&mut parts, &standings, settled.pots.items())?;
-    Ok(parts)
 }

@@ -1,16 +1,16 @@
 //! What each seat got of a pot, and what it is due.
 
-ghost use Rattle.std.specs.Prelude.{◌≡◌, ℕ, ◌+◌, ◌-◌, ◌<◌, ◌≤◌, ◌==◌, ◌||◌, ◌^◌, if◌then◌else◌, nat_lt, slice_index_or, IfOk, Some, None};
-ghost use Rattle.pot_layers.specs.declared.paid.Share.{Share};
-ghost use Rattle.pot_layers.specs.Split.{given_in_all};
-ghost use Rattle.hand_audit.specs.Settle.{due_of_seat, sides_of_seat, payment, is_payment, distance, payments_from, beyond_among};
+ghost use Rattle.std.specs.Prelude.{◌≡◌, ℕ, ◌+◌, ◌<◌, ◌≤◌, ◌==◌, ◌^◌, if◌then◌else◌, nat_lt, slice_index_or, IfOk};
+ghost use Rattle.hand_audit.specs.Settle.{is_payment, distance, payments_from, beyond_among};
+ghost use Rattle.hand_audit.specs.SettlementAnswers.{payment_by, sides_by};
 ghost use Rattle.hand_audit.specs.Collections.{taken_from, got_from};
+ghost use Rattle.hand_audit.specs.Parts.{units_in_all};
 ghost use Rattle.hand_audit.specs.PotNames.{counts_from};
 
 use crate::collections::Collection;
+use crate::dues::Dues;
 use crate::pot_names::{Source, counts_from, units_if};
 use hand_verdict::Payment;
-use pot_layers::Share;
 use std::alloc::{AllocError, Global};
 
 /// A sum for each seat, by its number.
@@ -43,18 +43,6 @@ fn got_by_seat(all: &[Collection], source: Source) -> SeatUnits
     sums
 }
 
-/// What some shares give each seat.
-fn due_by_seat(shares: &[Share]) -> SeatUnits
-    ensures { (p : ℕ) → p < 11 → slice_index_or result p 0 ≡ due_of_seat p shares.now }
-{
-    let _count = shares.len();
-    let mut sums = [0; 11];
-    for share in shares {
-        add_to_seat(&mut sums, share.seat, share.units);
-    }
-    sums
-}
-
 /// The sum of a seat.
 fn units_at(sums: &SeatUnits, seat: u8) -> u64
     requires seat { seat < 11 }
@@ -62,19 +50,6 @@ fn units_at(sums: &SeatUnits, seat: u8) -> u64
     ensures { result ≡ slice_index_or sums.now seat 0 }
 {
     sums[seat as usize] as u64
-}
-
-/// How many sides of parts a seat wins.
-fn sides_of_seat(shares: &[Share], seat: u8) -> u128
-    ensures value { result ≡ sides_of_seat seat shares.now }
-    ensures room { result < 2 ^ 127 }
-{
-    let _count = shares.len();
-    let mut sides = 0u128;
-    for share in shares {
-        sides += u128::from(units_if(share.seat == seat, u64::from(share.sides)));
-    }
-    sides
 }
 
 /// The payment of a seat that got so much and is given so much.
@@ -109,22 +84,19 @@ fn is_beyond(pay: Payment, tolerance: u128) -> bool
 /// The payments of a pot, by rising seat.
 pub(crate) fn payments(
     alloc: Global,
-    checked: bool,
+    dues: &Dues,
     all: &[Collection],
-    shares: &[Share],
     source: Source,
 ) -> Result<Vec<Payment>, AllocError>
     requires taken { taken_from (counts_from source) all.now < 2 ^ 64 }
-    requires given { given_in_all shares.now < 2 ^ 64 }
+    requires given { units_in_all dues.now.parts < 2 ^ 64 }
     ensures { IfOk result (λ pays. pays.items
-        ≡ payments_from
-        (λ p. payment checked (got_from (counts_from source) p all.now) shares.now p) 1 10) }
+        ≡ payments_from (payment_by dues.now (counts_from source) all.now) 1 10) }
 {
     let got = got_by_seat(all, source);
-    let given = due_by_seat(shares);
     let mut pays = Vec::new(alloc);
     for seat in 1..11 {
-        let pay = payment(checked, units_at(&got, seat), units_at(&given, seat), seat);
+        let pay = payment(dues.checked, units_at(&got, seat), dues.due(seat), seat);
         if !is_payment(pay) {
             continue;
         }
@@ -134,17 +106,17 @@ pub(crate) fn payments(
 }
 
 /// The first of some payments that is beyond its tolerance: one unit for each side of a part that the seat
-/// wins by the shares.
-pub(crate) fn first_beyond(pays: &[Payment], shares: &[Share]) -> Option<Payment>
-    ensures { result ≡ beyond_among (λ p. sides_of_seat p shares.now) pays.now }
+/// wins.
+pub(crate) fn first_beyond(pays: &[Payment], dues: &Dues) -> Option<Payment>
+    ensures { result ≡ beyond_among (sides_by dues.now) pays.now }
 {
     match pays {
         [] => None,
         [pay, others @ ..] => {
-            if is_beyond(*pay, sides_of_seat(shares, pay.seat)) {
+            if is_beyond(*pay, dues.sides(pay.seat)) {
                 Some(*pay)
             } else {
-                first_beyond(others, shares)
+                first_beyond(others, dues)
             }
         }
     }

@@ -21,7 +21,6 @@ use crate::ended::EndedHand;
 use crate::first_pass::players_of;
 use crate::follow::{Followed, follow};
 use crate::hand::AuditState;
-use crate::parts::hand_parts;
 use crate::seat_chips::{all_chips_on, no_chips};
 use crate::settling::HandSettled;
 use crate::streets::states_of;
@@ -31,7 +30,7 @@ use hand_verdict::{
 };
 use history_text::{Header, Names, read_header};
 use line_text::next_line;
-use std::alloc::Global;
+use std::alloc::{AllocError, Global};
 
 /// The end of a reading.
 #[derive(Drop)]
@@ -186,6 +185,19 @@ fn ended_chips(hand: &EndedHand) -> [SeatChips; 11]
     }
 }
 
+/// Copies the shares of the parts of some pots.
+fn copy_parts(alloc: Global, all: &[PartShares]) -> Result<Vec<PartShares>, AllocError>
+    ensures { IfOk result (λ parts. parts.items ≡ all.now) }
+{
+    let mut parts = Vec::new(alloc);
+    for one in all {
+        let mut shares = Vec::new(alloc);
+        shares.extend_from_slice(one.items())?;
+        parts.push(PartShares::of(shares))?;
+    }
+    Ok(parts)
+}
+
 /// Reads a hand, to its end or to the line that departs. The bytes are the lines of the hand, its header line first.
 pub fn read_hand(alloc: Global, bytes: &[u8]) -> Result<HandRead, Memory>
     requires header { IsTrue (begins_hand (lines bytes.now)) }
@@ -288,8 +300,8 @@ impl HandRead {
     {
         match &self.end {
             HandEnd::Ends(hand) => {
-                let state = hand.state.as_ref();
-                hand_parts(alloc, hand.header.game, state, &hand.settled)
+                let parts = copy_parts(alloc, &hand.settled.parts)?;
+                Ok(parts)
             }
             HandEnd::Departs { .. } => Ok(Vec::new(alloc)),
         }

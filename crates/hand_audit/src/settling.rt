@@ -9,12 +9,12 @@ ghost use Rattle.hand_audit.specs.Winning.{Tells, IsReady, IsDecided, AreDecided
 ghost use Rattle.hand_audit.specs.SettlementAnswers.{IsOfPot, AreOfPots, IsOfHand};
 
 use crate::collections::Collection;
+use crate::dues::Dues;
 use crate::payments::{first_beyond, payments};
 use crate::pot_names::{Source, fits, taken_from};
-use crate::shares::shares_if;
 use crate::standings::Standings;
 use card_sets::{Memory, PlayerSet};
-use hand_verdict::{Payment, Payments, PotLine, PotLines};
+use hand_verdict::{PartShares, Payment, Payments, PotLine, PotLines};
 use pot_layers::Pot;
 use std::alloc::{AllocError, Global};
 
@@ -26,6 +26,8 @@ pub(crate) struct HandSettled {
     pub(crate) fits: bool,
     /// The pots.
     pub(crate) pots: PotLines,
+    /// The shares of the parts of each pot.
+    pub(crate) parts: Vec<PartShares>,
     /// The payments of the hand where the names don't fit, and else none.
     pub(crate) paid: Payments,
     /// The first payment beyond its tolerance.
@@ -37,8 +39,40 @@ pub(crate) struct HandSettled {
 struct PotSettled {
     /// The pot with its payments.
     line: PotLine,
+    /// The shares of its parts.
+    parts: PartShares,
     /// The first payment beyond its tolerance, if there is one.
     beyond: Option<Payment>,
+}
+
+/// Pots whose chips are settled.
+#[derive(Drop)]
+struct SettledPots {
+    /// The pots with their payments.
+    lines: Vec<PotLine>,
+    /// The shares of the parts of each pot.
+    parts: Vec<PartShares>,
+}
+
+/// No pots.
+fn no_pots(alloc: Global) -> SettledPots
+    ensures lines { result.lines.items ≡ [] }
+    ensures parts { result.parts.items ≡ [] }
+{
+    SettledPots {
+        lines: Vec::new(alloc),
+        parts: Vec::new(alloc),
+    }
+}
+
+/// A pot more.
+fn add_pot(pots: &mut SettledPots, line: PotLine, parts: PartShares) -> Result<(), AllocError>
+    ensures lines { OnOk result (pots.new.lines.items ≡ pots.old.lines.items ++ line ∷ []) }
+    ensures parts { OnOk result (pots.new.parts.items ≡ pots.old.parts.items ++ parts ∷ []) }
+{
+    pots.lines.push(line)?;
+    pots.parts.push(parts)?;
+    Ok(())
 }
 
 /// One pot of those whose names fit.
@@ -54,79 +88,77 @@ fn settle_pot(
     ensures { IfOk result (λ one. (s : Showing) → Tells standings.now s → IsDecided s pot.eligible
         → s.collections ≡ all.now → IsOfPot s source pot one) }
 {
-    let eligible = PlayerSet::of(pot.eligible);
-    let checked = standings.is_checked(eligible);
     let net = taken_from(all, source) as u64;
-    let shares = shares_if(alloc, checked, standings, eligible, net)?;
-    let paid = payments(alloc, checked, all, shares.items(), source)?;
-    let beyond = first_beyond(&paid, shares.items());
+    let dues = Dues::of_pot(alloc, standings, PlayerSet::of(pot.eligible), net)?;
+    let paid = payments(alloc, &dues, all, source)?;
+    let beyond = first_beyond(&paid, &dues);
     Ok(PotSettled {
         line: PotLine {
             gross: pot.units,
             rake: pot.units - net,
             eligible: pot.eligible,
-            checked,
+            checked: dues.checked,
             paid: Payments::of(paid),
         },
+        parts: dues.parts,
         beyond,
     })
 }
 
-/// A line more.
-fn add_line(lines: &mut Vec<PotLine>, line: PotLine) -> Result<(), AllocError>
-    ensures { OnOk result (lines.new.items ≡ lines.old.items ++ line ∷ []) }
-{
-    lines.push(line)?;
-    Ok(())
-}
-
-/// Settles the pots from a number on, of the count of a hand whose names fit. Appends the line of each pot, and returns the first
-/// payment that is beyond its tolerance.
+/// Settles the pots from a number on, of the count of a hand whose names fit. Appends each pot, and returns the first payment that is
+/// beyond its tolerance.
 fn settle_pots(
     standings: &Standings,
     all: &[Collection],
     count: usize,
     number: usize,
     layers: &[Pot],
-    lines: &mut Vec<PotLine>,
+    pots: &mut SettledPots,
 ) -> Result<Option<Payment>, Memory>
     requires ready { IsReady standings.now }
     requires each { each_taken count number layers.now all.now ≡ true }
     requires numbers { number + length layers.now < 2 ^ 64 }
-    ensures count { IfOk result (λ _. length lines.new.items
-        ≡ length lines.old.items + length layers.now) }
+    ensures count { IfOk result (λ _. length pots.new.lines.items
+        ≡ length pots.old.lines.items + length layers.now) }
     ensures settled { IfOk result (λ first. (s : Showing) → Tells standings.now s → AreDecided s layers.now
         → s.collections ≡ all.now
-        → AreOfPots s count number layers.now lines.old.items lines.new.items first) }
+        → AreOfPots s count number layers.now pots.old pots.new first) }
 {
     match layers {
         [] => Ok(None),
         [pot, others @ ..] => {
-            let alloc = *lines.allocator();
+            let alloc = *pots.lines.allocator();
             let source = Source::Numbered { count, number };
-            let PotSettled { line, beyond } = settle_pot(alloc, standings, all, source, *pot)?;
-            add_line(lines, line)?;
-            let later = settle_pots(standings, all, count, number + 1, others, lines)?;
+            let one = settle_pot(alloc, standings, all, source, *pot)?;
+            let PotSettled {
+                line,
+                parts,
+                beyond,
+            } = one;
+            add_pot(pots, line, parts)?;
+            let later = settle_pots(standings, all, count, number + 1, others, pots)?;
             Ok(beyond.or(later))
         }
     }
 }
 
-/// The pots whose names don't fit.
-fn unfit_lines(alloc: Global, pots: &[Pot]) -> Result<Vec<PotLine>, AllocError>
-    ensures { IfOk result (λ lines. lines.items ≡ map unfit_line pots.now) }
+/// The pots whose names don't fit. Nothing is known of their parts.
+fn unfit_pots(alloc: Global, layers: &[Pot]) -> Result<SettledPots, AllocError>
+    ensures lines { IfOk result (λ pots. pots.lines.items ≡ map unfit_line layers.now) }
+    ensures parts { IfOk result (λ pots. pots.parts.items ≡ map (λ pot. []) layers.now) }
 {
-    let mut lines = Vec::new(alloc);
-    for pot in pots {
-        lines.push(PotLine {
+    let mut pots = no_pots(alloc);
+    for pot in layers {
+        let line = PotLine {
             gross: pot.units,
             rake: 0,
             eligible: pot.eligible,
             checked: false,
             paid: Payments::of(Vec::new(alloc)),
-        })?;
+        };
+        add_pot(&mut pots, line, PartShares::of(Vec::new(alloc)))?;
     }
-    Ok(lines)
+    Ok(pots)
 }
 
 /// What became of the chips of a hand with these pots and collections.
@@ -143,20 +175,22 @@ pub(crate) fn settle(
         → s.collections ≡ all.now → pots s.paid ≡ layers.now → IsOfHand s one) }
 {
     if !fits(layers, all) {
-        let lines = unfit_lines(alloc, layers)?;
-        let paid = payments(alloc, false, all, &[], Source::Any)?;
+        let pots = unfit_pots(alloc, layers)?;
+        let paid = payments(alloc, &Dues::unknown(alloc), all, Source::Any)?;
         return Ok(HandSettled {
             fits: false,
-            pots: PotLines::of(lines),
+            pots: PotLines::of(pots.lines),
+            parts: pots.parts,
             paid: Payments::of(paid),
             beyond: None,
         });
     }
-    let mut lines = Vec::new(alloc);
-    let beyond = settle_pots(standings, all, layers.len(), 0, layers, &mut lines)?;
+    let mut pots = no_pots(alloc);
+    let beyond = settle_pots(standings, all, layers.len(), 0, layers, &mut pots)?;
     Ok(HandSettled {
         fits: true,
-        pots: PotLines::of(lines),
+        pots: PotLines::of(pots.lines),
+        parts: pots.parts,
         paid: Payments::of(Vec::new(alloc)),
         beyond,
     })

@@ -1,18 +1,13 @@
 -- What the rules give each seat of a hand: by its parts, and beside what was paid.
-use Rattle.std.specs.Prelude.{◌≡◌, ℕ, ◌≤◌, ◌==◌, true, if◌then◌else◌, List, sum_by}
+use Rattle.std.specs.Prelude.{◌≡◌, ℕ, ◌≤◌, true}
 use Rattle.pot_layers.specs.declared.paid.Pot.{Pot}
 use Rattle.hand_laws.specs.Chips.{over_seats}
-use Rattle.hand_audit.specs.Parts.{is_contested, part_shares}
+use Rattle.hand_audit.specs.Parts.{is_contested, part_shares, units_of}
 use Rattle.hand_audit.specs.Settle.{Showing, due_of_seat, is_checked, net_of, pot_line, shares_of_pot}
-use Rattle.hand_verdict.specs.declared.parts.PartShare.{PartShare}
 use Rattle.hand_verdict.specs.declared.parts.SplitHand.{SplitHand}
 use Rattle.hand_audit.specs.declared.pot_names.Source.{Source}
 use Rattle.hand_verdict.specs.declared.settlement.Settlement.{Settlement}
 use Rattle.hand_verdict.specs.SeatSums.{PlayersAreDue, due_of, got_of}
-
--- what some shares of parts give a seat
-abbrev pub units_of : ℕ → List PartShare → ℕ
-units_of p shares = sum_by (λ share. if share.seat == p then share.units else 0) shares
 
 -- of a pot of which it is known who wins it, that two players or more may win, and that no more was collected from than it holds, the
 -- shares of the parts give each seat what it is due

@@ -4,6 +4,7 @@ pub mod Winners
 pub mod OddOrder
 pub mod MarkOrder
 pub mod PartShares
+pub mod PartDues
 pub mod PaymentWalk
 pub mod ShownHand
 pub mod SettledPots

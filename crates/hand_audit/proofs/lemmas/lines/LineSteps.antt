@@ -19,7 +19,6 @@ use Rattle.betting_replay.proofs.CallerLemmas.{no_fault, remark_kept, remark_sta
 use Rattle.hand_events.specs.declared.events.Part.TheVariants.{Summary as SummaryPart}
 use Rattle.betting_replay.specs.Accepted.{IsAccepted}
 use Rattle.betting_replay.specs.Table.{ReplayState}
-use Rattle.pot_layers.specs.declared.paid.Pot.{Pot}
 use Rattle.pot_layers.specs.Pots.{pots, put_in_all}
 use Rattle.hand_audit.specs.Winning.{AreDecided}
 use Rattle.hand_verdict.specs.declared.cause.Cause.{Cause}
@@ -38,7 +37,6 @@ use Rattle.hand_audit.specs.declared.settling.HandSettled.{HandSettled}
 use Rattle.hand_audit.specs.SettlementAnswers.{IsOfHand}
 use Rattle.hand_audit.specs.Keeping.{Keeps, Goes, EndsAs}
 use Rattle.history_text.specs.Within.{IsSeated}
-use Rattle.hand_audit.proofs.lemmas.tables.SettlementPots.{paid_shown}
 
 -- the counts are those of the lines so far
 counts_is : (hand : AuditState) (g : Header) (players : ℕ) (so_far : SoFar) (e : Event) → Keeps hand g players so_far
@@ -177,5 +175,4 @@ settles hand g players so_far game settled k same some decides ended is =
     record {
       cause = split_is hand g players so_far settled.beyond k some (sym s.beyond);
       is = s;
-      decided = subst (λ (ps : List Pot). AreDecided (showing_of g players so_far.events) ps) (ap pots (sym (paid_shown g players so_far.events))) (decides g players so_far.events k.accepted k.markers (sym k.part ∙ ended));
     }

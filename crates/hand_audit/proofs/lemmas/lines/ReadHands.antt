@@ -21,7 +21,7 @@ use Rattle.hand_audit.specs.declared.hand.AuditState.{AuditState}
 use Rattle.hand_audit.specs.declared.read.HandRead.{HandRead}
 use Rattle.hand_audit.specs.Departs.{at_line, split_cause}
 use Rattle.hand_audit.specs.HandReads.{DepartsIn, EndsBehind, EndsIn, IsReadOf}
-use Rattle.hand_audit.specs.Keeping.{Follows, IsEnded, Keeps}
+use Rattle.hand_audit.specs.Keeping.{Follows, Keeps}
 use Rattle.hand_audit.specs.Lines.{SoFar, nothing, players_of}
 use Rattle.hand_audit.specs.Parts.{hand_parts}
 use Rattle.hand_audit.specs.SeatChips.{all_chips_on, chips_of, nobodys_chips}
@@ -161,13 +161,9 @@ ended_parts_by line rest first count hand (Some pay) audit e some known =
     parts_are_in (line ∷ rest) line rest hand.header hand.players refl e.header e.players
     ∙ ap (parts_told (line ∷ rest)) (sym (ended_splits (line ∷ rest) first count (first + count) hand pay (Split pay.seat pay.due pay.got) e some refl refl) ∙ known)
 
-pub ended_parts : (all : List (List ℕ)) (first count : ℕ) (hand : EndedHand) (state : AuditState) (audit : HandAudit) (parts : List (List PartShare)) → EndsIn all count hand → state ≡ hand.state.value → audit_of first all ≡ Some audit
-    → ((header : Header) (players : ℕ) (so_far : SoFar) → Keeps state header players so_far → IsEnded header players so_far.events hand.settled → header.game ≡ hand.header.game → parts ≡ hand_parts (showing_of header players so_far.events))
-    → parts ≡ parts_given audit all
-ended_parts [] first count hand state audit parts e same known made = absurd e
-ended_parts (line ∷ rest) first count hand state audit parts e same known made =
-    made hand.header hand.players (read_all hand.header nothing rest) (kept_by line rest count hand state e same) e.ended refl
-    ∙ ended_parts_by line rest first count hand hand.settled.beyond audit e refl known
+pub ended_parts : (all : List (List ℕ)) (first count : ℕ) (hand : EndedHand) (audit : HandAudit) → EndsIn all count hand → audit_of first all ≡ Some audit → hand.settled.parts.items ≡ parts_given audit all
+ended_parts [] first count hand audit e known = absurd e
+ended_parts (line ∷ rest) first count hand audit e known = e.ended.is.parts ∙ ended_parts_by line rest first count hand hand.settled.beyond audit e refl known
 
 -- none of one in which a line departs
 pub none_departed : (all : List (List ℕ)) (first count : ℕ) (c : Cause) (hundredths : Bool) (audit : HandAudit) → DepartsIn all count c hundredths → audit_of first all ≡ Some audit → [] ≡ streets_of audit all

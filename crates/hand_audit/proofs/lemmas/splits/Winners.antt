@@ -9,7 +9,7 @@ use Rattle.card_sets.specs.declared.games.Side.{Side}
 use Rattle.showdown_tally.specs.Settling.{number_of}
 use Rattle.showdown_tally.specs.Showdown.{is_beaten_by, winners_of}
 use Rattle.hand_audit.specs.Orders.{OfSeats}
-use Rattle.hand_audit.specs.Settle.{Showing, IsBoardOf, set_of, hand_of, value_on, worth_on, first_side, second_side, side_winners, is_alone, is_checked, first_winners, second_winners}
+use Rattle.hand_audit.specs.Settle.{Showing, IsBoardOf, set_of, hand_of, value_on, worth_on, first_side, second_side, side_winners, is_alone, is_checked}
 use Rattle.hand_audit.specs.Marks.{mark_of}
 use Rattle.hand_audit.specs.Winning.{Ranks, Tells, TellsSide, TellsBoard, TellsHands, TellsSecond, IsDecided, Decides, full_with, is_beaten, is_unbeaten, is_seat_in, wins, winners_by}
 use Rattle.hand_audit.specs.declared.standings.Standings.{Standings}
@@ -115,18 +115,6 @@ how_many eligible others = by (seats_in eligible) refl
     by [] e = none e
     by (p ∷ []) e = let one : is_alone eligible ≡ true = ap (λ xs. length xs == 1) e in cc
     by (p ∷ q ∷ xs) e = let l : length (seats_in eligible) ≡ suc (suc (length xs)) = ap length e in many (omega (arith, l))
-
-told : (side : Option Side) (values : List (Option ℕ)) (s : Showing) (board : List ℕ) (eligible : ℕ) → (2 ≤ length (seats_in eligible) → Ranks side values (worth_on side s board)) → HowMany eligible → winners_by values eligible ≡ side_winners side s board eligible
-told side values s board eligible ranks (none e) = nobody_wins values eligible e ∙ sym (no_winners side s board eligible e)
-told side values s board eligible ranks (many m) = side_told side values s board eligible (ranks m)
-
-pub first_told : (w : OnBoard) (s : Showing) (board : List ℕ) (eligible : ℕ) → Decides w s board eligible → is_alone eligible ≡ false → winners_by w.first.values eligible ≡ first_winners s board eligible
-unfolding first_winners
-first_told w s board eligible d others = told (first_side s.game) w.first.values s board eligible (λ m. (d m).tells.first.ranks) (how_many eligible others)
-
-pub second_told : (w : OnBoard) (s : Showing) (board : List ℕ) (eligible : ℕ) → Decides w s board eligible → is_alone eligible ≡ false → winners_by w.second.values eligible ≡ second_winners s board eligible
-unfolding second_winners
-second_told w s board eligible d others = told (second_side s.game) w.second.values s board eligible (λ m. (d m).tells.second.ranks) (how_many eligible others)
 
 pub no_seats : OfSeats 0
 no_seats = record { small = omega arith; first = refl }

@@ -14,14 +14,12 @@ use Rattle.rank_low.proofs.CallerLemmas.{some-choice}
 use Rattle.pot_layers.specs.Split.{InRange, is_among}
 use Rattle.showdown_tally.specs.Laws.{IsFull}
 use Rattle.showdown_tally.specs.Settling.{number_of}
-use Rattle.hand_audit.specs.declared.worths.OnBoard.{OnBoard}
-use Rattle.hand_audit.specs.Settle.{Showing, Part, value_on, worth_on, is_alone, is_checked, are_known, hand_of, first_winners, first_side, shares_among}
-use Rattle.hand_audit.specs.Winning.{AreFullOn, Decides, Ranks, TellsBoard, is_beaten, is_unbeaten, is_seat_in, wins, winners_by}
+use Rattle.hand_audit.specs.Settle.{Showing, value_on, worth_on, is_alone, is_checked, are_known, hand_of, first_winners, first_side}
+use Rattle.hand_audit.specs.Winning.{AreFullOn, Ranks, is_beaten, is_unbeaten, is_seat_in, wins, winners_by}
 use Rattle.hand_audit.proofs.lemmas.seats.SeatLists.{range_from}
 use Rattle.hand_audit.proofs.lemmas.seats.SeatSets.{among_seats}
-use Rattle.hand_audit.proofs.lemmas.splits.Winners.{HowMany, how_many, no_winners, side_told}
-use Rattle.hand_audit.proofs.lemmas.splits.Winners.HowMany.{many, none}
-use Rattle.hand_audit.proofs.lemmas.splits.PartShares.{no_shares, has_some, if_others}
+use Rattle.hand_audit.proofs.lemmas.splits.Winners.{side_told}
+use Rattle.hand_audit.proofs.lemmas.splits.PartShares.{has_some}
 
 -- whole hands have a value on the first side of their game
 least_some : (ls : List (List ℕ)) → 0 < length ls → is_some (least_of ls) ≡ true
@@ -156,19 +154,3 @@ some_win values s board eligible ranks full checked others more nobody =
     let won : 0 < winners_by values eligible = winners_some values eligible p l (top_wins values eligible top some) in
     let same : winners_by values eligible ≡ 0 = side_told (first_side s.game) values s board eligible ranks ∙ nobody in
     omega (arith, won, same)
-
-pub won_tells : (w : OnBoard) (s : Showing) (board : List ℕ) (eligible : ℕ) → Decides w s board eligible → is_alone eligible ≡ false → (first_winners s board eligible ≡ 0 → ⊥) → TellsBoard w s.game board s.hands
-unfolding first_winners
-won_tells w s board eligible d others somebody = by (how_many eligible others)
-  where
-    by : HowMany eligible → TellsBoard w s.game board s.hands
-    by (none e) = absurd (somebody (no_winners (first_side s.game) s board eligible e))
-    by (many m) = (d m).tells
-
-pub not_won : (w : OnBoard) (s : Showing) (part : Part) (eligible : ℕ) → Decides w s part.board eligible → is_checked s eligible ≡ true → is_alone eligible ≡ false → first_winners s part.board eligible ≡ 0
-    → [] ≡ shares_among (is_alone eligible) s eligible part
-not_won w s part eligible d checked others nobody = by (how_many eligible others)
-  where
-    by : HowMany eligible → [] ≡ shares_among (is_alone eligible) s eligible part
-    by (none e) = no_shares s part eligible e ∙ if_others s eligible part others
-    by (many m) = absurd (some_win w.first.values s part.board eligible (d m).tells.first.ranks (d m).full checked others m nobody)

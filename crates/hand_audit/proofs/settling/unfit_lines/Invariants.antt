@@ -1,6 +1,0 @@
-use Rattle.std.specs.Prelude.{◌≡◌, map, take}
-use Rattle.hand_audit.specs.Settle.{unfit_line}
-use Rattle.hand_audit.proofs.settling.unfit_lines.Given as goal
-
-abbrev pub invariant-loop-pot : goal.invariant-loop-pot
-invariant-loop-pot l = l.lines.items ≡ map unfit_line (take l.pot-index l.pots)
