@@ -37,16 +37,18 @@ export const timeOf = (clock) =>
     Number.isNaN(clock) ? '' : new Date(clock * 1000).toISOString().slice(0, 19).replace('T', ' ');
 
 /**
- * Returns a function that names days, and remembers the name of each, because thousands of hands share a day.
+ * Returns a function that names days, or with a smaller length months, and remembers the name of each, because
+ * thousands of hands share a day.
+ * @param {number} [length]
  * @returns {(clock: number) => string}
  */
-export const dayNames = () => {
+export const dayNames = (length = 10) => {
     /** @type {Map<number, string>} */
     const names = new Map();
     return (clock) => {
         const day = Math.floor(clock / DAY);
         let name = names.get(day);
-        if (name === undefined) names.set(day, name = dayOf(clock));
+        if (name === undefined) names.set(day, name = dayOf(clock).slice(0, length));
         return name;
     };
 };

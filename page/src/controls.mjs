@@ -13,7 +13,7 @@ const PAUSE = 120;
 /**
  * Connects the fields with the state. Returns what clears filters and words.
  * @param {ReturnType<typeof import('./store.mjs').makeStore>} store
- * @param {() => import('./store.mjs').Choice} choose
+ * @param {() => import('./choice.mjs').Choice} choose
  * @param {{ say: (text: string, isBad?: boolean) => void, go: (view: string) => void }} page
  */
 export const connectControls = ({ state, set }, choose, { say, go }) => {
@@ -23,7 +23,7 @@ export const connectControls = ({ state, set }, choose, { say, go }) => {
     $('player').onchange = () => pick($('player').value);
     $('other').onchange = () => {
         const name = $('other').value.trim();
-        if (choose().names.some((it) => it.name === name)) pick(name);
+        if (choose().named(name).count) pick(name);
         else say(`There is no ${name} in these hands.`, true);
     };
     $('unit').onchange = () => set({ unit: $('unit').value, filters: {} });

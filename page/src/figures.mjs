@@ -8,12 +8,12 @@ import { CASHED, LIMIT } from './part.mjs';
 import { POSITIONS } from './positions.mjs';
 import { counted, many } from './progress.mjs';
 import { written } from './reports.mjs';
-import { buyInsOf, byKey, hundredsOf, keysOf, sumsBy } from './sums.mjs';
+import { buyInsOf, byKey, hundredsOf } from './sums.mjs';
 import { showTable } from './table.mjs';
 import { dayText, gameText, monthText, ratioText, signOf, stakesText, sumText, toneOf, unitText } from './words.mjs';
 
 /** @typedef {import('./sums.mjs').Sum} Sum */
-/** @typedef {import('./store.mjs').Choice} Choice */
+/** @typedef {import('./choice.mjs').Choice} Choice */
 
 /** @param {Choice} choice */
 export const isMoneyOf = ({ unit }) => unit.startsWith('money');
@@ -109,9 +109,8 @@ const valuesOf = (sum) => {
  * @param {Choice} choice
  * @param {Grouped} state
  */
-const groupsOf = ({ hands, played }, { group, sortBy, isRising }) => {
-    const all = [...sumsBy(hands, played, keysOf(hands, played, group))]
-        .map(([key, sum]) => ({ key, sum, values: valuesOf(sum) }));
+const groupsOf = ({ groups }, { group, sortBy, isRising }) => {
+    const all = [...groups].map(([key, sum]) => ({ key, sum, values: valuesOf(sum) }));
     const byName = (/** @type {string} */ a, /** @type {string} */ b) => group === 'position'
         ? POSITIONS.indexOf(a) - POSITIONS.indexOf(b) : byKey(a, b);
     return all.sort((a, b) => {

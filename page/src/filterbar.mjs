@@ -5,7 +5,7 @@ import { having, node } from './dom.mjs';
 import { chosenText } from './filters.mjs';
 import { counted } from './progress.mjs';
 
-/** @typedef {import('./store.mjs').Choice} Choice */
+/** @typedef {import('./choice.mjs').Choice} Choice */
 /** @typedef {{ [filter: string]: string }} Chosen */
 
 /** A longer list of options is cut, because a browser takes long to open it. */

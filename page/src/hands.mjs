@@ -1,6 +1,7 @@
 // All hands that were read, in columns that grow part by part. A hand is an index. A number that comes again counts
 // once.
 
+import { numberOf } from './ordering.mjs';
 import { ACCEPTED, HAND_COLUMNS, ROW_COLUMNS, TEXT_COLUMNS } from './part.mjs';
 
 /** @typedef {import('./part.mjs').Part} Part */
@@ -11,20 +12,27 @@ import { ACCEPTED, HAND_COLUMNS, ROW_COLUMNS, TEXT_COLUMNS } from './part.mjs';
  */
 
 /**
- * The columns of a part, and for each hand its file, and whether it is a copy of another hand.
- * @typedef {Omit<Part, 'numbers' | 'texts' | 'newlines' | 'owed'> & { file: Uint32Array, copy: Uint8Array }} Columns
+ * The columns of a part, and for each hand its file, whether it is a copy of another hand, and its number, NaN if that
+ * isn't exact.
+ * @typedef {Omit<Part, 'numbers' | 'texts' | 'newlines' | 'owed'> & { file: Uint32Array, copy: Uint8Array,
+ *     digits: Float64Array }} Columns
  */
 
 const ROOM = 1 << 10;
 
-/** Returns a table of hands without a hand. */
+/**
+ * Returns a table of hands without a hand. `bulk` is at least the size of each sum of amounts of these hands, so sums
+ * are exact in numbers while it is.
+ */
 export const noHands = () => {
-    const kinds = { ...HAND_COLUMNS, file: Uint32Array, copy: Uint8Array, first: Uint32Array, ...ROW_COLUMNS };
+    const kinds = { ...HAND_COLUMNS, file: Uint32Array, copy: Uint8Array, digits: Float64Array,
+        first: Uint32Array, ...ROW_COLUMNS };
     const columns = Object.fromEntries(Object.entries(kinds).map(([it, kind]) => [it, new kind(ROOM)]));
     return {
         count: 0,
         rows: 0,
         again: 0,
+        bulk: 0,
         columns: /** @type {Columns} */ (/** @type {any} */ (columns)),
         numbers: /** @type {string[]} */ ([]),
         texts: [''],
@@ -100,7 +108,7 @@ export const byPlace = (hands, a, b) => {
 export const addPart = (hands, part, file, lines, bytes) => {
     const { count, rows } = hands, more = part.numbers.length, moreRows = part.name.length;
     const handColumns = Object.keys(HAND_COLUMNS), rowColumns = Object.keys(ROW_COLUMNS);
-    reserve(hands, [...handColumns, 'file', 'copy'], count + more);
+    reserve(hands, [...handColumns, 'file', 'copy', 'digits'], count + more);
     reserve(hands, ['first'], count + more + 1);
     reserve(hands, rowColumns, rows + moreRows);
     const { columns } = hands, ids = part.texts.map((text) => idOf(hands, text));
@@ -108,6 +116,8 @@ export const addPart = (hands, part, file, lines, bytes) => {
     for (const it of handColumns) to[it].set(from[it], count);
     for (const it of rowColumns) to[it].set(from[it], rows);
     for (let at = rows; at < rows + moreRows; at++) columns.name[at] = ids[columns.name[at]];
+    for (const amounts of [part.net, part.even, part.got, part.pot, part.rake])
+        for (const it of amounts) hands.bulk += Math.abs(Number(it));
     for (const { hand, name, amount } of part.owed)
         hands.owed.set(count + hand, [...hands.owed.get(count + hand) || [], { name, amount }]);
     for (let at = 0; at < more; at++) {
@@ -119,6 +129,7 @@ export const addPart = (hands, part, file, lines, bytes) => {
         if (columns.departs[hand]) columns.departs[hand] += lines;
         columns.file[hand] = file;
         columns.first[hand] = rows + part.first[at];
+        columns.digits[hand] = numberOf(part.numbers[at]);
         hands.numbers.push(part.numbers[at]);
         const other = hands.best.get(part.numbers[at]);
         const isFirst = other === undefined || isBetter(hands, hand, other);

@@ -2,7 +2,8 @@
 
 import { $, node } from './dom.mjs';
 import { figure } from './figures.mjs';
-import { handAt, namesOf, inOrder, playedBy } from './played.mjs';
+import { namesOf, tallyOf } from './names.mjs';
+import { handAt, inOrder, playedBy } from './played.mjs';
 import { SHOWN } from './part.mjs';
 import { drawPlot } from './picture.mjs';
 import { inLine } from './play.mjs';
@@ -30,9 +31,9 @@ const BOARD = { preflop: [0, 0], flop: [0, 3], turn: [3, 4], river: [4, 5] };
  * @param {(hand: number, mode: string) => Promise<string>} report
  */
 export const showPicture = async (hands, report) => {
-    const order = inOrder(hands), unit = 'money USD', { columns } = hands;
+    const order = inOrder(hands), tally = tallyOf(hands, order), unit = 'money USD', { columns } = hands;
     // the player of whom the example has most
-    const [{ name }] = namesOf(hands, order).sort((a, b) => b.count - a.count);
+    const [{ name }] = namesOf(hands, tally, tally.size).sort((a, b) => b.count - a.count);
     const played = playedBy(hands, order, name, unit), sum = sumOf(hands, played), luck = sum.net - sum.even;
     const form = { isMoney: true, sign: signOf(unit) }, say = (/** @type {bigint} */ it) => sumText(it, form);
     $('shot-figures').replaceChildren(figure('Won', say(sum.net), { tone: toneOf(sum.net) }),

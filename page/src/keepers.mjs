@@ -13,7 +13,7 @@ const REPORTS = [
 /**
  * Makes the buttons. Returns a function that makes a report and hands it to the user.
  * @param {import('./store.mjs').State} state
- * @param {() => import('./store.mjs').Choice} choose
+ * @param {() => import('./choice.mjs').Choice} choose
  * @param {ReturnType<typeof import('./engines.mjs').startEngines>} ready
  */
 export const makeKeep = (state, choose, ready) => {

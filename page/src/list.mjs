@@ -6,7 +6,7 @@ import { rowNode } from './listrow.mjs';
 import { scrollTo, windowOf } from './sorting.mjs';
 import { unitText } from './words.mjs';
 
-/** @typedef {import('./store.mjs').Choice} Choice */
+/** @typedef {import('./choice.mjs').Choice} Choice */
 /** @typedef {import('./played.mjs').Played} Played */
 
 /** The columns, each with its name in the state. Those with a 1 have numbers. */

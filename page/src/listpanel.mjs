@@ -1,15 +1,13 @@
 // The panel of the list of hands: which hands it shows, what was won in them, and the list.
 
+import { WHICH } from './choice.mjs';
 import { $, having, node } from './dom.mjs';
 import { isMoneyOf } from './figures.mjs';
 import { makeList } from './list.mjs';
-import { ACCEPTED } from './part.mjs';
 import { counted, many } from './progress.mjs';
-import { WHICH } from './store.mjs';
-import { sumOf } from './sums.mjs';
 import { signOf, sumText, toneOf } from './words.mjs';
 
-/** @typedef {import('./store.mjs').Choice} Choice */
+/** @typedef {import('./choice.mjs').Choice} Choice */
 
 /** What the list draws from. */
 const KEYS = ['version', 'collection', 'isPartial', 'player', 'unit', 'filters', 'words', 'which', 'order', 'isUp'];
@@ -35,12 +33,12 @@ const fillWhich = (/** @type {(which: string) => void} */ choose) => {
 
 /** Shows how many hands are listed, and what was won in them. */
 const showListSum = (/** @type {Choice} */ choice) => {
-    const { hands, listed, isEvery, unit } = choice, count = node('b', many(listed.length, 'hand'));
+    const { listed, isEvery, unit } = choice, count = node('b', many(listed.length, 'hand'));
     if (isEvery) {
         $('list-sum').replaceChildren(count, ' of everybody');
         return;
     }
-    const sum = sumOf(hands, listed.filter(({ hand }) => hands.columns.flags[hand] & ACCEPTED));
+    const sum = choice.listSum;
     const form = { isMoney: isMoneyOf(choice), sign: signOf(unit), plus: true };
     const amount = (/** @type {bigint} */ it) => node(`b.${toneOf(it) || 'soft'}`, sumText(it, form));
     $('list-sum').replaceChildren(count, ', won ', amount(sum.net), ', luck ', amount(sum.net - sum.even));
@@ -49,7 +47,7 @@ const showListSum = (/** @type {Choice} */ choice) => {
 /**
  * Draws the list from now on, when what it draws from changes.
  * @param {ReturnType<typeof import('./store.mjs').makeStore>} store
- * @param {() => Choice} choose
+ * @param {ReturnType<typeof import('./choice.mjs').makeChoice>} choose
  * @param {{ open: (hand: number) => void }} ask
  * @param {() => void} clear  clears filters and words
  */
@@ -61,6 +59,6 @@ export const drawList = ({ state, set, panel }, choose, { open }, clear) => {
         mark(state.which, choose().found.counts);
         showListSum(choose());
         list.show(choose(), state);
-    }, ['hands', 'hand']);
+    }, ['hands', 'hand'], choose.needs.list);
     return list;
 };

@@ -10,7 +10,7 @@ import { POSITIONS, POSITION_WORDS } from './positions.mjs';
 import { sayer } from './settling.mjs';
 import { dayText, hourText, MINUS, signOf, stakesText, sumText, toneOf } from './words.mjs';
 
-/** @typedef {import('./store.mjs').Choice} Choice */
+/** @typedef {import('./choice.mjs').Choice} Choice */
 /** @typedef {import('./played.mjs').Played} Played */
 
 /**

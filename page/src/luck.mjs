@@ -10,7 +10,7 @@ import { isMoneyOf } from './figures.mjs';
 import { showTable } from './table.mjs';
 import { sumText, toneOf, unitText } from './words.mjs';
 
-/** @typedef {import('./store.mjs').Choice} Choice */
+/** @typedef {import('./choice.mjs').Choice} Choice */
 /** @typedef {import('./played.mjs').Played} Played */
 
 const DOZEN = 12;

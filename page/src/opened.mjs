@@ -28,7 +28,7 @@ export const copyText = async (text) => {
 
 /**
  * Connects the view of a hand. Returns what opens a hand, and what reads one.
- * @param {() => import('./store.mjs').Choice} choose
+ * @param {() => import('./choice.mjs').Choice} choose
  * @param {{ report: import('./hand.mjs').Report, ask: (line: string) => void, views: () =>
  *     import('./views.mjs').Views, say: (text: string, isBad?: boolean) => void }} page
  */

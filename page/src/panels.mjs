@@ -6,15 +6,13 @@ import { showFilters } from './filterbar.mjs';
 import { makeGraph } from './graph.mjs';
 import { drawList } from './listpanel.mjs';
 import { makeLuck } from './luck.mjs';
-import { ACCEPTED } from './part.mjs';
 import { allInOf, EVERYBODY } from './played.mjs';
 import { counted, many } from './progress.mjs';
-import { LINES, seriesOf } from './series.mjs';
+import { LINES } from './series.mjs';
 import { showHeads } from './status.mjs';
-import { GROUPS } from './sums.mjs';
+import { GROUPS, totalOf } from './sums.mjs';
 import { signOf, sumText, unitText } from './words.mjs';
 
-const NAMES = 200;
 const HANDS = ['version', 'collection', 'isPartial'], PLAYER = [...HANDS, 'player', 'unit'];
 export const CHOSEN = [...PLAYER, 'filters'];
 const OVERVIEW = ['overview'], BOTH = ['overview', 'hands', 'hand'];
@@ -33,7 +31,7 @@ export const fill = (place, options, value, shown = value) => {
     if (text) text.textContent = shown;
 };
 
-/** @typedef {import('./store.mjs').Choice} Choice */
+/** @typedef {import('./choice.mjs').Choice} Choice */
 /** @typedef {{ open: (hand: number, among?: number[]) => void,
  *     report: (hand: number, mode: string) => Promise<string> }} Ask */
 
@@ -55,25 +53,19 @@ const fillLines = (/** @type {boolean[]} */ isShown, /** @type {(at: number, isS
 };
 
 /** Shows what there is of everybody's hands. */
-const showEverybody = (/** @type {Choice} */ { hands, entries, unit }) => {
-    const { flags, rake, pot } = hands.columns;
-    let rejected = 0, owed = 0, raked = 0n, pots = 0n;
-    for (const { hand } of entries) {
-        raked += rake[hand];
-        pots += pot[hand];
-        if (flags[hand] & ACCEPTED) continue;
-        rejected++;
-        if (hands.owed.has(hand)) owed++;
-    }
+const showEverybody = (/** @type {Choice} */ { hands, entries, left, unit }) => {
+    const owed = left.filter(({ hand }) => hands.owed.has(hand)).length;
     const form = { isMoney: unit.startsWith('money'), sign: signOf(unit) };
+    const total = (/** @type {'pot' | 'rake'} */ amount) => sumText(totalOf(hands, amount, entries), form);
     $('all-figures').replaceChildren(...[['Hands', counted(entries.length)],
-        ['Rejected', counted(rejected)], ['To settle', counted(owed)], ...unit ? [['Pots', sumText(pots, form)],
-            ['Rake', sumText(raked, form)]] : []].map(([name, value]) => figure(name, value, {})));
+        ['Rejected', counted(left.length)], ['To settle', counted(owed)],
+        ...unit ? [['Pots', total('pot')], ['Rake', total('rake')]] : []]
+        .map(([name, value]) => figure(name, value, {})));
 };
 
 /** What the graph draws. */
 export const drawnOf = (/** @type {Choice} */ choice, /** @type {import('./store.mjs').State} */ state) => {
-    const { hands, played, unit } = choice, series = seriesOf(hands, played, state.by);
+    const { hands, played, unit, series } = choice;
     const clocks = Float64Array.from(series.at, (at) => hands.columns.clock[played[at].hand]);
     return { series, clocks, by: state.by, isShown: state.lines, sign: signOf(unit),
         digits: isMoneyOf(choice) ? 2 : 0 };
@@ -82,30 +74,29 @@ export const drawnOf = (/** @type {Choice} */ choice, /** @type {import('./store
 /**
  * Draws all panels from now on, when what they draw from changes.
  * @param {ReturnType<typeof import('./store.mjs').makeStore>} store
- * @param {() => Choice} choose
+ * @param {ReturnType<typeof import('./choice.mjs').makeChoice>} choose
  * @param {Ask} ask
  * @param {{ clear: () => void, pick: (group: string, key: string) => void }} filter
  */
 export const drawPanels = (store, choose, ask, filter) => {
-    const { state, set, panel } = store;
+    const { state, set, panel } = store, { needs } = choose;
     panel(HANDS, () => {
         showHeads($('heads'), choose(), state.isPartial);
         $('hands-count').textContent = counted(choose().order.length);
-    });
+    }, [], needs.hands);
 
     panel(PLAYER, () => {
-        const { names, player, units, unit, order, isEvery } = choose(), some = names.slice(0, NAMES);
-        if (!isEvery && player && !some.some((it) => it.name === player))
-            some.unshift(...names.filter((it) => it.name === player));
+        const { names, nameCount, named, player, units, unit, order, isEvery } = choose(), some = [...names];
+        if (!isEvery && player && !some.some((it) => it.name === player)) some.unshift(named(player));
         fill($('player'), [...some.map(({ name, count }) =>
             /** @type {[string, string]} */ ([name, `${name} (${counted(count)})`])),
         [EVERYBODY, `everybody (${counted(order.length)})`]], player, isEvery ? 'everybody' : player);
         $('player').parentElement.classList.toggle('set', isEvery);
-        $('others').hidden = names.length <= NAMES;
+        $('others').hidden = nameCount <= names.length;
         const any = isEvery ? [['', 'any']] : [];
         fill($('unit'), /** @type {[string, string][]} */ ([...any, ...units.map((it) => [it, it])]), unit,
             unitText(unit) || (unit ? unit : 'any'));
-    });
+    }, [], needs.player);
 
     panel(CHOSEN, () => {
         showFilters($('picks'), choose(), state.filters, (filters) => set({ filters }));
@@ -113,7 +104,7 @@ export const drawPanels = (store, choose, ask, filter) => {
         $('filters-clear').hidden = !count;
         $('filters-open').textContent = count ? `Filters (${count})` : 'Filters';
         document.documentElement.style.setProperty('--above', `${$('filters').offsetHeight}px`);
-    }, BOTH);
+    }, BOTH, needs.filters);
 
     panel(CHOSEN, () => {
         const choice = choose(), { isEvery } = choice;
@@ -127,7 +118,7 @@ export const drawPanels = (store, choose, ask, filter) => {
         const left = leftSentence(choice);
         $('left-out').hidden = !left;
         $('left-text').textContent = left;
-    }, OVERVIEW);
+    }, OVERVIEW, needs.sum);
 
     const draw = makeGraph($('graph'), $('legend'), (at) => ask.open(choose().played[at].hand,
         choose().played.map(({ hand }) => hand)));
@@ -137,7 +128,7 @@ export const drawPanels = (store, choose, ask, filter) => {
         fill($('by'), [['hand', 'hand'], ['day', 'day'], ['session', 'session']], state.by);
         draw(drawn);
         $('without').textContent = without ? `The graph is without ${many(without, 'hand')} that ${verb} no date.` : '';
-    }, OVERVIEW);
+    }, OVERVIEW, needs.series);
     fillLines(state.lines, (at, isShown) => set({ lines: state.lines.map((it, key) => key === at ? isShown : it) }));
 
     const sort = (/** @type {number} */ column) =>
@@ -146,7 +137,7 @@ export const drawPanels = (store, choose, ask, filter) => {
         fill($('group'), GROUPS.map((it) => [it, it]), state.group);
         if (!choose().isEvery)
             showSums($('groups'), choose(), state, { sort, pick: (key) => filter.pick(state.group, key) });
-    }, OVERVIEW);
+    }, OVERVIEW, needs.groups);
 
     // all-ins are counted again, so not while files are read
     const luck = makeLuck($('luck'), ask);
@@ -155,7 +146,7 @@ export const drawPanels = (store, choose, ask, filter) => {
         const { hands, played } = choose(), count = played.filter((it) => allInOf(hands, it)).length;
         $('all-ins').textContent = `All ${many(count, 'all-in')}`;
         luck(choose());
-    }, OVERVIEW);
+    }, OVERVIEW, needs.filters);
 
     return drawList(store, choose, ask, filter.clear);
 };

@@ -27,8 +27,8 @@ export const UNKNOWN = 1, SHOWN = 2, DEALT = 4, SEATED = 8;
  *     flags: Uint8Array, unit: Uint32Array, stakes: Uint32Array, game: Uint32Array, table: Uint32Array,
  *     tournament: Uint32Array, street: Uint32Array, cause: Uint32Array, rake: BigInt64Array, pot: BigInt64Array,
  *     big: Float64Array, board: Float64Array }} OfHands
- * @typedef {{ name: Uint32Array, net: BigInt64Array, even: BigInt64Array, got: BigInt64Array, position: Uint8Array,
- *     marks: Uint8Array, cards: Float64Array, ahead: Uint8Array }} OfRows
+ * @typedef {{ name: Uint32Array, net: BigInt64Array, even: BigInt64Array, got: BigInt64Array, raked: Float64Array,
+ *     position: Uint8Array, marks: Uint8Array, cards: Float64Array, ahead: Uint8Array }} OfRows
  * @typedef {Bare & OfHands & OfRows} Part
  */
 
@@ -63,7 +63,8 @@ export const HAND_COLUMNS = {
 };
 
 /**
- * The columns of the players of hands, with the kind of each. `ahead` has the marks of `leadsOf`.
+ * The columns of the players of hands, with the kind of each. `ahead` has the marks of `leadsOf`, and `raked` the part
+ * of the rake that the player paid: as much of it as of what all players got.
  * @type {{ [column: string]: ColumnKind }}
  */
 export const ROW_COLUMNS = {
@@ -71,6 +72,7 @@ export const ROW_COLUMNS = {
     net: BigInt64Array,
     even: BigInt64Array,
     got: BigInt64Array,
+    raked: Float64Array,
     position: Uint8Array,
     marks: Uint8Array,
     cards: Float64Array,
@@ -163,12 +165,15 @@ export const readPart = (report, bytes) => {
         });
         for (const { name, amount } of settle) owed.push({ hand: at, name, amount });
         const players = playersOf(hand, text);
+        let all = 0n;
+        for (const { got } of players) all += got;
         const positions = positionsOf(whole, text.seats, text.button, players.map(({ name }) => name));
         for (const { name, net, even, got } of players) {
             const isShown = text.hasShowdown && !text.folded.has(name);
             const marks = (even === null ? UNKNOWN : 0) | (isShown ? SHOWN : 0) | (text.dealt.has(name) ? DEALT : 0)
                 | (hand.isAccepted ? 0 : SEATED);
             rows.add({ name: number(name), net, even: even === null ? net : even, got, marks,
+                raked: hand.rake > 0n && got > 0n ? Number(hand.rake) * Number(got) / Number(all) : 0,
                 position: positions.get(name) || 0, cards: packed(cards.get(name) || ''),
                 ahead: lead && lead.get(name) || 0 });
         }

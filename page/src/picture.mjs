@@ -101,7 +101,7 @@ export const drawPlot = (drawn, [from, to], width, height) => {
     const start = by !== 'day' && first === 0 && from === 0 ? [`${toX(0).toFixed(1)} ${toY(0).toFixed(1)}`] : [];
     const points = (/** @type {number} */ key) => [...start, ...thin(first, end, (at) => Math.round(toX(x[at])),
         lines[key]).map((at) => `${toX(x[at]).toFixed(1)} ${toY(lines[key][at]).toFixed(1)}`)];
-    const [won, adjusted] = [0, 1].map(points);
+    const paths = LINES.map((line, key) => isShown[key] ? points(key) : []), [won, adjusted] = paths;
     if (isShown[0] && isShown[1] && end - first > 1) {
         const id = `luck${pictures++}`, edge = adjusted.join('L'), begin = adjusted[0].split(' ')[0],
               last = adjusted[adjusted.length - 1].split(' ')[0];
@@ -113,7 +113,7 @@ export const drawPlot = (drawn, [from, to], width, height) => {
         });
     }
     for (const key of [...some].reverse()) {
-        const path = points(key);
+        const path = paths[key];
         if (path.length)
             svg.append(shape('path', { class: `line${key}`, d: `M${path.join('L')}${path.length > 1 ? '' : 'h3'}` }));
     }

@@ -1,19 +1,13 @@
 // Which hands there are, in order of time, and which of them a player played.
 
 import { byPlace } from './hands.mjs';
-import { ACCEPTED, CASHED, DEALT, MONEY, OWED, SEATED, SHOWN, UNIT_KNOWN } from './part.mjs';
+import { byNumber, placesBy, placesByNumber } from './ordering.mjs';
+import { ACCEPTED, CASHED, MONEY, OWED, SHOWN, UNIT_KNOWN } from './part.mjs';
 
 /** @typedef {import('./hands.mjs').Hands} Hands */
 
-/**
- * Compares numbers of hands, which have up to 19 digits.
- * @param {string} a
- * @param {string} b
- */
-const byNumber = (a, b) => a.length - b.length || (a < b ? -1 : a > b ? 1 : 0);
-
-/** Numbers up to this one are exact, with a factor of 2 to spare. */
-const EXACT = 2 ** 52;
+/** So few hands are sorted by a comparison. */
+const FEW = 16;
 
 /**
  * Returns the hands in order of clock and number, each number once. Hands without a clock come after them, by path and
@@ -21,31 +15,25 @@ const EXACT = 2 ** 52;
  * @param {Hands} hands
  */
 export const inOrder = (hands) => {
-    const { clock, copy } = hands.columns, undated = [];
-    const keys = new Float64Array(hands.count), step = 2 ** Math.ceil(Math.log2(hands.count + 1));
-    let dated = 0, isPacked = true;
+    const { clock, copy } = hands.columns, all = new Uint32Array(hands.count), undated = [];
+    let dated = 0;
     for (let hand = 0; hand < hands.count; hand++) {
         if (copy[hand]) continue;
         if (Number.isNaN(clock[hand])) undated.push(hand);
-        else keys[dated++] = hand;
-        if (Math.abs(clock[hand]) * step >= EXACT) isPacked = false;
+        else all[dated++] = hand;
     }
-    const sorted = keys.subarray(0, dated);
-    // numbers sort several times as fast as indices by a comparison
-    if (isPacked) sorted.forEach((hand, at) => { sorted[at] = clock[hand] * step + hand; });
-    if (isPacked) sorted.sort();
-    else sorted.sort((a, b) => clock[a] - clock[b]);
-    const order = Uint32Array.from(sorted, (key) => isPacked ? key - Math.floor(key / step) * step : key);
+    const order = placesBy(Float64Array.from(all.subarray(0, dated), (hand) => clock[hand])).map((at) => all[at]);
     // hands of one second go by number
     for (let from = 0, to; from < dated; from = to) {
         for (to = from + 1; to < dated && clock[order[to]] === clock[order[from]]; to++);
-        if (to - from > 1) order.subarray(from, to).sort((a, b) => byNumber(hands.numbers[a], hands.numbers[b]));
+        const some = order.subarray(from, to), { length } = some;
+        if (length > FEW) some.set(placesByNumber(hands, some).map((at) => some[at]));
+        else if (length > 1) some.sort((a, b) => byNumber(hands.numbers[a], hands.numbers[b]));
     }
     undated.sort((a, b) => byPlace(hands, a, b) || byNumber(hands.numbers[a], hands.numbers[b]));
-    const all = new Uint32Array(dated + undated.length);
     all.set(order);
     all.set(undated, dated);
-    return all;
+    return all.slice(0, dated + undated.length);
 };
 
 /** @typedef {{ hand: number, row: number }} Played */
@@ -117,41 +105,23 @@ export const parted = (hands, entries) => {
 };
 
 /**
- * Returns names with the number of their accepted hands. Names to whom cards were dealt openly come first, because it
- * is their history.
- * @param {Hands} hands
- * @param {Uint32Array} order
- */
-export const namesOf = (hands, order) => {
-    const { first, name, marks } = hands.columns, counts = new Uint32Array(hands.texts.length),
-                        dealt = new Uint32Array(hands.texts.length);
-    for (const hand of order)
-        for (let row = first[hand]; row < first[hand + 1]; row++)
-            if (!(marks[row] & SEATED)) {
-                counts[name[row]]++;
-                if (marks[row] & DEALT) dealt[name[row]]++;
-            }
-    /** @type {{ name: string, count: number, dealt: number }[]} */
-    const all = [];
-    counts.forEach((count, id) => { if (count) all.push({ name: hands.texts[id], count, dealt: dealt[id] }); });
-    return all.sort((a, b) => b.dealt - a.dealt || b.count - a.count || (a.name < b.name ? -1 : 1));
-};
-
-/**
  * Returns the units in which a name, or everybody, has accepted hands, the most frequent first.
  * @param {Hands} hands
  * @param {Uint32Array} order
  * @param {string} name
  */
 export const unitsOf = (hands, order, name) => {
-    const { flags, first, name: names, unit } = hands.columns, id = hands.ids.get(name), counts = new Map();
-    const add = (/** @type {number} */ hand) => counts.set(unit[hand], (counts.get(unit[hand]) || 0) + 1);
+    const { flags, first, name: names, unit } = hands.columns, id = hands.ids.get(name);
+    const counts = new Uint32Array(hands.texts.length);
+    /** @type {number[]} */
+    const found = [];
+    const add = (/** @type {number} */ it) => { if (!counts[it]++) found.push(it); };
     for (const hand of order) {
         if (!(flags[hand] & ACCEPTED)) continue;
-        if (name === EVERYBODY) add(hand);
-        else for (let row = first[hand]; row < first[hand + 1]; row++) if (names[row] === id) add(hand);
+        if (name === EVERYBODY) add(unit[hand]);
+        else for (let row = first[hand]; row < first[hand + 1]; row++) if (names[row] === id) add(unit[hand]);
     }
-    return [...counts].sort((a, b) => b[1] - a[1]).map(([it]) => hands.texts[it]);
+    return found.sort((a, b) => counts[b] - counts[a]).map((it) => hands.texts[it]);
 };
 
 /**

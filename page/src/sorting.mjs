@@ -1,6 +1,7 @@
 // The order of the list, by any of its columns.
 
 import { codesIn, rankOf } from './cards.mjs';
+import { placesBy, placesByNumber } from './ordering.mjs';
 import { ACCEPTED, OWED, UNKNOWN } from './part.mjs';
 import { allInOf, NO_ROW } from './played.mjs';
 
@@ -38,12 +39,6 @@ const KEYS = {
 };
 
 /**
- * @param {string} a
- * @param {string} b
- */
-const byNumber = (a, b) => a.length - b.length || (a < b ? -1 : a > b ? 1 : 0);
-
-/**
  * Returns hands in the order of a column. Those with one value stay in order of time, and the last one comes first if
  * values fall.
  * @param {Hands} hands
@@ -53,13 +48,10 @@ const byNumber = (a, b) => a.length - b.length || (a < b ? -1 : a > b ? 1 : 0);
  * @returns {Played[]}
  */
 export const sorted = (hands, entries, column, isRising) => {
-    const { length } = entries, places = Uint32Array.from({ length }, (it, at) => at), key = KEYS[column];
-    const numbers = column === 'number' ? entries.map(({ hand }) => hands.numbers[hand]) : null;
-    if (numbers) places.sort((a, b) => byNumber(numbers[a], numbers[b]) || a - b);
-    else if (key) {
-        const keys = Float64Array.from(entries, (it) => key(hands, it));
-        places.sort((a, b) => keys[a] - keys[b] || a - b);
-    }
+    const { length } = entries, key = KEYS[column];
+    const places = column === 'number' ? placesByNumber(hands, entries.map(({ hand }) => hand))
+        : key ? placesBy(Float64Array.from(entries, (it) => key(hands, it)))
+            : Uint32Array.from({ length }, (it, at) => at);
     if (!isRising) places.reverse();
     return Array.from(places, (at) => entries[at]);
 };

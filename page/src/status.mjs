@@ -27,7 +27,7 @@ export const readingSentence = (reading, hands, now) => {
 /**
  * Shows how many hands there are, and what else is to be known of them.
  * @param {HTMLElement} place
- * @param {import('./store.mjs').Choice} choice
+ * @param {import('./choice.mjs').Choice} choice
  * @param {boolean} isPartial
  */
 export const showHeads = (place, { hands, order }, isPartial) => {

@@ -8,54 +8,63 @@ import { POSITIONS } from './positions.mjs';
 /** @typedef {import('./played.mjs').Played} Played */
 /**
  * What was won in hands of one big blind or big bet.
- * @typedef {{ hands: number, net: bigint, even: bigint, rake: number }} OfBig
- *
+ * @template {bigint | number} T
+ * @typedef {{ hands: number, net: T, even: T, rake: number }} OfBig
+ */
+/**
  * Sums of hands. `bigs` has those of each big blind, and no hand of a stud game or a tournament.
- * @typedef {{ hands: number, got: bigint, net: bigint, even: bigint, shown: bigint, unknown: number, rake: number,
- *     bigs: Map<number, OfBig> }} Sum
+ * @template {bigint | number} T
+ * @typedef {{ hands: number, got: T, net: T, even: T, shown: T, unknown: number, rake: number,
+ *     bigs: Map<number, OfBig<T>> }} SumOf
  */
+/** @typedef {SumOf<bigint>} Sum */
 
-/** @returns {Sum} */
-export const none = () =>
-    ({ hands: 0, got: 0n, net: 0n, even: 0n, shown: 0n, unknown: 0, rake: 0, bigs: new Map() });
-
-/**
- * Returns the rake that a player paid: of the rake of a hand they have the part that they have of what all got.
- * @param {Hands} hands
- * @param {Played} played
- */
-const rakeOf = (hands, { hand, row }) => {
-    const { rake, got, first } = hands.columns;
-    if (!(rake[hand] > 0n && got[row] > 0n)) return 0;
-    let all = 0n;
-    for (let at = first[hand]; at < first[hand + 1]; at++) all += got[at];
-    return Number(rake[hand]) * Number(got[row]) / Number(all);
-};
+/** Sums of whole numbers below this one are exact in numbers, which are added several times as fast. */
+const EXACT = 2 ** 53;
 
 /**
- * Adds a hand of a player.
+ * Returns what begins a sum, adds a hand of a player to it, and ends it. A sum that is exact in numbers is one until it
+ * ends.
  * @param {Hands} hands
- * @param {Sum} sum
- * @param {Played} played
  */
-export const add = (hands, sum, played) => {
-    const { hand, row } = played, { net, even, got, marks, big } = hands.columns, rake = rakeOf(hands, played);
-    sum.hands++;
-    sum.got += got[row];
-    sum.net += net[row];
-    sum.even += even[row];
-    sum.rake += rake;
-    if (marks[row] & SHOWN) sum.shown += net[row];
-    if (marks[row] & UNKNOWN) sum.unknown++;
-    if (big[hand] > 0) {
-        let it = sum.bigs.get(big[hand]);
-        if (!it) sum.bigs.set(big[hand], it = { hands: 0, net: 0n, even: 0n, rake: 0 });
+const adder = ({ bulk, columns }) => {
+    const { got: gots, net: nets, even: evens, marks, big: bigs, raked } = columns, isExact = bulk < EXACT;
+    const zero = /** @type {any} */ (isExact ? 0 : 0n);
+    /** @returns {SumOf<any>} */
+    const begin = () =>
+        ({ hands: 0, got: zero, net: zero, even: zero, shown: zero, unknown: 0, rake: 0, bigs: new Map() });
+    /**
+     * @param {SumOf<any>} sum
+     * @param {Played} played
+     */
+    const add = (sum, { hand, row }) => {
+        const net = /** @type {any} */ (isExact ? Number(nets[row]) : nets[row]), mark = marks[row], big = bigs[hand];
+        const even = /** @type {any} */ (isExact ? Number(evens[row]) : evens[row]), rake = raked[row];
+        sum.hands++;
+        sum.got += /** @type {any} */ (isExact ? Number(gots[row]) : gots[row]);
+        sum.net += net;
+        sum.even += even;
+        sum.rake += rake;
+        if (mark & SHOWN) sum.shown += net;
+        if (mark & UNKNOWN) sum.unknown++;
+        if (!(big > 0)) return sum;
+        let it = sum.bigs.get(big);
+        if (!it) sum.bigs.set(big, it = { hands: 0, net: zero, even: zero, rake: 0 });
         it.hands++;
-        it.net += net[row];
-        it.even += even[row];
+        it.net += net;
+        it.even += even;
         it.rake += rake;
-    }
-    return sum;
+        return sum;
+    };
+    /**
+     * @param {SumOf<any>} sum
+     * @returns {Sum}
+     */
+    const end = (sum) => ({
+        ...sum, got: BigInt(sum.got), net: BigInt(sum.net), even: BigInt(sum.even), shown: BigInt(sum.shown),
+        bigs: new Map([...sum.bigs].map(([big, it]) => [big, { ...it, net: BigInt(it.net), even: BigInt(it.even) }]))
+    });
+    return { begin, add, end };
 };
 
 /**
@@ -75,10 +84,25 @@ export const hundredsOf = ({ bigs }) => {
 };
 
 /**
+ * Returns the sum of an amount over the hands of some entries.
+ * @param {Hands} hands
+ * @param {'rake' | 'pot'} amount
+ * @param {Played[]} entries
+ */
+export const totalOf = ({ bulk, columns }, amount, entries) => {
+    const column = columns[amount];
+    return bulk < EXACT ? BigInt(entries.reduce((sum, { hand }) => sum + Number(column[hand]), 0))
+        : entries.reduce((sum, { hand }) => sum + column[hand], 0n);
+};
+
+/**
  * @param {Hands} hands
  * @param {Played[]} played
  */
-export const sumOf = (hands, played) => played.reduce((sum, it) => add(hands, sum, it), none());
+export const sumOf = (hands, played) => {
+    const { begin, add, end } = adder(hands);
+    return end(played.reduce(add, begin()));
+};
 
 /**
  * Returns how many tournaments there are, what their buy-ins cost by the headers, by the sign of the currency and in
@@ -120,8 +144,8 @@ export const keysOf = (hands, played, group) => {
         return numbers.map((number) => number ? begins.get(number) : 'no date');
     }
     if (group === 'day' || group === 'month') {
-        const day = dayNames();
-        return clocks.map((clock) => day(clock).slice(0, group === 'day' ? 10 : 7) || 'no date');
+        const day = dayNames(group === 'day' ? 10 : 7);
+        return clocks.map((clock) => day(clock) || 'no date');
     }
     if (group === 'position') return played.map(({ row }) => POSITIONS[columns.position[row]] || 'none');
     const column = /** @type {any} */ (columns)[group];
@@ -135,14 +159,15 @@ export const keysOf = (hands, played, group) => {
  * @param {string[]} keys
  */
 export const sumsBy = (hands, played, keys) => {
-    /** @type {Map<string, Sum>} */
+    const { begin, add, end } = adder(hands);
+    /** @type {Map<string, SumOf<any>>} */
     const sums = new Map();
     played.forEach((it, at) => {
         let sum = sums.get(keys[at]);
-        if (!sum) sums.set(keys[at], sum = none());
-        add(hands, sum, it);
+        if (!sum) sums.set(keys[at], sum = begin());
+        add(sum, it);
     });
-    return sums;
+    return new Map([...sums].map(([key, sum]) => [key, end(sum)]));
 };
 
 const COLLATOR = new Intl.Collator('en', { numeric: true });

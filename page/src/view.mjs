@@ -1,6 +1,7 @@
 // The page: what is dropped on it, what it shows, and what is asked of it.
 
 import { $ } from './dom.mjs';
+import { makeChoice } from './choice.mjs';
 import { connectControls } from './controls.mjs';
 import { openDoors } from './doors.mjs';
 import { startEngines } from './engines.mjs';
@@ -15,7 +16,7 @@ import { written } from './reports.mjs';
 import { seriesOf } from './series.mjs';
 import { bytesOf } from './source.mjs';
 import { makeSpots } from './spots.mjs';
-import { firstState, makeChoice, makeStore } from './store.mjs';
+import { firstState, makeStore } from './store.mjs';
 import { sumOf } from './sums.mjs';
 import { makeTakes } from './takes.mjs';
 import { numbered } from './texts.mjs';

@@ -1,9 +1,10 @@
 import assert from 'node:assert/strict';
 import test from 'node:test';
 import { leadOptions, leads, leadsOf } from '../src/ahead.mjs';
-import { chosenText, codedFilters, daysOf, filtered } from '../src/filters.mjs';
+import { chosenText, filtered } from '../src/filters.mjs';
 import { addPart, noHands } from '../src/hands.mjs';
 import { readPart } from '../src/part.mjs';
+import { codedFilters, daysOf } from '../src/options.mjs';
 import { entriesOf, EVERYBODY, inOrder } from '../src/played.mjs';
 import { POSITIONS, positionsOf } from '../src/positions.mjs';
 import { allInStreet } from '../src/streets.mjs';

@@ -1,10 +1,12 @@
 import assert from 'node:assert/strict';
 import test from 'node:test';
 import { addPart, noHands } from '../src/hands.mjs';
+import { nameOf, namesOf, tallyOf } from '../src/names.mjs';
+import { numberOf, placesBy } from '../src/ordering.mjs';
 import { readPart } from '../src/part.mjs';
-import { entriesOf, EVERYBODY, handAt, inOrder, namesOf, parted, playedBy, unitsOf } from '../src/played.mjs';
+import { entriesOf, EVERYBODY, handAt, inOrder, parted, playedBy, unitsOf } from '../src/played.mjs';
 import { seriesOf } from '../src/series.mjs';
-import { byKey, hundredsOf, keysOf, sumOf, sumsBy } from '../src/sums.mjs';
+import { byKey, hundredsOf, keysOf, sumOf, sumsBy, totalOf } from '../src/sums.mjs';
 import { fileOf, made, reporter } from './made.mjs';
 
 /** Returns the hands of some files, read in the order in which they are given. */
@@ -114,9 +116,33 @@ test('figures say which rejected hands of the player they leave out', () => {
     assert.deepEqual(entriesOf(hands, order, 'Zoe', 'money USD'), []);
     assert.deepEqual(numbers(entriesOf(hands, order, EVERYBODY, '')), ['1', '2', '3', '4']);
     assert.deepEqual(numbers(entriesOf(hands, order, EVERYBODY, 'money USD')), ['1', '2', '3']);
-    assert.deepEqual(
-        namesOf(hands, order).map(({ name, count, dealt }) => [name, count, dealt]), [['Ann', 1, 1], ['Ben', 1, 0]]);
+    const tally = tallyOf(hands, order);
+    const [ann, ben] = [{ name: 'Ann', count: 1, dealt: 1 }, { name: 'Ben', count: 1, dealt: 0 }];
+    assert.deepEqual([tally.size, namesOf(hands, tally, 5), namesOf(hands, tally, 1)], [2, [ann, ben], [ann]]);
+    assert.deepEqual([nameOf(hands, tally, 'Ben').count, nameOf(hands, tally, 'Zoe').count], [1, 0]);
     assert.deepEqual(unitsOf(hands, order, 'Ann'), ['money USD']);
+});
+
+test('sums are exact beyond the numbers of a browser', () => {
+    const hands = handsOf([['a', [made({ number: 1, net: 2 ** 53 - 1 }), made({ number: 2, net: 2 })]]]);
+    const played = playedBy(hands, inOrder(hands), 'Ann', 'money USD'), exact = 2n ** 53n + 1n;
+    assert.deepEqual([sumOf(hands, played).net, totalOf(hands, 'pot', played)], [exact, 400n]);
+    assert.deepEqual([...sumsBy(hands, played, ['a', 'a'])].map(([, { even }]) => even), [exact]);
+});
+
+test('numbers sort as they rise, packed or not', () => {
+    for (const keys of [[3, 1, 2, 1], [2.5, -1, 0.5, -1], [2 ** 52, -5, 3, -5], []]) {
+        const wanted = keys.map((key, at) => at).sort((a, b) => keys[a] - keys[b] || a - b);
+        assert.deepEqual([...placesBy(Float64Array.from(keys))], wanted);
+    }
+    assert.deepEqual(['7', '0', '9007199254740991', '9007199254740993', '007', ''].map(numberOf),
+        [7, 0, 9007199254740991, NaN, NaN, NaN]);
+    const many = Array.from({ length: 20 }, (it, at) => made({ number: 99 - at, clock: '2026/11/02 10:00:00' }));
+    const long = made({ number: '9'.repeat(19), clock: '2026/11/02 10:00:00' });
+    for (const all of [many, [long, ...many]]) {
+        const numbers = all.map(({ number }) => BigInt(number)).sort((a, b) => a < b ? -1 : 1).map(String);
+        assert.deepEqual(numbersOf(handsOf([['a', all]])), numbers);
+    }
 });
 
 test('parts of a file keep its lines and bytes', () => {

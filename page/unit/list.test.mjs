@@ -1,12 +1,12 @@
 import assert from 'node:assert/strict';
 import test from 'node:test';
 import { cardsIn, packed, spoken, unpacked } from '../src/cards.mjs';
+import { makeChoice } from '../src/choice.mjs';
 import { found } from '../src/find.mjs';
 import { addPart, noHands } from '../src/hands.mjs';
 import { readPart } from '../src/part.mjs';
 import { entriesOf, EVERYBODY, inOrder } from '../src/played.mjs';
 import { scrollTo, sorted, windowOf } from '../src/sorting.mjs';
-import { makeChoice } from '../src/store.mjs';
 import { dayText, momentText, ratioText, stakesText, sumText, unitText } from '../src/words.mjs';
 import { fileOf, made, reporter } from './made.mjs';
 
