@@ -3,7 +3,7 @@
 import { codesIn } from './cards.mjs';
 import { button, having, head, node } from './dom.mjs';
 import { rowNode } from './listrow.mjs';
-import { scrollTo, windowOf } from './sorting.mjs';
+import { heightOf, scrollTo, windowOf } from './sorting.mjs';
 import { unitText } from './words.mjs';
 
 /** @typedef {import('./choice.mjs').Choice} Choice */
@@ -32,6 +32,8 @@ export const makeList = (place, { open, sort, clear }) => {
     let rows = [];
     /** @type {HTMLElement | null} */
     let body = null;
+    /** @type {Map<number, HTMLElement>} */
+    let drawn = new Map();
     let current = 0, opened = -1, isWhole = false, shown = '';
 
     const shape = () => ({ count: rows.length, size: place.clientWidth <= NARROW ? TALL_ROW : ROW,
@@ -48,29 +50,34 @@ export const makeList = (place, { open, sort, clear }) => {
     const rowAt = (/** @type {number} */ at) =>
         /** @type {HTMLElement | null} */ (place.querySelector(`tr[data-at="${at}"]`));
 
+    /** Draws the rows that are seen. Rows that stay keep their nodes, and with them the focus. */
     const paint = () => {
         if (!body || !choice) return;
         const it = choice, { from, to, above, below } = isWhole
             ? { from: 0, to: Math.min(rows.length, PRINTED), above: 0, below: 0 } : windowOf(shape());
-        const focused = focusedRow(), { scrollTop } = place;
-        const old = [...body.children].filter((row) => !gaps.some((other) => other === row));
+        const focused = focusedRow(), { scrollTop } = place, old = drawn;
+        /** @type {HTMLElement[][]} */
+        const [early, late] = [[], []];
+        const [least = Infinity] = [...old.keys()].filter((at) => at >= from && at < to);
+        drawn = new Map();
+        for (let at = from; at < to; at++) {
+            let row = old.get(at);
+            if (!row) {
+                row = having(rowNode(it, rows[at]), { 'data-at': at, 'aria-rowindex': at + 2 });
+                (at < least ? early : late).push(row);
+            }
+            having(row, { tabindex: at === current ? 0 : -1, 'aria-selected': String(rows[at].hand === opened) });
+            drawn.set(at, row);
+        }
         // new rows come before the old ones go, because a browser forgets how far a list that gets short is scrolled
-        gaps[1].before(...rows.slice(from, to).map((entry, index) => {
-            const at = from + index;
-            return having(rowNode(it, entry), {
-                'data-at': at, 'aria-rowindex': at + 2, tabindex: at === current ? 0 : -1,
-                'aria-selected': String(entry.hand === opened)
-            });
-        }));
+        (old.get(least) || gaps[1]).before(...early);
+        gaps[1].before(...late);
         setGap(0, above);
         setGap(1, below);
-        for (const row of old) row.remove();
+        for (const [at, row] of old) if (!drawn.has(at)) row.remove();
         if (place.scrollTop !== scrollTop) place.scrollTop = scrollTop;
-        if (focused < 0) return;
-        const again = rowAt(focused);
-        if (again) again.focus({ preventScroll: true });
         // a row that was scrolled away takes the focus with it, so the list has it
-        else place.focus({ preventScroll: true });
+        if (focused >= 0 && !drawn.has(focused)) place.focus({ preventScroll: true });
     };
     const goTo = (/** @type {number} */ at) => {
         current = Math.max(0, Math.min(rows.length - 1, at));
@@ -138,9 +145,12 @@ export const makeList = (place, { open, sort, clear }) => {
             return;
         }
         body = node('tbody', ...gaps);
+        drawn = new Map();
+        // the list is as high as it will be before its rows are drawn, so it can be scrolled to them
+        setGap(0, heightOf(shape()));
+        setGap(1, 0);
         place.replaceChildren(having(node('table', node('thead', headOf(order, isUp)), body),
             { 'aria-rowcount': rows.length + 1, 'aria-label': 'Hands' }));
-        paint();
         place.scrollTop = scroll;
         paint();
         const again = focused >= 0 ? rowAt(current) : column && place.querySelector(`.${column} button`);

@@ -14,7 +14,7 @@ const RANKS = 13, PAIR = 1000, STREETS = ['', 'preflop', 'predraw', '3rd', '4th'
  * Returns how high starting cards are: pairs above all others, and then by their two highest ranks.
  * @param {number} cards
  */
-const heightOf = (cards) => {
+const rankSumOf = (cards) => {
     const [a = -1, b = -1] = codesIn(cards).map(rankOf).sort((one, other) => other - one);
     return a * RANKS + b + (a === b && a >= 0 ? PAIR : 0);
 };
@@ -25,7 +25,7 @@ const heightOf = (cards) => {
  */
 const KEYS = {
     stakes: ({ columns }, { hand }) => columns.big[hand],
-    cards: ({ columns }, { row }) => row === NO_ROW ? 0 : heightOf(columns.cards[row]),
+    cards: ({ columns }, { row }) => row === NO_ROW ? 0 : rankSumOf(columns.cards[row]),
     board: ({ columns }, { hand }) => columns.board[hand],
     position: ({ columns }, { row }) => row === NO_ROW ? 0 : columns.position[row],
     pot: ({ columns }, { hand }) => Number(columns.pot[hand]),
@@ -56,14 +56,24 @@ export const sorted = (hands, entries, column, isRising) => {
     return Array.from(places, (at) => entries[at]);
 };
 
+/** The tallest list that a browser can scroll, in pixels. */
+const TALLEST = 15e6;
+
+/**
+ * Returns how high a list is, in pixels.
+ * @param {{ count: number, size: number }} list
+ * @param {number} [most]
+ */
+export const heightOf = ({ count, size }, most = TALLEST) => Math.min(count * size, most);
+
 /**
  * Which rows of a long list are drawn, and how much room is above and below them. A list that is taller than a browser
  * can scroll is shortened, and then each pixel of the bar stands for more than one row.
  * @param {{ count: number, size: number, scroll: number, height: number }} list
  * @param {number} [most]  the tallest list, in pixels
  */
-export const windowOf = ({ count, size, scroll, height }, most = 15e6) => {
-    const MORE = 8, whole = Math.min(count * size, most), rows = Math.ceil(height / size);
+export const windowOf = ({ count, size, scroll, height }, most = TALLEST) => {
+    const MORE = 8, whole = heightOf({ count, size }, most), rows = Math.ceil(height / size);
     const room = Math.max(1, whole - height), first = whole < count * size
         ? Math.floor(Math.min(1, scroll / room) * Math.max(0, count - Math.floor(height / size)))
         : Math.floor(scroll / size);
@@ -80,7 +90,7 @@ export const windowOf = ({ count, size, scroll, height }, most = 15e6) => {
  * @param {number} row
  * @param {number} [most]
  */
-export const scrollTo = ({ count, size, scroll, height }, row, most = 15e6) => {
+export const scrollTo = ({ count, size, scroll, height }, row, most = TALLEST) => {
     if (count * size > most)
         return row / Math.max(1, count - Math.floor(height / size)) * Math.max(1, most - height);
     const top = row * size;
