@@ -85,9 +85,10 @@ export const makeChoice = (state) => {
         () => sumsBy(hands(), passing().played, keys()));
     const foundKey = () => JSON.stringify([passingKey(), state.words]);
     const finding = kept(foundKey, () => {
-        const some = found(hands(), passing().entries, state.words), counts = WHICH.map(() => 0);
-        for (const it of some) WHICH.forEach((which, at) => {
-            if (!SHOWS[which] || SHOWS[which](hands(), it)) counts[at]++;
+        const these = hands(), some = found(these, passing().entries, state.words);
+        const counts = WHICH.map((which) => {
+            const shows = SHOWS[which];
+            return shows ? some.reduce((count, it) => shows(these, it) ? count + 1 : count, 0) : some.length;
         });
         return { some, counts };
     });

@@ -27,7 +27,9 @@ const ROOM = 1 << 10;
 export const noHands = () => {
     const kinds = { ...HAND_COLUMNS, file: Uint32Array, copy: Uint8Array, digits: Float64Array,
         first: Uint32Array, ...ROW_COLUMNS };
-    const columns = Object.fromEntries(Object.entries(kinds).map(([it, kind]) => [it, new kind(ROOM)]));
+    // columns begin with different sizes, so that not all of them grow with one part
+    const columns = Object.fromEntries(Object.entries(kinds).map(([it, kind], at, { length }) =>
+        [it, new kind(Math.ceil(ROOM * 2 ** (at / length)))]));
     return {
         count: 0,
         rows: 0,

@@ -4,6 +4,17 @@
 const EXACT = 2 ** 52;
 
 /**
+ * Returns some numbers. A loop is several times as fast as `Float64Array.from`.
+ * @param {number} length
+ * @param {(at: number) => number} valueOf
+ */
+export const numbersOf = (length, valueOf) => {
+    const all = new Float64Array(length);
+    for (let at = 0; at < length; at++) all[at] = valueOf(at);
+    return all;
+};
+
+/**
  * Returns the places of some numbers as the numbers rise. Equal ones stay in their order. A whole number and its place
  * are packed into one number if both fit.
  * @param {Float64Array} keys
@@ -18,8 +29,10 @@ export const placesBy = (keys) => {
         if (key > most) most = key;
     }
     if (isWhole && (most - least + 1) * step < EXACT) {
-        const packed = keys.map((key, at) => (key - least) * step + at).sort();
-        return Uint32Array.from(packed, (it) => it - Math.floor(it / step) * step);
+        const packed = numbersOf(length, (at) => (keys[at] - least) * step + at).sort();
+        const places = new Uint32Array(length);
+        for (let at = 0; at < length; at++) places[at] = packed[at] - Math.floor(packed[at] / step) * step;
+        return places;
     }
     return Uint32Array.from({ length }, (it, at) => at).sort((a, b) => keys[a] - keys[b] || a - b);
 };
@@ -46,7 +59,7 @@ export const byNumber = (a, b) => a.length - b.length || (a < b ? -1 : a > b ? 1
  * @param {ArrayLike<number>} some
  */
 export const placesByNumber = ({ columns, numbers }, some) => {
-    const keys = Float64Array.from(some, (hand) => columns.digits[hand]);
+    const { digits } = columns, keys = numbersOf(some.length, (at) => digits[some[at]]);
     return keys.some(Number.isNaN) ? Uint32Array.from(some, (hand, at) => at)
         .sort((a, b) => byNumber(numbers[some[a]], numbers[some[b]]) || a - b) : placesBy(keys);
 };

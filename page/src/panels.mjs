@@ -6,6 +6,7 @@ import { showFilters } from './filterbar.mjs';
 import { makeGraph } from './graph.mjs';
 import { drawList } from './listpanel.mjs';
 import { makeLuck } from './luck.mjs';
+import { numbersOf } from './ordering.mjs';
 import { allInOf, EVERYBODY } from './played.mjs';
 import { counted, many } from './progress.mjs';
 import { LINES } from './series.mjs';
@@ -66,7 +67,7 @@ const showEverybody = (/** @type {Choice} */ { hands, entries, left, unit }) => 
 /** What the graph draws. */
 export const drawnOf = (/** @type {Choice} */ choice, /** @type {import('./store.mjs').State} */ state) => {
     const { hands, played, unit, series } = choice;
-    const clocks = Float64Array.from(series.at, (at) => hands.columns.clock[played[at].hand]);
+    const { clock } = hands.columns, clocks = numbersOf(series.count, (at) => clock[played[series.at[at]].hand]);
     return { series, clocks, by: state.by, isShown: state.lines, sign: signOf(unit),
         digits: isMoneyOf(choice) ? 2 : 0 };
 };

@@ -1,7 +1,7 @@
 // Which hands there are, in order of time, and which of them a player played.
 
 import { byPlace } from './hands.mjs';
-import { byNumber, placesBy, placesByNumber } from './ordering.mjs';
+import { byNumber, numbersOf, placesBy, placesByNumber } from './ordering.mjs';
 import { ACCEPTED, CASHED, MONEY, OWED, SHOWN, UNIT_KNOWN } from './part.mjs';
 
 /** @typedef {import('./hands.mjs').Hands} Hands */
@@ -22,7 +22,8 @@ export const inOrder = (hands) => {
         if (Number.isNaN(clock[hand])) undated.push(hand);
         else all[dated++] = hand;
     }
-    const order = placesBy(Float64Array.from(all.subarray(0, dated), (hand) => clock[hand])).map((at) => all[at]);
+    const order = placesBy(numbersOf(dated, (at) => clock[all[at]]));
+    for (let at = 0; at < dated; at++) order[at] = all[order[at]];
     // hands of one second go by number
     for (let from = 0, to; from < dated; from = to) {
         for (to = from + 1; to < dated && clock[order[to]] === clock[order[from]]; to++);

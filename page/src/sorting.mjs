@@ -1,7 +1,7 @@
 // The order of the list, by any of its columns.
 
 import { codesIn, rankOf } from './cards.mjs';
-import { placesBy, placesByNumber } from './ordering.mjs';
+import { numbersOf, placesBy, placesByNumber } from './ordering.mjs';
 import { ACCEPTED, OWED, UNKNOWN } from './part.mjs';
 import { allInOf, NO_ROW } from './played.mjs';
 
@@ -50,10 +50,11 @@ const KEYS = {
 export const sorted = (hands, entries, column, isRising) => {
     const { length } = entries, key = KEYS[column];
     const places = column === 'number' ? placesByNumber(hands, entries.map(({ hand }) => hand))
-        : key ? placesBy(Float64Array.from(entries, (it) => key(hands, it)))
-            : Uint32Array.from({ length }, (it, at) => at);
+        : placesBy(numbersOf(length, (at) => key ? key(hands, entries[at]) : at));
     if (!isRising) places.reverse();
-    return Array.from(places, (at) => entries[at]);
+    const all = new Array(length);
+    for (let at = 0; at < length; at++) all[at] = entries[places[at]];
+    return all;
 };
 
 /** The tallest list that a browser can scroll, in pixels. */
