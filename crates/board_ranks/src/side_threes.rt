@@ -11,8 +11,8 @@ use std::alloc::Global;
 /// How many hands there is room for.
 const HANDS: usize = 10;
 
-/// One more, where there is room.
-fn add<T: Copy>(list: &mut Vec<T>, value: T)
+/// Adds a value at the end, where there is room for it.
+fn push_in_room<T: Copy>(list: &mut Vec<T>, value: T)
     requires { vec_len list.old < vec_capacity list.old }
     ensures items { list.new.items ≡ list.old.items ++ value ∷ [] }
     ensures capacity { vec_capacity list.new ≡ vec_capacity list.old }
@@ -41,7 +41,7 @@ impl SideThrees {
     #[inline(never)]
     fn add_place(&mut self) {
         if self.list.len() < HANDS {
-            add(&mut self.list, ThreeRanks::none());
+            push_in_room(&mut self.list, ThreeRanks::none());
         }
     }
 

@@ -26,7 +26,7 @@ use Rattle.history_text.specs.Brackets.{closed, counted_cards, cards_of, card_wo
 use Rattle.history_text.specs.Names.{front_name}
 use Rattle.hand_events.specs.Names.{seat_named}
 use Rattle.card_sets.specs.Games.{has_bring_in, has_draw}
-use Rattle.history_text.specs.Acts.{at_end, post, call, bet, raise, perhaps_cards, fold, show, discard_behind, discard, behind_card, is_discarded, pat, said, act_event, verb_of}
+use Rattle.history_text.specs.Acts.{at_end, post, call, bet, raise, perhaps_cards, fold, show, discard_behind, discard, behind_card, is_discarded, pat, verb_event, act_event, verb_of}
 use Rattle.history_text.specs.Plays.{act_line, deal_end, deal_once, deal_again, deal_cards, deal, deal_line, give_back, return_line, pot_of, collect, collect_line, cancel_line, play_event, dealt_counts, drawn_counts}
 use Rattle.history_text.specs.Seats.{seat_opening, free_name, seat_event, seat_line, button_event, button_end, button_line, preamble_event}
 use Rattle.history_text.specs.Totals.{total_event, total_line, seat_among, last_shown, seat_cards, show_line, summary_event}
@@ -214,29 +214,29 @@ pat_fits : (game : Game) (seat : ℕ) (text : List ℕ) → Ends (MarkerFits gam
 unfolding pat
 pat_fits game seat text = either (is_end text) (says tt) (reads (or_fault BadAction (behind (codes " on ") text)) (λ rest. says tt))
 
-said_fits : (g : Header) (seat : ℕ) (verb : Verb) (text : List ℕ) → Ends (MarkerFits g.game) (said g seat verb text)
-unfolding said
-said_fits g seat PostsSmall text = post_fits g seat Small text
-said_fits g seat PostsBig text = post_fits g seat Big text
-said_fits g seat PostsBoth text = post_fits g seat Both text
-said_fits g seat PostsAnte text = post_fits g seat Ante text
-said_fits g seat BringsIn text = either (has_bring_in g.game) (post_fits g seat BringIn text) fails
-said_fits g seat Folds text = fold_fits g.game seat text
-said_fits g seat Checks text = end_fits g.game (event.Act seat Check false []) text tt
-said_fits g seat Calls text = call_fits g seat text
-said_fits g seat Bets text = bet_fits g seat text
-said_fits g seat Raises text = raise_fits g seat text
-said_fits g seat Shows text = show_fits g.game seat text
-said_fits g seat Mucks text = end_fits g.game (event.Muck seat) text tt
-said_fits g seat DoesntShow text = end_fits g.game (event.Muck seat) text tt
-said_fits g seat Discards text = either (has_draw g.game) (discard_fits g.game seat text) fails
-said_fits g seat StandsPat text = either (has_draw g.game) (pat_fits g.game seat text) fails
-said_fits g seat SitsOut text = end_fits g.game event.Remark text tt
-said_fits g seat IsSittingOut text = end_fits g.game event.Remark text tt
+verb_event_fits : (g : Header) (seat : ℕ) (verb : Verb) (text : List ℕ) → Ends (MarkerFits g.game) (verb_event g seat verb text)
+unfolding verb_event
+verb_event_fits g seat PostsSmall text = post_fits g seat Small text
+verb_event_fits g seat PostsBig text = post_fits g seat Big text
+verb_event_fits g seat PostsBoth text = post_fits g seat Both text
+verb_event_fits g seat PostsAnte text = post_fits g seat Ante text
+verb_event_fits g seat BringsIn text = either (has_bring_in g.game) (post_fits g seat BringIn text) fails
+verb_event_fits g seat Folds text = fold_fits g.game seat text
+verb_event_fits g seat Checks text = end_fits g.game (event.Act seat Check false []) text tt
+verb_event_fits g seat Calls text = call_fits g seat text
+verb_event_fits g seat Bets text = bet_fits g seat text
+verb_event_fits g seat Raises text = raise_fits g seat text
+verb_event_fits g seat Shows text = show_fits g.game seat text
+verb_event_fits g seat Mucks text = end_fits g.game (event.Muck seat) text tt
+verb_event_fits g seat DoesntShow text = end_fits g.game (event.Muck seat) text tt
+verb_event_fits g seat Discards text = either (has_draw g.game) (discard_fits g.game seat text) fails
+verb_event_fits g seat StandsPat text = either (has_draw g.game) (pat_fits g.game seat text) fails
+verb_event_fits g seat SitsOut text = end_fits g.game event.Remark text tt
+verb_event_fits g seat IsSittingOut text = end_fits g.game event.Remark text tt
 
 act_fits : (g : Header) (seat : ℕ) (text : List ℕ) → Ends (MarkerFits g.game) (act_event g seat text)
 unfolding act_event
-act_fits g seat text = reads (or_fault BadAction (verb_of text)) (λ verb. said_fits g seat verb.0 verb.1)
+act_fits g seat text = reads (or_fault BadAction (verb_of text)) (λ verb. verb_event_fits g seat verb.0 verb.1)
 
 act_line_fits : (names : List (ℕ × List ℕ)) (g : Header) (line : List ℕ) → Says (MarkerFits g.game) (act_line names g line)
 unfolding act_line

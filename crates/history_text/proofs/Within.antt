@@ -28,7 +28,7 @@ use Rattle.history_text.specs.Names.{Fit, fit, longer, longest, front_name}
 use Rattle.hand_events.specs.Names.{seat_named, is_taken, is_seated}
 use Rattle.card_sets.specs.Games.{has_bring_in, has_draw}
 use Rattle.card_sets.specs.Streets.{board_count}
-use Rattle.history_text.specs.Acts.{post, call, bet, raise, fold, show, discard, discard_behind, is_discarded, pat, said, act_event, at_end, perhaps_cards, behind_card}
+use Rattle.history_text.specs.Acts.{post, call, bet, raise, fold, show, discard, discard_behind, is_discarded, pat, verb_event, act_event, at_end, perhaps_cards, behind_card}
 use Rattle.history_text.specs.Brackets.{closed, counted_cards, shown_cards, shown_counts}
 use Rattle.history_text.specs.Plays.{act_line, deal_line, deal, deal_cards, deal_once, deal_again, deal_end, deal_nothing, dealt_counts, drawn_counts, give_back, return_line, collect, collect_line, pot_of, cancel_line, play_event}
 use Rattle.history_text.specs.Markers.{street_event, marker_event, marker_line, marker_of}
@@ -148,29 +148,29 @@ pat_good line seat text s =
 at_end_good : (line : List ℕ) (e : Event) (text : List ℕ) → Good Play line e → Reads (Good Play line) (at_end e text)
 at_end_good line e text g = either (Good Play line) (is_end text) _ _ g tt
 
-said_good : (line : List ℕ) (header : Header) (seat : ℕ) (verb : Verb) (text : List ℕ) → InSeats seat → Reads (Good Play line) (said header seat verb text)
-unfolding said
-said_good line header seat PostsSmall text s = post_good line header seat _ text s
-said_good line header seat PostsBig text s = post_good line header seat _ text s
-said_good line header seat PostsBoth text s = post_good line header seat _ text s
-said_good line header seat PostsAnte text s = post_good line header seat _ text s
-said_good line header seat BringsIn text s = either (Good Play line) (has_bring_in header.game) _ _ (post_good line header seat _ text s) tt
-said_good line header seat Folds text s = fold_good line seat text s
-said_good line header seat Checks text s = at_end_good line (event.Act seat Check false []) text ((s.0, s.1, tt), refl)
-said_good line header seat Calls text s = call_good line header seat text s
-said_good line header seat Bets text s = bet_good line header seat text s
-said_good line header seat Raises text s = raise_good line header seat text s
-said_good line header seat Shows text s = show_good line seat text s
-said_good line header seat Mucks text s = at_end_good line (event.Muck seat) text ((s.0, s.1), refl)
-said_good line header seat DoesntShow text s = at_end_good line (event.Muck seat) text ((s.0, s.1), refl)
-said_good line header seat Discards text s = either (Good Play line) (has_draw header.game) _ _ (discard_good line seat text s) tt
-said_good line header seat StandsPat text s = either (Good Play line) (has_draw header.game) _ _ (pat_good line seat text s) tt
-said_good line header seat SitsOut text s = at_end_good line event.Remark text (tt, refl)
-said_good line header seat IsSittingOut text s = at_end_good line event.Remark text (tt, refl)
+verb_event_good : (line : List ℕ) (header : Header) (seat : ℕ) (verb : Verb) (text : List ℕ) → InSeats seat → Reads (Good Play line) (verb_event header seat verb text)
+unfolding verb_event
+verb_event_good line header seat PostsSmall text s = post_good line header seat _ text s
+verb_event_good line header seat PostsBig text s = post_good line header seat _ text s
+verb_event_good line header seat PostsBoth text s = post_good line header seat _ text s
+verb_event_good line header seat PostsAnte text s = post_good line header seat _ text s
+verb_event_good line header seat BringsIn text s = either (Good Play line) (has_bring_in header.game) _ _ (post_good line header seat _ text s) tt
+verb_event_good line header seat Folds text s = fold_good line seat text s
+verb_event_good line header seat Checks text s = at_end_good line (event.Act seat Check false []) text ((s.0, s.1, tt), refl)
+verb_event_good line header seat Calls text s = call_good line header seat text s
+verb_event_good line header seat Bets text s = bet_good line header seat text s
+verb_event_good line header seat Raises text s = raise_good line header seat text s
+verb_event_good line header seat Shows text s = show_good line seat text s
+verb_event_good line header seat Mucks text s = at_end_good line (event.Muck seat) text ((s.0, s.1), refl)
+verb_event_good line header seat DoesntShow text s = at_end_good line (event.Muck seat) text ((s.0, s.1), refl)
+verb_event_good line header seat Discards text s = either (Good Play line) (has_draw header.game) _ _ (discard_good line seat text s) tt
+verb_event_good line header seat StandsPat text s = either (Good Play line) (has_draw header.game) _ _ (pat_good line seat text s) tt
+verb_event_good line header seat SitsOut text s = at_end_good line event.Remark text (tt, refl)
+verb_event_good line header seat IsSittingOut text s = at_end_good line event.Remark text (tt, refl)
 
 act_good : (line : List ℕ) (header : Header) (seat : ℕ) (text : List ℕ) → InSeats seat → Reads (Good Play line) (act_event header seat text)
 unfolding act_event
-act_good line header seat text s = next (Good Play line) _ _ (λ (verb : Verb × List ℕ). said_good line header seat verb.0 verb.1 s)
+act_good line header seat text s = next (Good Play line) _ _ (λ (verb : Verb × List ℕ). verb_event_good line header seat verb.0 verb.1 s)
 
 -- the names are of seats
 head_of : (who : ℕ × List ℕ) (names : List (ℕ × List ℕ)) → All IsSeated (who ∷ names) → IsSeated who

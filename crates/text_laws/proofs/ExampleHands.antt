@@ -21,7 +21,7 @@ use Rattle.history_text.specs.Texts.{behind, first_place, last_place, cut_first,
 use Rattle.history_text.specs.Reading.{money, some_money, follows, all_in_end, seat_front}
 use Rattle.history_text.specs.Names.{front_name}
 use Rattle.history_text.specs.Brackets.{cards_of, counted_cards, closed, shown_cards}
-use Rattle.history_text.specs.Acts.{verb_of, post, call, bet, raise, perhaps_cards, fold, show, discard_behind, discard, pat, said, act_event}
+use Rattle.history_text.specs.Acts.{verb_of, post, call, bet, raise, perhaps_cards, fold, show, discard_behind, discard, pat, verb_event, act_event}
 use Rattle.history_text.specs.Markers.{street_event, street_for, marker_on, marker_of, marker_event, marker_line}
 use Rattle.history_text.specs.Plays.{act_line, deal_once, deal_again, deal_cards, deal, deal_line, give_back, return_line, pot_of, collect, collect_line, cancel_line, play_event}
 use Rattle.history_text.specs.Seats.{seat_opening, seat_event, seat_line, button_line, preamble_event}
@@ -274,5 +274,5 @@ hands_are_read :
     × Say header_of_three_winners hand_of_three_winners
     × Say header_of_razz hand_of_razz
     × Say header_of_two hand_of_two
-unfolding Say names_behind part_behind lines_say header_of_six hand_of_six header_of_side_pots hand_of_side_pots header_of_three_winners hand_of_three_winners header_of_razz hand_of_razz header_of_two hand_of_two behind first_place last_place cut_first cut_last money some_money follows all_in_end seat_front front_name cards_of counted_cards closed shown_cards verb_of post call bet raise perhaps_cards fold show discard_behind discard pat said act_event street_event street_for marker_on marker_of marker_event marker_line act_line deal_once deal_again deal_cards deal deal_line give_back return_line pot_of collect collect_line cancel_line play_event seat_opening seat_event seat_line button_line preamble_event total_event total_line last_shown seat_cards show_line summary_event written card_of_letters
+unfolding Say names_behind part_behind lines_say header_of_six hand_of_six header_of_side_pots hand_of_side_pots header_of_three_winners hand_of_three_winners header_of_razz hand_of_razz header_of_two hand_of_two behind first_place last_place cut_first cut_last money some_money follows all_in_end seat_front front_name cards_of counted_cards closed shown_cards verb_of post call bet raise perhaps_cards fold show discard_behind discard pat verb_event act_event street_event street_for marker_on marker_of marker_event marker_line act_line deal_once deal_again deal_cards deal deal_line give_back return_line pot_of collect collect_line cancel_line play_event seat_opening seat_event seat_line button_line preamble_event total_event total_line last_shown seat_cards show_line summary_event written card_of_letters
 hands_are_read = (refl, refl, refl, refl, refl)

@@ -22,7 +22,7 @@ use Rattle.history_text.specs.Texts.{behind, first_place, last_place, cut_first,
 use Rattle.history_text.specs.Reading.{money, some_money, follows, all_in_end, seat_front}
 use Rattle.history_text.specs.Names.{front_name}
 use Rattle.history_text.specs.Brackets.{cards_of, counted_cards, closed, shown_cards}
-use Rattle.history_text.specs.Acts.{verb_of, post, call, bet, raise, perhaps_cards, fold, show, discard_behind, discard, pat, said, act_event}
+use Rattle.history_text.specs.Acts.{verb_of, post, call, bet, raise, perhaps_cards, fold, show, discard_behind, discard, pat, verb_event, act_event}
 use Rattle.history_text.specs.Markers.{street_event, street_for, marker_on, marker_of, marker_event, marker_line}
 use Rattle.history_text.specs.Plays.{act_line, deal_once, deal_again, deal_cards, deal, deal_line, give_back, return_line, pot_of, collect, collect_line, cancel_line, play_event}
 use Rattle.history_text.specs.Seats.{seat_opening, seat_event, seat_line, button_line, preamble_event}
@@ -286,5 +286,5 @@ lines_are_read :
     × Say chips part.Preamble seats_in_chips
     × Say cash part.Summary totals
     × Say chips part.Summary summary
-unfolding Say posts acts others deals markers_of_two deals_of_omaha deals_of_razz draws triple_draws discards_elsewhere payments seats seats_in_chips totals summary behind first_place last_place cut_first cut_last money some_money follows all_in_end seat_front front_name cards_of counted_cards closed shown_cards verb_of post call bet raise perhaps_cards fold show discard_behind discard pat said act_event street_event street_for marker_on marker_of marker_event marker_line act_line deal_once deal_again deal_cards deal deal_line give_back return_line pot_of collect collect_line cancel_line play_event seat_opening seat_event seat_line button_line preamble_event total_event total_line last_shown seat_cards show_line summary_event written card_of_letters cash chips razz draw triple names omaha
+unfolding Say posts acts others deals markers_of_two deals_of_omaha deals_of_razz draws triple_draws discards_elsewhere payments seats seats_in_chips totals summary behind first_place last_place cut_first cut_last money some_money follows all_in_end seat_front front_name cards_of counted_cards closed shown_cards verb_of post call bet raise perhaps_cards fold show discard_behind discard pat verb_event act_event street_event street_for marker_on marker_of marker_event marker_line act_line deal_once deal_again deal_cards deal deal_line give_back return_line pot_of collect collect_line cancel_line play_event seat_opening seat_event seat_line button_line preamble_event total_event total_line last_shown seat_cards show_line summary_event written card_of_letters cash chips razz draw triple names omaha
 lines_are_read = (refl, refl, refl, refl, refl, refl, refl, refl, refl, refl, refl, refl, refl, refl, refl, refl)

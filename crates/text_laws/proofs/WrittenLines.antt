@@ -18,7 +18,7 @@ use Rattle.history_text.specs.Names.{Fit, fit, front_name}
 use Rattle.text_laws.specs.NameLaws.{IsNotLonger, IsFitOf}
 use Rattle.hand_events.specs.declared.events.TextFault.TheVariants.{BadAmount}
 use Rattle.history_text.specs.Reading.{◌>>=◌, money, some_money, follows, all_in_end, money_of}
-use Rattle.history_text.specs.Acts.{verb_of, post, call, bet, raise, perhaps_cards, fold, said, act_event}
+use Rattle.history_text.specs.Acts.{verb_of, post, call, bet, raise, perhaps_cards, fold, verb_event, act_event}
 use Rattle.text_laws.specs.WrittenLines.{IsOneOf, IsNamed, IsLongest, IsPaid, all_in_text, IsPostOf, SaysPost, SaysAct}
 use Rattle.text_laws.proofs.LongestNames.{all_are_longest}
 
@@ -213,7 +213,7 @@ raise_read header seat by to first second all_in paid_by paid_to =
 
 pub act_read : (header : Header) (seat : ℕ) (act : Deed) (all_in : Bool) (text : List ℕ) → SaysAct header act all_in text →
     act_event header seat text ≡ Ok (event.Act seat act all_in [])
-unfolding act_event verb_of behind said fold perhaps_cards
+unfolding act_event verb_of behind verb_event fold perhaps_cards
 act_read header seat Fold all_in text (none, is) = rw (none, is) refl
 act_read header seat Check all_in text (none, is) = rw (none, is) refl
 act_read header seat (Call units) all_in text (amount, paid, is) = rw is (call_read header seat units amount all_in paid)
@@ -223,7 +223,7 @@ act_read header seat (Raise by to) all_in text (first, second, paid_by, paid_to,
 
 pub posted : (header : Header) (seat : ℕ) (kind : PostKind) (units : ℕ) (all_in : Bool) (text : List ℕ) → IsPostOf header.game kind →
     SaysPost header kind units all_in text → act_event header seat text ≡ Ok (event.Post seat kind units all_in)
-unfolding act_event verb_of behind said
+unfolding act_event verb_of behind verb_event
 posted header seat Small units all_in text of_game (amount, paid, is) = rw is (post_read header seat Small units amount all_in paid)
 posted header seat Big units all_in text of_game (amount, paid, is) = rw is (post_read header seat Big units amount all_in paid)
 posted header seat Both units all_in text of_game (amount, paid, is) = rw is (post_read header seat Both units amount all_in paid)
