@@ -91,11 +91,14 @@ impl Dues {
     /// Returns what is known of a pot whose winners aren't known: nothing.
     pub(crate) fn unknown(alloc: Global) -> Dues
         ensures checked { result.checked ≡ false }
+        ensures eligible { result.eligible ≡ 0 }
+        ensures units { result.units ≡ 0 }
+        ensures boards { result.boards ≡ 0 }
         ensures parts { result.parts ≡ [] }
     {
         Dues {
             checked: false,
-            eligible: PlayerSet::of(0),
+            eligible: PlayerSet::empty(),
             units: 0,
             boards: 0,
             parts: PartShares::of(Vec::new(alloc)),
