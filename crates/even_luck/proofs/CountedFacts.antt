@@ -5,7 +5,7 @@ use Rattle.std.proofs.lemmas.Bool.{cases_lt}
 use Rattle.std.proofs.lemmas.List.Sums.{sum_by-cons}
 use Rattle.card_sets.specs.Rising.{IsRising-cards_where}
 use Rattle.card_sets.specs.State.{State}
-use Rattle.even_luck.specs.Equities.{IsCountOf, IsEquityOf, IsFull, IsRefused}
+use Rattle.even_luck.specs.Equities.{IsCountOf, IsEquityOf, IsFull, IsRefused, is_asked}
 use Rattle.even_luck.specs.Figures.{is_counted}
 use Rattle.even_luck.specs.declared.equity.Equity.{Equity}
 use Rattle.even_luck.specs.declared.equity.Equity.TheVariants.{NotAsked, Refused, Counted}
@@ -86,3 +86,9 @@ count_of deal (Counted sums) counted full = (
     | inr none ↦ absurd (no_count (is_counted deal) counted (counted_none deal sums full (omega (arith, none))))
   ],
 )
+
+-- an equity of a deal was asked for
+pub asked_of : (deal : Showdown) (equity : Equity) → IsEquityOf deal equity → is_asked equity ≡ true
+asked_of deal NotAsked is = absurd is
+asked_of deal (Refused fault) is = refl
+asked_of deal (Counted sums) is = refl

@@ -20,8 +20,9 @@ pub enum Equity {
 }
 
 impl Equity {
-    ghost use Rattle.std.specs.Prelude.{◌≡◌};
+    ghost use Rattle.std.specs.Prelude.{◌≡◌, IfErr, IfOk, IsTrue};
     ghost use Rattle.even_luck.specs.Equities.{is_asked};
+    ghost use Rattle.even_luck.specs.declared.equity.Equity.TheVariants.{Counted, Refused};
 
     /// Whether it is asked for.
     pub fn is_asked(&self) -> bool
@@ -33,6 +34,19 @@ impl Equity {
         }
     }
 
+    /// Returns the tally of an equity that was asked for, or the reason why it isn't counted.
+    pub fn answer(&self) -> Result<&Tally, JobFault>
+        requires asked { IsTrue (is_asked self.now) }
+        ensures counted { IfOk result (λ tally. self.now ≡ Counted tally.now) }
+        ensures refused { IfErr result (λ fault. self.now ≡ Refused fault) }
+    {
+        match self {
+            Equity::Counted(tally) => Ok(tally),
+            Equity::Refused(fault) => Err(*fault),
+            Equity::NotAsked => unreachable!(),
+        }
+    }
+
     /// Returns the tally of a table with this equity, if the equity is counted and the table has a runout. Otherwise fewer cards
     /// may come than are lacking, or there are too many runouts.
     pub fn counted(&self, table: &Table) -> Option<&Tally>
@@ -41,10 +55,9 @@ impl Equity {
         ensures full { IfSome result (λ tally. IsFull (deal_of table.now) tally.now) }
         ensures some { IfSome result (λ tally. 0 < tally.now.runouts) }
     {
-        match self {
-            Equity::Counted(tally) => with_runout(table, tally),
-            Equity::Refused(_) => None,
-            Equity::NotAsked => unreachable!(),
+        match self.answer() {
+            Ok(tally) => with_runout(table, tally),
+            Err(_) => None,
         }
     }
 }

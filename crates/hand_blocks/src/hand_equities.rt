@@ -308,10 +308,9 @@ pub(crate) fn known_all_in(
         (known_all_in sheet.old.form shown.now.settlement.now shown.now.names.now
         shown.now.seats.now street (deal_of shown.now.table.now))) }
 {
-    match equity {
-        Equity::Counted(tally) => full_all_in(sheet, shown, street, tally),
-        Equity::Refused(JobFault::DeckShort) => deck_short(sheet),
-        Equity::Refused(JobFault::AboveLimit) => above_limit(sheet),
-        Equity::NotAsked => unreachable!(),
+    match equity.answer() {
+        Ok(tally) => full_all_in(sheet, shown, street, tally),
+        Err(JobFault::DeckShort) => deck_short(sheet),
+        Err(JobFault::AboveLimit) => above_limit(sheet),
     }
 }

@@ -31,10 +31,10 @@ fn known_spot(
     ensures { OnOk result (sheet.new
         ≡ with_lines sheet.old (spot_block sheet.old.form place line (Ok (state_of known.now)))) }
 {
-    match equity {
-        Equity::Counted(tally) => counted_spot(sheet, place, known, tally),
-        Equity::Refused(JobFault::AboveLimit) => sheet.refused_spot(place, known.game),
-        Equity::Refused(JobFault::DeckShort) | Equity::NotAsked => unreachable!(),
+    match equity.answer() {
+        Ok(tally) => counted_spot(sheet, place, known, tally),
+        Err(JobFault::AboveLimit) => sheet.refused_spot(place, known.game),
+        Err(JobFault::DeckShort) => unreachable!(),
     }
 }
 

@@ -101,9 +101,9 @@ fn known_street(
         (counted_street sheet.old.form shown.now.names.now shown.now.seats.now street
         (deal_of shown.now.table.now) (full_figures (deal_of shown.now.table.now)))) }
 {
-    match equity {
-        Equity::Counted(tally) => counted_street(sheet, shown, street, tally),
-        Equity::Refused(_) | Equity::NotAsked => unreachable!(),
+    match equity.answer() {
+        Ok(tally) => counted_street(sheet, shown, street, tally),
+        Err(_) => unreachable!(),
     }
 }
 
