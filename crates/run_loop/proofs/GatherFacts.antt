@@ -94,7 +94,7 @@ pub record Taken {S K : Type 0} (reads : S → S → Option (List ℕ) → Type 
   pub whole : text asked listed done ≡ wrote ++ ready
   pub leads : Leads reads writes limit asked s0 k0 input'.ending bytes wrote s k
 
-pub taken : {S K : Type 0} (reads : S → S → Option (List ℕ) → Type 0) (writes : K → K → Option (List ℕ) → Type 0) (limit : ℕ) (asked : Command) (listed : BlockKind) (s0 : S) (k0 : K) (s new : S) (k now : K) (input input' : Input) (place rejected : ℕ)
+taken : {S K : Type 0} (reads : S → S → Option (List ℕ) → Type 0) (writes : K → K → Option (List ℕ) → Type 0) (limit : ℕ) (asked : Command) (listed : BlockKind) (s0 : S) (k0 : K) (s new : S) (k now : K) (input input' : Input) (place rejected : ℕ)
     (unit : UnitPlace) (ready ready' : List ℕ) → block_kind_in asked.mode ≡ Some listed → (o : Gathered reads writes limit asked listed s0 k0 s k input place rejected ready)
     → AsksOne reads writes limit s new k now (listed_kind listed) input input' o.bytes o.done ready ready' (Ok (Some unit))
     → Taken reads writes limit asked listed s0 k0 new now input input' place rejected unit ready'
@@ -156,6 +156,13 @@ pub asks_short : {S K : Type 0} (reads : S → S → Option (List ℕ) → Type 
     (ready ready' : List ℕ) (why : NoMemory) → WritesOut writes k now ready (Ok tt) → PullsOne reads limit s new kind input input' bytes done (Err why)
     → AsksOne reads writes limit s new k now kind input input' bytes done ready ready' (Err Memory)
 asks_short reads writes limit s new k now kind input input' bytes done ready ready' why written p = (p.made, p.ending, p.behind, written, p.order, p.hands)
+
+-- the same of a unit that was asked for
+pub taken_next : {S K : Type 0} (reads : S → S → Option (List ℕ) → Type 0) (writes : K → K → Option (List ℕ) → Type 0) (limit : ℕ) (asked : Command) (listed : BlockKind) (s0 : S) (k0 : K) (s new : S) (k now : K) (input input' : Input) (place rejected : ℕ)
+    (next : Option UnitPlace) (unit : UnitPlace) (ready ready' : List ℕ) → block_kind_in asked.mode ≡ Some listed → (o : Gathered reads writes limit asked listed s0 k0 s k input place rejected ready) → next ≡ Some unit
+    → AsksOne reads writes limit s new k now (listed_kind listed) input input' o.bytes o.done ready ready' (Ok next) → Taken reads writes limit asked listed s0 k0 new now input input' place rejected unit ready'
+taken_next reads writes limit asked listed s0 k0 s new k now input input' place rejected next unit ready ready' is o came asks =
+    taken reads writes limit asked listed s0 k0 s new k now input input' place rejected unit ready ready' is o (rw came at asks)
 
 -- the unit has no block
 pub taken_passed : {S K : Type 0} (reads : S → S → Option (List ℕ) → Type 0) (writes : K → K → Option (List ℕ) → Type 0) (limit : ℕ) (asked : Command) (listed : BlockKind) (s0 : S) (k0 : K) (s : S) (k : K) (input input' : Input) (place rejected : ℕ)

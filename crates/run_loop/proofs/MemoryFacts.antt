@@ -8,7 +8,6 @@ use Rattle.byte_ends.specs.Memory.{IsListed, ReadsMemory, SinkState, SourceState
 use Rattle.command_words.specs.Command.{reads_input, usage_line}
 use Rattle.command_words.specs.declared.command.Command.{Command}
 use Rattle.command_words.specs.declared.command.Mode.{Mode}
-use Rattle.command_words.specs.declared.command.Mode.TheVariants.{Spots, Ranges, Check, Audit, Streets, Results, Settle, Totals, Balance, Made}
 use Rattle.run_loop.specs.Headline.{written_status}
 use Rattle.run_loop.specs.Laws.{has_blocks}
 use Rattle.run_loop.specs.Order.{Comes, Event, Follows, FollowsUsage, IsBefore, Went, begun, due, with_read}
@@ -17,7 +16,7 @@ use Rattle.run_loop.specs.Closed.{closed}
 use Rattle.run_loop.specs.Report.{blocks_in, report}
 use Rattle.run_loop.specs.declared.reading.Ending.{Ending}
 use Rattle.run_loop.specs.declared.reading.Ending.TheVariants.{Whole, Failed, TooLong, Open}
-use Rattle.run_loop.proofs.RunFacts.{closed_stays}
+use Rattle.run_loop.proofs.RunFacts.{closed_stays, made_mode}
 use Rattle.run_loop.specs.MemoryRuns.{IsCutShort, IsMemoryRun, MemoryRuns, ReadsSo, report_on}
 
 -- no call is listed in an empty list
@@ -191,16 +190,7 @@ due_small limit asked input bytes Open small so = by_blocks (has_blocks asked.mo
 
 -- of hands that are made it is the report of no input
 made_blocks : (m : Mode) (asked : Command) (bytes : List ℕ) → reads_input m ≡ false → blocks_in m asked bytes ≡ blocks_in m asked []
-made_blocks Spots asked bytes none = absurd (true≢false none)
-made_blocks Ranges asked bytes none = absurd (true≢false none)
-made_blocks Check asked bytes none = absurd (true≢false none)
-made_blocks Audit asked bytes none = absurd (true≢false none)
-made_blocks Streets asked bytes none = absurd (true≢false none)
-made_blocks Results asked bytes none = absurd (true≢false none)
-made_blocks Settle asked bytes none = absurd (true≢false none)
-made_blocks Totals asked bytes none = absurd (true≢false none)
-made_blocks Balance asked bytes none = absurd (true≢false none)
-made_blocks Made asked bytes none = refl
+made_blocks m asked bytes none = ap (λ (m : Mode). blocks_in m asked bytes) (made_mode m none) ∙ sym (ap (λ (m : Mode). blocks_in m asked []) (made_mode m none))
 
 made_report : (asked : Command) (bytes : List ℕ) → reads_input asked.mode ≡ false → report asked bytes ≡ report asked []
 unfolding report

@@ -10,7 +10,7 @@ use Rattle.command_words.specs.declared.command.Command.{Command}
 use Rattle.command_words.specs.declared.command.Mode.{Mode}
 use Rattle.command_words.specs.declared.command.Mode.TheVariants.{Spots, Ranges, Check, Audit, Streets, Results, Settle, Totals, Balance, Made}
 use Rattle.run_loop.specs.declared.block_kinds.SpotKind.TheVariants as held
-use Rattle.run_loop.specs.declared.block_kinds.Detail.TheVariants.{Verdict, AllIn, LaterStreets}
+use Rattle.run_loop.specs.declared.block_kinds.Detail.TheVariants as told
 use Rattle.run_loop.specs.declared.block_kinds.BlockKind.{BlockKind}
 use Rattle.run_loop.specs.declared.block_kinds.BlockKind.TheVariants as each
 use Rattle.run_loop.specs.declared.reading.Ending.{Ending}
@@ -32,11 +32,11 @@ use Rattle.run_loop.proofs.WriteFacts.{concat-append}
 listed_of : (m : Mode) → has_blocks m ≡ true → (listed : BlockKind) × (block_kind_in m ≡ Some listed)
 listed_of Spots has = (each.Spots held.Cards, refl)
 listed_of Ranges has = (each.Spots held.Ranges, refl)
-listed_of Check has = (each.Hands Verdict, refl)
-listed_of Audit has = (each.Hands AllIn, refl)
-listed_of Streets has = (each.Hands LaterStreets, refl)
-listed_of Results has = (each.Results, refl)
-listed_of Settle has = (each.Settle, refl)
+listed_of Check has = (each.Hands told.Verdict, refl)
+listed_of Audit has = (each.Hands told.AllIn, refl)
+listed_of Streets has = (each.Hands told.LaterStreets, refl)
+listed_of Results has = (each.Hands told.Results, refl)
+listed_of Settle has = (each.Hands told.Settlement, refl)
 listed_of Totals has = absurd (true≢false (sym has))
 listed_of Balance has = absurd (true≢false (sym has))
 listed_of Made has = absurd (true≢false (sym has))
@@ -99,7 +99,8 @@ takes_none (Some all) b same = (all, same, refl)
 pub counts_none : (limit : ℕ) (left : Option (List ℕ)) → Counted limit left left []
 counts_none limit left = ([], takes_none left left refl, sym (take-nil limit), omega arith)
 
-made_mode : (m : Mode) → reads_input m ≡ false → m ≡ Made
+-- a mode that reads no input makes hands
+pub made_mode : (m : Mode) → reads_input m ≡ false → m ≡ Made
 made_mode Spots none = absurd (true≢false none)
 made_mode Ranges none = absurd (true≢false none)
 made_mode Check none = absurd (true≢false none)

@@ -1,5 +1,5 @@
 -- The blocks of some units, and that they are the blocks of the bytes that the units are cut from.
-use Rattle.std.proofs.Common.{◌≡◌, ℕ, ◌+◌, true, false, cond, List, [], ◌∷◌, ◌++◌, map, Option, Some, None, refl, sym, ap, subst, ◌∙◌, arith}
+use Rattle.std.proofs.Common.{◌≡◌, ℕ, ◌+◌, true, false, cond, List, [], ◌∷◌, ◌++◌, map, Option, Some, None, refl, sym, ap, ◌∙◌, arith}
 use Rattle.std.specs.Prelude.{count_by}
 use Rattle.std.proofs.lemmas.List.Sums.{sum_by-append, sum_by-cons}
 use Rattle.hand_cuts.specs.ClosedBytes.{closed_hands}
@@ -8,11 +8,12 @@ use Rattle.hand_cuts.specs.declared.units.CutKind.TheVariants as cut
 use Rattle.hand_cuts.proofs.CallerLemmas.{closed_hands_by_bytes}
 use Rattle.line_text.specs.Lines.{lines, closed as closed_lines}
 use Rattle.report_sheet.specs.declared.form.Form.{Form}
-use Rattle.run_loop.specs.Closed.{closed}
-use Rattle.run_loop.specs.Histories.{hand_block, hand_results, hand_settlement, is_rejected_hand}
+use Rattle.run_loop.specs.Closed.{closed, closed_by, closed_units}
+use Rattle.run_loop.specs.Histories.{hand_block, is_rejected_hand}
 use Rattle.run_loop.specs.Laws.{has_blocks}
+use Rattle.run_loop.specs.Plans.{listed_in, plan_of}
 use Rattle.run_loop.specs.Reading.{reported}
-use Rattle.run_loop.specs.Report.{blocks_in, is_rejected_spot, line_block, rejects_in, spots_from}
+use Rattle.run_loop.specs.Report.{blocks_by, blocks_in, blocks_of, is_rejected_spot, line_block, rejected_of, rejects_by, rejects_in, spots_from}
 use Rattle.run_loop.specs.UnitBlocks.{before, is_rejected_unit, block_kind_in, listed_kind, place_after, place_behind, rejected_units, unit_block, unit_blocks}
 use Rattle.run_loop.specs.Units.{is_whole}
 use Rattle.run_loop.specs.Writing.{one_if}
@@ -20,11 +21,12 @@ use Rattle.command_words.specs.declared.command.Command.{Command}
 use Rattle.command_words.specs.declared.command.Mode.{Mode}
 use Rattle.command_words.specs.declared.command.Mode.TheVariants as mode
 use Rattle.run_loop.specs.declared.block_kinds.SpotKind.{SpotKind}
-use Rattle.run_loop.specs.declared.block_kinds.SpotKind.TheVariants.{Cards, Ranges}
 use Rattle.run_loop.specs.declared.block_kinds.Detail.{Detail}
-use Rattle.run_loop.specs.declared.block_kinds.Detail.TheVariants.{Verdict, AllIn, LaterStreets}
 use Rattle.run_loop.specs.declared.block_kinds.BlockKind.{BlockKind}
-use Rattle.run_loop.specs.declared.block_kinds.BlockKind.TheVariants.{Spots, Hands, Results, Settle}
+use Rattle.run_loop.specs.declared.block_kinds.BlockKind.TheVariants.{Spots, Hands}
+use Rattle.run_loop.specs.declared.plans.Prints.TheVariants.{Blocks, Sums}
+use Rattle.run_loop.specs.declared.plans.Plan.{Plan}
+use Rattle.run_loop.specs.declared.plans.Plan.TheVariants.{Makes, Reads}
 use Rattle.run_loop.specs.declared.reading.Ending.{Ending}
 use Rattle.run_loop.specs.declared.reading.Ending.TheVariants.{Whole, Failed, TooLong, Open}
 use Rattle.spot_text.specs.Words.{is_blank}
@@ -76,28 +78,6 @@ hands_units : (form : Form) (told : Detail) (place : ℕ) (us : List UnitLines) 
 hands_units form told place [] = refl
 hands_units form told place (u ∷ us) = ap (λ bs. hand_block form told u ∷ bs) (hands_units form told (place + 1) us)
 
-results_units : (form : Form) (place : ℕ) (us : List UnitLines) → unit_blocks form Results place us ≡ map (hand_results form) us
-results_units form place [] = refl
-results_units form place (u ∷ us) = ap (λ bs. hand_results form u ∷ bs) (results_units form (place + 1) us)
-
-rejected_results : (us : List UnitLines) → rejected_units Results us ≡ count_by is_rejected_hand us
-rejected_results [] = refl
-rejected_results (u ∷ us) =
-    sum_by-cons (λ v. cond (is_rejected_unit Results v) 1 0) u us
-    ∙ ap (λ n. cond (is_rejected_hand u) 1 0 + n) (rejected_results us)
-    ∙ sym (sum_by-cons (λ x. cond (is_rejected_hand x) 1 0) u us)
-
-settlement_units : (form : Form) (place : ℕ) (us : List UnitLines) → unit_blocks form Settle place us ≡ map (hand_settlement form) us
-settlement_units form place [] = refl
-settlement_units form place (u ∷ us) = ap (λ bs. hand_settlement form u ∷ bs) (settlement_units form (place + 1) us)
-
-rejected_settlements : (us : List UnitLines) → rejected_units Settle us ≡ count_by is_rejected_hand us
-rejected_settlements [] = refl
-rejected_settlements (u ∷ us) =
-    sum_by-cons (λ v. cond (is_rejected_unit Settle v) 1 0) u us
-    ∙ ap (λ n. cond (is_rejected_hand u) 1 0 + n) (rejected_settlements us)
-    ∙ sym (sum_by-cons (λ x. cond (is_rejected_hand x) 1 0) u us)
-
 rejected_all : (told : Detail) (us : List UnitLines) → rejected_units (Hands told) us ≡ count_by is_rejected_hand us
 rejected_all told [] = refl
 rejected_all told (u ∷ us) =
@@ -126,60 +106,35 @@ some_same a b e = cc
 none_some : {P : Type 0} (a : BlockKind) → (let n : Option BlockKind = None in n) ≡ Some a → P
 none_some a e = absurd (cc)
 
--- so the blocks of what is reported are those of its units
+-- a plan that prints blocks of a kind
+listed_plan : (p : Plan) (listed : BlockKind) → listed_in p ≡ Some listed → p ≡ Reads (Blocks listed)
+listed_plan (Reads (Blocks kind)) listed e = ap (λ (k : BlockKind). Reads (Blocks k)) (some_same kind listed e)
+listed_plan (Reads (Sums kind)) listed e = none_some listed e
+listed_plan Makes listed e = none_some listed e
+
+-- the blocks of what is reported are those of its units
+units_blocks : (form : Form) (m : Mode) (listed : BlockKind) (ending : Ending) (bytes : List ℕ) → closed m bytes ≡ closed_units (listed_kind listed) bytes
+    → unit_blocks form listed 1 (units_in (listed_kind listed) (is_whole ending) 1 bytes) ≡ blocks_of listed form (reported m ending bytes)
+units_blocks form m (Spots has) ending bytes is = ap (unit_blocks form (Spots has) 1) (lines_reported m ending bytes is) ∙ spots_units form has 1 1 (lines (reported m ending bytes))
+units_blocks form m (Hands told) ending bytes is =
+    ap (unit_blocks form (Hands told) 1) (hands_reported m ending bytes is) ∙ hands_units form told 1 (hands_from 1 (lines (reported m ending bytes)))
+
 pub blocks_by_units : (asked : Command) (m : Mode) (listed : BlockKind) (ending : Ending) (bytes : List ℕ) → block_kind_in m ≡ Some listed
     → blocks_in m asked (reported m ending bytes) ≡ unit_blocks asked.form listed 1 (units_in (listed_kind listed) (is_whole ending) 1 bytes)
-blocks_by_units asked mode.Spots listed ending bytes e =
-    subst (λ (l : BlockKind). blocks_in mode.Spots asked (reported mode.Spots ending bytes) ≡ unit_blocks asked.form l 1 (units_in (listed_kind l) (is_whole ending) 1 bytes)) (some_same (Spots Cards) listed e)
-    (sym (ap (unit_blocks asked.form (Spots Cards) 1) (lines_reported mode.Spots ending bytes refl) ∙ spots_units asked.form Cards 1 1 (lines (reported mode.Spots ending bytes))))
-blocks_by_units asked mode.Ranges listed ending bytes e =
-    subst (λ (l : BlockKind). blocks_in mode.Ranges asked (reported mode.Ranges ending bytes) ≡ unit_blocks asked.form l 1 (units_in (listed_kind l) (is_whole ending) 1 bytes)) (some_same (Spots Ranges) listed e)
-    (sym (ap (unit_blocks asked.form (Spots Ranges) 1) (lines_reported mode.Ranges ending bytes refl) ∙ spots_units asked.form Ranges 1 1 (lines (reported mode.Ranges ending bytes))))
-blocks_by_units asked mode.Check listed ending bytes e =
-    subst (λ (l : BlockKind). blocks_in mode.Check asked (reported mode.Check ending bytes) ≡ unit_blocks asked.form l 1 (units_in (listed_kind l) (is_whole ending) 1 bytes)) (some_same (Hands Verdict) listed e)
-    (sym (ap (unit_blocks asked.form (Hands Verdict) 1) (hands_reported mode.Check ending bytes refl) ∙ hands_units asked.form Verdict 1 (hands_from 1 (lines (reported mode.Check ending bytes)))))
-blocks_by_units asked mode.Audit listed ending bytes e =
-    subst (λ (l : BlockKind). blocks_in mode.Audit asked (reported mode.Audit ending bytes) ≡ unit_blocks asked.form l 1 (units_in (listed_kind l) (is_whole ending) 1 bytes)) (some_same (Hands AllIn) listed e)
-    (sym (ap (unit_blocks asked.form (Hands AllIn) 1) (hands_reported mode.Audit ending bytes refl) ∙ hands_units asked.form AllIn 1 (hands_from 1 (lines (reported mode.Audit ending bytes)))))
-blocks_by_units asked mode.Streets listed ending bytes e =
-    subst (λ (l : BlockKind). blocks_in mode.Streets asked (reported mode.Streets ending bytes) ≡ unit_blocks asked.form l 1 (units_in (listed_kind l) (is_whole ending) 1 bytes)) (some_same (Hands LaterStreets) listed e)
-    (sym (ap (unit_blocks asked.form (Hands LaterStreets) 1) (hands_reported mode.Streets ending bytes refl) ∙ hands_units asked.form LaterStreets 1 (hands_from 1 (lines (reported mode.Streets ending bytes)))))
-blocks_by_units asked mode.Results listed ending bytes e =
-    subst (λ (l : BlockKind). blocks_in mode.Results asked (reported mode.Results ending bytes) ≡ unit_blocks asked.form l 1 (units_in (listed_kind l) (is_whole ending) 1 bytes)) (some_same Results listed e)
-    (sym (ap (unit_blocks asked.form Results 1) (hands_reported mode.Results ending bytes refl) ∙ results_units asked.form 1 (hands_from 1 (lines (reported mode.Results ending bytes)))))
-blocks_by_units asked mode.Settle listed ending bytes e =
-    subst (λ (l : BlockKind). blocks_in mode.Settle asked (reported mode.Settle ending bytes) ≡ unit_blocks asked.form l 1 (units_in (listed_kind l) (is_whole ending) 1 bytes)) (some_same Settle listed e)
-    (sym (ap (unit_blocks asked.form Settle 1) (hands_reported mode.Settle ending bytes refl) ∙ settlement_units asked.form 1 (hands_from 1 (lines (reported mode.Settle ending bytes)))))
-blocks_by_units asked mode.Totals listed ending bytes e = none_some listed e
-blocks_by_units asked mode.Balance listed ending bytes e = none_some listed e
-blocks_by_units asked mode.Made listed ending bytes e = none_some listed e
+blocks_by_units asked m listed ending bytes e =
+    let plan = listed_plan (plan_of m) listed e in
+    ap (λ (p : Plan). blocks_by p asked (reported m ending bytes)) plan ∙ sym (units_blocks asked.form m listed ending bytes (ap (λ (p : Plan). closed_by p bytes) plan))
+
+units_rejected : (m : Mode) (listed : BlockKind) (ending : Ending) (bytes : List ℕ) → closed m bytes ≡ closed_units (listed_kind listed) bytes
+    → rejected_units listed (units_in (listed_kind listed) (is_whole ending) 1 bytes) ≡ rejected_of listed (reported m ending bytes)
+units_rejected m (Spots has) ending bytes is = ap (rejected_units (Spots has)) (lines_reported m ending bytes is) ∙ rejected_lines has 1 (lines (reported m ending bytes))
+units_rejected m (Hands told) ending bytes is = ap (rejected_units (Hands told)) (hands_reported m ending bytes is) ∙ rejected_all told (hands_from 1 (lines (reported m ending bytes)))
 
 pub rejects_by_units : (asked : Command) (m : Mode) (listed : BlockKind) (ending : Ending) (bytes : List ℕ) → block_kind_in m ≡ Some listed
     → rejects_in m asked (reported m ending bytes) ≡ rejected_units listed (units_in (listed_kind listed) (is_whole ending) 1 bytes)
-rejects_by_units asked mode.Spots listed ending bytes e =
-    subst (λ (l : BlockKind). rejects_in mode.Spots asked (reported mode.Spots ending bytes) ≡ rejected_units l (units_in (listed_kind l) (is_whole ending) 1 bytes)) (some_same (Spots Cards) listed e)
-    (sym (ap (rejected_units (Spots Cards)) (lines_reported mode.Spots ending bytes refl) ∙ rejected_lines Cards 1 (lines (reported mode.Spots ending bytes))))
-rejects_by_units asked mode.Ranges listed ending bytes e =
-    subst (λ (l : BlockKind). rejects_in mode.Ranges asked (reported mode.Ranges ending bytes) ≡ rejected_units l (units_in (listed_kind l) (is_whole ending) 1 bytes)) (some_same (Spots Ranges) listed e)
-    (sym (ap (rejected_units (Spots Ranges)) (lines_reported mode.Ranges ending bytes refl) ∙ rejected_lines Ranges 1 (lines (reported mode.Ranges ending bytes))))
-rejects_by_units asked mode.Check listed ending bytes e =
-    subst (λ (l : BlockKind). rejects_in mode.Check asked (reported mode.Check ending bytes) ≡ rejected_units l (units_in (listed_kind l) (is_whole ending) 1 bytes)) (some_same (Hands Verdict) listed e)
-    (sym (ap (rejected_units (Hands Verdict)) (hands_reported mode.Check ending bytes refl) ∙ rejected_all Verdict (hands_from 1 (lines (reported mode.Check ending bytes)))))
-rejects_by_units asked mode.Audit listed ending bytes e =
-    subst (λ (l : BlockKind). rejects_in mode.Audit asked (reported mode.Audit ending bytes) ≡ rejected_units l (units_in (listed_kind l) (is_whole ending) 1 bytes)) (some_same (Hands AllIn) listed e)
-    (sym (ap (rejected_units (Hands AllIn)) (hands_reported mode.Audit ending bytes refl) ∙ rejected_all AllIn (hands_from 1 (lines (reported mode.Audit ending bytes)))))
-rejects_by_units asked mode.Streets listed ending bytes e =
-    subst (λ (l : BlockKind). rejects_in mode.Streets asked (reported mode.Streets ending bytes) ≡ rejected_units l (units_in (listed_kind l) (is_whole ending) 1 bytes)) (some_same (Hands LaterStreets) listed e)
-    (sym (ap (rejected_units (Hands LaterStreets)) (hands_reported mode.Streets ending bytes refl) ∙ rejected_all LaterStreets (hands_from 1 (lines (reported mode.Streets ending bytes)))))
-rejects_by_units asked mode.Results listed ending bytes e =
-    subst (λ (l : BlockKind). rejects_in mode.Results asked (reported mode.Results ending bytes) ≡ rejected_units l (units_in (listed_kind l) (is_whole ending) 1 bytes)) (some_same Results listed e)
-    (sym (ap (rejected_units Results) (hands_reported mode.Results ending bytes refl) ∙ rejected_results (hands_from 1 (lines (reported mode.Results ending bytes)))))
-rejects_by_units asked mode.Settle listed ending bytes e =
-    subst (λ (l : BlockKind). rejects_in mode.Settle asked (reported mode.Settle ending bytes) ≡ rejected_units l (units_in (listed_kind l) (is_whole ending) 1 bytes)) (some_same Settle listed e)
-    (sym (ap (rejected_units Settle) (hands_reported mode.Settle ending bytes refl) ∙ rejected_settlements (hands_from 1 (lines (reported mode.Settle ending bytes)))))
-rejects_by_units asked mode.Totals listed ending bytes e = none_some listed e
-rejects_by_units asked mode.Balance listed ending bytes e = none_some listed e
-rejects_by_units asked mode.Made listed ending bytes e = none_some listed e
+rejects_by_units asked m listed ending bytes e =
+    let plan = listed_plan (plan_of m) listed e in
+    ap (λ (p : Plan). rejects_by p asked (reported m ending bytes)) plan ∙ sym (units_rejected m listed ending bytes (ap (λ (p : Plan). closed_by p bytes) plan))
 
 -- a mode in which something has a block each
 pub listed_blocks : (m : Mode) (listed : BlockKind) → block_kind_in m ≡ Some listed → has_blocks m ≡ true

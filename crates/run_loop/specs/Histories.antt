@@ -6,8 +6,7 @@ use Rattle.history_text.specs.Headers.{hand_number}
 use Rattle.hand_audit.specs.SeatChips.{chips_of}
 use Rattle.hand_audit.specs.SplitHands.{parts_given, split_of}
 use Rattle.hand_verdict.specs.declared.seat_chips.AuditedChips.{AuditedChips}
-use Rattle.hand_audit.specs.Streets.{states_in, streets_of}
-use Rattle.hand_verdict.specs.declared.streets.StreetState.{StreetState}
+use Rattle.hand_audit.specs.Streets.{states_in}
 use Rattle.hand_audit.specs.Verdict.{audit_of}
 use Rattle.hand_verdict.specs.declared.verdicts.HandAudit.{HandAudit}
 use Rattle.hand_verdict.specs.declared.verdicts.HandAudit.TheVariants.{Rejected, Accepted}
@@ -17,7 +16,7 @@ use Rattle.hand_blocks.specs.Settles.{settle_block}
 use Rattle.hand_blocks.specs.Streets.{street_blocks}
 use Rattle.report_sheet.specs.declared.form.Form.{Form}
 use Rattle.run_loop.specs.declared.block_kinds.Detail.{Detail}
-use Rattle.run_loop.specs.declared.block_kinds.Detail.TheVariants.{Verdict, AllIn, LaterStreets}
+use Rattle.run_loop.specs.declared.block_kinds.Detail.TheVariants.{Verdict, AllIn, LaterStreets, Results, Settlement}
 
 -- the number of a hand, digit by digit as its header line has it
 abbrev pub number_text : List (List ℕ) → List ℕ
@@ -35,54 +34,38 @@ with_chips lines audit = record { audit = audit; chips = chips_of audit lines }
 unfoldable pub chips_hand : UnitLines → Option AuditedChips
 chips_hand hand = option_map (with_chips hand.lines) (verdict_of hand)
 
--- whether the equity of an all-in is told
-abbrev pub tells_all_in : Detail → Bool
-tells_all_in Verdict = false
-tells_all_in AllIn = true
-tells_all_in LaterStreets = true
+-- whether an equity may be counted for the block of a hand
+abbrev pub counts_equity : Detail → Bool
+counts_equity Verdict = false
+counts_equity AllIn = true
+counts_equity LaterStreets = true
+counts_equity Results = true
+counts_equity Settlement = false
 
--- the blocks of the streets of a hand after its all-in, where they are told
-abbrev pub streets_told : Form → Detail → UnitLines → HandAudit → List ℕ
-streets_told form Verdict hand audit = []
-streets_told form AllIn hand audit = []
-streets_told form LaterStreets hand audit = street_blocks form audit (states_in hand.lines)
-
--- these are the later streets of a hand of this verdict, where they are told
-abbrev pub HasStreets : Detail → List (List ℕ) → HandAudit → List StreetState → Type 0
-HasStreets Verdict lines audit states = Unit {0}
-HasStreets AllIn lines audit states = Unit {0}
-HasStreets LaterStreets lines audit states = states ≡ streets_of audit lines
+-- what is told of a hand that has a verdict: the verdict alone; with the equity of its all-in; with that of each later street too;
+-- what each player had, put in, got and netted; or what the rules give of its pots, and what each player is still to get or to give back
+abbrev pub told_of : Form → Detail → UnitLines → HandAudit → List ℕ
+told_of form Verdict hand audit = audit_block form false (number_text hand.lines) audit
+told_of form AllIn hand audit = audit_block form true (number_text hand.lines) audit
+told_of form LaterStreets hand audit =
+    audit_block form true (number_text hand.lines) audit ++ street_blocks form audit (states_in hand.lines)
+told_of form Results hand audit = results_block form (number_text hand.lines) audit (chips_of audit hand.lines)
+told_of form Settlement hand audit =
+    settle_block form (number_text hand.lines) audit (split_of audit hand.lines) (parts_given audit hand.lines)
 
 -- the block of a hand, by its verdict
 abbrev pub block_by : Form → Detail → UnitLines → Option HandAudit → List ℕ
 block_by form told hand None = []
-block_by form told hand (Some audit) =
-    audit_block form (tells_all_in told) (number_text hand.lines) audit
-    ++ streets_told form told hand audit
+block_by form told hand (Some audit) = told_of form told hand audit
 
--- the block of a hand in a form; given is how much of it is told
+-- the block of a hand in a form; given is what is told of it
 unfoldable pub hand_block : Form → Detail → UnitLines → List ℕ
 hand_block form told hand = block_by form told hand (verdict_of hand)
 
--- the results of a hand, by its verdict
-abbrev pub results_by : Form → UnitLines → Option HandAudit → List ℕ
-results_by form hand None = []
-results_by form hand (Some audit) =
-    results_block form (number_text hand.lines) audit (chips_of audit hand.lines)
-
--- the results of a hand in a form: what each player had, put in, got and netted
-unfoldable pub hand_results : Form → UnitLines → List ℕ
-hand_results form hand = results_by form hand (verdict_of hand)
-
--- the settlement of a hand, by its verdict
-abbrev pub settlement_by : Form → UnitLines → Option HandAudit → List ℕ
-settlement_by form hand None = []
-settlement_by form hand (Some audit) =
-    settle_block form (number_text hand.lines) audit (split_of audit hand.lines) (parts_given audit hand.lines)
-
--- the settlement of a hand in a form: what the rules give of its pots, and what each player is still to get, or to give back
-unfoldable pub hand_settlement : Form → UnitLines → List ℕ
-hand_settlement form hand = settlement_by form hand (verdict_of hand)
+-- the detail in which a verdict is told, with or without the equity of its all-in
+abbrev pub verdict_told : Bool → Detail
+verdict_told true = AllIn
+verdict_told false = Verdict
 
 -- whether a line of the hand departs from the rules
 abbrev pub is_rejection : HandAudit → Bool
@@ -95,3 +78,7 @@ is_rejected_by (Some audit) = is_rejection audit
 
 unfoldable pub is_rejected_hand : UnitLines → Bool
 is_rejected_hand hand = is_rejected_by (verdict_of hand)
+
+-- the block of a hand follows some bytes, and this is whether the hand is rejected
+abbrev pub TellsHand : Form → Detail → UnitLines → List ℕ → List ℕ → Bool → Type 0
+TellsHand form told hand old new rejected = (new ≡ old ++ hand_block form told hand) × (rejected ≡ is_rejected_hand hand)

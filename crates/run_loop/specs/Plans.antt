@@ -5,9 +5,9 @@ use Rattle.hand_cuts.specs.declared.units.CutKind.TheVariants as cut
 use Rattle.command_words.specs.declared.command.Mode.{Mode}
 use Rattle.command_words.specs.declared.command.Mode.TheVariants as mode
 use Rattle.run_loop.specs.declared.block_kinds.SpotKind.TheVariants.{Cards, Ranges}
-use Rattle.run_loop.specs.declared.block_kinds.Detail.TheVariants.{Verdict, AllIn, LaterStreets}
+use Rattle.run_loop.specs.declared.block_kinds.Detail.TheVariants.{Verdict, AllIn, LaterStreets, Results, Settlement}
 use Rattle.run_loop.specs.declared.block_kinds.BlockKind.{BlockKind}
-use Rattle.run_loop.specs.declared.block_kinds.BlockKind.TheVariants.{Spots, Hands, Results, Settle}
+use Rattle.run_loop.specs.declared.block_kinds.BlockKind.TheVariants.{Spots, Hands}
 use Rattle.run_loop.specs.declared.plans.SumKind.TheVariants as sum
 use Rattle.run_loop.specs.declared.plans.Prints.{Prints}
 use Rattle.run_loop.specs.declared.plans.Prints.TheVariants.{Blocks, Sums}
@@ -21,8 +21,8 @@ plan_of mode.Ranges = Reads (Blocks (Spots Ranges))
 plan_of mode.Check = Reads (Blocks (Hands Verdict))
 plan_of mode.Audit = Reads (Blocks (Hands AllIn))
 plan_of mode.Streets = Reads (Blocks (Hands LaterStreets))
-plan_of mode.Results = Reads (Blocks Results)
-plan_of mode.Settle = Reads (Blocks Settle)
+plan_of mode.Results = Reads (Blocks (Hands Results))
+plan_of mode.Settle = Reads (Blocks (Hands Settlement))
 plan_of mode.Totals = Reads (Sums sum.Totals)
 plan_of mode.Balance = Reads (Sums sum.Balance)
 plan_of mode.Made = Makes
@@ -31,8 +31,6 @@ plan_of mode.Made = Makes
 abbrev pub listed_kind : BlockKind → CutKind
 listed_kind (Spots holding) = cut.Lines
 listed_kind (Hands told) = cut.Hands
-listed_kind Results = cut.Hands
-listed_kind Settle = cut.Hands
 
 -- what the input is cut into for what is printed
 abbrev pub cut_of : Prints → CutKind

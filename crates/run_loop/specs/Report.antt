@@ -14,15 +14,21 @@ use Rattle.player_totals.specs.Made.{made_block}
 use Rattle.hand_blocks.specs.Spots.{spot_block}
 use Rattle.player_totals.specs.Totals.{is_accepted, totals_block}
 use Rattle.report_sheet.specs.declared.form.Form.{Form}
-use Rattle.run_loop.specs.Histories.{chips_hand, hand_block, hand_results, hand_settlement, is_rejected_hand, verdict_of}
+use Rattle.run_loop.specs.Histories.{chips_hand, hand_block, is_rejected_hand, verdict_of}
 use Rattle.run_loop.specs.RangeLines.{is_rejected_range}
 use Rattle.command_words.specs.declared.command.Command.{Command}
 use Rattle.command_words.specs.declared.command.Mode.{Mode}
-use Rattle.command_words.specs.declared.command.Mode.TheVariants.{Spots, Ranges, Check, Audit, Streets, Results, Settle, Totals, Balance, Made}
+use Rattle.run_loop.specs.Plans.{plan_of}
 use Rattle.run_loop.specs.declared.block_kinds.SpotKind.{SpotKind}
 use Rattle.run_loop.specs.declared.block_kinds.SpotKind.TheVariants as held
 use Rattle.run_loop.specs.declared.block_kinds.Detail.{Detail}
-use Rattle.run_loop.specs.declared.block_kinds.Detail.TheVariants.{Verdict, AllIn, LaterStreets}
+use Rattle.run_loop.specs.declared.block_kinds.BlockKind.{BlockKind}
+use Rattle.run_loop.specs.declared.block_kinds.BlockKind.TheVariants.{Spots, Hands}
+use Rattle.run_loop.specs.declared.plans.SumKind.{SumKind}
+use Rattle.run_loop.specs.declared.plans.SumKind.TheVariants.{Totals, Balance}
+use Rattle.run_loop.specs.declared.plans.Prints.TheVariants.{Blocks, Sums}
+use Rattle.run_loop.specs.declared.plans.Plan.{Plan}
+use Rattle.run_loop.specs.declared.plans.Plan.TheVariants.{Makes, Reads}
 use Rattle.spot_text.specs.Spot.{spot_of}
 use Rattle.spot_text.specs.Words.{is_blank}
 
@@ -48,17 +54,9 @@ is_rejected_line held.Ranges line = is_rejected_range (ranges_of line)
 abbrev pub is_rejected_spot : SpotKind → List ℕ → Bool
 is_rejected_spot has line = not (is_blank line) && is_rejected_line has line
 
--- the blocks of the hands of all lines; given is how much of each is told. Numbers of lines begin at 1
+-- the blocks of the hands of all lines; given is what is told of each. Numbers of lines begin at 1
 abbrev pub hand_blocks : Form → Detail → List ℕ → List (List ℕ)
 hand_blocks form told bytes = map (hand_block form told) (hands_from 1 (lines bytes))
-
--- the results of the hands of all lines
-abbrev pub result_blocks : Form → List ℕ → List (List ℕ)
-result_blocks form bytes = map (hand_results form) (hands_from 1 (lines bytes))
-
--- their settlements
-abbrev pub settlement_blocks : Form → List ℕ → List (List ℕ)
-settlement_blocks form bytes = map (hand_settlement form) (hands_from 1 (lines bytes))
 
 -- how many hands are rejected
 abbrev pub rejected_hands : List ℕ → ℕ
@@ -72,22 +70,25 @@ verdicts bytes = filter_map verdict_of (hands_from 1 (lines bytes))
 abbrev pub chips_hands : List ℕ → List AuditedChips
 chips_hands bytes = filter_map chips_hand (hands_from 1 (lines bytes))
 
--- the blocks of a command in a mode: one for each spot, with cards or with ranges; one for each hand, where an audit is a check
--- with the equity of each all-in, streets go on with that of each counted all-in on each later street, results are what
--- each player netted, and settlements what the rules give of each pot; or one for the totals or the balance over all hands
--- of the bytes, or over all hands that are made
+-- the blocks of a kind: one for each spot, or one for each hand
+abbrev pub blocks_of : BlockKind → Form → List ℕ → List (List ℕ)
+blocks_of (Spots has) form bytes = spots_from form has 1 1 (lines bytes)
+blocks_of (Hands told) form bytes = hand_blocks form told bytes
+
+-- the one block of sums over all hands
+abbrev pub sums_block : SumKind → Form → List ℕ → List ℕ
+sums_block Totals form bytes = totals_block form (verdicts bytes)
+sums_block Balance form bytes = balance_block form (chips_hands bytes)
+
+-- the blocks of a plan; a plan that makes hands sums them up
+abbrev pub blocks_by : Plan → Command → List ℕ → List (List ℕ)
+blocks_by (Reads (Blocks listed)) asked bytes = blocks_of listed asked.form bytes
+blocks_by (Reads (Sums kind)) asked bytes = sums_block kind asked.form bytes ∷ []
+blocks_by Makes asked bytes = made_block asked.form asked.hands (verdicts (made_text asked.seed asked.hands)) ∷ []
+
+-- the blocks of a command in a mode
 abbrev pub blocks_in : Mode → Command → List ℕ → List (List ℕ)
-blocks_in Spots asked bytes = spots_from asked.form held.Cards 1 1 (lines bytes)
-blocks_in Ranges asked bytes = spots_from asked.form held.Ranges 1 1 (lines bytes)
-blocks_in Check asked bytes = hand_blocks asked.form Verdict bytes
-blocks_in Audit asked bytes = hand_blocks asked.form AllIn bytes
-blocks_in Streets asked bytes = hand_blocks asked.form LaterStreets bytes
-blocks_in Results asked bytes = result_blocks asked.form bytes
-blocks_in Settle asked bytes = settlement_blocks asked.form bytes
-blocks_in Totals asked bytes = totals_block asked.form (verdicts bytes) ∷ []
-blocks_in Balance asked bytes = balance_block asked.form (chips_hands bytes) ∷ []
-blocks_in Made asked bytes =
-    made_block asked.form asked.hands (verdicts (made_text asked.seed asked.hands)) ∷ []
+blocks_in mode asked bytes = blocks_by (plan_of mode) asked bytes
 
 abbrev pub blocks : Command → List ℕ → List (List ℕ)
 blocks asked bytes = blocks_in asked.mode asked bytes
@@ -96,19 +97,24 @@ blocks asked bytes = blocks_in asked.mode asked bytes
 unfoldable pub report : Command → List ℕ → List ℕ
 report asked bytes = concat (blocks asked bytes)
 
--- how many spots or hands are rejected; of hands that are made, those that aren't accepted
+-- how many spots or hands are rejected of those that have a block each
+abbrev pub rejected_of : BlockKind → List ℕ → ℕ
+rejected_of (Spots has) bytes = count_by (is_rejected_spot has) (lines bytes)
+rejected_of (Hands told) bytes = rejected_hands bytes
+
+-- and of those that are summed up
+abbrev pub rejected_in_sums : SumKind → List ℕ → ℕ
+rejected_in_sums Totals bytes = count_by (λ hand. not (is_accepted hand)) (verdicts bytes)
+rejected_in_sums Balance bytes = count_by (λ hand. not (is_accepted hand.audit)) (chips_hands bytes)
+
+-- how many are rejected by a plan; of hands that are made, those that aren't accepted
+abbrev pub rejects_by : Plan → Command → List ℕ → ℕ
+rejects_by (Reads (Blocks listed)) asked bytes = rejected_of listed bytes
+rejects_by (Reads (Sums kind)) asked bytes = rejected_in_sums kind bytes
+rejects_by Makes asked bytes = asked.hands - count_by is_accepted (verdicts (made_text asked.seed asked.hands))
+
 abbrev pub rejects_in : Mode → Command → List ℕ → ℕ
-rejects_in Spots asked bytes = count_by (is_rejected_spot held.Cards) (lines bytes)
-rejects_in Ranges asked bytes = count_by (is_rejected_spot held.Ranges) (lines bytes)
-rejects_in Check asked bytes = rejected_hands bytes
-rejects_in Audit asked bytes = rejected_hands bytes
-rejects_in Streets asked bytes = rejected_hands bytes
-rejects_in Results asked bytes = rejected_hands bytes
-rejects_in Settle asked bytes = rejected_hands bytes
-rejects_in Totals asked bytes = count_by (λ hand. not (is_accepted hand)) (verdicts bytes)
-rejects_in Balance asked bytes = count_by (λ hand. not (is_accepted hand.audit)) (chips_hands bytes)
-rejects_in Made asked bytes =
-    asked.hands - count_by is_accepted (verdicts (made_text asked.seed asked.hands))
+rejects_in mode asked bytes = rejects_by (plan_of mode) asked bytes
 
 unfoldable pub rejects : Command → List ℕ → ℕ
 rejects asked bytes = rejects_in asked.mode asked bytes

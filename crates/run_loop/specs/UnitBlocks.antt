@@ -2,12 +2,12 @@
 use Rattle.std.specs.Prelude.{◌≡◌, ℕ, ◌+◌, Bool, true, false, if◌then◌else◌, List, [], ◌∷◌, count_by, Option, Some, None}
 use Rattle.hand_cuts.specs.Units.{UnitLines}
 use Rattle.report_sheet.specs.declared.form.Form.{Form}
-use Rattle.run_loop.specs.Histories.{hand_block, hand_results, hand_settlement, is_rejected_hand, tells_all_in}
+use Rattle.run_loop.specs.Histories.{counts_equity, hand_block, is_rejected_hand}
 use Rattle.run_loop.specs.Report.{is_rejected_spot, line_block}
 use Rattle.command_words.specs.declared.command.Mode.{Mode}
 use Rattle.run_loop.specs.declared.block_kinds.SpotKind.{SpotKind}
 use Rattle.run_loop.specs.declared.block_kinds.BlockKind.{BlockKind}
-use Rattle.run_loop.specs.declared.block_kinds.BlockKind.TheVariants.{Spots, Hands, Results, Settle}
+use Rattle.run_loop.specs.declared.block_kinds.BlockKind.TheVariants.{Spots, Hands}
 pub use Rattle.run_loop.specs.Plans.{listed_kind}
 use Rattle.run_loop.specs.Plans.{listed_in, plan_of}
 use Rattle.spot_text.specs.Words.{is_blank}
@@ -19,9 +19,7 @@ block_kind_in mode = listed_in (plan_of mode)
 -- whether an equity may be counted for a block
 abbrev pub counts_equities : BlockKind → Bool
 counts_equities (Spots holding) = true
-counts_equities (Hands told) = tells_all_in told
-counts_equities Results = true
-counts_equities Settle = false
+counts_equities (Hands told) = counts_equity told
 
 -- the block of a line, the first of some; a line with no word has none
 abbrev pub first_block : Form → SpotKind → ℕ → ℕ → List (List ℕ) → Option (List ℕ)
@@ -37,14 +35,10 @@ is_rejected_first holding (line ∷ later) = is_rejected_spot holding line
 abbrev pub unit_block : Form → BlockKind → ℕ → UnitLines → Option (List ℕ)
 unit_block form (Spots holding) place unit = first_block form holding place unit.first unit.lines
 unit_block form (Hands told) place unit = Some (hand_block form told unit)
-unit_block form Results place unit = Some (hand_results form unit)
-unit_block form Settle place unit = Some (hand_settlement form unit)
 
 abbrev pub is_rejected_unit : BlockKind → UnitLines → Bool
 is_rejected_unit (Spots holding) unit = is_rejected_first holding unit.lines
 is_rejected_unit (Hands told) unit = is_rejected_hand unit
-is_rejected_unit Results unit = is_rejected_hand unit
-is_rejected_unit Settle unit = is_rejected_hand unit
 
 -- the place after a unit by its block, and the block before others
 abbrev pub place_behind : ℕ → Option (List ℕ) → ℕ

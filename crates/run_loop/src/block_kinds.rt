@@ -1,6 +1,6 @@
 //! What has a block each in a report.
 
-/// The detail in which a hand is reported.
+/// What is reported of each hand.
 #[derive(Clone, Copy)]
 pub(crate) enum Detail {
     /// The verdict on the hand.
@@ -9,19 +9,23 @@ pub(crate) enum Detail {
     AllIn,
     /// The verdict, the equity of the all-in, and the equity on each later street.
     LaterStreets,
+    /// What each player had, put in, got, and netted.
+    Results,
+    /// What the rules give of each pot, and what each player is still to get or to give back.
+    Settlement,
 }
 
 impl Detail {
     ghost use Rattle.std.specs.Prelude.{◌≡◌};
-    ghost use Rattle.run_loop.specs.Histories.{tells_all_in};
+    ghost use Rattle.run_loop.specs.Histories.{counts_equity};
 
-    /// Returns whether the equity of an all-in is reported.
-    pub(crate) fn tells_all_in(self) -> bool
-        ensures { result ≡ tells_all_in self }
+    /// Returns whether an equity may be counted for the block of a hand.
+    fn counts_equity(self) -> bool
+        ensures { result ≡ counts_equity self }
     {
         match self {
-            Detail::Verdict => false,
-            Detail::AllIn | Detail::LaterStreets => true,
+            Detail::Verdict | Detail::Settlement => false,
+            Detail::AllIn | Detail::LaterStreets | Detail::Results => true,
         }
     }
 }
@@ -45,13 +49,9 @@ pub(crate) enum BlockKind {
     },
     /// One block for each hand.
     Hands {
-        /// Detail in which each hand is reported.
+        /// What is reported of each hand.
         told: Detail,
     },
-    /// The results of each hand, in one block.
-    Results,
-    /// The settlement of each hand, in one block.
-    Settle,
 }
 
 impl BlockKind {
@@ -63,9 +63,8 @@ impl BlockKind {
         ensures { result ≡ counts_equities self }
     {
         match self {
-            BlockKind::Hands { told } => told.tells_all_in(),
-            BlockKind::Spots { holding: _ } | BlockKind::Results => true,
-            BlockKind::Settle => false,
+            BlockKind::Hands { told } => told.counts_equity(),
+            BlockKind::Spots { holding: _ } => true,
         }
     }
 

@@ -12,7 +12,8 @@ ghost use Rattle.hand_audit.specs.Departs.{begins_hand};
 ghost use Rattle.line_text.specs.Lines.{lines};
 ghost use Rattle.hand_cuts.specs.Units.{UnitLines};
 ghost use Rattle.run_loop.specs.declared.block_kinds.Detail.{Detail};
-ghost use Rattle.run_loop.specs.Histories.{hand_block, hand_results, hand_settlement, is_rejected_hand, is_rejection, number_text, streets_told, tells_all_in, HasStreets};
+ghost use Rattle.hand_blocks.specs.HandEquities.{hand_block as audit_block};
+ghost use Rattle.run_loop.specs.Histories.{TellsHand, counts_equity, is_rejection, number_text, verdict_told};
 ghost use Rattle.run_loop.specs.Units.{unit_lines};
 
 use crate::block_kinds::Detail;
@@ -21,7 +22,7 @@ use crate::later::law_later_streets_are_counted;
 use crate::run::BlockWriter;
 use crate::units::{ListedUnit, UnitText};
 use card_sets::Memory;
-use hand_audit::{AuditedChips, HandAudit, HandRead, StreetState, read_hand};
+use hand_audit::{AuditedChips, HandAudit, StreetState, audit_hand, read_hand};
 use history_text::hand_number;
 use line_text::next_line;
 use report_table::{Form, has_counted, write_hand, write_results, write_settlement, write_street};
@@ -56,46 +57,9 @@ fn is_rejection(audit: &HandAudit) -> bool
     matches!(audit, HandAudit::Rejected { .. })
 }
 
-/// The verdict on a hand, and its later streets if they are reported.
-#[derive(Drop)]
-struct ToldHand {
-    /// The verdict.
-    audit: HandAudit,
-    /// The later streets. There are none here if they aren't reported.
-    later: Vec<StreetState>,
-}
-
-/// Returns the later streets of a hand that was read, if they are reported; otherwise none.
-fn streets_if(alloc: Global, told: Detail, hand: &HandRead) -> Result<Vec<StreetState>, Memory>
-    ensures { IfOk result (λ states. (first : ℕ) (all : List (List ℕ)) (audit : HandAudit)
-        → IsReadOf hand.now all → audit_of first all ≡ Some audit
-        → HasStreets told all audit states.items) }
-{
-    match told {
-        Detail::Verdict | Detail::AllIn => Ok(Vec::new(alloc)),
-        Detail::LaterStreets => hand.later_streets(alloc),
-    }
-}
-
-/// Reads a hand, and returns the parts of it that are reported.
-fn read_told(alloc: Global, told: Detail, text: &UnitText<'_>) -> Result<ToldHand, Memory>
-    requires header { IsTrue (begins_hand (lines text.now.bytes.now)) }
-    requires numbers { text.now.first + length (lines text.now.bytes.now) < 2 ^ 32 }
-    ensures verdict { IfOk result (λ hand. audit_of text.now.first (lines text.now.bytes.now)
-        ≡ Some hand.audit) }
-    ensures streets { IfOk result (λ hand. HasStreets told (lines text.now.bytes.now)
-        hand.audit hand.later.items) }
-{
-    let hand = read_hand(alloc, text.bytes)?;
-    let later = streets_if(alloc, told, &hand)?;
-    let audit = hand.into_verdict(text.first).audit;
-    Ok(ToldHand { audit, later })
-}
-
 /// Reads a hand, and returns its verdict, and what each of its seats had and put in.
 pub(crate) fn audit_chips(alloc: Global, text: &UnitText<'_>) -> Result<AuditedChips, Memory>
     requires header { IsTrue (begins_hand (lines text.now.bytes.now)) }
-    requires numbers { text.now.first + length (lines text.now.bytes.now) < 2 ^ 32 }
     ensures verdict { IfOk result (λ both. audit_of text.now.first (lines text.now.bytes.now)
         ≡ Some both.audit) }
     ensures chips { IfOk result (λ both. both.chips
@@ -146,72 +110,71 @@ impl<'a, C: Counter> BlockWriter<'a, C> {
         self.write_states(form, audit, states)
     }
 
-    /// Appends the parts of a hand that are reported after its verdict and its all-in. The last equity is that of the hand.
-    fn write_told(&mut self, form: Form, told: Detail, hand: &ToldHand) -> Result<(), Memory>
-        // The equity was asked for if it is reported, and is that of the hand.
-        requires asked { is_asked self.old.equities.counter.now.equity ≡ tells_all_in told }
-        requires equity { IsOfHand hand.now.audit self.old.equities.counter.now.equity }
+    /// Appends the verdict on a hand and, if it is asked for, the equity of its all-in, which is counted.
+    fn write_verdict(
+        &mut self,
+        asked: bool,
+        unit: &ListedUnit<'_>,
+        audit: &HandAudit,
+    ) -> Result<(), Memory>
+        requires header { IsTrue (begins_hand (lines unit.now.text.bytes.now)) }
+        ensures block { OnOk result (self.new.block.items ≡ self.old.block.items
+            ++ audit_block unit.now.form asked (number_text (lines unit.now.text.bytes.now)) audit.now) }
 
-        // If the all-in of the hand is counted, so are the streets that are reported.
-        requires counted { told ≡ Detail.LaterStreets → has_counted hand.now.audit ≡ true
-            → All IsCountedStreet hand.now.later.items }
-
-        // The parts come after the old bytes.
-        ensures { (unit : UnitLines) → HasStreets told unit.lines hand.now.audit hand.now.later.items
-            → OnOk result (self.new.block.items
-            ≡ self.old.block.items ++ streets_told form told unit hand.now.audit) }
+        // The last equity is that of the hand, if it was asked for.
+        ensures asked { OnOk result (is_asked self.new.equities.counter.now.equity ≡ asked) }
+        ensures equity { OnOk result (IsOfHand audit.now self.new.equities.counter.now.equity) }
     {
-        match told {
-            Detail::Verdict | Detail::AllIn => Ok(()),
-            Detail::LaterStreets => self.write_streets(form, &hand.audit, hand.later.as_slice()),
-        }
+        self.equities.ask_hand(asked, audit)?;
+        let number = number_text(unit.text.bytes);
+        let equity = self.equities.last();
+        write_hand(&mut self.block, number, audit, equity, unit.form)
     }
 
-    /// Appends the block of a hand in some detail, and returns whether the hand is rejected. The equities that are reported are
-    /// counted.
-    pub(crate) fn write_lines(
+    /// Appends the block of a hand with its verdict and, if it is asked for, with the equity of its all-in, which is counted. Returns
+    /// whether the hand is rejected.
+    fn write_verdict_lines(
         &mut self,
-        told: Detail,
+        asked: bool,
         unit: &ListedUnit<'_>,
         _ready: &[u8],
     ) -> Result<bool, Memory>
-        requires idle { tells_all_in told ≡ true → _ready.now ≡ [] }
+        requires idle { asked ≡ true → _ready.now ≡ [] }
         requires header { IsTrue (begins_hand (lines unit.now.text.bytes.now)) }
-        requires numbers { unit.now.text.first + length (lines unit.now.text.bytes.now) < 2 ^ 32 }
-        ensures block { OnOk result (self.new.block.items ≡ self.old.block.items
-            ++ hand_block unit.now.form told (unit_lines unit.now.text)) }
-        ensures rejected { IfOk result (λ rejected. rejected
-            ≡ is_rejected_hand (unit_lines unit.now.text)) }
+        ensures { IfOk result (TellsHand unit.now.form (verdict_told asked) (unit_lines unit.now.text)
+            self.old.block.items self.new.block.items) }
     {
         let text = &unit.text;
-        let hand = read_told(self.alloc, told, text)?;
-        self.equities.ask_hand(told.tells_all_in(), &hand.audit)?;
-        let number = number_text(text.bytes);
-        write_hand(
-            &mut self.block,
-            number,
-            &hand.audit,
-            self.equities.last(),
-            unit.form,
-        )?;
-        law_later_streets_are_counted(&hand.audit, hand.later.as_slice());
-        self.write_told(unit.form, told, &hand)?;
-        Ok(is_rejection(&hand.audit))
+        let audit = audit_hand(self.alloc, text.bytes, text.first)?;
+        self.write_verdict(asked, unit, &audit)?;
+        Ok(is_rejection(&audit))
+    }
+
+    /// Appends the block of a hand with its verdict, the equity of its all-in, and that of each later street, and returns whether the hand
+    /// is rejected. The equities are counted.
+    fn write_street_lines(&mut self, unit: &ListedUnit<'_>, _ready: &[u8]) -> Result<bool, Memory>
+        requires idle { _ready.now ≡ [] }
+        requires header { IsTrue (begins_hand (lines unit.now.text.bytes.now)) }
+        ensures { IfOk result (TellsHand unit.now.form Detail.LaterStreets (unit_lines unit.now.text)
+            self.old.block.items self.new.block.items) }
+    {
+        let text = &unit.text;
+        let hand = read_hand(self.alloc, text.bytes)?;
+        let later = hand.later_streets(self.alloc)?;
+        let audit = hand.into_verdict(text.first).audit;
+        self.write_verdict(true, unit, &audit)?;
+        let states = later.as_slice();
+        law_later_streets_are_counted(&audit, states);
+        self.write_streets(unit.form, &audit, states)?;
+        Ok(is_rejection(&audit))
     }
 
     /// Appends the results of a hand, and returns whether the hand is rejected. The equity of its all-in is counted.
-    pub(crate) fn write_result_lines(
-        &mut self,
-        unit: &ListedUnit<'_>,
-        _ready: &[u8],
-    ) -> Result<bool, Memory>
+    fn write_result_lines(&mut self, unit: &ListedUnit<'_>, _ready: &[u8]) -> Result<bool, Memory>
         requires idle { _ready.now ≡ [] }
         requires header { IsTrue (begins_hand (lines unit.now.text.bytes.now)) }
-        requires numbers { unit.now.text.first + length (lines unit.now.text.bytes.now) < 2 ^ 32 }
-        ensures block { OnOk result (self.new.block.items ≡ self.old.block.items
-            ++ hand_results unit.now.form (unit_lines unit.now.text)) }
-        ensures rejected { IfOk result (λ rejected. rejected
-            ≡ is_rejected_hand (unit_lines unit.now.text)) }
+        ensures { IfOk result (TellsHand unit.now.form Detail.Results (unit_lines unit.now.text)
+            self.old.block.items self.new.block.items) }
     {
         let text = &unit.text;
         let hand = audit_chips(self.alloc, text)?;
@@ -229,13 +192,10 @@ impl<'a, C: Counter> BlockWriter<'a, C> {
     }
 
     /// Appends the settlement of a hand, and returns whether the hand is rejected. No equity is counted.
-    pub(crate) fn write_settlement_lines(&mut self, unit: &ListedUnit<'_>) -> Result<bool, Memory>
+    fn write_settlement_lines(&mut self, unit: &ListedUnit<'_>) -> Result<bool, Memory>
         requires header { IsTrue (begins_hand (lines unit.now.text.bytes.now)) }
-        requires numbers { unit.now.text.first + length (lines unit.now.text.bytes.now) < 2 ^ 32 }
-        ensures block { OnOk result (self.new.block.items ≡ self.old.block.items
-            ++ hand_settlement unit.now.form (unit_lines unit.now.text)) }
-        ensures rejected { IfOk result (λ rejected. rejected
-            ≡ is_rejected_hand (unit_lines unit.now.text)) }
+        ensures { IfOk result (TellsHand unit.now.form Detail.Settlement (unit_lines unit.now.text)
+            self.old.block.items self.new.block.items) }
     {
         let text = &unit.text;
         let hand = read_hand(self.alloc, text.bytes)?;
@@ -245,5 +205,26 @@ impl<'a, C: Counter> BlockWriter<'a, C> {
         let number = number_text(text.bytes);
         write_settlement(&mut self.block, number, &verdict, parts, unit.form)?;
         Ok(is_rejection(&verdict.audit))
+    }
+
+    /// Appends the block of a hand, and returns whether the hand is rejected. If an equity may be counted, no block waits meanwhile.
+    pub(crate) fn write_hand_lines(
+        &mut self,
+        told: Detail,
+        unit: &ListedUnit<'_>,
+        ready: &[u8],
+    ) -> Result<bool, Memory>
+        requires idle { counts_equity told ≡ true → ready.now ≡ [] }
+        requires header { IsTrue (begins_hand (lines unit.now.text.bytes.now)) }
+        ensures { IfOk result (TellsHand unit.now.form told (unit_lines unit.now.text)
+            self.old.block.items self.new.block.items) }
+    {
+        match told {
+            Detail::Verdict => self.write_verdict_lines(false, unit, ready),
+            Detail::AllIn => self.write_verdict_lines(true, unit, ready),
+            Detail::LaterStreets => self.write_street_lines(unit, ready),
+            Detail::Results => self.write_result_lines(unit, ready),
+            Detail::Settlement => self.write_settlement_lines(unit),
+        }
     }
 }

@@ -54,8 +54,12 @@ pub(crate) fn plan_of(mode: Mode) -> Plan
         Mode::Streets => Plan::Reads(Prints::Blocks(BlockKind::Hands {
             told: Detail::LaterStreets,
         })),
-        Mode::Results => Plan::Reads(Prints::Blocks(BlockKind::Results)),
-        Mode::Settle => Plan::Reads(Prints::Blocks(BlockKind::Settle)),
+        Mode::Results => Plan::Reads(Prints::Blocks(BlockKind::Hands {
+            told: Detail::Results,
+        })),
+        Mode::Settle => Plan::Reads(Prints::Blocks(BlockKind::Hands {
+            told: Detail::Settlement,
+        })),
         Mode::Totals => Plan::Reads(Prints::Sums(SumKind::Totals)),
         Mode::Balance => Plan::Reads(Prints::Sums(SumKind::Balance)),
         Mode::Made => Plan::Makes,
@@ -69,8 +73,7 @@ impl Prints {
     {
         match self {
             Prints::Blocks(BlockKind::Spots { .. }) => CutKind::Lines,
-            Prints::Blocks(BlockKind::Hands { .. } | BlockKind::Results | BlockKind::Settle)
-            | Prints::Sums(_) => CutKind::Hands,
+            Prints::Blocks(BlockKind::Hands { .. }) | Prints::Sums(_) => CutKind::Hands,
         }
     }
 }

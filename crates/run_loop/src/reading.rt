@@ -7,6 +7,7 @@ ghost use Rattle.hand_cuts.specs.declared.units.CutKind.{CutKind};
 ghost use Rattle.run_loop.specs.Cutting.{Cuts, PullsOne, ReadsOne};
 ghost use Rattle.run_loop.specs.declared.reading.Ending.TheVariants.{Open};
 
+use crate::units::UnitText;
 use byte_ends::Source;
 use card_sets::Memory;
 use hand_cuts::{CutKind, Cutter, INPUT_MAX, Unit};
@@ -39,7 +40,9 @@ pub(crate) struct Input {
 
 impl Input {
     ghost use Rattle.std.specs.Prelude.{◌≡◌};
-    ghost use Rattle.run_loop.specs.Units.{started};
+    ghost use Rattle.hand_cuts.specs.Cutters.{seen};
+    ghost use Rattle.hand_cuts.specs.declared.units.CutKind.{CutKind};
+    ghost use Rattle.run_loop.specs.Units.{IsUnit, started, unit_lines};
 
     /// Nothing was read.
     pub(crate) fn start(alloc: Global, kind: CutKind) -> Input
@@ -48,6 +51,17 @@ impl Input {
         Input {
             cutter: Cutter::new(alloc, kind),
             ending: Ending::Open,
+        }
+    }
+
+    /// Returns the lines of a unit of the bytes that are held.
+    pub(crate) fn text_of(&self, unit: &Unit) -> UnitText<'_>
+        requires unit { (kind : CutKind) × IsUnit INPUT_MAX kind self.now.cutter.held unit.now }
+        ensures { unit_lines result ≡ seen self.now.cutter.held unit.now }
+    {
+        UnitText {
+            first: unit.first_line,
+            bytes: &self.cutter.held()[unit.first..unit.end],
         }
     }
 }

@@ -18,7 +18,7 @@ use crate::counter::Counter;
 use crate::gathering::{gather, next_written, write_rest};
 use crate::plans::{Prints, SumKind};
 use crate::run::{BlockWriter, Run};
-use crate::units::{ListedUnit, UnitText};
+use crate::units::ListedUnit;
 use crate::write_fault::WriteFault;
 use byte_ends::{Sink, Source};
 use card_sets::Memory;
@@ -38,22 +38,13 @@ impl<'a, C: Counter> BlockWriter<'a, C> {
         requires empty { self.old.block.items ≡ [] }
         requires header { listed_kind listed ≡ Hands
             → begins_hand (lines unit.now.text.bytes.now) ≡ true }
-        requires few { unit.now.text.first + length (lines unit.now.text.bytes.now) < 2 ^ 32 }
         ensures { IfOk result (λ told. MakesBlock unit.now.form listed unit.now.place
             (unit_lines unit.now.text) self.new.block.items told) }
     {
         match listed {
             BlockKind::Spots { holding } => self.write_spot_line(holding, unit, ready),
             BlockKind::Hands { told } => {
-                let rejected = self.write_lines(told, unit, ready)?;
-                Ok(Some(rejected))
-            }
-            BlockKind::Results => {
-                let rejected = self.write_result_lines(unit, ready)?;
-                Ok(Some(rejected))
-            }
-            BlockKind::Settle => {
-                let rejected = self.write_settlement_lines(unit)?;
+                let rejected = self.write_hand_lines(told, unit, ready)?;
                 Ok(Some(rejected))
             }
         }
@@ -89,9 +80,7 @@ impl<'a, C: Counter> Run<'a, C> {
                 return Ok(rejects);
             };
             self.writer.block.clear();
-            let bytes = &self.input.cutter.held()[unit.first..unit.end];
-            let first = unit.first_line;
-            let text = UnitText { first, bytes };
+            let text = self.input.text_of(&unit);
             let whole = ListedUnit { form, place, text };
             let told = match self.writer.write_unit(listed, &whole, &ready) {
                 Ok(told) => told,

@@ -40,7 +40,6 @@ pub(crate) trait HandSums {
         writer: &mut BlockWriter<'_, C>,
     ) -> Result<(), Memory>
         requires header { IsTrue (begins_hand (lines text.now.bytes.now)) }
-        requires numbers { text.now.first + length (lines text.now.bytes.now) < 2 ^ 32 }
         requires few { count self.old < 2 ^ 32 }
         ensures { (hands : List UnitLines) → self.old ≡ sums_of hands
             → OnOk result (self.new ≡ sums_of (hands ++ unit_lines text.now ∷ [])) };
@@ -167,9 +166,7 @@ impl<'a, C: Counter> Run<'a, C> {
             let Some(unit) = next else {
                 return Ok(());
             };
-            let bytes = &self.input.cutter.held()[unit.first..unit.end];
-            let first = unit.first_line;
-            let text = UnitText { first, bytes };
+            let text = self.input.text_of(&unit);
             match sums.add_lines(&text, &mut self.writer) {
                 Ok(()) => {}
                 Err(Memory) => return Err(Memory),

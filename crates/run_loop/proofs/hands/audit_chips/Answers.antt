@@ -3,7 +3,7 @@ use Rattle.line_text.specs.Lines.{lines}
 use Rattle.run_loop.proofs.hands.audit_chips.Goals as goal
 
 pub into_verdict-audit-requires : goal.into_verdict-audit-requires
-into_verdict-audit-requires c = record { numbers = (let few = c.in_ok-hand.ensures.read.few in let n = c.requires.numbers in omega (arith, few, n)) }
+into_verdict-audit-requires c = record { numbers = (let few = c.in_ok-hand.ensures.read.few in let n = c.args.text.now.few in omega (arith, few, n)) }
 
 pub returns-clause-verdict : goal.returns-clause-verdict
 returns-clause-verdict c = c.into_verdict-audit.ensures.audit (lines c.args.text.now.bytes.now) c.in_ok-hand.ensures.read

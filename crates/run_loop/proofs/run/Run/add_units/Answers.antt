@@ -1,4 +1,6 @@
-use Rattle.std.proofs.Common.{length, Some, None, Ok, refl, ap, ◌∙◌, arith}
+use Rattle.std.proofs.Common.{Some, None, Ok, refl, ap, ◌∙◌}
+use Rattle.hand_audit.specs.Departs.{begins_hand}
+use Rattle.hand_cuts.specs.Units.{UnitLines}
 use Rattle.hand_cuts.specs.declared.limits.TheConstants.{INPUT_MAX}
 use Rattle.hand_cuts.specs.declared.units.CutKind.TheVariants.{Hands}
 use Rattle.run_loop.specs.Cutting.{PullsOne}
@@ -15,38 +17,17 @@ next_unit-requires g c =
     let o = c.hands.invariant in
     λ e. o.cuts.closed_is ∙ ap is_whole e
 
-pub slice_bounds-bytes-count : goal.slice_bounds-bytes-count
-slice_bounds-bytes-count g c =
+pub text_of-text-requires : goal.text_of-text-requires
+text_of-text-requires g c =
     let o = c.hands.invariant in
     let p : PullsOne g.S.Source.reads INPUT_MAX c.hands.source c.next_unit.new.source Hands c.hands.self.input c.next_unit.new.input o.bytes o.done (Ok (Some c.in-Some.unit)) = rw c.in-Some.is at (c.in-Ok.ensures Hands o.bytes o.done o.cuts) in
-    let u = p.hands.1.unit_is in
-    let a = u.ordered in let b = u.within in let e = ap length c.held.ensures.bytes in omega arith
-
-pub slice_bounds-bytes-start : goal.slice_bounds-bytes-start
-slice_bounds-bytes-start g c =
-    let o = c.hands.invariant in
-    let p : PullsOne g.S.Source.reads INPUT_MAX c.hands.source c.next_unit.new.source Hands c.hands.self.input c.next_unit.new.input o.bytes o.done (Ok (Some c.in-Some.unit)) = rw c.in-Some.is at (c.in-Ok.ensures Hands o.bytes o.done o.cuts) in
-    let u = p.hands.1.unit_is in
-    let a = u.ordered in let b = u.within in let e = ap length c.held.ensures.bytes in omega arith
-
-pub slice_bounds-bytes-end : goal.slice_bounds-bytes-end
-slice_bounds-bytes-end g c =
-    let o = c.hands.invariant in
-    let p : PullsOne g.S.Source.reads INPUT_MAX c.hands.source c.next_unit.new.source Hands c.hands.self.input c.next_unit.new.input o.bytes o.done (Ok (Some c.in-Some.unit)) = rw c.in-Some.is at (c.in-Ok.ensures Hands o.bytes o.done o.cuts) in
-    let u = p.hands.1.unit_is in
-    let a = u.ordered in let b = u.within in let e = ap length c.held.ensures.bytes in omega arith
+    record { unit = (Hands, p.hands.1.unit_is) }
 
 pub add_lines-requires-clause-header : goal.add_lines-requires-clause-header
 add_lines-requires-clause-header g c =
     let o = c.hands.invariant in
     let p : PullsOne g.S.Source.reads INPUT_MAX c.hands.source c.next_unit.new.source Hands c.hands.self.input c.next_unit.new.input o.bytes o.done (Ok (Some c.in-Some.unit)) = rw c.in-Some.is at (c.in-Ok.ensures Hands o.bytes o.done o.cuts) in
-    rw c.held.ensures.bytes (p.hands.1.unit_is.begins refl)
-
-pub add_lines-requires-clause-numbers : goal.add_lines-requires-clause-numbers
-add_lines-requires-clause-numbers g c =
-    let o = c.hands.invariant in
-    let p : PullsOne g.S.Source.reads INPUT_MAX c.hands.source c.next_unit.new.source Hands c.hands.self.input c.next_unit.new.input o.bytes o.done (Ok (Some c.in-Some.unit)) = rw c.in-Some.is at (c.in-Ok.ensures Hands o.bytes o.done o.cuts) in
-    rw c.held.ensures.bytes (let few = p.hands.1.unit_is.numbers in omega arith)
+    ap (λ (u : UnitLines). begins_hand u.lines) c.text_of-text.ensures ∙ p.hands.1.unit_is.begins refl
 
 pub add_lines-requires-clause-few : goal.add_lines-requires-clause-few
 add_lines-requires-clause-few g c =
@@ -62,7 +43,7 @@ pub hands-preserved : goal.hands-preserved
 hands-preserved g c =
     let o = c.hands.invariant in
     let p : PullsOne g.S.Source.reads INPUT_MAX c.hands.source c.next_unit.new.source Hands c.hands.self.input c.next_unit.new.input o.bytes o.done (Ok (Some c.in-Some.unit)) = rw c.in-Some.is at (c.in-Ok.ensures Hands o.bytes o.done o.cuts) in
-    sums_ordered_more g.S.Source.reads g.H.HandSums.sums_of INPUT_MAX _ _ _ c.hands.self.input c.next_unit.new.input c.hands.sums c.add_lines.new.self c.in-Some.unit o p (rw c.held.ensures.bytes at c.in-Ok-add_lines.ensures)
+    sums_ordered_more g.S.Source.reads g.H.HandSums.sums_of INPUT_MAX _ _ _ c.hands.self.input c.next_unit.new.input c.hands.sums c.add_lines.new.self c.in-Some.unit o p (rw c.text_of-text.ensures at c.in-Ok-add_lines.ensures)
 
 pub returns-in-Err : goal.returns-in-Err
 returns-in-Err g c =
