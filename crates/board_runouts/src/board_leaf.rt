@@ -54,7 +54,13 @@ fn count_suited(
 
 /// Counts the runout with a pair for each pot.
 #[inline]
-fn count_pair(front: &Front, flushes: &mut Flushes, pair: &Pair, counts: &mut [[u32; 2048]])
+fn count_pair(
+    front: &Front,
+    tags: &[u32; 4],
+    flushes: &mut Flushes,
+    pair: &Pair,
+    counts: &mut [[u32; 2048]],
+)
     requires member { IsRunoutWith front.now pair.now }
     requires flushes { HoldsFlushes front.now flushes.old }
     requires room { HasRoom front.now counts.old 1 }
@@ -66,7 +72,7 @@ fn count_pair(front: &Front, flushes: &mut Flushes, pair: &Pair, counts: &mut [[
     law_values_keep_order();
     let spot = front.spot;
     all_are_hands(&spot.table);
-    let Some(part) = suited_part(front, pair) else {
+    let Some(part) = suited_part(front, tags, pair) else {
         put_runout(front, usize::from(pair.ranks), counts);
         return;
     };
@@ -91,15 +97,16 @@ fn count_pairs<L: Ledger>(
     ensures flushes { HoldsFlushes front.now flushes.new }
     ensures steps { steps.new ≡ steps.old + length pairs.now }
 {
+    let tags = front.tags();
     for pair in pairs {
         steps.tick();
-        count_pair(front, flushes, pair, counts);
+        count_pair(front, &tags, flushes, pair, counts);
     }
 }
 
 /// Returns where the runout with a pair is counted for the only pot of a game with one side.
 #[inline]
-fn one_place(front: &Front, flushes: &mut Flushes, pair: &Pair) -> u16
+fn one_place(front: &Front, tags: &[u32; 4], flushes: &mut Flushes, pair: &Pair) -> u16
     requires pot { 0 < front.now.spot.now.table.pots }
     requires member { IsRunoutWith front.now pair.now }
     requires flushes { HoldsFlushes front.now flushes.old }
@@ -113,7 +120,7 @@ fn one_place(front: &Front, flushes: &mut Flushes, pair: &Pair) -> u16
     law_values_keep_order();
     let spot = front.spot;
     are_hands(&spot.table, 0);
-    let Some(part) = suited_part(front, pair) else {
+    let Some(part) = suited_part(front, tags, pair) else {
         let row = &front.rows[0];
         return row.mains[usize::from(pair.ranks)];
     };
@@ -148,9 +155,10 @@ fn count_one_pot<L: Ledger>(
     ensures flushes { HoldsFlushes front.now flushes.new }
     ensures steps { steps.new ≡ steps.old + length pairs.now }
 {
+    let tags = front.tags();
     for pair in pairs {
         steps.tick();
-        let place = one_place(front, flushes, pair);
+        let place = one_place(front, &tags, flushes, pair);
         cells[usize::from(place)] += 1;
     }
 }
@@ -173,6 +181,9 @@ pub(crate) fn count_each<L: Ledger>(
     ensures flushes { HoldsFlushes front.now flushes.new }
     ensures steps { steps.new ≡ steps.old + length pairs.now }
 {
+    if pairs.is_empty() {
+        return;
+    }
     let spot = front.spot;
     if spot.table.pots == 1 && !spot.table.known.game.has_side(Side::Low) {
         let cells = &mut counts[0];

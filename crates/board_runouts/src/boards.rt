@@ -1,4 +1,7 @@
 //! Runouts that are boards, by their last two cards.
+//!
+//! The walk calls itself for each card of the deck. So `count` isn't inlined into it: with what `count` has on the stack, the frames of these
+//! calls are twice as large, and don't fit into the nearest cache.
 
 ghost use Rattle.std.specs.Prelude.{◌≡◌, IsTrue};
 ghost use Rattle.card_sets.specs.State.{state_of};
@@ -14,7 +17,7 @@ use crate::board_leaf::count_each;
 use crate::coded_rows::CodedRows;
 use crate::deal::same_deal;
 use crate::flushes::Flushes;
-use crate::front::Front;
+use crate::front::{Front, own_suits};
 use crate::pairs::Pairs;
 use crate::parts::count_parts;
 use crate::rows::Rows;
@@ -123,6 +126,7 @@ impl Leaf for Boards {
         2
     }
 
+    #[inline(never)]
     fn count<L: Ledger>(&mut self, counts: &mut [[u32; 2048]], span: &Span, steps: &mut Steps<L>) {
         span.tail.rest.rising();
         let taken = span.tail.taken;
@@ -133,8 +137,8 @@ impl Leaf for Boards {
         let flushes = &mut self.flushes;
         self.pairs.serve(self.cards);
         if taken == CardSet::empty() {
-            let first = Front::of(&start, rows, None);
-            let front = first.with_own_suits();
+            let suits = own_suits(&start);
+            let front = Front::of(&start, rows, None, &suits);
             let stretch = self.pairs.stretch(span.tail.rest, span.lo, span.hi);
             let some = self.pairs.between(stretch);
             count_each(&front, flushes, some, counts, steps);
@@ -142,12 +146,11 @@ impl Leaf for Boards {
         }
         let place = self.codes.ready(base, rows, &start);
         let codes = self.codes.enough_at(place);
-        let first = Front::of(&start, rows, codes);
-        let most = most_with(first.spot.most, first.taken);
+        let most = most_with(spot.most, start.taken);
         let sieve = self.pairs.ready(&most);
         let stretch = self.pairs.stretch(span.tail.rest, span.lo, span.hi);
         let parts = self.pairs.parts(sieve, stretch);
-        let front = first.with_suits(&parts.sieve.suits, !parts.flush.is_empty());
+        let front = Front::of(&start, rows, codes, &parts.sieve.suits);
         count_parts(&front, flushes, &parts, counts, steps);
     }
 }

@@ -1,7 +1,7 @@
 //! The first cards of a board, with everything that is looked up at a pair after them.
 //!
 //! The type keeps the facts that connect its fields, so the functions that take a `Front` don't repeat them. `Start` is what is known
-//! before there are rows. `Front::of` adds the rows and codes, and `with_suits` or `with_own_suits` adds the suits that may make a flush.
+//! before there are rows. A front is made once, and refers to everything that it has but the cards.
 
 ghost use Rattle.std.specs.Option.{ForSome};
 ghost use Rattle.std.specs.Prelude.{◌≡◌, length, IsTrue};
@@ -29,9 +29,7 @@ pub(crate) struct Front<'a> {
     /// The outcomes of all pots as codes. `None` on a flop, or if there are more outcomes than codes.
     pub(crate) codes: Option<&'a Codes>,
     /// At 4 times the suit of one of the last two cards plus that of the other: the suit in which somebody may have a flush, or 4.
-    pub(crate) suits: [u8; 16],
-    /// By the suit, the ranks of the board's cards so far as bits. All 0 if no pair may be a flush.
-    pub(crate) tags: [u32; 4],
+    pub(crate) suits: &'a [u8; 16],
     /// Each row is for these cards.
     pub(crate) ghost rows_are: { AreRowsOf (deal_of spot.now.table) taken rows.now },
     /// Each pot has a row.
@@ -41,9 +39,9 @@ pub(crate) struct Front<'a> {
     /// There is a code for each outcome.
     pub(crate) ghost enough: { ForSome codes (λ c. IsTrue c.now.enough) },
     /// If the table names no suit for two suits, two cards of these make nobody a flush.
-    pub(crate) ghost fives: { AreFivesWith spot.now.most taken suits },
+    pub(crate) ghost fives: { AreFivesWith spot.now.most taken suits.now },
     /// The table has a place for each two suits.
-    pub(crate) ghost places: { length suits ≡ 16 },
+    pub(crate) ghost places: { length suits.now ≡ 16 },
 }
 
 /// Returns the ranks of some cards as bits. They only say where to look for a kept flush.
@@ -56,26 +54,37 @@ fn rank_bits(cards: CardSet) -> u32 {
     bits
 }
 
-/// Returns the ranks of the cards of each suit as bits.
-fn suit_bits(cards: CardSet) -> [u32; 4] {
-    [
-        rank_bits(cards.of_suit(0)),
-        rank_bits(cards.of_suit(1)),
-        rank_bits(cards.of_suit(2)),
-        rank_bits(cards.of_suit(3)),
-    ]
+/// Returns the suits that may make a flush after some first cards, worked out here.
+#[inline(never)]
+pub(crate) fn own_suits(start: &Start) -> [u8; 16]
+    ensures fives { AreFivesWith start.now.spot.now.most start.now.taken result }
+    ensures places { length result ≡ 16 }
+{
+    let spot = start.spot;
+    match suits_for(spot.most, start.taken) {
+        Some(suits) => suits,
+        None => [4; 16],
+    }
 }
 
 impl<'a> Front<'a> {
-    /// Makes the front of some first cards with rows and codes for their ranks. Any two cards after them may make somebody a flush.
+    /// Makes the front of some first cards with rows and codes for their ranks, and with the suits that may make a flush after them.
     #[inline]
-    pub(crate) fn of(start: &Start<'a>, rows: &'a [Row], codes: Option<&'a Codes>) -> Front<'a>
+    pub(crate) fn of(
+        start: &Start<'a>,
+        rows: &'a [Row],
+        codes: Option<&'a Codes>,
+        suits: &'a [u8; 16],
+    ) -> Front<'a>
         requires rows { AreRowsOf (deal_of start.now.spot.now.table) start.now.taken rows.now }
         requires pots { length rows.now ≡ start.now.spot.now.table.pots }
         requires codes { ForSome codes (λ c. AreCodesFor (deal_of start.now.spot.now.table) start.now.taken c.now) }
         requires enough { ForSome codes (λ c. IsTrue c.now.enough) }
+        requires fives { AreFivesWith start.now.spot.now.most start.now.taken suits.now }
+        requires places { length suits.now ≡ 16 }
         ensures spot { result.spot.now ≡ start.now.spot.now }
         ensures taken { result.taken ≡ start.now.taken }
+        ensures suits { result.suits.now ≡ suits.now }
     {
         let spot = start.spot;
         Front {
@@ -83,45 +92,19 @@ impl<'a> Front<'a> {
             taken: start.taken,
             rows,
             codes,
-            suits: [0; 16],
-            tags: [0; 4],
+            suits,
         }
     }
 
-    /// Returns this front with the suits that may make a flush after its cards. `flushes` says whether there are pairs of such suits.
-    #[inline]
-    pub(crate) fn with_suits(&self, suits: &[u8; 16], flushes: bool) -> Front<'a>
-        requires fives { AreFivesWith self.now.spot.now.most self.now.taken suits.now }
-        requires places { length suits.now ≡ 16 }
-        ensures spot { result.spot.now ≡ self.now.spot.now }
-        ensures taken { result.taken ≡ self.now.taken }
-        ensures suits { result.suits ≡ suits.now }
-    {
+    /// Returns the ranks of the board's cards so far as bits, by the suit. Only pairs that may be a flush need them.
+    pub(crate) fn tags(&self) -> [u32; 4] {
         let spot = self.spot;
-        let mut tags = [0; 4];
-        if flushes {
-            tags = suit_bits(spot.table.known.board.union(self.taken));
-        }
-        Front {
-            spot,
-            taken: self.taken,
-            rows: self.rows,
-            codes: self.codes,
-            suits: *suits,
-            tags,
-        }
-    }
-
-    /// Returns this front with the suits that may make a flush after its cards, worked out here.
-    #[inline]
-    pub(crate) fn with_own_suits(&self) -> Front<'a>
-        ensures spot { result.spot.now ≡ self.now.spot.now }
-        ensures taken { result.taken ≡ self.now.taken }
-    {
-        let spot = self.spot;
-        let Some(suits) = suits_for(spot.most, self.taken) else {
-            return self.with_suits(&[4; 16], false);
-        };
-        self.with_suits(&suits, true)
+        let board = spot.table.known.board.union(self.taken);
+        [
+            rank_bits(board.of_suit(0)),
+            rank_bits(board.of_suit(1)),
+            rank_bits(board.of_suit(2)),
+            rank_bits(board.of_suit(3)),
+        ]
     }
 }

@@ -17,7 +17,7 @@
 //!   |              .tops[13 * 10 + 11]     the best high by ranks
 //!   +- codes       .adds[13 * 10 + 11]     a one in the field of a sum that stands for this outcome
 //!   +- suits       [4 * h + d]             the suit in which somebody may have a flush, 4 if there is none
-//!   +- tags        [h]                     the ranks of the board's hearts, with the Qh the key of a flush
+//!   +- tags()      [h]                     the ranks of the board's hearts, with the Qh the key of a flush
 //!                                                  |
 //!  Flushes                                         v
 //!   +- list[key]   .tops[pot] .sets[pot]   the best flush, and who has it

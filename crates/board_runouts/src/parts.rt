@@ -39,7 +39,7 @@ pub(crate) fn count_parts<L: Ledger>(
     steps: &mut Steps<L>,
 )
     requires pairs { AreRunoutsWith front.now parts.now.pairs.now }
-    requires suits { front.now.suits ≡ parts.now.sieve.now.suits }
+    requires suits { front.now.suits.now ≡ parts.now.sieve.now.suits }
     requires flushes { HoldsFlushes front.now flushes.old }
     requires room { HasRoom front.now counts.old (length parts.now.pairs.now) }
 

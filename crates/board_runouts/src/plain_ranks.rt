@@ -130,11 +130,11 @@ pub(crate) fn count_plain<L: Ledger>(
     requires pairs { AreRunoutsWith front.now pairs.now }
 
     // These are the ranks of the pairs for which the front's table names no suit.
-    requires ranks { all.now ≡ plain_ranks front.now.suits pairs.now }
+    requires ranks { all.now ≡ plain_ranks front.now.suits.now pairs.now }
     requires room { HasRoom front.now counts.old (length all.now) }
 
     // Each of these pairs is counted for each pot.
-    ensures counts { AddPairs front.now (plain_pairs front.now.suits pairs.now) counts.old counts.new }
+    ensures counts { AddPairs front.now (plain_pairs front.now.suits.now pairs.now) counts.old counts.new }
     ensures steps { steps.new ≡ steps.old + length all.now }
 {
     law_values_keep_order();

@@ -77,8 +77,9 @@ fn bit_in(card: Card, suit: u8) -> u32 {
 }
 
 /// The suit that the board has more than two cards of with a pair as the last two cards, if there is one. One suit is looked at first.
+/// `tags` are those of the front.
 #[inline]
-fn board_part(front: &Front, pair: &Pair, first: u8) -> Option<Suited>
+fn board_part(front: &Front, tags: &[u32; 4], pair: &Pair, first: u8) -> Option<Suited>
     requires first { first < 4 }
     requires member { IsRunoutWith front.now pair.now }
     ensures { IsPartWith front.now pair.now result }
@@ -94,7 +95,7 @@ fn board_part(front: &Front, pair: &Pair, first: u8) -> Option<Suited>
         return None;
     };
     let cards = board.of_suit(suit);
-    let tag = front.tags[usize::from(suit)] | bit_in(pair.low, suit) | bit_in(pair.high, suit);
+    let tag = tags[usize::from(suit)] | bit_in(pair.low, suit) | bit_in(pair.high, suit);
     Some(Suited {
         board,
         cards,
@@ -103,9 +104,9 @@ fn board_part(front: &Front, pair: &Pair, first: u8) -> Option<Suited>
     })
 }
 
-/// The suit that somebody may have a flush of with a pair as the last two cards, if there is one.
+/// The suit that somebody may have a flush of with a pair as the last two cards, if there is one. `tags` are those of the front.
 #[inline]
-pub(crate) fn suited_part(front: &Front, pair: &Pair) -> Option<Suited>
+pub(crate) fn suited_part(front: &Front, tags: &[u32; 4], pair: &Pair) -> Option<Suited>
     requires member { IsRunoutWith front.now pair.now }
     ensures { IsPartWith front.now pair.now result }
 {
@@ -113,7 +114,7 @@ pub(crate) fn suited_part(front: &Front, pair: &Pair) -> Option<Suited>
     if first > 3 {
         return None;
     }
-    board_part(front, pair, first)
+    board_part(front, tags, pair, first)
 }
 
 /// Where a runout with a pair as the last two cards, with which somebody may have a flush, is counted for a pot. The row is the pot's.

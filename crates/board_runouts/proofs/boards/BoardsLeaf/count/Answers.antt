@@ -36,14 +36,14 @@ ready-place-requires-clause-rows g c = λ pot row at.
 pub ready-place-requires-clause-right : goal.ready-place-requires-clause-right
 ready-place-requires-clause-right g c = let R : BoardSpot → Type 0 = λ it. AreAllCodes (deal_of it.table) c.args.self.now.codes.list.items in subst R (sym c.of-start.ensures.spot) c.args.self.now.coded
 
-pub of-first-requires-clause-rows : goal.of-first-requires-clause-rows
-of-first-requires-clause-rows g c = λ pot row at. let r = c.stretch-rows.ensures.rows pot row at in c.ready-base.ensures.ready.rows pot row r.0 r.1
+pub of-front-requires-clause-rows : goal.of-front-requires-clause-rows
+of-front-requires-clause-rows g c = λ pot row at. let r = c.stretch-rows.ensures.rows pot row at in c.ready-base.ensures.ready.rows pot row r.0 r.1
 
-pub of-first-requires-2-clause-rows : goal.of-first-requires-2-clause-rows
-of-first-requires-2-clause-rows g c = λ pot row at. let r = c.stretch-rows.ensures.rows pot row at in c.ready-base.ensures.ready.rows pot row r.0 r.1
+pub of-front-requires-2-clause-rows : goal.of-front-requires-2-clause-rows
+of-front-requires-2-clause-rows g c = λ pot row at. let r = c.stretch-rows.ensures.rows pot row at in c.ready-base.ensures.ready.rows pot row r.0 r.1
 
-pub of-first-requires-2-clause-codes : goal.of-first-requires-2-clause-codes
-of-first-requires-2-clause-codes g c = λ codes is.
+pub of-front-requires-2-clause-codes : goal.of-front-requires-2-clause-codes
+of-front-requires-2-clause-codes g c = λ codes is.
     let at = c.enough_at-codes.ensures.codes codes is in
     let place = c.ready-place.ensures in
     let start = c.of-start.result in
@@ -66,18 +66,18 @@ count_each-requires-clause-pairs g c =
     leaf_of c.args.self.now.spot c.args.self.now.table c.args.span.now.front.now c.args.span.now.tail.taken c.args.span.now.tail.rest c.args.span.now.tail.left c.args.span.now.lo c.args.span.now.hi c.args.self.now.same c.requires.last c.requires.deep c.requires.members c.requires.order c.requires.inside in
     let some : List Pair = c.between-some.result.now in
     let is : map cards_of_pair some ≡ slice_range (choose 2 c.args.span.now.tail.rest) c.args.span.now.lo c.args.span.now.hi = ap (map cards_of_pair) c.between-some.ensures ∙ c.stretch-stretch.ensures.pairs in
-    front_members c.with_own_suits-front.result c.args.self.now.spot c.args.span.now.tail.taken c.args.span.now.tail.rest some c.args.span.now.lo c.args.span.now.hi (c.with_own_suits-front.ensures.spot ∙ c.of-first.ensures.spot ∙ c.of-start.ensures.spot) (c.with_own_suits-front.ensures.taken ∙ c.of-first.ensures.taken ∙ c.of-start.ensures.taken) is leaf.members
+    front_members c.of-front.result c.args.self.now.spot c.args.span.now.tail.taken c.args.span.now.tail.rest some c.args.span.now.lo c.args.span.now.hi (c.of-front.ensures.spot ∙ c.of-start.ensures.spot) (c.of-front.ensures.taken ∙ c.of-start.ensures.taken) is leaf.members
 
 pub count_each-requires-clause-room : goal.count_each-requires-clause-room
 count_each-requires-clause-room g c =
     let inside : c.args.span.now.hi ≤ length (choose 2 c.args.span.now.tail.rest) = (let more : length (choose c.args.span.now.tail.left c.args.span.now.tail.rest) ≡ length (choose 2 c.args.span.now.tail.rest) = ap (λ n. length (choose n c.args.span.now.tail.rest)) c.requires.deep in let i = c.requires.inside in omega arith) in
     let some : List Pair = c.between-some.result.now in
     let is : map cards_of_pair some ≡ slice_range (choose 2 c.args.span.now.tail.rest) c.args.span.now.lo c.args.span.now.hi = ap (map cards_of_pair) c.between-some.ensures ∙ c.stretch-stretch.ensures.pairs in
-    front_room c.with_own_suits-front.result c.args.self.now.spot c.args.self.now.table c.args.counts.now some (c.args.span.now.hi - c.args.span.now.lo) (c.with_own_suits-front.ensures.spot ∙ c.of-first.ensures.spot ∙ c.of-start.ensures.spot) c.args.self.now.same
+    front_room c.of-front.result c.args.self.now.spot c.args.self.now.table c.args.counts.now some (c.args.span.now.hi - c.args.span.now.lo) (c.of-front.ensures.spot ∙ c.of-start.ensures.spot) c.args.self.now.same
     (stretch-length some c.args.span.now.tail.rest c.args.span.now.lo c.args.span.now.hi is c.requires.order inside) c.requires.places c.requires.fits
 
 pub count_each-requires-clause-flushes : goal.count_each-requires-clause-flushes
-count_each-requires-clause-flushes g c = front_flushes c.with_own_suits-front.result c.args.self.now.spot c.args.self.now.flushes (c.with_own_suits-front.ensures.spot ∙ c.of-first.ensures.spot ∙ c.of-start.ensures.spot) c.args.self.now.best
+count_each-requires-clause-flushes g c = front_flushes c.of-front.result c.args.self.now.spot c.args.self.now.flushes (c.of-front.ensures.spot ∙ c.of-start.ensures.spot) c.args.self.now.best
 
 pub returns-then-eq-clause-counts : goal.returns-then-eq-clause-counts
 returns-then-eq-clause-counts g c =
@@ -86,7 +86,7 @@ returns-then-eq-clause-counts g c =
     let some : List Pair = c.between-some.result.now in
     let is : map cards_of_pair some ≡ slice_range (choose 2 c.args.span.now.tail.rest) c.args.span.now.lo c.args.span.now.hi = ap (map cards_of_pair) c.between-some.ensures ∙ c.stretch-stretch.ensures.pairs in
     leaf_grow c.args.self.now.spot c.args.self.now.table c.args.span.now.front.now c.args.span.now.tail.taken c.args.span.now.tail.rest c.args.span.now.tail.left c.args.span.now.lo c.args.span.now.hi c.args.counts.now c.count_each.new.counts c.args.self.now.same leaf.none c.requires.deep
-    (front_grow c.with_own_suits-front.result c.args.self.now.spot c.args.span.now.tail.taken c.args.span.now.tail.rest some c.args.span.now.lo c.args.span.now.hi c.args.counts.now c.count_each.new.counts (c.with_own_suits-front.ensures.spot ∙ c.of-first.ensures.spot ∙ c.of-start.ensures.spot) (c.with_own_suits-front.ensures.taken ∙ c.of-first.ensures.taken ∙ c.of-start.ensures.taken) is c.count_each.ensures.counts)
+    (front_grow c.of-front.result c.args.self.now.spot c.args.span.now.tail.taken c.args.span.now.tail.rest some c.args.span.now.lo c.args.span.now.hi c.args.counts.now c.count_each.new.counts (c.of-front.ensures.spot ∙ c.of-start.ensures.spot) (c.of-front.ensures.taken ∙ c.of-start.ensures.taken) is c.count_each.ensures.counts)
 
 pub returns-then-eq-clause-steps : goal.returns-then-eq-clause-steps
 returns-then-eq-clause-steps g c =
@@ -113,18 +113,18 @@ count_parts-requires-clause-pairs g c =
     leaf_of c.args.self.now.spot c.args.self.now.table c.args.span.now.front.now c.args.span.now.tail.taken c.args.span.now.tail.rest c.args.span.now.tail.left c.args.span.now.lo c.args.span.now.hi c.args.self.now.same c.requires.last c.requires.deep c.requires.members c.requires.order c.requires.inside in
     let some : List Pair = c.parts-parts.result.pairs.now in
     let is : map cards_of_pair some ≡ slice_range (choose 2 c.args.span.now.tail.rest) c.args.span.now.lo c.args.span.now.hi = ap (map cards_of_pair) c.parts-parts.ensures.pairs ∙ c.stretch-stretch-2.ensures.pairs in
-    front_members c.with_suits-front.result c.args.self.now.spot c.args.span.now.tail.taken c.args.span.now.tail.rest some c.args.span.now.lo c.args.span.now.hi (c.with_suits-front.ensures.spot ∙ c.of-first-2.ensures.spot ∙ c.of-start.ensures.spot) (c.with_suits-front.ensures.taken ∙ c.of-first-2.ensures.taken ∙ c.of-start.ensures.taken) is leaf.members
+    front_members c.of-front-2.result c.args.self.now.spot c.args.span.now.tail.taken c.args.span.now.tail.rest some c.args.span.now.lo c.args.span.now.hi (c.of-front-2.ensures.spot ∙ c.of-start.ensures.spot) (c.of-front-2.ensures.taken ∙ c.of-start.ensures.taken) is leaf.members
 
 pub count_parts-requires-clause-room : goal.count_parts-requires-clause-room
 count_parts-requires-clause-room g c =
     let inside : c.args.span.now.hi ≤ length (choose 2 c.args.span.now.tail.rest) = (let more : length (choose c.args.span.now.tail.left c.args.span.now.tail.rest) ≡ length (choose 2 c.args.span.now.tail.rest) = ap (λ n. length (choose n c.args.span.now.tail.rest)) c.requires.deep in let i = c.requires.inside in omega arith) in
     let some : List Pair = c.parts-parts.result.pairs.now in
     let is : map cards_of_pair some ≡ slice_range (choose 2 c.args.span.now.tail.rest) c.args.span.now.lo c.args.span.now.hi = ap (map cards_of_pair) c.parts-parts.ensures.pairs ∙ c.stretch-stretch-2.ensures.pairs in
-    front_room c.with_suits-front.result c.args.self.now.spot c.args.self.now.table c.args.counts.now some (c.args.span.now.hi - c.args.span.now.lo) (c.with_suits-front.ensures.spot ∙ c.of-first-2.ensures.spot ∙ c.of-start.ensures.spot) c.args.self.now.same
+    front_room c.of-front-2.result c.args.self.now.spot c.args.self.now.table c.args.counts.now some (c.args.span.now.hi - c.args.span.now.lo) (c.of-front-2.ensures.spot ∙ c.of-start.ensures.spot) c.args.self.now.same
     (stretch-length some c.args.span.now.tail.rest c.args.span.now.lo c.args.span.now.hi is c.requires.order inside) c.requires.places c.requires.fits
 
 pub count_parts-requires-clause-flushes : goal.count_parts-requires-clause-flushes
-count_parts-requires-clause-flushes g c = front_flushes c.with_suits-front.result c.args.self.now.spot c.args.self.now.flushes (c.with_suits-front.ensures.spot ∙ c.of-first-2.ensures.spot ∙ c.of-start.ensures.spot) c.args.self.now.best
+count_parts-requires-clause-flushes g c = front_flushes c.of-front-2.result c.args.self.now.spot c.args.self.now.flushes (c.of-front-2.ensures.spot ∙ c.of-start.ensures.spot) c.args.self.now.best
 
 pub returns-clause-counts : goal.returns-clause-counts
 returns-clause-counts g c =
@@ -133,7 +133,7 @@ returns-clause-counts g c =
     let some : List Pair = c.parts-parts.result.pairs.now in
     let is : map cards_of_pair some ≡ slice_range (choose 2 c.args.span.now.tail.rest) c.args.span.now.lo c.args.span.now.hi = ap (map cards_of_pair) c.parts-parts.ensures.pairs ∙ c.stretch-stretch-2.ensures.pairs in
     leaf_grow c.args.self.now.spot c.args.self.now.table c.args.span.now.front.now c.args.span.now.tail.taken c.args.span.now.tail.rest c.args.span.now.tail.left c.args.span.now.lo c.args.span.now.hi c.args.counts.now c.count_parts.new.counts c.args.self.now.same leaf.none c.requires.deep
-    (front_grow c.with_suits-front.result c.args.self.now.spot c.args.span.now.tail.taken c.args.span.now.tail.rest some c.args.span.now.lo c.args.span.now.hi c.args.counts.now c.count_parts.new.counts (c.with_suits-front.ensures.spot ∙ c.of-first-2.ensures.spot ∙ c.of-start.ensures.spot) (c.with_suits-front.ensures.taken ∙ c.of-first-2.ensures.taken ∙ c.of-start.ensures.taken) is c.count_parts.ensures.counts)
+    (front_grow c.of-front-2.result c.args.self.now.spot c.args.span.now.tail.taken c.args.span.now.tail.rest some c.args.span.now.lo c.args.span.now.hi c.args.counts.now c.count_parts.new.counts (c.of-front-2.ensures.spot ∙ c.of-start.ensures.spot) (c.of-front-2.ensures.taken ∙ c.of-start.ensures.taken) is c.count_parts.ensures.counts)
 
 pub returns-clause-steps : goal.returns-clause-steps
 returns-clause-steps g c =
@@ -143,8 +143,8 @@ returns-clause-steps g c =
     let size : length some ≡ c.args.span.now.hi - c.args.span.now.lo = stretch-length some c.args.span.now.tail.rest c.args.span.now.lo c.args.span.now.hi is c.requires.order inside in
     omega (arith, c.count_parts.ensures.steps, size)
 
-pub with_suits-front-requires-clause-fives : goal.with_suits-front-requires-clause-fives
-with_suits-front-requires-clause-fives g c = λ a b suit la lb at big s ls.
+pub of-front-requires-2-clause-fives : goal.of-front-requires-2-clause-fives
+of-front-requires-2-clause-fives g c = λ a b suit la lb at big s ls.
     let sieve : Sieve = c.parts-parts.result.sieve.now in
     let same : sieve.counts ≡ c.most_with-most.result = c.ready-sieve.ensures.counts sieve c.parts-parts.ensures.sieve in
     omega (arith, sieve.fives a b suit la lb at big s ls, ap (λ l. slice_index l s) same, c.most_with-most.ensures.value s ls)
@@ -157,7 +157,7 @@ invariant_of-self g c =
       all = c.args.self.now.all;
       right = subst R c.of-start.ensures.spot c.ready-base.ensures.ready.right;
       coded = c.args.self.now.coded;
-      best = flushes_back c.with_own_suits-front.result c.args.self.now.spot _ (c.with_own_suits-front.ensures.spot ∙ c.of-first.ensures.spot ∙ c.of-start.ensures.spot) c.count_each.ensures.flushes;
+      best = flushes_back c.of-front.result c.args.self.now.spot _ (c.of-front.ensures.spot ∙ c.of-start.ensures.spot) c.count_each.ensures.flushes;
     }
 
 pub invariant_of-self-2 : goal.invariant_of-self-2
@@ -169,5 +169,5 @@ invariant_of-self-2 g c =
       all = c.args.self.now.all;
       right = subst R c.of-start.ensures.spot c.ready-base.ensures.ready.right;
       coded = subst C c.of-start.ensures.spot c.ready-place.ensures.right;
-      best = flushes_back c.with_suits-front.result c.args.self.now.spot _ (c.with_suits-front.ensures.spot ∙ c.of-first-2.ensures.spot ∙ c.of-start.ensures.spot) c.count_parts.ensures.flushes;
+      best = flushes_back c.of-front-2.result c.args.self.now.spot _ (c.of-front-2.ensures.spot ∙ c.of-start.ensures.spot) c.count_parts.ensures.flushes;
     }
