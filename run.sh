@@ -30,7 +30,7 @@
 usage="usage: equity MODE [--workers N] [--format text|csv] [--seed S] [--hands H]"
 modes=(audit check streets results settle totals balance spots ranges made)
 
-# what the words say, the process of the program and of the script that feeds it, and how this script is called
+# what the words say, the processes of the program and of the `cat` that feeds it, and how this script is called
 mode="" wanted="" lines="" quiet="" words=() files=()
 child="" feeder="" watcher="" torn="" closed="" above="" begun=""
 name=equity
@@ -103,110 +103,75 @@ read_words() {
     done
 }
 
-# is_number TEXT LEAST MOST
-is_number() {
-    [[ "$1" =~ ^[0-9]{1,10}$ ]] && [ "$((10#$1))" -ge "$2" ] && [ "$((10#$1))" -le "$3" ]
-}
-
-# blame: says which option isn't in form, or fails if none is found
-blame() {
-    local word value at
-    local -A seen=()
-    for ((at = 0; at < ${#words[@]}; at++)); do
-        word="${words[at]}" value=""
-        case "$word" in
-        --workers | --format | --seed | --hands)
-            at=$((at + 1))
-            value="${words[at]-}"
-            ;;
-        --*=*)
-            value="${word#*=}"
-            word="${word%%=*}"
-            ;;
-        esac
-        if [ -n "${seen[$word]-}" ]; then
-            say "$word is there twice"
-            return 0
-        fi
-        seen[$word]=1
-        case "$word" in
-        --workers) is_number "$value" 1 16 || { say "--workers takes a number from 1 to 16"; return 0; } ;;
-        --seed) is_number "$value" 0 4294967295 || { say "--seed takes a number from 0 to 4294967295"; return 0; } ;;
-        --hands) is_number "$value" 0 10000 || { say "--hands takes a number from 0 to 10000"; return 0; } ;;
-        --format) [ "$value" = text ] || [ "$value" = csv ] || { say "--format takes text or csv"; return 0; } ;;
-        --*) say "there is no option $word"; return 0 ;;
-        esac
-    done
-    return 1
-}
-
-# find_files: replaces each folder among the files by its *.txt, and names each file that can't be read. Fails if there is one
-find_files() {
-    local file found=() failed=0
+# are_plain: whether each file can be read, and none is a folder
+are_plain() {
+    local file
     for file in "${files[@]}"; do
-        if [ "$file" = - ]; then
-            found+=(-)
-        elif [ -d "$file" ]; then
-            more || exit 8
-            spread "$file" || failed=1
-        elif [ -e "$file" ]; then
-            found+=("$file")
-        elif [ -z "$file" ] || [ ! -L "$file" ]; then
-            say "$file: there is no such file"
-            failed=1
-        else
-            say "$file: it links to a file that isn't there"
-            failed=1
-        fi
-    done
-    for file in "${found[@]}"; do
         # opening anything else than a file could wait, or take something out of it
-        if [ "$file" = - ] || { [ -f "$file" ] && { : <"$file"; } 2>/dev/null; } || { [ ! -f "$file" ] && [ -r "$file" ]; }; then continue; fi
-        say "$file: it can't be read"
-        failed=1
-    done
-    files=("${found[@]}")
-    return "$failed"
+        if [ "$file" = - ] || { [ -f "$file" ] && : <"$file"; } || { [ -r "$file" ] && ! [ -f "$file" ] && ! [ -d "$file" ]; }; then continue; fi
+        return 1
+    done 2>/dev/null
 }
 
-# feed: writes the files to standard output, with a newline between two. If one can't be read to its end, the program must not see the end
-# of its input, so `feed` waits to be ended
+# open_pipe: sets `reader` and `writer` to the ends of a new pipe. (A here-string is a pipe with a newline in it)
+open_pipe() { exec {reader}<<<"" && exec {writer}>"/dev/fd/$reader" && read -r -u "$reader"; }
+
+# feed: writes the files to the program, with a newline between two. If one can't be read to its end, `torn` names it, and nothing after it
+# is written. If the program ends meanwhile, `status` is its status
+#
+# One `cat` for several files is faster than one for each. What it says goes to a pipe that nobody reads, so SIGPIPE ends it at the first file
+# that fails. Each newline is a pipe of its own, and those that are still full show which file that was
 feed() {
-    local file first=1 pipe said
-    trap - INT TERM HUP
-    # a pipe for what `cat` says: another process for each file would be slower
-    exec {pipe}<<<""
-    for file in "${files[@]}"; do
-        if [ "$first" = 1 ]; then first=0; else printf '\n' 2>/dev/null || exit 0; fi
-        cat -- "$file" 2>"/dev/fd/$pipe" && continue
-        mapfile -t said <&"$pipe"
-        # the program has ended
-        [ -n "${said[*]}" ] && [[ "${said[*]}" != *'Broken pipe' ]] || exit 0
-        say "$file: it couldn't be read to its end"
-        kill -USR1 "$$"
-        sleep 60
-        exit 1
+    local reader writer most=16 at=0 file passed gaps gap first result
+    open_pipe || { torn="${files[0]}" && return; }
+    # if SIGPIPE was ignored before this script, `cat` would go on to the next file
+    trap -p PIPE >&"$writer"
+    ! read -r -t 0 -u "$reader" || most=1
+    exec {reader}<&-
+    while [ "$at" -lt "${#files[@]}" ]; do
+        passed=() gaps=()
+        for file in "${files[@]:at:most}"; do
+            at=$((at + 1))
+            passed+=("$file")
+            if [ "$most" = 1 ] || [ "$at" = "${#files[@]}" ]; then break; fi
+            exec {gap}<<<""
+            gaps+=("$gap")
+            passed+=("/dev/fd/$gap")
+        done
+        cat -- "${passed[@]}" <&"$input" >&"$to" 2>&"$writer" &
+        feeder="$!"
+        [ "$at" -gt "$most" ] || look
+        wait -n -p first "$feeder" "$child" 2>/dev/null
+        result=$?
+        if [ "${first-}" = "$child" ]; then
+            status="$result"
+            return
+        fi
+        # (`wait -n` doesn't know a process that a signal ended before)
+        if [ -z "${first-}" ]; then
+            wait "$feeder" 2>/dev/null
+            result=$?
+        fi
+        feeder=""
+        if [ "$result" != 0 ]; then
+            # (a pipe that nobody reads counts as one with input: the program has ended)
+            if read -r -t 0 -u "$to"; then return; fi
+            torn="$file"
+            ! more || find_torn
+            return
+        fi
+        for gap in "${gaps[@]}"; do exec {gap}<&-; done
+        if [ "$most" = 1 ] && [ "$at" -lt "${#files[@]}" ]; then { printf '\n' >&"$to"; } 2>/dev/null; fi
     done
-}
-
-# end_tree PROCESS: ends it and all that it started
-# shellcheck disable=SC2317 # it is called by traps
-end_tree() {
-    local list below children
-    for list in "/proc/$1/task/"*/children; do
-        # (the list ends without a newline, so `read` fails)
-        children=()
-        { read -ra children <"$list"; } 2>/dev/null
-        for below in "${children[@]}"; do end_tree "$below"; done
-    done
-    kill -TERM "$1" 2>/dev/null
 }
 
 # ended STATUS: ends what runs, and then this script
-# shellcheck disable=SC2317
+# shellcheck disable=SC2317 # it is called by traps
 ended() {
     trap '' INT TERM HUP
-    [ -z "$child" ] || end_tree "$child"
+    if [ -n "$child" ]; then
+        if more; then end_tree "$child"; else kill "$child"; fi
+    fi
     stop_helpers
     wait 2>/dev/null
     exit "$1"
@@ -228,7 +193,7 @@ stop_helpers() {
         [ "$SECONDS" -lt 2 ] || printf '\r\033[K' >&2
     fi
     if [ -n "$feeder" ]; then
-        { end_tree "$feeder" && wait "$feeder"; } 2>/dev/null
+        { kill "$feeder" && wait "$feeder"; } 2>/dev/null
         feeder=""
     fi
 }
@@ -238,14 +203,13 @@ launch() { exec "$program" "$@"; }
 
 # run_program: runs it over the files, or over standard input, and returns its status
 run_program() {
-    local from=0 status out found finder passer=""
+    local from=0 input=0 out=1 to="" status="" reader writer found finder passer=""
     hear
     SECONDS=0
-    if ! [ -e /dev/fd/0 ]; then from=- closed=1; fi
+    if ! [ -e /dev/fd/0 ]; then from=- input=- closed=1; fi
     if [ "${#files[@]}" -gt 1 ]; then
-        trap 'torn=1; [ -z "$child" ] || kill "$child"' USR1
-        exec {from}< <(feed)
-        feeder="$!"
+        open_pipe || return 3
+        from="$reader" to="$writer"
     elif [ "${#files[@]}" -eq 1 ] && [ "${files[0]}" != - ]; then
         exec {from}<"${files[0]}" || return 3
     fi
@@ -258,30 +222,37 @@ run_program() {
         exec {found}>&-
     fi
     # in the background, so that a signal to this script is heard meanwhile
-    if [ -n "$passer" ]; then
-        (trap - INT QUIT; launch "${words[@]}") <&"$from" >&"$out" &
-        child="$!"
-        exec {out}>&-
-    else
-        (trap - INT QUIT; launch "${words[@]}") <&"$from" &
-        child="$!"
-    fi
-    if [ -z "$quiet" ] && [ "$mode" != made ] && [ -t 2 ] && ! [ -t 1 ] && more; then
-        watch "$child" <&"$from" &
-        watcher="$!"
-    fi
+    (
+        trap - INT QUIT
+        [ -z "$to" ] || exec {to}>&-
+        launch "${words[@]}"
+    ) <&"$from" >&"$out" &
+    child="$!"
+    [ -z "$passer" ] || exec {out}>&-
     case "$from" in
     0 | -) ;;
     *) exec {from}<&- ;;
     esac
-    # (now, because the program runs meanwhile)
-    if reads_hands && all_begin; then begun=1; fi
-    [ -z "$torn" ] || kill "$child"
-    wait "$child" 2>/dev/null
-    status=$?
-    if [ -n "$torn" ]; then
-        # the signal of `feed` ended the first call
+    if [ -z "$quiet" ] && [ "$mode" != made ] && [ -t 2 ] && ! [ -t 1 ] && more; then
+        (
+            [ -z "$to" ] || exec {to}>&-
+            watch "$child"
+        ) <&"$input" &
+        watcher="$!"
+    fi
+    if [ -z "$to" ]; then
+        look
+    else
+        feed
+        # the program must not take a part for the whole, so it ends before it sees the end
+        if [ -n "$torn" ]; then kill "$child"; else exec {to}>&-; fi
+    fi
+    if [ -z "$status" ]; then
         wait "$child" 2>/dev/null
+        status=$?
+    fi
+    if [ -n "$torn" ]; then
+        say "$torn: it couldn't be read to its end"
         status=3
     fi
     child=""
@@ -291,8 +262,13 @@ run_program() {
         if ! wait "$passer" && [ "$status" -le 1 ]; then status=4; fi
         ! wait "$finder" || above=1
     fi
-    trap - INT TERM HUP USR1
+    trap - INT TERM HUP
     return "$status"
+}
+
+# look: notes whether each file begins with a hand. (It is called while the program runs)
+look() {
+    if reads_hands && all_begin; then begun=1; fi
 }
 
 # begins_hand FILE: whether its first line begins a hand, as most do. (A regular expression would cost half a millisecond)
@@ -314,27 +290,14 @@ all_begin() {
     done
 }
 
-# has_hand FILE: whether a line of it begins a hand
-has_hand() {
-    begins_hand "$1" || grep -qaE $'^(\357\273\277)?PokerStars [A-Za-z ]*(Hand|Game) #[0-9]' -- "$1" 2>/dev/null
-}
-
-# lacks_hands: whether one of the files, or the file that is standard input, has no hand
-lacks_hands() {
-    local file
-    for file in "${files[@]}"; do
-        if [ -z "$begun" ] && [ -f "$file" ] && ! has_hand "$file"; then return 0; fi
-    done
-    if [ "${#files[@]}" -eq 0 ] && [ -f /dev/stdin ]; then
-        [ -z "$begun" ] && ! has_hand /dev/stdin
-    else
-        [ -f /dev/stdout ] && ! [ -s /dev/stdout ]
-    fi
+# may_lack_hands: whether a file must be searched for a hand, or nothing was found in a pipe
+may_lack_hands() {
+    if [ "${#files[@]}" -gt 0 ] || [ -f /dev/stdin ]; then [ -z "$begun" ]; else [ -f /dev/stdout ] && ! [ -s /dev/stdout ]; fi
 }
 
 # end_with STATUS: ends, and says before what the status means if that needs words
 end_with() {
-    if [ "$1" -gt 1 ] || [ -n "$above" ] || { [ "$1" = 1 ] && [ "${#files[@]}" -gt 1 ]; } || { reads_hands && lacks_hands; }; then
+    if [ "$1" -gt 1 ] || [ -n "$above" ] || { [ "$1" = 1 ] && [ "${#files[@]}" -gt 1 ]; } || { reads_hands && may_lack_hands; }; then
         ! more || tell_end "$1"
     fi
     exit "$1"
@@ -351,18 +314,11 @@ prepare() {
         more || exit 8
         end_at_terminal
     fi
-    # a command that isn't in form comes first, as in the program
-    if [ "${#words[@]}" -gt 1 ] && blame; then
-        more || exit 8
-        print_usage
-        say "$name help $mode says more"
-        exit 2
-    fi
-    find_files || exit 3
-    if [ -n "$lines" ] && [ "${#files[@]}" -gt 1 ]; then
-        more || exit 8
-        print_lines
-    fi
+    # (a command that isn't in form is the program's to refuse, if nothing is to be said or proved before)
+    if [ -z "$lines" ] && [ -n "$tell_file" ] && are_plain; then return; fi
+    more || exit 8
+    find_files
+    if [ -n "$lines" ] && [ "${#files[@]}" -gt 1 ]; then print_lines; fi
 }
 
 # serve: runs the program as prepared, and ends with its status

@@ -105,6 +105,43 @@ nearest() {
     printf '%s' "$found"
 }
 
+# is_number TEXT LEAST MOST
+is_number() {
+    [[ "$1" =~ ^[0-9]{1,10}$ ]] && [ "$((10#$1))" -ge "$2" ] && [ "$((10#$1))" -le "$3" ]
+}
+
+# blame: says which option isn't in form, or fails if none is found
+blame() {
+    local word value at
+    local -A seen=()
+    for ((at = 0; at < ${#words[@]}; at++)); do
+        word="${words[at]}" value=""
+        case "$word" in
+        --workers | --format | --seed | --hands)
+            at=$((at + 1))
+            value="${words[at]-}"
+            ;;
+        --*=*)
+            value="${word#*=}"
+            word="${word%%=*}"
+            ;;
+        esac
+        if [ -n "${seen[$word]-}" ]; then
+            say "$word is there twice"
+            return 0
+        fi
+        seen[$word]=1
+        case "$word" in
+        --workers) is_number "$value" 1 16 || { say "--workers takes a number from 1 to 16"; return 0; } ;;
+        --seed) is_number "$value" 0 4294967295 || { say "--seed takes a number from 0 to 4294967295"; return 0; } ;;
+        --hands) is_number "$value" 0 10000 || { say "--hands takes a number from 0 to 10000"; return 0; } ;;
+        --format) [ "$value" = text ] || [ "$value" = csv ] || { say "--format takes text or csv"; return 0; } ;;
+        --*) say "there is no option $word"; return 0 ;;
+        esac
+    done
+    return 1
+}
+
 # explain: the lines for words that name no mode
 explain() {
     local word="${files[0]-}" like
@@ -140,6 +177,42 @@ spread() {
     fi
 }
 
+# find_files: replaces each folder among the files by its *.txt. Ends if the command isn't in form, which comes first, as in the program, or
+# if a file can't be read
+find_files() {
+    local file found=() shut=() failed=0
+    if [ "${#words[@]}" -gt 1 ] && blame; then
+        print_usage
+        say "$name help $mode says more"
+        exit 2
+    fi
+    for file in "${files[@]}"; do
+        if [ "$file" = - ] || [ -f "$file" ]; then
+            found+=("$file")
+        elif [ -d "$file" ]; then
+            spread "$file" || failed=1
+        elif [ -e "$file" ]; then
+            found+=("$file")
+        elif [ -z "$file" ] || [ ! -L "$file" ]; then
+            say "$file: there is no such file"
+            failed=1
+        else
+            say "$file: it links to a file that isn't there"
+            failed=1
+        fi
+    done
+    for file in "${found[@]}"; do
+        if [ "$file" = - ] || { [ -f "$file" ] && : <"$file"; } || { [ ! -f "$file" ] && [ -r "$file" ]; }; then continue; fi
+        shut+=("$file")
+    done 2>/dev/null
+    for file in "${shut[@]}"; do
+        say "$file: it can't be read"
+        failed=1
+    done
+    files=("${found[@]}")
+    [ "$failed" = 0 ] || exit 3
+}
+
 # print_lines: for each file which lines of the whole are its own, as far as that is known before the run
 print_lines() {
     local file at=1 last count ends="" counts=() plain=() n=0 e=0
@@ -165,6 +238,29 @@ print_lines() {
         at=$((at + count + 1))
     done
     [ "$n" -eq "${#files[@]}" ] || printf '%s: from line %d on; the lines of later files depend on its length\n' "${files[n]}" "$at" >&2
+}
+
+# find_torn: names in `torn` the file at which `cat` ended: the first one after which the newline wasn't read, or otherwise the last one
+find_torn() {
+    for gap in "${!gaps[@]}"; do
+        if read -r -u "${gaps[gap]}"; then
+            torn="${passed[2 * gap]}"
+            return
+        fi
+    done
+}
+
+# end_tree PROCESS: ends it and all that it started
+# shellcheck disable=SC2317 # it is called by traps
+end_tree() {
+    local list below children
+    for list in "/proc/$1/task/"*/children; do
+        # (the list ends without a newline, so `read` fails)
+        children=()
+        { read -ra children <"$list"; } 2>/dev/null
+        for below in "${children[@]}"; do end_tree "$below"; done
+    done
+    kill -TERM "$1" 2>/dev/null
 }
 
 # total_size: prints the bytes of all that the program is to read, or nothing if that isn't known
@@ -207,6 +303,11 @@ watch() {
         printf '\r%s\033[K' "$line" >&2
         read -rt 0.5 -u "$clock"
     done
+}
+
+# has_hand FILE: whether a line of it begins a hand
+has_hand() {
+    begins_hand "$1" || grep -qaE $'^(\357\273\277)?PokerStars [A-Za-z ]*(Hand|Game) #[0-9]' -- "$1" 2>/dev/null
 }
 
 # reason_of FILE: prints why the file has no hand, as far as its first bytes show that
