@@ -9,19 +9,29 @@ const MOST = 8, MOST_COARSE = 4;
 const sizeOfPool = () => Math.max(
     1, Math.min(navigator.hardwareConcurrency || 2, matchMedia('(pointer: coarse)').matches ? MOST_COARSE : MOST));
 
-/** Compiles the module of the page, once for all workers. */
-const compiled = async () => {
-    const packed = Uint8Array.from(
-        atob(/** @type {any} */ (document.getElementById('module')).textContent), (it) => it.charCodeAt(0));
-    const unpacked = new Response(new Blob([packed]).stream().pipeThrough(new DecompressionStream('gzip')));
-    return WebAssembly.compile(await unpacked.arrayBuffer());
-};
+const textOf = (/** @type {string} */ id) => /** @type {any} */ (document.getElementById(id)).textContent;
+
+/**
+ * Has a worker unpack and compile the module of the page, once for all workers. That takes too long for the page's own
+ * thread.
+ * @param {() => Worker} start
+ * @returns {Promise<WebAssembly.Module>}
+ */
+const compiled = (start) => new Promise((yes, no) => {
+    const worker = start();
+    worker.onmessage = ({ data }) => {
+        worker.terminate();
+        if (data.module) yes(data.module);
+        else no(new Error(data.error));
+    };
+    worker.onerror = ({ message }) => no(new Error(message || 'a worker failed'));
+    worker.postMessage({ packed: textOf('module') });
+});
 
 /** Starts the engines. Throws if this browser can't run the program. */
 export const startEngines = async () => {
-    const module = await compiled(), source = /** @type {any} */ (document.getElementById('worker')).textContent;
-    const address = URL.createObjectURL(new Blob([source], { type: 'text/javascript' }));
-    const start = () => new Worker(address);
+    const address = URL.createObjectURL(new Blob([textOf('worker')], { type: 'text/javascript' }));
+    const start = () => new Worker(address), module = await compiled(start);
     const files = makePool(start, module, sizeOfPool()), spots = makePool(start, module, sizeOfPool()),
           hands = makePool(start, module, 1);
     return { files, spots, hands };

@@ -4,6 +4,7 @@
 import { addPart } from './hands.mjs';
 import { LOOKED_AT, reasonOf } from './kinds.mjs';
 import { piecesOf } from './pieces.mjs';
+import { steps } from './steps.mjs';
 
 /** @typedef {import('./hands.mjs').Hands} Hands */
 /** @typedef {import('./hands.mjs').Source} Source */
@@ -71,6 +72,25 @@ export const makeReader = (hands, pool, onChange) => {
     const reading =
         { isReading: false, isStopped: false, files: 0, filesDone: 0, bytes: 0, bytesDone: 0, began: 0, missed: [] };
 
+    /** Resolves once the files that were added last are in the queue. */
+    let queued = Promise.resolve(), stops = 0;
+
+    /**
+     * Puts files into the queue once their sizes are known, unless there was another stop. Chromium asks another
+     * process for the size of each file that was chosen, so that is done in steps.
+     * @param {Source[]} sources
+     * @param {number} before  stops before the files came
+     */
+    const enqueue = async (sources, before) => {
+        const step = steps();
+        for (const { file } of sources) {
+            await step();
+            if (stops !== before) return;
+            reading.bytes += file.size;
+        }
+        queue.push(...sources);
+    };
+
     /** Reads the next file, until none is left. As many of these run as there are workers. */
     const go = async () => {
         for (let source; !reading.isStopped && (source = queue.shift());) {
@@ -103,16 +123,22 @@ export const makeReader = (hands, pool, onChange) => {
          * @param {Source[]} sources
          */
         add: async (sources) => {
-            queue.push(...sources);
-            if (!reading.isReading)
-                Object.assign(reading, { files: 0, filesDone: 0, bytes: 0, bytesDone: 0, began: performance.now() });
+            const isOther = reading.isReading;
+            if (!isOther)
+                Object.assign(reading, { isReading: true, isStopped: false, files: 0, filesDone: 0, bytes: 0,
+                    bytesDone: 0, began: performance.now() });
             reading.files += sources.length;
-            reading.bytes += sources.reduce((sum, { file }) => sum + file.size, 0);
-            if (reading.isReading) return;
-            Object.assign(reading, { isReading: true, isStopped: false });
-            onChange(reading);
-            do await Promise.all(Array.from({ length: pool.size }, go));
-            while (queue.length && !reading.isStopped);
+            const before = stops;
+            queued = queued.then(() => enqueue(sources, before));
+            if (isOther) return;
+            /** @type {Promise<void> | null} */
+            let known = null;
+            while (known !== queued && !reading.isStopped) {
+                known = queued;
+                await known;
+                onChange(reading);
+                await Promise.all(Array.from({ length: pool.size }, go));
+            }
             reading.isReading = false;
             onChange(reading);
         },
@@ -120,6 +146,7 @@ export const makeReader = (hands, pool, onChange) => {
         stop: () => {
             if (!reading.isReading) return;
             reading.isStopped = true;
+            stops++;
             queue.length = 0;
             pool.stop();
         },

@@ -2,6 +2,7 @@
 
 import { noHands } from './hands.mjs';
 import { LINES } from './series.mjs';
+import { pause, STEP } from './steps.mjs';
 
 /** @typedef {import('./hands.mjs').Hands} Hands */
 
@@ -38,11 +39,6 @@ export const firstState = () => ({
     isUp: false
 });
 
-/** How long a task computes before the page answers again, in milliseconds. */
-const SLICE = 12;
-
-const pause = () => new Promise((done) => { setTimeout(done); });
-
 /**
  * Makes a store. A panel names the parts of the state that it draws from, and is drawn when one of them changes, once
  * one of its views is shown. Panels are drawn one after the other, each in a task of its own, and what takes long to
@@ -65,7 +61,7 @@ export const makeStore = (state) => {
             let begun = performance.now();
             for (const need of panel.needs) {
                 need();
-                if (performance.now() - begun < SLICE) continue;
+                if (performance.now() - begun < STEP) continue;
                 await pause();
                 begun = performance.now();
             }

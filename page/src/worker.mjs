@@ -18,10 +18,24 @@ const reported = (mode, form, input) => {
     return report;
 };
 
+/**
+ * Returns the module from its text in base64, which is packed by gzip.
+ * @param {string} text
+ */
+const compiled = async (text) => {
+    const letters = atob(text), packed = new Uint8Array(letters.length);
+    for (let at = 0; at < packed.length; at++) packed[at] = letters.charCodeAt(at);
+    // (WebKit's workers can't read a `Blob`)
+    const stream = /** @type {ReadableStream<Uint8Array>} */ (new Response(packed).body);
+    return WebAssembly.compile(await new Response(stream.pipeThrough(new DecompressionStream('gzip'))).arrayBuffer());
+};
+
 onmessage = async ({ data }) => {
     const port = /** @type {any} */ (globalThis);
     try {
-        if (data.module) {
+        if (data.packed) {
+            port.postMessage({ module: await compiled(data.packed) });
+        } else if (data.module) {
             engine = await makeEngine(data.module);
             port.postMessage({});
         } else if (data.part) {

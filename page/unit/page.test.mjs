@@ -10,7 +10,6 @@ import { makePool } from '../src/pool.mjs';
 import { counted, grouped, many, megabytes, progressOf } from '../src/progress.mjs';
 import { makeReader } from '../src/reader.mjs';
 import { allInOf, handsOf, records, written } from '../src/reports.mjs';
-import { makeStore } from '../src/store.mjs';
 import { fileOf, made, reporter } from './made.mjs';
 
 test('a late answer never appears under another line', async () => {
@@ -152,17 +151,16 @@ test('a drop while others are read waits its turn, and a file without a hand is 
     assert.equal(reader.reading.bytesDone, reader.reading.bytes);
 });
 
-test('a panel is drawn when a part of the state changes from which it draws', async () => {
-    const store = makeStore(/** @type {any} */ ({ player: 'a', by: 'hand' })), drawn = [];
-    store.panel(['player'], () => drawn.push('figures'));
-    store.panel(['player', 'by'], () => drawn.push('graph'));
-    store.set({ by: 'day' });
-    await store.drawn();
-    store.set({ by: 'day' });
-    assert.equal(store.isDrawing(), false);
-    store.set({ player: 'b' });
-    store.set({ player: 'c' });
-    assert.equal(store.isDrawing(), true);
-    await store.drawn();
-    assert.deepEqual(drawn, ['graph', 'figures', 'figures', 'graph']);
+test('a stop before the sizes of files are known forgets the files', async () => {
+    const all = [1, 2].map((number) => made({ number })), hands = noHands();
+    const pool = { size: 1, stop: () => {}, run: async ({ part }) => readPart(reporter(all), part) };
+    const reader = makeReader(hands, /** @type {any} */ (pool), () => {});
+    const source = (it) => ({ path: 'a', file: /** @type {any} */ (new Blob([fileOf([it])])) });
+    const first = reader.add([source(all[0])]);
+    reader.stop();
+    await first;
+    const other = source(all[1]);
+    await reader.add([other]);
+    assert.deepEqual([hands.numbers, reader.reading.files, reader.reading.bytes], [['2'], 1, other.file.size]);
+    assert.deepEqual([reader.reading.isReading, reader.reading.isStopped], [false, false]);
 });
